@@ -1,0 +1,192 @@
+-- A collect takes a lane that agrees with a history to one that agrees with the longer history.
+use Rattle.std.proofs.Common.{◌≡◌, ◌<◌, ◌≤◌, ◌+◌, ◌-◌, ◌*◌, ◌==◌, ℕ, Bool, true, false, cond, not, ◌||◌, ◌&&◌, List, [], ◌∷◌, ◌++◌, length, map, take, drop, get_or, refl, sym, ◌∙◌, ap, subst, arith, filter, sum_by, count_by, length-append, length-drop, nat_eq, inl, inr, Option, Some, None, suc, zero, add-one}
+use Rattle.std.specs.List.{list_any, AllByRecursion, AllZip, IsDistinct, cons_option, remove}
+use Rattle.std.proofs.lemmas.List.{append-nil, length-map, map-append, drop-append-le}
+use Rattle.std.proofs.lemmas.List.Elements.{filter-append, filter_map-append, filter_agree}
+use Rattle.std.proofs.lemmas.List.Folds.{list_any-append}
+use Rattle.std.proofs.lemmas.List.Sums.{length-filter, count_by-le-length}
+use Rattle.std.proofs.lemmas.Bool.{and_left, eq-eqb, eqb-true, eqb-false, ne_eqb, cases_eq, cases_Bool, and_parts, and_from, or_parts, not-true, not_from_true, cond_both}
+use Rattle.smx_pdu.specs.declared.pdu.Pdu.{Pdu}
+use Rattle.smx_history.specs.declared.note.Event.TheVariants.{Collect}
+use Rattle.smx_history.specs.declared.entry.Entry.{Entry}
+use Rattle.smx_history.specs.declared.limits.Limits.{Limits}
+use Rattle.smx_history.specs.declared.place.Place.{Place}
+use Rattle.smx_history.specs.declared.response.Response.{Response}
+use Rattle.smx_history.specs.declared.note.Note.{Note}
+use Rattle.smx_pdu.specs.Command.{is_response_to}
+use Rattle.smx_history.specs.Prefixes.{AtEachPrefix, AtEach, StartsWith, RiseAbove, SameCounts, last_or, first_or}
+use Rattle.smx_history.specs.Entries.{is_admit, is_admitted, is_accept, is_accepted, is_take, is_answer, is_collect, is_retire, is_settling, has_name, name_of, Name, admits, accepts, takes, accepts_of, answers_of, collects_of, is_retired, unanswered, own_of, command_of, is_settled, present}
+use Rattle.smx_history.specs.Legal.{IsLegal, IsFifo, IsOnce, IsMembership, IsBounded, AreApart, HasForm, StandsWell, IsPaired, Answers, waiting, size, queued}
+use Rattle.smx_history.specs.History.{entry_by, entry_of, note, entries_of, requests, request_in, responses, response_in}
+use Rattle.smx_history.specs.Contents.{AgreesWith, IsAfter, IsMemberAfter, Content, Member, place_of, shown, size_of, window_after}
+use Rattle.smx_history.specs.Room.{KeepsRoom}
+use Rattle.smx_history.specs.Replies.{collected, with_row, member_with}
+use Rattle.smx_history.proofs.Growing.{filter_other, filter_push, any_other, AtEach-push, AtEachPrefix-push, AtEachPrefix-whole, StartsWith-more, StartsWith-length}
+use Rattle.smx_history.proofs.Counts.{remove_only, filter-map, All-same, none_count, count_by-push, count_by-map, count_by-filter, count_and-le, count-filter-le, length-same}
+use Rattle.smx_history.proofs.Frames.{accepts-other, takes-other, accepts_of-other, answers_of-other, collects_of-other, is_retired-other, admits-other, present-other, unanswered-other}
+use Rattle.smx_history.proofs.Reading.{entries_of-push, shown-kept, own_of-kept, command_of-kept, map_agree, All-each, All-kept, All-from_get, All-filtered, any_at, takes_accepted, length-responses, responses_are_answers, responses-other, places-kept}
+use Rattle.smx_history.proofs.Sizes.{size_agrees, length-window, found_admit, present_served}
+use Rattle.smx_history.proofs.Taking.{take-next, drop-next}
+use Rattle.smx_history.proofs.Keeping.{one_row}
+use Rattle.smx_history.specs.Legal.{IsServed}
+use Rattle.std.proofs.lemmas.List.{drop-map}
+use Rattle.smx_history.proofs.TakeAgrees.{IsMemberAfter-other, requests-other}
+
+
+drop_more : {X : Type 0} (k : ℕ) (xs : List X) → drop 1 (drop k xs) ≡ drop (k + 1) xs
+drop_more k xs = rw add-one (drop_suc k xs)
+  where
+    drop_suc : {X : Type 0} (k : ℕ) (xs : List X) → drop 1 (drop k xs) ≡ drop (suc k) xs
+    drop_suc zero xs = refl
+    drop_suc (suc k) [] = refl
+    drop_suc (suc k) (x ∷ xs) = drop_suc k xs
+
+collects-push : (c : ℕ) (es : List Entry) (by n : ℕ) → collects_of c (es ++ entry_by by (Collect c n) ∷ []) ≡ collects_of c es ++ entry_by by (Collect c n) ∷ []
+collects-push c es by n = filter_push (λ x. is_collect x.kind && (x.client == c)) es (entry_by by (Collect c n)) (eq-eqb c c refl)
+
+collects-apart : (d c : ℕ) (es : List Entry) (by n : ℕ) → (c ≡ d → ⊥) → collects_of d (es ++ entry_by by (Collect c n) ∷ []) ≡ collects_of d es
+collects-apart d c es by n apart = filter_other (λ x. is_collect x.kind && (x.client == d)) es (entry_by by (Collect c n)) (ne_eqb c d apart)
+
+-- the ordinals of what waits are those of the answers that were not collected
+ordinals_next : (h : List Note) (c : ℕ) (r : Response) (rest : List Response) → r ∷ rest ≡ drop (length (collects_of c (entries_of h))) (map (shown (entries_of h) c) (responses c h)) → drop (length (collects_of c (entries_of h))) (map (λ e. e.ordinal) (answers_of c (entries_of h))) ≡ r.ordinal ∷ map (λ (x : Response). x.ordinal) rest
+ordinals_next h c r rest w =
+    let k = length (collects_of c (entries_of h)) in
+    ap (drop k) (sym (responses_are_answers c h) ∙ sym (ordinals_shown (entries_of h) c (responses c h)))
+    ∙ drop-map (λ (x : Response). x.ordinal) k (map (shown (entries_of h) c) (responses c h)) ∙ ap (map (λ (x : Response). x.ordinal)) (sym w)
+  where
+    ordinals_shown : (es : List Entry) (c : ℕ) (rs : List Response) → map (λ (x : Response). x.ordinal) (map (shown es c) rs) ≡ map (λ x. x.ordinal) rs
+    ordinals_shown es c [] = refl
+    ordinals_shown es c (x ∷ rs) = ap (λ ns. x.ordinal ∷ ns) (ordinals_shown es c rs)
+
+fifo-collected : (es : List Entry) (by c n : ℕ) (rest : List ℕ) → drop (length (collects_of c es)) (map (λ e. e.ordinal) (answers_of c es)) ≡ n ∷ rest → IsFifo es → IsFifo (es ++ entry_by by (Collect c n) ∷ [])
+fifo-collected es by c n rest next h =
+    let e = entry_by by (Collect c n) in
+    record {
+      taken = rw (accepts-other es e refl, takes-other es e refl) h.taken;
+      collected = λ d. elim (cases_eq c d) [
+          inl same ↦ subst (λ (x : ℕ). StartsWith (map (λ y. y.ordinal) (answers_of x (es ++ e ∷ []))) (map (λ y. y.ordinal) (collects_of x (es ++ e ∷ [])))) same (here e)
+          | inr apart ↦ rw (answers_of-other d es e refl, collects-apart d c es by n apart) (h.collected d)
+        ];
+    }
+  where
+    here : (e : Entry) → StartsWith (map (λ y. y.ordinal) (answers_of c (es ++ entry_by by (Collect c n) ∷ []))) (map (λ y. y.ordinal) (collects_of c (es ++ entry_by by (Collect c n) ∷ [])))
+    here e =
+      let x = entry_by by (Collect c n) in
+      let old = map (λ y. y.ordinal) (collects_of c es) in
+      let count : length (old ++ n ∷ []) ≡ suc (length (collects_of c es)) = omega (arith, length-append old (n ∷ []), length-map (collects_of c es) (λ (y : Entry). y.ordinal)) in
+      let was : take (length (collects_of c es)) (map (λ y. y.ordinal) (answers_of c es)) ≡ old =
+        ap (λ k. take k (map (λ y. y.ordinal) (answers_of c es))) (sym (length-map (collects_of c es) (λ (y : Entry). y.ordinal))) ∙ h.collected c in
+      rw (answers_of-other c es x refl, collects-push c es by n, map-append (λ y. y.ordinal) (collects_of c es) (x ∷ []))
+        (ap (λ k. take k (map (λ y. y.ordinal) (answers_of c es))) count ∙ take-next (length (collects_of c es)) (map (λ y. y.ordinal) (answers_of c es)) n rest next ∙ ap (λ xs. xs ++ n ∷ []) was)
+
+zip-with_known : {X : Type 0} (R S : X → Member → Type 0) (K : Member → Type 0) (c : ℕ) (f : Member → Member) → ((a : X) (m : Member) → m.client ≡ c → K m → R a m → S a (f m)) → ((a : X) (m : Member) → (m.client ≡ c → ⊥) → R a m → S a m) → (xs : List X) (ms : List Member) → AllByRecursion K ms → AllZip R xs ms → AllZip S xs (with_row c f ms)
+zip-with_known R S K c f here there [] [] k z = z
+zip-with_known R S K c f here there [] (m ∷ ms) k z = z
+zip-with_known R S K c f here there (a ∷ us) [] k z = z
+zip-with_known R S K c f here there (a ∷ us) (m ∷ ms) k z =
+    let head : S a (cond (m.client == c) (f m) m) =
+      cond_both (m.client == c) (f m) m (S a) (λ e. here a m (eqb-true m.client c e) k.0 z.0) (λ e. there a m (eqb-false m.client c e) z.0) in
+    (head, zip-with_known R S K c f here there us ms k.1 z.1)
+
+member-collected : (h : List Note) (by c n : ℕ) (a : Entry) (m : Member) → AtEach (λ before e. IsPaired e.kind before e) (entries_of h) → m.client ≡ c → 1 ≤ m.pending → IsMemberAfter h a m → IsMemberAfter (h ++ note by (Collect c n) ∷ []) a (record m { pending = m.pending - 1; waiting = drop 1 m.waiting })
+member-collected h by c n a m paired same some is =
+    let es = entries_of h in
+    let e = entry_by by (Collect c n) in
+    let push = entries_of-push h (note by (Collect c n)) in
+    let of : c ≡ a.client = sym same ∙ is.client in
+    let col : collects_of a.client (es ++ e ∷ []) ≡ collects_of a.client es ++ e ∷ [] =
+      filter_push (λ x. is_collect x.kind && (x.client == a.client)) es e (eq-eqb c a.client of) in
+    let k = length (collects_of a.client es) in
+    let count : length (collects_of a.client es ++ e ∷ []) ≡ k + 1 = length-append (collects_of a.client es) (e ∷ []) in
+    record {
+      client = is.client;
+      by = is.by;
+      last = rw (push, accepts_of-other a.client es e refl) is.last;
+      pending = rw (push, accepts_of-other a.client es e refl, col) (omega (arith, count, is.pending, some));
+      waiting = rw (push, col, responses-other a.client h (note by (Collect c n)) refl, shown-kept a.client h (e ∷ []) paired, count) (ap (drop 1) is.waiting ∙ drop_drop k (map (shown es a.client) (responses a.client h)));
+    }
+  where
+    drop_drop : (k : ℕ) (xs : List Response) → drop 1 (drop k xs) ≡ drop (k + 1) xs
+    drop_drop k xs = drop_more k xs
+
+member-collected_other : (h : List Note) (by c n : ℕ) (a : Entry) (m : Member) → AtEach (λ before e. IsPaired e.kind before e) (entries_of h) → (m.client ≡ c → ⊥) → IsMemberAfter h a m → IsMemberAfter (h ++ note by (Collect c n) ∷ []) a m
+member-collected_other h by c n a m paired apart is =
+    let es = entries_of h in
+    let e = entry_by by (Collect c n) in
+    let push = entries_of-push h (note by (Collect c n)) in
+    let col = collects-apart a.client c es by n (λ of. apart (is.client ∙ sym of)) in
+    record {
+      client = is.client;
+      by = is.by;
+      last = rw (push, accepts_of-other a.client es e refl) is.last;
+      pending = rw (push, accepts_of-other a.client es e refl, col) is.pending;
+      waiting = rw (push, col, responses-other a.client h (note by (Collect c n)) refl, shown-kept a.client h (e ∷ []) paired) is.waiting;
+    }
+
+pub IsAfter-collected : (h : List Note) (v : Content) (by c : ℕ) (r : Response) (m : Member) → AgreesWith h v → RiseAbove 0 (map (λ x. x.client) v.members) → member_with c v.members ≡ Some m → 1 ≤ m.pending → IsAfter (h ++ note by (Collect c r.ordinal) ∷ []) (collected v by c r)
+IsAfter-collected h v by c r m a rise found some =
+    let es = entries_of h in
+    let e = entry_by by (Collect c r.ordinal) in
+    let n = note by (Collect c r.ordinal) in
+    let fifo = AtEachPrefix-whole IsFifo es a.legal.fifo in
+    let push = entries_of-push h n in
+    record {
+      queue = rw (push, takes-other es e refl, requests-other h n refl) a.after.queue;
+      window = rw (push, unanswered-other es e refl refl, places-kept es (e ∷ []) fifo) a.after.window;
+      members = rw (push, present-other es e refl refl)
+        (zip-with_known (IsMemberAfter h) (IsMemberAfter (h ++ n ∷ [])) (λ x. x.client ≡ c → x ≡ m) c (λ x. record x { pending = x.pending - 1; waiting = drop 1 x.waiting })
+          (λ x y same only is. member-collected h by c r.ordinal x y a.legal.pairing same (let y' = only same in omega (arith, ap (λ (z : Member). z.pending) y', some)) is)
+          (λ x y apart is. member-collected_other h by c r.ordinal x y a.legal.pairing apart is) (present es) v.members (one_row v.members c 0 m rise found) a.after.members);
+      greatest = rw (push, admits-other es e refl) a.after.greatest;
+      entries = rw push (ap (λ xs. xs ++ e ∷ []) a.after.entries);
+    }
+
+AgreesWith-collected_at : (h : List Note) (v : Content) (by c : ℕ) (r : Response) (rest : List Response) (m : Member) (admit : Entry) → AgreesWith h v → IsMemberAfter h admit m → is_admitted admit.by admit.client (entries_of h) ≡ true → is_retired admit.client (entries_of h) ≡ false → admit.client ≡ c → m.by ≡ by → m.waiting ≡ r ∷ rest → IsAfter (h ++ note by (Collect c r.ordinal) ∷ []) (collected v by c r) → KeepsRoom (collected v by c r) → AgreesWith (h ++ note by (Collect c r.ordinal) ∷ []) (collected v by c r)
+AgreesWith-collected_at h v by c r rest m admit a is admitted here of own waits after room =
+    let es = entries_of h in
+    let e = entry_by by (Collect c r.ordinal) in
+    let n = note by (Collect c r.ordinal) in
+    let push = entries_of-push h n in
+    let fifo = AtEachPrefix-whole IsFifo es a.legal.fifo in
+    let was = AtEachPrefix-whole (IsBounded v.limits) es a.legal.bounds in
+    let wait : r ∷ rest ≡ drop (length (collects_of c es)) (map (shown es c) (responses c h)) =
+      sym waits ∙ is.waiting ∙ ap (λ d. drop (length (collects_of d es)) (map (shown es d) (responses d h))) of in
+    let next = ordinals_next h c r rest wait in
+    let size' : size (es ++ e ∷ []) ≡ size_of (collected v by c r) = ap size (sym push) ∙ size_agrees (h ++ n ∷ []) (collected v by c r) after in
+    let bounds : IsBounded v.limits (es ++ e ∷ []) = record {
+        queue = rw (accepts-other es e refl, takes-other es e refl) was.queue;
+        window = rw (unanswered-other es e refl refl) was.window;
+        client = λ d gone.
+          let old = was.client d (sym (is_retired-other d es e refl) ∙ gone) in
+          let more : length (collects_of d es) ≤ length (collects_of d (es ++ e ∷ [])) =
+            omega (arith, ap length (filter-append (λ x. is_collect x.kind && (x.client == d)) es (e ∷ [])), length-append (collects_of d es) (collects_of d (e ∷ []))) in
+          rw (accepts_of-other d es e refl) (omega (arith, old, more));
+        history = omega (arith, size', room.size);
+      } in
+    record {
+      legal = rw push (record {
+        form = AtEach-push (λ before x. HasForm x.kind x) es e a.legal.form (refl, refl);
+        fifo = AtEachPrefix-push IsFifo es e a.legal.fifo (fifo-collected es by c r.ordinal (map (λ (x : Response). x.ordinal) rest) next fifo);
+        once = record {
+          ordinals = λ d. rw (accepts_of-other d es e refl) (a.legal.once.ordinals d);
+          takes = λ d k. omega (arith, count_by-push (λ x. is_take x.kind && has_name d k x) es e, a.legal.once.takes d k);
+          settlings = λ d k. omega (arith, count_by-push (λ x. is_settling x.kind && has_name d k x) es e, a.legal.once.settlings d k);
+        };
+        membership = record {
+          clients = rw (admits-other es e refl) a.legal.membership.clients;
+          retires = λ d. omega (arith, count_by-push (λ x. is_retire x.kind && (x.client == d)) es e, a.legal.membership.retires d);
+        };
+        standing = AtEach-push (λ before x. StandsWell x.kind before x) es e a.legal.standing
+          (sym (ap (λ b. is_admitted b admit.client es) (sym is.by ∙ own) ∙ ap (λ d. is_admitted by d es) of) ∙ admitted, ap (λ d. is_retired d es) (sym of) ∙ here);
+        pairing = AtEach-push (λ before x. IsPaired x.kind before x) es e a.legal.pairing tt;
+        apart = AtEachPrefix-push AreApart es e a.legal.apart (rw (unanswered-other es e refl refl) (AtEachPrefix-whole AreApart es a.legal.apart));
+        bounds = AtEachPrefix-push (IsBounded v.limits) es e a.legal.bounds bounds;
+      });
+      after = after;
+    }
+
+pub AgreesWith-collected : (h : List Note) (v : Content) (by c : ℕ) (r : Response) (rest : List Response) (m : Member) → AgreesWith h v → KeepsRoom v → member_with c v.members ≡ Some m → m.by ≡ by → m.waiting ≡ r ∷ rest → 1 ≤ m.pending → KeepsRoom (collected v by c r) → AgreesWith (h ++ note by (Collect c r.ordinal) ∷ []) (collected v by c r)
+AgreesWith-collected h v by c r rest m a before found own waits some room =
+    let es = entries_of h in
+    let w = found_admit (λ x. (is_admitted x.by x.client es ≡ true) × (is_retired x.client es ≡ false)) h c m (present es) v.members a.after.members (present_served es) found in
+    AgreesWith-collected_at h v by c r rest m w.0 a w.1 w.2.0 w.2.1 w.3 own waits (IsAfter-collected h v by c r m a before.clients found some) room

@@ -1,0 +1,17 @@
+pub mod Growing
+pub mod Counts
+pub mod Frames
+pub mod Reading
+pub mod Sizes
+pub mod Members
+pub mod Refusals
+pub mod Keeping
+pub mod Numbers
+pub mod Taken
+pub mod Settled
+pub mod AcceptAgrees
+pub mod Taking
+pub mod TakeAgrees
+pub mod AnswerAgrees
+pub mod LateAgrees
+pub mod CollectAgrees

@@ -1,0 +1,40 @@
+-- Which refusal `accept_refusal` is, from what the code tests.
+use Rattle.std.proofs.Common.{◌≡◌, ◌<◌, ◌≤◌, ◌+◌, ℕ, Bool, true, false, cond, not, List, [], ◌∷◌, length, map, get_or, refl, sym, ◌∙◌, ap, arith, Option, Some, None, nat_le, ◌==◌, inl, inr}
+use Rattle.std.specs.List.{find, position}
+use Rattle.std.proofs.lemmas.Bool.{le-leb, lt-leb, leb-true, cases_lt}
+use Rattle.std.proofs.Math.ListN.{get_or-map}
+use Rattle.smx_history.specs.declared.reply.Refusal.TheVariants.{NotAdmitted, ClientFull, QueueFull, HistoryFull}
+use Rattle.smx_history.specs.Contents.{Content, Member, size_of}
+use Rattle.smx_history.specs.Replies.{accept_refusal, has_room, member_with, refusal_for}
+
+pub refused_client : (v : Content) (m : Member) → v.limits.client ≤ m.pending → refusal_for v (Some m) ≡ Some ClientFull
+refused_client v m h = rw (le-leb v.limits.client m.pending h) refl
+
+pub refused_queue : (v : Content) (m : Member) → m.pending < v.limits.client → v.limits.queue ≤ length v.queue → refusal_for v (Some m) ≡ Some QueueFull
+refused_queue v m p h = rw (lt-leb v.limits.client m.pending p, le-leb v.limits.queue (length v.queue) h) refl
+
+pub refused_history : (v : Content) (m : Member) → m.pending < v.limits.client → length v.queue < v.limits.queue → has_room v ≡ false → refusal_for v (Some m) ≡ Some HistoryFull
+refused_history v m p q h = rw (lt-leb v.limits.client m.pending p, lt-leb v.limits.queue (length v.queue) q, h) refl
+
+pub not_refused : (v : Content) (m : Member) → m.pending < v.limits.client → length v.queue < v.limits.queue → has_room v ≡ true → refusal_for v (Some m) ≡ None
+not_refused v m p q h = rw (lt-leb v.limits.client m.pending p, lt-leb v.limits.queue (length v.queue) q, h) refl
+
+-- what a request that is not refused meets
+pub record IsAllowed (v : Content) (m : Member) : Type 0 where
+  pub client : m.pending < v.limits.client
+  pub queue : length v.queue < v.limits.queue
+  pub history : size_of v + 4 ≤ v.limits.history
+
+allowed_history : (v : Content) (m : Member) (b : Bool) → has_room v ≡ b → m.pending < v.limits.client → length v.queue < v.limits.queue → refusal_for v (Some m) ≡ None → IsAllowed v m
+allowed_history v m true e p q h = record { client = p; queue = q; history = leb-true _ _ e }
+allowed_history v m false e p q h = absurd (let x : Some HistoryFull ≡ None = sym (refused_history v m p q e) ∙ h in cc)
+
+pub allowed : (v : Content) (m : Member) → refusal_for v (Some m) ≡ None → IsAllowed v m
+allowed v m h =
+    elim (cases_lt m.pending v.limits.client) [
+      inl p ↦ elim (cases_lt (length v.queue) v.limits.queue) [
+        inl q ↦ allowed_history v m (has_room v) refl p q h
+        | inr q ↦ absurd (let x : Some QueueFull ≡ None = sym (refused_queue v m p q) ∙ h in cc)
+      ]
+      | inr p ↦ absurd (let x : Some ClientFull ≡ None = sym (refused_client v m p) ∙ h in cc)
+    ]

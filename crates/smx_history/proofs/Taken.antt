@@ -1,0 +1,45 @@
+-- A take keeps the room.
+use Rattle.std.proofs.Common.{◌≡◌, ◌<◌, ◌≤◌, ◌+◌, ◌*◌, ◌==◌, ℕ, Bool, true, false, cond, List, [], ◌∷◌, ◌++◌, length, map, take, drop, get_or, refl, sym, ◌∙◌, ap, arith, sum_by, count_by, length-append, Some, slice_get, suc, zero}
+use Rattle.std.specs.List.{AllByRecursion, remove}
+use Rattle.std.proofs.lemmas.List.Sums.{sum_by-cons}
+use Rattle.smx_history.specs.declared.request.Request.{Request}
+use Rattle.smx_history.specs.declared.place.Place.{Place}
+use Rattle.smx_history.specs.declared.note.Event.TheVariants.{Take}
+use Rattle.smx_history.specs.History.{entry_by}
+use Rattle.smx_history.specs.Contents.{Content, Member, size_of}
+use Rattle.smx_history.specs.Room.{KeepsRoom, FitsBox}
+use Rattle.smx_history.specs.Replies.{taken, place_for}
+use Rattle.smx_history.proofs.Keeping.{count_by-push, All-each}
+
+pub remove_first : {X : Type 0} (xs ys : List X) → ys ≡ remove xs 0 → ys ≡ drop 1 xs
+remove_first xs ys h = h
+
+-- the first element and the rest
+pub front_split : {X : Type 0} (xs : List X) (x : X) → 0 < length xs → x ≡ get_or xs 0 x → xs ≡ x ∷ drop 1 xs
+front_split [] x h is = absurd (omega arith)
+front_split (y ∷ xs) x h is = ap (λ z. z ∷ xs) (sym is)
+
+box-taken : (v : Content) (by : ℕ) (r : Request) (u : ℕ) (rest : List Request) → v.queue ≡ r ∷ rest → (m : Member) → FitsBox v m → FitsBox (taken v by r u) m
+box-taken v by r u rest front m fits =
+    let q : count_by (λ x. x.client == m.client) v.queue ≡ cond (r.client == m.client) 1 0 + count_by (λ x. x.client == m.client) rest =
+      ap (count_by (λ x. x.client == m.client)) front ∙ sum_by-cons (λ x. cond (x.client == m.client) 1 0) r rest in
+    let w : count_by (λ p. p.client == m.client) (v.window ++ place_for r u ∷ []) ≡ count_by (λ p. p.client == m.client) v.window + cond (r.client == m.client) 1 0 =
+      count_by-push (λ p. p.client == m.client) v.window (place_for r u) in
+    let d : drop 1 v.queue ≡ rest = ap (drop 1) front in
+    (rw (d) (omega (arith, q, w, fits.0)), fits.1)
+
+pub KeepsRoom-taken : (v : Content) (by : ℕ) (r : Request) (u : ℕ) (rest : List Request) → KeepsRoom v → v.queue ≡ r ∷ rest → length v.window < v.limits.window → KeepsRoom (taken v by r u)
+KeepsRoom-taken v by r u rest k front room =
+    let d : drop 1 v.queue ≡ rest = ap (drop 1) front in
+    let q : length v.queue ≡ suc (length rest) = ap length front in
+    let q' : length (drop 1 v.queue) ≡ length rest = ap length d in
+    let w : length (v.window ++ place_for r u ∷ []) ≡ length v.window + 1 = length-append v.window (place_for r u ∷ []) in
+    let e : length (v.entries ++ entry_by by (Take r.client r.ordinal u) ∷ []) ≡ length v.entries + 1 = length-append v.entries (entry_by by (Take r.client r.ordinal u) ∷ []) in
+    record {
+      limits = k.limits;
+      queue = omega (arith, q, q', k.queue);
+      window = omega (arith, w, room);
+      size = omega (arith, q, q', w, e, k.size);
+      boxes = All-each (FitsBox v) (FitsBox (taken v by r u)) (box-taken v by r u rest front) v.members k.boxes;
+      clients = k.clients;
+    }

@@ -1,0 +1,35 @@
+-- What becomes of a response.
+use Rattle.std.specs.Prelude.{◌≡◌, ◌++◌, ◌∷◌, [], ℕ, List, Option, Some, None, slice_get}
+use Rattle.std.specs.List.{find}
+use Rattle.smx_pdu.specs.declared.pdu.Pdu.{Pdu}
+use Rattle.smx_history.specs.declared.place.Place.{Place}
+use Rattle.smx_history.specs.declared.note.Note.{Note}
+use Rattle.smx_history.specs.declared.response.Response.{Response}
+use Rattle.smx_history.specs.declared.note.Event.TheVariants as event
+use Rattle.smx_history.specs.declared.reply.Answered.{Answered}
+use Rattle.smx_history.specs.declared.reply.Answered.TheVariants.{Queued, Late, Unknown}
+use Rattle.smx_history.specs.History.{note}
+use Rattle.smx_history.specs.Contents.{Content, Member, AgreesWith}
+use Rattle.smx_history.specs.Replies.{answers_place, member_with}
+
+-- queued where the client of the place is present, late where it has retired, unknown where no place is answered
+abbrev pub IsAnswered : Content → ℕ → Pdu → Answered → Content → Type 0
+IsAnswered old by p (Queued c) new =
+    (q : Place) × (m : Member) × (find (answers_place p) old.window ≡ Some q) × (q.client ≡ c) × (member_with c old.members ≡ Some m)
+    × ((h : List Note) → AgreesWith h old → AgreesWith (h ++ note by (event.Answer q.client q.ordinal p) ∷ []) new)
+IsAnswered old by p Late new =
+    (q : Place) × (find (answers_place p) old.window ≡ Some q) × (member_with q.client old.members ≡ None)
+    × ((h : List Note) → AgreesWith h old → AgreesWith (h ++ note by (event.Late q.client q.ordinal p.number p.command) ∷ []) new)
+IsAnswered old by p (Unknown back) new = (find (answers_place p) old.window ≡ None) × (back ≡ p) × (new ≡ old)
+
+-- the response that a row gives next
+abbrev pub oldest_in : Option Member → Option Response
+oldest_in None = None
+oldest_in (Some m) = slice_get m.waiting 0
+
+-- the oldest response, or none where none waits or there is no row
+abbrev pub IsCollected : Content → ℕ → ℕ → Option Pdu → Content → Type 0
+IsCollected old by c None new = (oldest_in (member_with c old.members) ≡ None) × (new ≡ old)
+IsCollected old by c (Some p) new =
+    (r : Response) × (oldest_in (member_with c old.members) ≡ Some r) × (r.pdu ≡ p)
+    × ((h : List Note) → AgreesWith h old → AgreesWith (h ++ note by (event.Collect c r.ordinal) ∷ []) new)

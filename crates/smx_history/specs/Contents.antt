@@ -1,0 +1,79 @@
+-- What a lane holds, and what it holds after a history.
+use Rattle.std.specs.Prelude.{◌≡◌, ◌+◌, ◌*◌, ℕ, List, map, drop, length, sum_by}
+use Rattle.std.specs.List.{AllZip}
+use Rattle.smx_history.specs.declared.entry.Entry.{Entry}
+use Rattle.smx_history.specs.declared.limits.Limits.{Limits}
+use Rattle.smx_history.specs.declared.request.Request.{Request}
+use Rattle.smx_history.specs.declared.note.Note.{Note}
+use Rattle.smx_history.specs.Prefixes.{last_or, SameCounts}
+use Rattle.smx_history.specs.Entries.{admits, takes, accepts_of, collects_of, unanswered, own_of, command_of, present}
+use Rattle.smx_history.specs.Legal.{IsLegal}
+use Rattle.smx_history.specs.declared.place.Place.{Place}
+use Rattle.smx_history.specs.declared.response.Response.{Response}
+use Rattle.smx_history.specs.History.{entries_of, requests, responses}
+
+-- a client that was admitted and has not retired
+pub record Member : Type 0 where
+  pub client : ℕ
+  pub by : ℕ
+  -- the ordinal of its last accept, or 0
+  pub last : ℕ
+  -- how many of its requests were accepted and not collected
+  pub pending : ℕ
+  -- its responses that wait, as the client is to see them
+  pub waiting : List Response
+
+-- what contracts see of a lane
+pub record Content : Type 0 where
+  pub limits : Limits
+  pub queue : List Request
+  -- in any order
+  pub window : List Place
+  -- by their clients' numbers
+  pub members : List Member
+  pub greatest : ℕ
+  pub entries : List Entry
+
+-- as a client sees a response: with its own number
+abbrev pub shown : List Entry → ℕ → Response → Response
+shown es c r = record { ordinal = r.ordinal; pdu = record { command = r.pdu.command; status = r.pdu.status; number = own_of c r.ordinal es; body = r.pdu.body } }
+
+abbrev pub place_of : List Entry → Entry → Place
+place_of es t = record { upstream = t.number; client = t.client; ordinal = t.ordinal; own = own_of t.client t.ordinal es; command = command_of t.client t.ordinal es }
+
+-- the row of a client after a history, which has this admit
+pub record IsMemberAfter (h : List Note) (admit : Entry) (m : Member) : Type 0 where
+  pub client : m.client ≡ admit.client
+  pub by : m.by ≡ admit.by
+  pub last : m.last ≡ last_or 0 (map (λ e. e.ordinal) (accepts_of admit.client (entries_of h)))
+  pub pending : length (accepts_of admit.client (entries_of h)) ≡ length (collects_of admit.client (entries_of h)) + m.pending
+  pub waiting : m.waiting ≡ drop (length (collects_of admit.client (entries_of h))) (map (shown (entries_of h) admit.client) (responses admit.client h))
+
+-- what is queued after a history: the requests accepted, without those taken
+abbrev pub queue_after : List Note → List Request
+queue_after h = drop (length (takes (entries_of h))) (requests h)
+
+-- the takes without an answer
+abbrev pub window_after : List Note → List Place
+window_after h = map (place_of (entries_of h)) (unanswered (entries_of h))
+
+-- the greatest client admitted, or 0
+abbrev pub greatest_after : List Note → ℕ
+greatest_after h = last_or 0 (map (λ e. e.client) (admits (entries_of h)))
+
+-- the content is what the history leaves
+pub record IsAfter (h : List Note) (content : Content) : Type 0 where
+  pub queue : content.queue ≡ queue_after h
+  pub window : SameCounts (window_after h) content.window
+  pub members : AllZip (IsMemberAfter h) (present (entries_of h)) content.members
+  pub greatest : content.greatest ≡ greatest_after h
+  pub entries : content.entries ≡ entries_of h
+
+-- the history is legal, and the content is what it leaves
+pub record AgreesWith (h : List Note) (content : Content) : Type 0 where
+  pub legal : IsLegal content.limits (entries_of h)
+  pub after : IsAfter h content
+
+-- entries, and what may still follow from what is there
+abbrev pub size_of : Content → ℕ
+size_of v = length v.entries + 3 * length v.queue + 2 * length v.window + sum_by (λ m. length m.waiting) v.members + length v.members

@@ -1,0 +1,97 @@
+-- What a list of entries says: the lists of its accepts, takes, answers and collects.
+use Rattle.std.specs.Prelude.{◌≡◌, ◌+◌, ◌-◌, ◌==◌, ◌&&◌, ◌||◌, ℕ, Bool, true, false, not, List, [], ◌∷◌, length, map, filter, sum_by}
+use Rattle.std.specs.List.{list_any}
+use Rattle.smx_history.specs.declared.entry.Kind.{Kind}
+use Rattle.smx_history.specs.declared.entry.Kind.TheVariants.{Admit, Accept, Take, Answer, Late, Collect, Retire}
+use Rattle.smx_history.specs.declared.entry.Entry.{Entry}
+use Rattle.smx_history.specs.Prefixes.{first_or, last_or}
+
+abbrev pub is_admit : Kind → Bool
+is_admit Admit = true
+is_admit _ = false
+
+abbrev pub is_accept : Kind → Bool
+is_accept Accept = true
+is_accept _ = false
+
+abbrev pub is_take : Kind → Bool
+is_take Take = true
+is_take _ = false
+
+abbrev pub is_answer : Kind → Bool
+is_answer Answer = true
+is_answer _ = false
+
+abbrev pub is_collect : Kind → Bool
+is_collect Collect = true
+is_collect _ = false
+
+abbrev pub is_retire : Kind → Bool
+is_retire Retire = true
+is_retire _ = false
+
+-- an answer to a request that was taken, in time or late
+abbrev pub is_settling : Kind → Bool
+is_settling Answer = true
+is_settling Late = true
+is_settling _ = false
+
+-- the name of a request: the client, and the request's ordinal among that client's
+pub record Name : Type 0 where
+  pub client : ℕ
+  pub ordinal : ℕ
+
+abbrev pub name_of : Entry → Name
+name_of e = record { client = e.client; ordinal = e.ordinal }
+
+abbrev pub has_name : ℕ → ℕ → Entry → Bool
+has_name c n e = (e.client == c) && (e.ordinal == n)
+
+-- the entries of a kind, in order
+abbrev pub admits : List Entry → List Entry
+admits es = filter (λ e. is_admit e.kind) es
+
+abbrev pub accepts : List Entry → List Entry
+accepts es = filter (λ e. is_accept e.kind) es
+
+abbrev pub takes : List Entry → List Entry
+takes es = filter (λ e. is_take e.kind) es
+
+-- the same of one client
+abbrev pub accepts_of : ℕ → List Entry → List Entry
+accepts_of c es = filter (λ e. is_accept e.kind && (e.client == c)) es
+
+abbrev pub answers_of : ℕ → List Entry → List Entry
+answers_of c es = filter (λ e. is_answer e.kind && (e.client == c)) es
+
+abbrev pub collects_of : ℕ → List Entry → List Entry
+collects_of c es = filter (λ e. is_collect e.kind && (e.client == c)) es
+
+abbrev pub is_retired : ℕ → List Entry → Bool
+is_retired c es = list_any (λ e. is_retire e.kind && (e.client == c)) es
+
+-- the client was admitted by that caller
+abbrev pub is_admitted : ℕ → ℕ → List Entry → Bool
+is_admitted by c es = list_any (λ e. is_admit e.kind && ((e.client == c) && (e.by == by))) es
+
+-- the accept, the take, an answer in time or late of the request of that name
+abbrev pub is_accepted : ℕ → ℕ → List Entry → Bool
+is_accepted c n es = list_any (λ e. is_accept e.kind && has_name c n e) es
+
+abbrev pub is_settled : ℕ → ℕ → List Entry → Bool
+is_settled c n es = list_any (λ e. is_settling e.kind && has_name c n e) es
+
+-- the takes that have no answer, in time or late
+abbrev pub unanswered : List Entry → List Entry
+unanswered es = filter (λ t. not (is_settled t.client t.ordinal es)) (takes es)
+
+-- what the client called the request of that name, and its command
+abbrev pub own_of : ℕ → ℕ → List Entry → ℕ
+own_of c n es = first_or 0 (map (λ e. e.number) (filter (λ e. is_accept e.kind && has_name c n e) es))
+
+abbrev pub command_of : ℕ → ℕ → List Entry → ℕ
+command_of c n es = first_or 0 (map (λ e. e.command) (filter (λ e. is_accept e.kind && has_name c n e) es))
+
+-- the clients that were admitted and have not retired, by their admits
+abbrev pub present : List Entry → List Entry
+present es = filter (λ a. not (is_retired a.client es)) (admits es)

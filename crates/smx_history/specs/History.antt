@@ -1,0 +1,46 @@
+-- A lane's history: notes with bodies and statuses.
+use Rattle.std.specs.Prelude.{◌≡◌, ◌==◌, ℕ, List, [], ◌∷◌, map, filter_map, Option, Some, None, if◌then◌else◌}
+use Rattle.smx_history.specs.declared.entry.Kind.TheVariants as kind
+use Rattle.smx_history.specs.declared.note.Event.{Event}
+use Rattle.smx_history.specs.declared.note.Event.TheVariants.{Admit, Accept, Take, Answer, Late, Collect, Retire}
+use Rattle.smx_history.specs.declared.entry.Entry.{Entry}
+use Rattle.smx_history.specs.declared.request.Request.{Request}
+use Rattle.smx_history.specs.declared.note.Note.{Note}
+use Rattle.smx_history.specs.declared.response.Response.{Response}
+
+-- the entry of an event
+abbrev pub entry_by : ℕ → Event → Entry
+entry_by by (Admit c) = record { kind = kind.Admit; by = by; client = c; ordinal = 0; number = 0; command = 0 }
+entry_by by (Accept r) = record { kind = kind.Accept; by = by; client = r.client; ordinal = r.ordinal; number = r.own; command = r.command }
+entry_by by (Take c n u) = record { kind = kind.Take; by = by; client = c; ordinal = n; number = u; command = 0 }
+entry_by by (Answer c n p) = record { kind = kind.Answer; by = by; client = c; ordinal = n; number = p.number; command = p.command }
+entry_by by (Late c n u k) = record { kind = kind.Late; by = by; client = c; ordinal = n; number = u; command = k }
+entry_by by (Collect c n) = record { kind = kind.Collect; by = by; client = c; ordinal = n; number = 0; command = 0 }
+entry_by by (Retire c) = record { kind = kind.Retire; by = by; client = c; ordinal = 0; number = 0; command = 0 }
+
+abbrev pub entry_of : Note → Entry
+entry_of note = entry_by note.by note.event
+
+abbrev pub entries_of : List Note → List Entry
+entries_of h = map entry_of h
+
+-- the request that an event accepts
+abbrev pub request_in : Event → Option Request
+request_in (Accept r) = Some r
+request_in _ = None
+
+-- the requests that were accepted, in order, bodies included
+abbrev pub requests : List Note → List Request
+requests h = filter_map (λ note. request_in note.event) h
+
+
+abbrev pub response_in : ℕ → Event → Option Response
+response_in c (Answer d n p) = if d == c then Some (record { ordinal = n; pdu = p }) else None
+response_in c _ = None
+
+-- the responses that came for a client in time, as they came
+abbrev pub responses : ℕ → List Note → List Response
+responses c h = filter_map (λ note. response_in c note.event) h
+
+abbrev pub note : ℕ → Event → Note
+note by event = record { by = by; event = event }

@@ -1,0 +1,98 @@
+-- Which lists of entries a lane may have.
+use Rattle.std.specs.Prelude.{◌≡◌, ◌≢◌, ◌+◌, ◌-◌, ◌*◌, ◌≤◌, ◌<◌, ◌==◌, ◌&&◌, ◌||◌, ℕ, Bool, true, false, not, List, [], ◌∷◌, length, map, filter, sum_by, count_by, nat_eq}
+use Rattle.std.specs.List.{list_any, IsDistinct}
+use Rattle.smx_history.specs.declared.entry.Kind.{Kind}
+use Rattle.smx_history.specs.declared.entry.Kind.TheVariants.{Admit, Accept, Take, Answer, Late, Collect, Retire}
+use Rattle.smx_history.specs.declared.entry.Entry.{Entry}
+use Rattle.smx_history.specs.declared.limits.Limits.{Limits}
+use Rattle.smx_pdu.specs.Command.{is_forwarded, is_response_to}
+use Rattle.smx_history.specs.Prefixes.{AtEachPrefix, AtEach, StartsWith, RiseAbove}
+use Rattle.smx_history.specs.Entries.{is_admit, is_accept, is_take, is_settling, is_retire, name_of, has_name, admits, accepts, takes, accepts_of, answers_of, collects_of, is_retired, is_admitted, is_accepted, is_settled, unanswered, command_of, present}
+
+-- some note has this entry
+abbrev pub HasForm : Kind → Entry → Type 0
+HasForm Admit e = (e.ordinal ≡ 0) × (e.number ≡ 0) × (e.command ≡ 0)
+HasForm Accept e = is_forwarded e.command ≡ true
+HasForm Take e = e.command ≡ 0
+HasForm Answer e = Unit {0}
+HasForm Late e = Unit {0}
+HasForm Collect e = (e.number ≡ 0) × (e.command ≡ 0)
+HasForm Retire e = (e.ordinal ≡ 0) × (e.number ≡ 0) × (e.command ≡ 0)
+
+-- requests are taken in the order in which they were accepted, and a client's responses collected in the order in which they came
+pub record IsFifo (es : List Entry) : Type 0 where
+  pub taken : StartsWith (map name_of (accepts es)) (map name_of (takes es))
+  pub collected : (c : ℕ) → StartsWith (map (λ e. e.ordinal) (answers_of c es)) (map (λ e. e.ordinal) (collects_of c es))
+
+-- a client's ordinals rise from above 0, and a request is taken once and answered once, in time or late
+pub record IsOnce (es : List Entry) : Type 0 where
+  pub ordinals : (c : ℕ) → RiseAbove 0 (map (λ e. e.ordinal) (accepts_of c es))
+  pub takes : (c n : ℕ) → count_by (λ e. is_take e.kind && has_name c n e) es ≤ 1
+  pub settlings : (c n : ℕ) → count_by (λ e. is_settling e.kind && has_name c n e) es ≤ 1
+
+-- the clients' numbers rise from above 0, and none retires twice
+pub record IsMembership (es : List Entry) : Type 0 where
+  pub clients : RiseAbove 0 (map (λ e. e.client) (admits es))
+  pub retires : (c : ℕ) → count_by (λ e. is_retire e.kind && (e.client == c)) es ≤ 1
+
+-- between the admit and the retire, and by the one who admitted
+abbrev pub IsServed : List Entry → Entry → Type 0
+IsServed before e = (is_admitted e.by e.client before ≡ true) × (is_retired e.client before ≡ false)
+
+-- what stands before an entry allows it
+abbrev pub StandsWell : Kind → List Entry → Entry → Type 0
+StandsWell Admit before e = Unit {0}
+StandsWell Accept before e = IsServed before e
+StandsWell Take before e = Unit {0}
+StandsWell Answer before e = is_retired e.client before ≡ false
+StandsWell Late before e = is_retired e.client before ≡ true
+StandsWell Collect before e = IsServed before e
+StandsWell Retire before e = IsServed before e
+
+-- an answer follows the take with its name and number, which has none before it, and fits the request's command
+pub record Answers (before : List Entry) (e : Entry) : Type 0 where
+  pub taken : list_any (λ t. is_take t.kind && (has_name e.client e.ordinal t && (t.number == e.number))) before ≡ true
+  pub first : is_settled e.client e.ordinal before ≡ false
+  pub accepted : is_accepted e.client e.ordinal before ≡ true
+  pub command : is_response_to (command_of e.client e.ordinal before) e.command ≡ true
+
+abbrev pub IsPaired : Kind → List Entry → Entry → Type 0
+IsPaired Admit before e = Unit {0}
+IsPaired Accept before e = Unit {0}
+IsPaired Take before e = (0 < e.number) × (e.number ≤ 2147483644)
+IsPaired Answer before e = Answers before e
+IsPaired Late before e = Answers before e
+IsPaired Collect before e = Unit {0}
+IsPaired Retire before e = Unit {0}
+
+-- the numbers of takes without an answer are pairwise different
+abbrev pub AreApart : List Entry → Type 0
+AreApart es = IsDistinct nat_eq (map (λ e. e.number) (unanswered es))
+
+-- requests accepted and not taken
+abbrev pub queued : List Entry → ℕ
+queued es = length (accepts es) - length (takes es)
+
+-- responses not collected, of the clients that are present
+abbrev pub waiting : List Entry → ℕ
+waiting es = sum_by (λ a. length (answers_of a.client es) - length (collects_of a.client es)) (present es)
+
+abbrev pub size : List Entry → ℕ
+size es = length es + 3 * queued es + 2 * length (unanswered es) + waiting es + length (present es)
+
+pub record IsBounded (limits : Limits) (es : List Entry) : Type 0 where
+  pub queue : length (accepts es) ≤ length (takes es) + limits.queue
+  pub window : length (unanswered es) ≤ limits.window
+  pub client : (c : ℕ) → is_retired c es ≡ false → length (accepts_of c es) ≤ length (collects_of c es) + limits.client
+  pub history : size es ≤ limits.history
+
+-- a legal list of entries
+pub record IsLegal (limits : Limits) (es : List Entry) : Type 0 where
+  pub form : AtEach (λ before e. HasForm e.kind e) es
+  pub fifo : AtEachPrefix IsFifo es
+  pub once : IsOnce es
+  pub membership : IsMembership es
+  pub standing : AtEach (λ before e. StandsWell e.kind before e) es
+  pub pairing : AtEach (λ before e. IsPaired e.kind before e) es
+  pub apart : AtEachPrefix AreApart es
+  pub bounds : AtEachPrefix (IsBounded limits) es

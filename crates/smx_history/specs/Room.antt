@@ -1,0 +1,25 @@
+-- That what a lane may still have to store fits.
+use Rattle.std.specs.Prelude.{◌≡◌, ◌+◌, ◌≤◌, ◌==◌, ℕ, List, length, map, count_by}
+use Rattle.std.specs.List.{AllByRecursion}
+use Rattle.smx_history.specs.declared.limits.Limits.{Limits}
+use Rattle.smx_history.specs.Prefixes.{RiseAbove}
+use Rattle.smx_history.specs.Contents.{Content, Member, size_of}
+
+pub record AreLimits (limits : Limits) : Type 0 where
+  pub queue : (1 ≤ limits.queue) × (limits.queue ≤ 65535)
+  pub window : (1 ≤ limits.window) × (limits.window ≤ 1024)
+  pub client : (1 ≤ limits.client) × (limits.client ≤ 256)
+  pub history : (1000 ≤ limits.history) × (limits.history ≤ 1000000)
+
+-- a member's box has room for the responses to its requests that are queued or taken
+abbrev pub FitsBox : Content → Member → Type 0
+FitsBox v m = (count_by (λ r. r.client == m.client) v.queue + count_by (λ p. p.client == m.client) v.window + length m.waiting ≤ m.pending) × (m.pending ≤ v.limits.client)
+
+pub record KeepsRoom (v : Content) : Type 0 where
+  pub limits : AreLimits v.limits
+  pub queue : length v.queue ≤ v.limits.queue
+  pub window : length v.window ≤ v.limits.window
+  pub size : size_of v ≤ v.limits.history
+  pub boxes : AllByRecursion (FitsBox v) v.members
+  -- each client has one row
+  pub clients : RiseAbove 0 (map (λ m. m.client) v.members)

@@ -1,0 +1,18 @@
+//! The history of a lane: its notes and entries, and which histories are legal.
+#![tactic(auto)]
+
+mod entry;
+mod limits;
+mod note;
+mod place;
+mod reply;
+mod request;
+mod response;
+
+pub use entry::{Entry, Kind};
+pub use limits::Limits;
+pub use note::{Event, Note};
+pub use place::Place;
+pub use reply::{Answered, Refusal, TakeRefusal};
+pub use request::Request;
+pub use response::Response;

@@ -1,0 +1,46 @@
+//! What happens on a lane. No value of these types is made: contracts speak of them.
+
+use crate::request::Request;
+use smx_pdu::Pdu;
+
+/// What happened on a lane.
+#[derive(Drop)]
+pub enum Event {
+    Admit {
+        client: u64,
+    },
+    Accept {
+        request: Request,
+    },
+    Take {
+        client: u64,
+        ordinal: u64,
+        upstream: u32,
+    },
+    /// The response as it came, with the number upstream.
+    Answer {
+        client: u64,
+        ordinal: u64,
+        response: Pdu,
+    },
+    Late {
+        client: u64,
+        ordinal: u64,
+        upstream: u32,
+        command: u32,
+    },
+    Collect {
+        client: u64,
+        ordinal: u64,
+    },
+    Retire {
+        client: u64,
+    },
+}
+
+/// An event, and the number of the caller whose it is.
+#[derive(Drop)]
+pub struct Note {
+    pub by: u64,
+    pub event: Event,
+}
