@@ -92,7 +92,7 @@ pub record MayAnswer (es : List Entry) (p : Pdu) (q : Place) : Type 0 where
   pub command : is_response_to q.command p.command ≡ true
   pub here : is_retired q.client es ≡ false
 
-eqb_sym : (a b : ℕ) → (a == b) ≡ (b == a)
+pub eqb_sym : (a b : ℕ) → (a == b) ≡ (b == a)
 eqb_sym a b = elim (cases_eq a b) [
     inl same ↦ eq-eqb a b same ∙ sym (eq-eqb b a (sym same))
     | inr apart ↦ ne_eqb a b apart ∙ sym (ne_eqb b a (λ e. apart (sym e)))

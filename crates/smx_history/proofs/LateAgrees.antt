@@ -22,7 +22,7 @@ use Rattle.smx_history.specs.Legal.{IsLegal, IsFifo, IsOnce, IsMembership, IsBou
 use Rattle.smx_history.specs.History.{entry_by, entry_of, note, entries_of, requests, request_in, responses, response_in}
 use Rattle.smx_history.specs.Contents.{AgreesWith, IsAfter, IsMemberAfter, Content, Member, place_of, shown, size_of, window_after}
 use Rattle.smx_history.specs.Room.{KeepsRoom}
-use Rattle.smx_history.specs.Replies.{member_with}
+use Rattle.smx_history.specs.Replies.{member_with, late}
 use Rattle.smx_history.proofs.Growing.{filter_other, filter_push, any_other, any_kept, AtEach-push, AtEachPrefix-push, AtEachPrefix-whole, StartsWith-more, StartsWith-length}
 use Rattle.smx_history.proofs.Counts.{remove_only, filter-map, All-same, none_count, count_by-push, count_by-map, count_by-filter, count_and-le, count-filter-le, length-same}
 use Rattle.smx_history.proofs.Frames.{accepts-other, takes-other, accepts_of-other, answers_of-other, collects_of-other, is_retired-other, admits-other, present-other}
@@ -232,7 +232,7 @@ IsLegal-late limits es by p q may bounds within legal =
 
 
 -- what the lane holds after a late answer
-pub IsAfter-late : (h : List Note) (v : Content) (by : ℕ) (p : Pdu) (q : Place) (i : ℕ) → AgreesWith h v → i < length v.window → q ≡ get_or v.window i q → IsAfter (h ++ note by (Late q.client q.ordinal p.number p.command) ∷ []) (record v { window = remove v.window i; entries = v.entries ++ entry_by by (Late q.client q.ordinal p.number p.command) ∷ [] })
+pub IsAfter-late : (h : List Note) (v : Content) (by : ℕ) (p : Pdu) (q : Place) (i : ℕ) → AgreesWith h v → i < length v.window → q ≡ get_or v.window i q → IsAfter (h ++ note by (Late q.client q.ordinal p.number p.command) ∷ []) (late v by p q i)
 IsAfter-late h v by p q i a within is =
     let es = entries_of h in
     let e = entry_by by (Late q.client q.ordinal p.number p.command) in
@@ -247,7 +247,7 @@ IsAfter-late h v by p q i a within is =
       entries = rw push (ap (λ xs. xs ++ e ∷ []) a.after.entries);
     }
 
-pub AgreesWith-late : (h : List Note) (v : Content) (by : ℕ) (p : Pdu) (q : Place) (i : ℕ) → AgreesWith h v → i < length v.window → q ≡ get_or v.window i q → q.upstream ≡ p.number → is_response_to q.command p.command ≡ true → member_with q.client v.members ≡ None → KeepsRoom (record v { window = remove v.window i; entries = v.entries ++ entry_by by (Late q.client q.ordinal p.number p.command) ∷ [] }) → AgreesWith (h ++ note by (Late q.client q.ordinal p.number p.command) ∷ []) (record v { window = remove v.window i; entries = v.entries ++ entry_by by (Late q.client q.ordinal p.number p.command) ∷ [] })
+pub AgreesWith-late : (h : List Note) (v : Content) (by : ℕ) (p : Pdu) (q : Place) (i : ℕ) → AgreesWith h v → i < length v.window → q ≡ get_or v.window i q → q.upstream ≡ p.number → is_response_to q.command p.command ≡ true → member_with q.client v.members ≡ None → KeepsRoom (late v by p q i) → AgreesWith (h ++ note by (Late q.client q.ordinal p.number p.command) ∷ []) (late v by p q i)
 AgreesWith-late h v by p q i a within is number command gone room =
     let es = entries_of h in
     let after = IsAfter-late h v by p q i a within is in
@@ -255,6 +255,6 @@ AgreesWith-late h v by p q i a within is number command gone room =
     let may : MayAnswerLate es p q = record { place = place; number = number; command = command; here = retired_if_gone h v q.client q.ordinal a place.accepted gone } in
     record {
       legal = rw (entries_of-push h (note by (Late q.client q.ordinal p.number p.command)))
-        (IsLegal-late v.limits es by p q may (bounds-late h (record v { window = remove v.window i; entries = v.entries ++ entry_by by (Late q.client q.ordinal p.number p.command) ∷ [] }) by p q after room (AtEachPrefix-whole (IsBounded v.limits) es a.legal.bounds)) (within-late h (record v { window = remove v.window i; entries = v.entries ++ entry_by by (Late q.client q.ordinal p.number p.command) ∷ [] }) by p q after room) a.legal);
+        (IsLegal-late v.limits es by p q may (bounds-late h (late v by p q i) by p q after room (AtEachPrefix-whole (IsBounded v.limits) es a.legal.bounds)) (within-late h (late v by p q i) by p q after room) a.legal);
       after = after;
     }
