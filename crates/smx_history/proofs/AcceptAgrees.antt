@@ -11,7 +11,7 @@ use Rattle.smx_history.specs.declared.request.Request.{Request}
 use Rattle.smx_history.specs.declared.note.Note.{Note}
 use Rattle.smx_history.specs.Prefixes.{AtEachPrefix, AtEach, StartsWith, RiseAbove, last_or, first_or}
 use Rattle.smx_history.specs.Entries.{is_admit, is_accept, is_take, is_answer, is_collect, is_retire, is_settling, has_name, name_of, admits, accepts, takes, accepts_of, answers_of, collects_of, is_accepted, is_admitted, is_retired, unanswered, own_of, command_of, is_settled, present}
-use Rattle.smx_history.specs.Legal.{IsLegal, IsFifo, IsOnce, IsMembership, IsServed, IsBounded, AreApart, HasForm, StandsWell, IsPaired, waiting, size, queued}
+use Rattle.smx_history.specs.Legal.{IsLegal, IsFifo, IsOnce, IsMembership, IsServed, IsBounded, IsWithin, AreApart, HasForm, StandsWell, IsPaired, waiting, size, queued}
 use Rattle.smx_history.specs.History.{entry_by, note, entries_of, requests, request_in, responses}
 use Rattle.smx_history.specs.Contents.{AgreesWith, IsMemberAfter, Content, Member, place_of, shown}
 use Rattle.smx_history.specs.Replies.{with_row, accepted, member_with}
@@ -74,8 +74,8 @@ size-accepted es by r le =
     rw (unanswered-other es e refl refl, waiting-other es e refl refl refl refl, present-other es e refl refl, accepts-push es by r, takes-other es e refl)
       (omega (arith, length-append es (e ∷ []), length-append (accepts es) (e ∷ [])))
 
-bounds-accepted : (limits : Limits) (es : List Entry) (by : ℕ) (r : Request) → MayAccept limits es by r → IsFifo es → IsBounded limits es → IsBounded limits (es ++ entry_by by (Accept r) ∷ [])
-bounds-accepted limits es by r may fifo h =
+bounds-accepted : (limits : Limits) (es : List Entry) (by : ℕ) (r : Request) → MayAccept limits es by r → IsBounded limits es → IsBounded limits (es ++ entry_by by (Accept r) ∷ [])
+bounds-accepted limits es by r may h =
     let e = entry_by by (Accept r) in
     record {
       queue = rw (accepts-push es by r, takes-other es e refl) (omega (arith, length-append (accepts es) (e ∷ []), may.queue));
@@ -86,10 +86,10 @@ bounds-accepted limits es by r may fifo h =
           inl same ↦ rw (accepts_of-push c es by r same, collects_of-other c es e refl) (let m = may.client in let m' = rw same at m in omega (arith, length-append (accepts_of c es) (e ∷ []), m'))
           | inr apart ↦ rw (accepts_of-other_client c es by r apart, collects_of-other c es e refl) (h.client c was)
         ];
-      history =
-        let le = StartsWith-length (map name_of (accepts es)) (map name_of (takes es)) fifo.taken in
-        omega (arith, size-accepted es by r (omega (arith, le, length-map (accepts es) name_of, length-map (takes es) name_of)), may.room);
     }
+
+within-accepted : (limits : Limits) (es : List Entry) (by : ℕ) (r : Request) → size es + 4 ≤ limits.history → IsFifo es → IsWithin limits (es ++ entry_by by (Accept r) ∷ [])
+within-accepted limits es by r room fifo = omega (arith, size-accepted es by r (takes-le-accepts es fifo), room)
 
 pub IsLegal-accepted : (limits : Limits) (es : List Entry) (by : ℕ) (r : Request) → MayAccept limits es by r → IsLegal limits es → IsLegal limits (es ++ entry_by by (Accept r) ∷ [])
 IsLegal-accepted limits es by r may legal =
@@ -103,7 +103,8 @@ IsLegal-accepted limits es by r may legal =
       standing = AtEach-push (λ before x. StandsWell x.kind before x) es e legal.standing may.served;
       pairing = AtEach-push (λ before x. IsPaired x.kind before x) es e legal.pairing tt;
       apart = AtEachPrefix-push AreApart es e legal.apart (rw (unanswered-other es e refl refl) (AtEachPrefix-whole AreApart es legal.apart));
-      bounds = AtEachPrefix-push (IsBounded limits) es e legal.bounds (bounds-accepted limits es by r may fifo (AtEachPrefix-whole (IsBounded limits) es legal.bounds));
+      bounds = AtEachPrefix-push (IsBounded limits) es e legal.bounds (bounds-accepted limits es by r may (AtEachPrefix-whole (IsBounded limits) es legal.bounds));
+      size = AtEachPrefix-push (IsWithin limits) es e legal.size (within-accepted limits es by r may.room fifo);
     }
 
 pub zip-with_row : {X : Type 0} (R S : X → Member → Type 0) (c : ℕ) (f : Member → Member) → ((a : X) (m : Member) → m.client ≡ c → R a m → S a (f m)) → ((a : X) (m : Member) → (m.client ≡ c → ⊥) → R a m → S a m) → (xs : List X) (ms : List Member) → AllZip R xs ms → AllZip S xs (with_row c f ms)

@@ -16,7 +16,7 @@ use Rattle.smx_history.specs.declared.note.Note.{Note}
 use Rattle.smx_pdu.specs.Command.{is_response_to}
 use Rattle.smx_history.specs.Prefixes.{AtEachPrefix, AtEach, StartsWith, RiseAbove, SameCounts, last_or, first_or}
 use Rattle.smx_history.specs.Entries.{is_admit, is_admitted, is_accept, is_accepted, is_take, is_answer, is_collect, is_retire, is_settling, has_name, name_of, Name, admits, accepts, takes, accepts_of, answers_of, collects_of, is_retired, unanswered, own_of, command_of, is_settled, present}
-use Rattle.smx_history.specs.Legal.{IsLegal, IsFifo, IsOnce, IsMembership, IsBounded, AreApart, HasForm, StandsWell, IsPaired, Answers, waiting, size, queued}
+use Rattle.smx_history.specs.Legal.{IsLegal, IsFifo, IsOnce, IsMembership, IsBounded, IsWithin, AreApart, HasForm, StandsWell, IsPaired, Answers, waiting, size, queued}
 use Rattle.smx_history.specs.History.{entry_by, entry_of, note, entries_of, requests, request_in, responses, response_in}
 use Rattle.smx_history.specs.Contents.{AgreesWith, IsAfter, IsMemberAfter, Content, Member, place_of, shown, size_of, window_after}
 use Rattle.smx_history.specs.Room.{KeepsRoom}
@@ -92,7 +92,7 @@ pub record MayAnswer (es : List Entry) (p : Pdu) (q : Place) : Type 0 where
   pub command : is_response_to q.command p.command ≡ true
   pub here : is_retired q.client es ≡ false
 
-eqb_sym : (a b : ℕ) → (a == b) ≡ (b == a)
+pub eqb_sym : (a b : ℕ) → (a == b) ≡ (b == a)
 eqb_sym a b = elim (cases_eq a b) [
     inl same ↦ eq-eqb a b same ∙ sym (eq-eqb b a (sym same))
     | inr apart ↦ ne_eqb a b apart ∙ sym (ne_eqb b a (λ e. apart (sym e)))
@@ -211,17 +211,21 @@ bounds-answered h v' by p q after room was =
     let es = entries_of h in
     let e = entry_by by (Answer q.client q.ordinal p) in
     let push = entries_of-push h (note by (Answer q.client q.ordinal p)) in
-    let size' : size (es ++ e ∷ []) ≡ size_of v' = ap size (sym push) ∙ size_agrees (h ++ note by (Answer q.client q.ordinal p) ∷ []) v' after in
     let window' : length v'.window ≡ length (unanswered (es ++ e ∷ [])) = length-window (h ++ note by (Answer q.client q.ordinal p) ∷ []) v' after ∙ ap (λ xs. length (unanswered xs)) push in
     record {
       queue = rw (accepts-other es e refl, takes-other es e refl) was.queue;
       window = omega (arith, window', room.window);
       client = λ c gone. rw (accepts_of-other c es e refl, collects_of-other c es e refl) (was.client c (sym (is_retired-other c es e refl) ∙ gone));
-      history = omega (arith, size', room.size);
     }
 
-pub IsLegal-answered : (limits : Limits) (es : List Entry) (by : ℕ) (p : Pdu) (q : Place) → MayAnswer es p q → IsBounded limits (es ++ entry_by by (Answer q.client q.ordinal p) ∷ []) → IsLegal limits es → IsLegal limits (es ++ entry_by by (Answer q.client q.ordinal p) ∷ [])
-IsLegal-answered limits es by p q may bounds legal =
+within-answered : (h : List Note) (v' : Content) (by : ℕ) (p : Pdu) (q : Place) → IsAfter (h ++ note by (Answer q.client q.ordinal p) ∷ []) v' → KeepsRoom v' → IsWithin v'.limits (entries_of h ++ entry_by by (Answer q.client q.ordinal p) ∷ [])
+within-answered h v' by p q after room =
+    let n = note by (Answer q.client q.ordinal p) in
+    let size' : size (entries_of h ++ entry_of n ∷ []) ≡ size_of v' = ap size (sym (entries_of-push h n)) ∙ size_agrees (h ++ n ∷ []) v' after in
+    omega (arith, size', room.size)
+
+pub IsLegal-answered : (limits : Limits) (es : List Entry) (by : ℕ) (p : Pdu) (q : Place) → MayAnswer es p q → IsBounded limits (es ++ entry_by by (Answer q.client q.ordinal p) ∷ []) → IsWithin limits (es ++ entry_by by (Answer q.client q.ordinal p) ∷ []) → IsLegal limits es → IsLegal limits (es ++ entry_by by (Answer q.client q.ordinal p) ∷ [])
+IsLegal-answered limits es by p q may bounds within legal =
     let e = entry_by by (Answer q.client q.ordinal p) in
     let fifo = AtEachPrefix-whole IsFifo es legal.fifo in
     record {
@@ -239,6 +243,7 @@ IsLegal-answered limits es by p q may bounds legal =
       apart = AtEachPrefix-push AreApart es e legal.apart
         (rw (unanswered-answered es by p q) (apart-filter (λ t. not (has_name q.client q.ordinal t)) (unanswered es) (AtEachPrefix-whole AreApart es legal.apart)));
       bounds = AtEachPrefix-push (IsBounded limits) es e legal.bounds bounds;
+      size = AtEachPrefix-push (IsWithin limits) es e legal.size within;
     }
 
 responses-push : (c : ℕ) (h : List Note) (by n : ℕ) (p : Pdu) → responses c (h ++ note by (Answer c n p) ∷ []) ≡ responses c h ++ record { ordinal = n; pdu = p } ∷ []
@@ -308,6 +313,6 @@ AgreesWith-answered h v by p q i m a within is number command found room =
     let may : MayAnswer es p q = record { place = place_taken h v i q a within is; number = number; command = command; here = here } in
     record {
       legal = rw (entries_of-push h (note by (Answer q.client q.ordinal p)))
-        (IsLegal-answered v.limits es by p q may (bounds-answered h (answered v by p q i) by p q after room (AtEachPrefix-whole (IsBounded v.limits) es a.legal.bounds)) a.legal);
+        (IsLegal-answered v.limits es by p q may (bounds-answered h (answered v by p q i) by p q after room (AtEachPrefix-whole (IsBounded v.limits) es a.legal.bounds)) (within-answered h (answered v by p q i) by p q after room) a.legal);
       after = after;
     }

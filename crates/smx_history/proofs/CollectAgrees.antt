@@ -16,7 +16,7 @@ use Rattle.smx_history.specs.declared.note.Note.{Note}
 use Rattle.smx_pdu.specs.Command.{is_response_to}
 use Rattle.smx_history.specs.Prefixes.{AtEachPrefix, AtEach, StartsWith, RiseAbove, SameCounts, last_or, first_or}
 use Rattle.smx_history.specs.Entries.{is_admit, is_admitted, is_accept, is_accepted, is_take, is_answer, is_collect, is_retire, is_settling, has_name, name_of, Name, admits, accepts, takes, accepts_of, answers_of, collects_of, is_retired, unanswered, own_of, command_of, is_settled, present}
-use Rattle.smx_history.specs.Legal.{IsLegal, IsFifo, IsOnce, IsMembership, IsBounded, AreApart, HasForm, StandsWell, IsPaired, Answers, waiting, size, queued}
+use Rattle.smx_history.specs.Legal.{IsLegal, IsFifo, IsOnce, IsMembership, IsBounded, IsWithin, AreApart, HasForm, StandsWell, IsPaired, Answers, waiting, size, queued}
 use Rattle.smx_history.specs.History.{entry_by, entry_of, note, entries_of, requests, request_in, responses, response_in}
 use Rattle.smx_history.specs.Contents.{AgreesWith, IsAfter, IsMemberAfter, Content, Member, place_of, shown, size_of, window_after}
 use Rattle.smx_history.specs.Room.{KeepsRoom}
@@ -161,7 +161,6 @@ AgreesWith-collected_at h v by c r rest m admit a is admitted here of own waits 
           let more : length (collects_of d es) ≤ length (collects_of d (es ++ e ∷ [])) =
             omega (arith, ap length (filter-append (λ x. is_collect x.kind && (x.client == d)) es (e ∷ [])), length-append (collects_of d es) (collects_of d (e ∷ []))) in
           rw (accepts_of-other d es e refl) (omega (arith, old, more));
-        history = omega (arith, size', room.size);
       } in
     record {
       legal = rw push (record {
@@ -181,6 +180,7 @@ AgreesWith-collected_at h v by c r rest m admit a is admitted here of own waits 
         pairing = AtEach-push (λ before x. IsPaired x.kind before x) es e a.legal.pairing tt;
         apart = AtEachPrefix-push AreApart es e a.legal.apart (rw (unanswered-other es e refl refl) (AtEachPrefix-whole AreApart es a.legal.apart));
         bounds = AtEachPrefix-push (IsBounded v.limits) es e a.legal.bounds bounds;
+        size = AtEachPrefix-push (IsWithin v.limits) es e a.legal.size (omega (arith, size', room.size));
       });
       after = after;
     }

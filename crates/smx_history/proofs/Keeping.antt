@@ -83,6 +83,24 @@ box-accepted_other v by r n apart fits =
       count_by-push (λ x. x.client == n.client) v.queue r ∙ ap (λ b. count_by (λ x. x.client == n.client) v.queue + cond b 1 0) (ne_eqb r.client n.client (λ e. apart (sym e))) in
     (omega (arith, q, fits.0), fits.1)
 
+-- the row that was found is the client's, and meets what all rows of the client meet
+pub found_meets : (P : Member → Type 0) (c : ℕ) (m : Member) (ms : List Member) → AllByRecursion (λ x. x.client ≡ c → P x) ms → member_with c ms ≡ Some m → P m
+found_meets P c m [] all found = cc
+found_meets P c m (x ∷ ms) all found = found_at (x.client == c) refl found (found_meets P c m ms all.1)
+  where
+    found_at : (b : Bool) → (x.client == c) ≡ b → cond b (Some x) (member_with c ms) ≡ Some m → (member_with c ms ≡ Some m → P m) → P m
+    found_at true e f later = let same : x ≡ m = cc in subst P same (all.0 (eqb-true x.client c e))
+    found_at false e f later = later f
+
+-- a client with a row was admitted
+pub found_known : (g c : ℕ) (m : Member) (ms : List Member) → AllByRecursion (λ x. x.client ≤ g) ms → member_with c ms ≡ Some m → c ≤ g
+found_known g c m ms all found =
+    found_meets (λ _. c ≤ g) c m ms (All-each (λ x. x.client ≤ g) (λ x. x.client ≡ c → c ≤ g) (λ x h is. omega (arith, h, is)) ms all) found
+
+-- none counted, and none with one more that fails
+pub push_none : {X : Type 0} (p : X → Bool) (xs : List X) (x : X) → count_by p xs ≡ 0 → p x ≡ false → count_by p (xs ++ x ∷ []) ≡ 0
+push_none p xs x none fails = count_by-push p xs x ∙ ap (λ b. count_by p xs + cond b 1 0) fails ∙ ap (λ n. n + 0) none
+
 -- an accept keeps the room
 pub KeepsRoom-accepted : (v : Content) (by : ℕ) (r : Request) (m : Member) → KeepsRoom v → member_with r.client v.members ≡ Some m → IsAllowed v m → KeepsRoom (accepted v by r)
 KeepsRoom-accepted v by r m k found a =
@@ -101,6 +119,9 @@ KeepsRoom-accepted v by r m k found a =
       size = omega (arith, a.history, n, e, w, l);
       boxes = All-with_row (λ x. FitsBox v x × (x.client ≡ r.client → x.pending < v.limits.client)) (FitsBox (accepted v by r)) f r.client
         (λ x is h. box-accepted v by r x is h.0 (h.1 is)) (λ x apart h. box-accepted_other v by r x apart h.0) v.members few;
+      queue_known = λ c above. push_none (λ x. x.client == c) v.queue r (k.queue_known c above) (ne_eqb r.client c (λ e. let known = found_known v.greatest r.client m v.members k.members_known found in omega (arith, known, above, e)));
+      window_known = k.window_known;
+      members_known = All-with_row (λ x. x.client ≤ v.greatest) (λ x. x.client ≤ v.greatest) f r.client (λ x _ h. h) (λ x _ h. h) v.members k.members_known;
       clients = let P : List ℕ → Type 0 = λ cs. RiseAbove 0 cs in subst P (sym (map-with_row (λ x. x.client) f r.client (λ _. refl) v.members)) k.clients;
     }
 
@@ -113,12 +134,3 @@ pub All-get_row : {X : Type 0} (P : X → Type 0) (xs : List X) (i : ℕ) (d : X
 All-get_row P [] i d h all = absurd (omega arith)
 All-get_row P (x ∷ xs) zero d h all = all.0
 All-get_row P (x ∷ xs) (suc i) d h all = All-get_row P xs i d (omega arith) all.1
-
--- the row that was found is the client's, and meets what all rows of the client meet
-pub found_meets : (P : Member → Type 0) (c : ℕ) (m : Member) (ms : List Member) → AllByRecursion (λ x. x.client ≡ c → P x) ms → member_with c ms ≡ Some m → P m
-found_meets P c m [] all found = cc
-found_meets P c m (x ∷ ms) all found = found_at (x.client == c) refl found (found_meets P c m ms all.1)
-  where
-    found_at : (b : Bool) → (x.client == c) ≡ b → cond b (Some x) (member_with c ms) ≡ Some m → (member_with c ms ≡ Some m → P m) → P m
-    found_at true e f later = let same : x ≡ m = cc in subst P same (all.0 (eqb-true x.client c e))
-    found_at false e f later = later f

@@ -18,11 +18,11 @@ use Rattle.smx_history.specs.declared.note.Note.{Note}
 use Rattle.smx_pdu.specs.Command.{is_response_to}
 use Rattle.smx_history.specs.Prefixes.{AtEachPrefix, AtEach, StartsWith, RiseAbove, SameCounts, last_or, first_or}
 use Rattle.smx_history.specs.Entries.{is_admit, is_admitted, is_accept, is_accepted, is_take, is_answer, is_collect, is_retire, is_settling, has_name, name_of, Name, admits, accepts, takes, accepts_of, answers_of, collects_of, is_retired, unanswered, own_of, command_of, is_settled, present}
-use Rattle.smx_history.specs.Legal.{IsLegal, IsFifo, IsOnce, IsMembership, IsBounded, AreApart, HasForm, StandsWell, IsPaired, Answers, waiting, size, queued}
+use Rattle.smx_history.specs.Legal.{IsLegal, IsFifo, IsOnce, IsMembership, IsBounded, IsWithin, AreApart, HasForm, StandsWell, IsPaired, Answers, waiting, size, queued}
 use Rattle.smx_history.specs.History.{entry_by, entry_of, note, entries_of, requests, request_in, responses, response_in}
 use Rattle.smx_history.specs.Contents.{AgreesWith, IsAfter, IsMemberAfter, Content, Member, place_of, shown, size_of, window_after}
 use Rattle.smx_history.specs.Room.{KeepsRoom}
-use Rattle.smx_history.specs.Replies.{member_with}
+use Rattle.smx_history.specs.Replies.{member_with, late}
 use Rattle.smx_history.proofs.Growing.{filter_other, filter_push, any_other, any_kept, AtEach-push, AtEachPrefix-push, AtEachPrefix-whole, StartsWith-more, StartsWith-length}
 use Rattle.smx_history.proofs.Counts.{remove_only, filter-map, All-same, none_count, count_by-push, count_by-map, count_by-filter, count_and-le, count-filter-le, length-same}
 use Rattle.smx_history.proofs.Frames.{accepts-other, takes-other, accepts_of-other, answers_of-other, collects_of-other, is_retired-other, admits-other, present-other}
@@ -195,17 +195,21 @@ bounds-late h v' by p q after room was =
     let es = entries_of h in
     let e = entry_by by (Late q.client q.ordinal p.number p.command) in
     let push = entries_of-push h (note by (Late q.client q.ordinal p.number p.command)) in
-    let size' : size (es ++ e ∷ []) ≡ size_of v' = ap size (sym push) ∙ size_agrees (h ++ note by (Late q.client q.ordinal p.number p.command) ∷ []) v' after in
     let window' : length v'.window ≡ length (unanswered (es ++ e ∷ [])) = length-window (h ++ note by (Late q.client q.ordinal p.number p.command) ∷ []) v' after ∙ ap (λ xs. length (unanswered xs)) push in
     record {
       queue = rw (accepts-other es e refl, takes-other es e refl) was.queue;
       window = omega (arith, window', room.window);
       client = λ c gone. rw (accepts_of-other c es e refl, collects_of-other c es e refl) (was.client c (sym (is_retired-other c es e refl) ∙ gone));
-      history = omega (arith, size', room.size);
     }
 
-pub IsLegal-late : (limits : Limits) (es : List Entry) (by : ℕ) (p : Pdu) (q : Place) → MayAnswerLate es p q → IsBounded limits (es ++ entry_by by (Late q.client q.ordinal p.number p.command) ∷ []) → IsLegal limits es → IsLegal limits (es ++ entry_by by (Late q.client q.ordinal p.number p.command) ∷ [])
-IsLegal-late limits es by p q may bounds legal =
+within-late : (h : List Note) (v' : Content) (by : ℕ) (p : Pdu) (q : Place) → IsAfter (h ++ note by (Late q.client q.ordinal p.number p.command) ∷ []) v' → KeepsRoom v' → IsWithin v'.limits (entries_of h ++ entry_by by (Late q.client q.ordinal p.number p.command) ∷ [])
+within-late h v' by p q after room =
+    let n = note by (Late q.client q.ordinal p.number p.command) in
+    let size' : size (entries_of h ++ entry_of n ∷ []) ≡ size_of v' = ap size (sym (entries_of-push h n)) ∙ size_agrees (h ++ n ∷ []) v' after in
+    omega (arith, size', room.size)
+
+pub IsLegal-late : (limits : Limits) (es : List Entry) (by : ℕ) (p : Pdu) (q : Place) → MayAnswerLate es p q → IsBounded limits (es ++ entry_by by (Late q.client q.ordinal p.number p.command) ∷ []) → IsWithin limits (es ++ entry_by by (Late q.client q.ordinal p.number p.command) ∷ []) → IsLegal limits es → IsLegal limits (es ++ entry_by by (Late q.client q.ordinal p.number p.command) ∷ [])
+IsLegal-late limits es by p q may bounds within legal =
     let e = entry_by by (Late q.client q.ordinal p.number p.command) in
     let fifo = AtEachPrefix-whole IsFifo es legal.fifo in
     record {
@@ -223,11 +227,12 @@ IsLegal-late limits es by p q may bounds legal =
       apart = AtEachPrefix-push AreApart es e legal.apart
         (rw (unanswered-late es by p q) (apart-filter (λ t. not (has_name q.client q.ordinal t)) (unanswered es) (AtEachPrefix-whole AreApart es legal.apart)));
       bounds = AtEachPrefix-push (IsBounded limits) es e legal.bounds bounds;
+      size = AtEachPrefix-push (IsWithin limits) es e legal.size within;
     }
 
 
 -- what the lane holds after a late answer
-pub IsAfter-late : (h : List Note) (v : Content) (by : ℕ) (p : Pdu) (q : Place) (i : ℕ) → AgreesWith h v → i < length v.window → q ≡ get_or v.window i q → IsAfter (h ++ note by (Late q.client q.ordinal p.number p.command) ∷ []) (record v { window = remove v.window i; entries = v.entries ++ entry_by by (Late q.client q.ordinal p.number p.command) ∷ [] })
+pub IsAfter-late : (h : List Note) (v : Content) (by : ℕ) (p : Pdu) (q : Place) (i : ℕ) → AgreesWith h v → i < length v.window → q ≡ get_or v.window i q → IsAfter (h ++ note by (Late q.client q.ordinal p.number p.command) ∷ []) (late v by p q i)
 IsAfter-late h v by p q i a within is =
     let es = entries_of h in
     let e = entry_by by (Late q.client q.ordinal p.number p.command) in
@@ -242,7 +247,7 @@ IsAfter-late h v by p q i a within is =
       entries = rw push (ap (λ xs. xs ++ e ∷ []) a.after.entries);
     }
 
-pub AgreesWith-late : (h : List Note) (v : Content) (by : ℕ) (p : Pdu) (q : Place) (i : ℕ) → AgreesWith h v → i < length v.window → q ≡ get_or v.window i q → q.upstream ≡ p.number → is_response_to q.command p.command ≡ true → member_with q.client v.members ≡ None → KeepsRoom (record v { window = remove v.window i; entries = v.entries ++ entry_by by (Late q.client q.ordinal p.number p.command) ∷ [] }) → AgreesWith (h ++ note by (Late q.client q.ordinal p.number p.command) ∷ []) (record v { window = remove v.window i; entries = v.entries ++ entry_by by (Late q.client q.ordinal p.number p.command) ∷ [] })
+pub AgreesWith-late : (h : List Note) (v : Content) (by : ℕ) (p : Pdu) (q : Place) (i : ℕ) → AgreesWith h v → i < length v.window → q ≡ get_or v.window i q → q.upstream ≡ p.number → is_response_to q.command p.command ≡ true → member_with q.client v.members ≡ None → KeepsRoom (late v by p q i) → AgreesWith (h ++ note by (Late q.client q.ordinal p.number p.command) ∷ []) (late v by p q i)
 AgreesWith-late h v by p q i a within is number command gone room =
     let es = entries_of h in
     let after = IsAfter-late h v by p q i a within is in
@@ -250,6 +255,6 @@ AgreesWith-late h v by p q i a within is number command gone room =
     let may : MayAnswerLate es p q = record { place = place; number = number; command = command; here = retired_if_gone h v q.client q.ordinal a place.accepted gone } in
     record {
       legal = rw (entries_of-push h (note by (Late q.client q.ordinal p.number p.command)))
-        (IsLegal-late v.limits es by p q may (bounds-late h (record v { window = remove v.window i; entries = v.entries ++ entry_by by (Late q.client q.ordinal p.number p.command) ∷ [] }) by p q after room (AtEachPrefix-whole (IsBounded v.limits) es a.legal.bounds)) a.legal);
+        (IsLegal-late v.limits es by p q may (bounds-late h (late v by p q i) by p q after room (AtEachPrefix-whole (IsBounded v.limits) es a.legal.bounds)) (within-late h (late v by p q i) by p q after room) a.legal);
       after = after;
     }

@@ -15,3 +15,7 @@ pub mod TakeAgrees
 pub mod AnswerAgrees
 pub mod LateAgrees
 pub mod CollectAgrees
+pub mod Unseen
+pub mod AdmitAgrees
+pub mod RetireAgrees
+pub mod Beginning

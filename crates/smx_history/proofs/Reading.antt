@@ -112,7 +112,7 @@ takes_accepted es fifo =
     All-of_map (λ (n : Name). is_accepted n.client n.ordinal es ≡ true) name_of (takes es)
       (subst P fifo.taken (All-start (λ (n : Name). is_accepted n.client n.ordinal es ≡ true) (length (map name_of (takes es))) (map name_of (accepts es)) named))
 
-answer_accepted : (kind : Kind) (es : List Entry) (e : Entry) → IsPaired kind es e → is_answer kind ≡ true → is_accepted e.client e.ordinal es ≡ true
+pub answer_accepted : (kind : Kind) (es : List Entry) (e : Entry) → IsPaired kind es e → is_answer kind ≡ true → is_accepted e.client e.ordinal es ≡ true
 answer_accepted kind.Answer es e paired passes = paired.accepted
 answer_accepted kind.Admit es e paired passes = cc
 answer_accepted kind.Accept es e paired passes = cc

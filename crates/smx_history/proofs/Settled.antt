@@ -63,6 +63,9 @@ KeepsRoom-answered v by p q i m k within is found =
         (λ x apart fits.
           let r = count_by-remove (λ y. y.client == x.client) v.window i q within is in
           (omega (arith, r, fits.0), fits.1)) v.members k.boxes;
+      queue_known = k.queue_known;
+      window_known = λ c above. let r = count_by-remove (λ y. y.client == c) v.window i q within is in omega (arith, r, k.window_known c above);
+      members_known = All-with_row (λ x. x.client ≤ v.greatest) (λ x. x.client ≤ v.greatest) f q.client (λ x _ h. h) (λ x _ h. h) v.members k.members_known;
       clients = let P : List ℕ → Type 0 = λ cs. RiseAbove 0 cs in subst P (sym (map-with_row (λ x. x.client) f q.client (λ _. refl) v.members)) k.clients;
     }
 
@@ -78,6 +81,9 @@ KeepsRoom-late v e q i k within is =
       size = omega (arith, w, n, k.size);
       boxes = All-each (FitsBox v) (FitsBox (record v { window = remove v.window i; entries = v.entries ++ e ∷ [] }))
         (λ x fits. let r = count_by-remove (λ y. y.client == x.client) v.window i q within is in (omega (arith, r, fits.0), fits.1)) v.members k.boxes;
+      queue_known = k.queue_known;
+      window_known = λ c above. let r = count_by-remove (λ y. y.client == c) v.window i q within is in omega (arith, r, k.window_known c above);
+      members_known = k.members_known;
       clients = k.clients;
     }
 
@@ -117,6 +123,9 @@ KeepsRoom-collected v by c r m k found some =
           let long : length x.waiting ≡ length m.waiting = ap (λ (y : Member). length y.waiting) (h.1 same) in
           (omega (arith, h.0.0, length-drop 1 x.waiting, long, some), omega (arith, h.0.1)))
         (λ x apart h. h.0) v.members (All-both (FitsBox v) (λ x. x.client ≡ c → x ≡ m) v.members k.boxes (one_row v.members c 0 m k.clients found));
+      queue_known = k.queue_known;
+      window_known = k.window_known;
+      members_known = All-with_row (λ x. x.client ≤ v.greatest) (λ x. x.client ≤ v.greatest) f c (λ x _ h. h) (λ x _ h. h) v.members k.members_known;
       clients = let P : List ℕ → Type 0 = λ cs. RiseAbove 0 cs in subst P (sym (map-with_row (λ x. x.client) f c (λ _. refl) v.members)) k.clients;
     }
 

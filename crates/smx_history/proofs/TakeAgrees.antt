@@ -14,7 +14,7 @@ use Rattle.smx_history.specs.declared.place.Place.{Place}
 use Rattle.smx_history.specs.declared.note.Note.{Note}
 use Rattle.smx_history.specs.Prefixes.{AtEachPrefix, AtEach, StartsWith, RiseAbove, last_or, first_or}
 use Rattle.smx_history.specs.Entries.{is_admit, is_accept, is_take, is_answer, is_collect, is_retire, is_settling, has_name, name_of, Name, admits, accepts, takes, accepts_of, answers_of, collects_of, is_retired, unanswered, own_of, command_of, is_settled, present}
-use Rattle.smx_history.specs.Legal.{IsLegal, IsFifo, IsOnce, IsMembership, IsBounded, AreApart, HasForm, StandsWell, IsPaired, waiting, size, queued}
+use Rattle.smx_history.specs.Legal.{IsLegal, IsFifo, IsOnce, IsMembership, IsBounded, IsWithin, AreApart, HasForm, StandsWell, IsPaired, waiting, size, queued}
 use Rattle.smx_history.specs.History.{entry_by, entry_of, note, entries_of, requests, request_in, responses, response_in}
 use Rattle.smx_history.specs.Contents.{AgreesWith, IsMemberAfter, Content, Member, place_of, shown, size_of, window_after}
 use Rattle.smx_history.specs.Replies.{taken, place_for}
@@ -164,7 +164,6 @@ bounds-taken limits es by r u none lt room h =
       queue = rw (accepts-other es e refl, takes-push es by r u) (omega (arith, length-append (takes es) (e ∷ []), h.queue));
       window = rw (unanswered-push es by r u none) (omega (arith, length-append (unanswered es) (e ∷ []), room));
       client = λ c gone. rw (accepts_of-other c es e refl, collects_of-other c es e refl) (h.client c (sym (is_retired-other c es e refl) ∙ gone));
-      history = omega (arith, size-taken es by r u none lt, h.history);
     }
 
 pub IsLegal-taken : (limits : Limits) (es : List Entry) (by : ℕ) (r : Request) (u : ℕ) (y : Entry) (zs : List Entry) → MayTake limits es r u y zs → IsLegal limits es → IsLegal limits (es ++ entry_by by (Take r.client r.ordinal u) ∷ [])
@@ -184,6 +183,7 @@ IsLegal-taken limits es by r u y zs may legal =
       apart = AtEachPrefix-push AreApart es e legal.apart
         (rw (unanswered-push es by r u unsettled, map-append (λ x. x.number) (unanswered es) (e ∷ [])) (IsDistinct-push (map (λ x. x.number) (unanswered es)) u (AtEachPrefix-whole AreApart es legal.apart) may.free));
       bounds = AtEachPrefix-push (IsBounded limits) es e legal.bounds (bounds-taken limits es by r u unsettled lt may.window (AtEachPrefix-whole (IsBounded limits) es legal.bounds));
+      size = AtEachPrefix-push (IsWithin limits) es e legal.size (let was = AtEachPrefix-whole (IsWithin limits) es legal.size in omega (arith, size-taken es by r u unsettled lt, was));
     }
 
 -- the accept with the name of the next request is the next one

@@ -33,6 +33,8 @@ KeepsRoom-taken v by r u rest k front room =
     let d : drop 1 v.queue ≡ rest = ap (drop 1) front in
     let q : length v.queue ≡ suc (length rest) = ap length front in
     let q' : length (drop 1 v.queue) ≡ length rest = ap length d in
+    let counts : (c : ℕ) → (count_by (λ x. x.client == c) v.queue ≡ cond (r.client == c) 1 0 + count_by (λ x. x.client == c) rest) × (count_by (λ p. p.client == c) (v.window ++ place_for r u ∷ []) ≡ count_by (λ p. p.client == c) v.window + cond (r.client == c) 1 0) =
+      λ c. (ap (count_by (λ x. x.client == c)) front ∙ sum_by-cons (λ x. cond (x.client == c) 1 0) r rest, count_by-push (λ p. p.client == c) v.window (place_for r u)) in
     let w : length (v.window ++ place_for r u ∷ []) ≡ length v.window + 1 = length-append v.window (place_for r u ∷ []) in
     let e : length (v.entries ++ entry_by by (Take r.client r.ordinal u) ∷ []) ≡ length v.entries + 1 = length-append v.entries (entry_by by (Take r.client r.ordinal u) ∷ []) in
     record {
@@ -41,5 +43,8 @@ KeepsRoom-taken v by r u rest k front room =
       window = omega (arith, w, room);
       size = omega (arith, q, q', w, e, k.size);
       boxes = All-each (FitsBox v) (FitsBox (taken v by r u)) (box-taken v by r u rest front) v.members k.boxes;
+      queue_known = λ c above. let n = counts c in omega (arith, n.0, k.queue_known c above, ap (count_by (λ x. x.client == c)) d);
+      window_known = λ c above. let n = counts c in omega (arith, n.0, n.1, k.queue_known c above, k.window_known c above);
+      members_known = k.members_known;
       clients = k.clients;
     }

@@ -84,7 +84,7 @@ settling_taken kind.Take es e paired h = cc
 settling_taken kind.Collect es e paired h = cc
 settling_taken kind.Retire es e paired h = cc
 
-any_weaker : {X : Type 0} (p q : X → Bool) (xs : List X) → ((x : X) → p x ≡ true → q x ≡ true) → list_any p xs ≡ true → list_any q xs ≡ true
+pub any_weaker : {X : Type 0} (p q : X → Bool) (xs : List X) → ((x : X) → p x ≡ true → q x ≡ true) → list_any p xs ≡ true → list_any q xs ≡ true
 any_weaker p q [] w h = h
 any_weaker p q (x ∷ xs) w h = any_weaker_at (p x) refl h (any_weaker p q xs w)
   where

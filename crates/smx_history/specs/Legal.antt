@@ -77,16 +77,26 @@ queued es = length (accepts es) - length (takes es)
 abbrev pub waiting : List Entry → ℕ
 waiting es = sum_by (λ a. length (answers_of a.client es) - length (collects_of a.client es)) (present es)
 
-abbrev pub size : List Entry → ℕ
-size es = length es + 3 * queued es + 2 * length (unanswered es) + waiting es + length (present es)
+-- the entries that are stored
+abbrev pub stored : List Entry → ℕ
+stored es = length es
 
+-- what is stored, and room for all that may still follow: a queued request has its take, its answer and its response to come,
+-- a taken one its answer and its response, a response that waits its collect, and a present client its retire
+abbrev pub size : List Entry → ℕ
+size es = stored es + 3 * queued es + 2 * length (unanswered es) + waiting es + length (present es)
+
+-- what is queued, in the window and of one present client at one time keeps to the limits
 pub record IsBounded (limits : Limits) (es : List Entry) : Type 0 where
   pub queue : length (accepts es) ≤ length (takes es) + limits.queue
   pub window : length (unanswered es) ≤ limits.window
   pub client : (c : ℕ) → is_retired c es ≡ false → length (accepts_of c es) ≤ length (collects_of c es) + limits.client
-  pub history : size es ≤ limits.history
 
--- a legal list of entries
+-- and so does the size
+abbrev pub IsWithin : Limits → List Entry → Type 0
+IsWithin limits es = size es ≤ limits.history
+
+-- a legal list of entries: each is the entry of some note, and the list keeps the rules of Fifo, Once, Membership (by two fields), Pairing (by two) and Bounds (by two)
 pub record IsLegal (limits : Limits) (es : List Entry) : Type 0 where
   pub form : AtEach (λ before e. HasForm e.kind e) es
   pub fifo : AtEachPrefix IsFifo es
@@ -96,3 +106,4 @@ pub record IsLegal (limits : Limits) (es : List Entry) : Type 0 where
   pub pairing : AtEach (λ before e. IsPaired e.kind before e) es
   pub apart : AtEachPrefix AreApart es
   pub bounds : AtEachPrefix (IsBounded limits) es
+  pub size : AtEachPrefix (IsWithin limits) es

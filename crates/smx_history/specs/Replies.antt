@@ -3,9 +3,11 @@ use Rattle.std.specs.Prelude.{◌≡◌, ◌+◌, ◌*◌, ◌-◌, ◌==◌, �
 use Rattle.std.specs.List.{find, remove}
 use Rattle.smx_history.specs.declared.limits.Limits.{Limits}
 use Rattle.smx_history.specs.declared.request.Request.{Request}
+use Rattle.smx_history.specs.declared.reply.AdmitRefusal.{AdmitRefusal}
+use Rattle.smx_history.specs.declared.reply.AdmitRefusal.TheVariants.{Known, HistoryFull as AdmitHistoryFull}
 use Rattle.smx_history.specs.declared.reply.Refusal.{Refusal}
 use Rattle.smx_history.specs.declared.reply.Refusal.TheVariants.{NotAdmitted, ClientFull, QueueFull, HistoryFull}
-use Rattle.smx_history.specs.declared.note.Event.TheVariants.{Accept, Take, Answer, Collect}
+use Rattle.smx_history.specs.declared.note.Event.TheVariants.{Admit, Accept, Take, Answer, Late, Collect, Retire}
 use Rattle.smx_pdu.specs.declared.pdu.Pdu.{Pdu}
 use Rattle.smx_history.specs.declared.response.Response.{Response}
 use Rattle.smx_pdu.specs.Command.{is_response_to}
@@ -15,6 +17,10 @@ use Rattle.smx_history.specs.declared.reply.TakeRefusal.TheVariants.{QueueEmpty,
 use Rattle.smx_history.specs.History.{entry_by}
 use Rattle.smx_history.specs.Contents.{Content, Member, size_of}
 
+-- what a new lane holds
+abbrev pub empty : Limits → Content
+empty limits = record { limits = limits; queue = []; window = []; members = []; greatest = 0; entries = [] }
+
 -- the client's row
 abbrev pub member_with : ℕ → List Member → Option Member
 member_with c ms = find (λ m. m.client == c) ms
@@ -22,6 +28,36 @@ member_with c ms = find (λ m. m.client == c) ms
 -- there is room for one more accept or admit, and all that follows from it
 abbrev pub has_room : Content → Bool
 has_room v = nat_le (size_of v + 4) v.limits.history
+
+-- the first reason to refuse to admit a client
+abbrev pub admit_refusal : Content → ℕ → Option AdmitRefusal
+admit_refusal v c =
+    if nat_le c v.greatest then Some Known
+    else if not (has_room v) then Some AdmitHistoryFull
+    else None
+
+-- the row of a client that was just admitted
+abbrev pub new_row : ℕ → ℕ → Member
+new_row by c = record { client = c; by = by; last = 0; pending = 0; waiting = [] }
+
+-- what an admit leaves
+abbrev pub admitted : Content → ℕ → ℕ → Content
+admitted v by c = record v {
+    members = v.members ++ new_row by c ∷ [];
+    greatest = c;
+    entries = v.entries ++ entry_by by (Admit c) ∷ [];
+  }
+
+-- the rows of the other clients
+abbrev pub without : ℕ → List Member → List Member
+without c ms = filter (λ m. not (m.client == c)) ms
+
+-- what a retire leaves
+abbrev pub retired : Content → ℕ → ℕ → Content
+retired v by c = record v {
+    members = without c v.members;
+    entries = v.entries ++ entry_by by (Retire c) ∷ [];
+  }
 
 -- the first reason to refuse a request of a client with this row
 abbrev pub refusal_for : Content → Option Member → Option Refusal
@@ -79,6 +115,13 @@ answered v by p q i = record v {
     window = remove v.window i;
     members = with_row q.client (λ m. record m { waiting = m.waiting ++ response_for q p ∷ [] }) v.members;
     entries = v.entries ++ entry_by by (Answer q.client q.ordinal p) ∷ [];
+  }
+
+-- what an answer to the place at that index leaves, where its client has retired
+abbrev pub late : Content → ℕ → Pdu → Place → ℕ → Content
+late v by p q i = record v {
+    window = remove v.window i;
+    entries = v.entries ++ entry_by by (Late q.client q.ordinal p.number p.command) ∷ [];
   }
 
 -- what a collect of the client's oldest response leaves

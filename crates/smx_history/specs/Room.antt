@@ -1,5 +1,5 @@
 -- That what a lane may still have to store fits.
-use Rattle.std.specs.Prelude.{◌≡◌, ◌+◌, ◌≤◌, ◌==◌, ℕ, List, length, map, count_by}
+use Rattle.std.specs.Prelude.{◌≡◌, ◌+◌, ◌≤◌, ◌<◌, ◌==◌, ℕ, List, length, map, count_by}
 use Rattle.std.specs.List.{AllByRecursion}
 use Rattle.smx_history.specs.declared.limits.Limits.{Limits}
 use Rattle.smx_history.specs.Prefixes.{RiseAbove}
@@ -21,5 +21,9 @@ pub record KeepsRoom (v : Content) : Type 0 where
   pub window : length v.window ≤ v.limits.window
   pub size : size_of v ≤ v.limits.history
   pub boxes : AllByRecursion (FitsBox v) v.members
+  -- nothing is there of a client above the greatest that was admitted
+  pub queue_known : (c : ℕ) → v.greatest < c → count_by (λ r. r.client == c) v.queue ≡ 0
+  pub window_known : (c : ℕ) → v.greatest < c → count_by (λ p. p.client == c) v.window ≡ 0
+  pub members_known : AllByRecursion (λ m. m.client ≤ v.greatest) v.members
   -- each client has one row
   pub clients : RiseAbove 0 (map (λ m. m.client) v.members)

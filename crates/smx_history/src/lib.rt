@@ -13,6 +13,6 @@ pub use entry::{Entry, Kind};
 pub use limits::Limits;
 pub use note::{Event, Note};
 pub use place::Place;
-pub use reply::{Answered, Refusal, TakeRefusal};
+pub use reply::{AdmitRefusal, Answered, Refusal, TakeRefusal};
 pub use request::Request;
 pub use response::Response;

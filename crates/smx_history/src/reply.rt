@@ -2,6 +2,15 @@
 
 use smx_pdu::Pdu;
 
+/// Why a client is not admitted: the first of these that stands.
+#[derive(Clone, Copy, Debug, PartialEq, Eq)]
+pub enum AdmitRefusal {
+    /// The number is 0, or isn't above that of every client admitted so far.
+    Known,
+    /// There is no room for what may follow of one more client.
+    HistoryFull,
+}
+
 /// Why a request is not accepted: the first of these that stands.
 #[derive(Clone, Copy, Debug, PartialEq, Eq)]
 pub enum Refusal {

@@ -1,0 +1,54 @@
+-- A new lane agrees with the empty history.
+use Rattle.std.proofs.Common.{◌≡◌, ℕ, List, [], refl, arith, Some, None, slice_get, take, zero, suc, subst, sym}
+use Rattle.std.specs.List.{IsDistinct}
+use Rattle.smx_history.specs.declared.limits.Limits.{Limits}
+use Rattle.smx_history.specs.declared.entry.Entry.{Entry}
+use Rattle.smx_history.specs.Prefixes.{AtEachPrefix, AtEach}
+use Rattle.smx_history.specs.Legal.{IsLegal, IsFifo, AreApart, IsBounded, IsWithin, HasForm, StandsWell, IsPaired}
+use Rattle.smx_history.specs.Contents.{AgreesWith}
+use Rattle.smx_history.specs.Room.{KeepsRoom, AreLimits}
+use Rattle.smx_history.specs.Replies.{empty}
+
+AtEach-empty : {X : Type 0} (Q : List X → X → Type 0) → AtEach Q []
+AtEach-empty Q k x at = cc
+
+AtEachPrefix-empty : {X : Type 0} (P : List X → Type 0) → P [] → AtEachPrefix P []
+AtEachPrefix-empty P h zero = h
+AtEachPrefix-empty P h (suc k) = h
+
+apart-empty : AreApart []
+unfolding IsDistinct
+apart-empty = tt
+
+-- no entries are legal
+pub IsLegal-empty : (limits : Limits) → IsLegal limits []
+IsLegal-empty limits = record {
+    form = AtEach-empty (λ before e. HasForm e.kind e);
+    fifo = AtEachPrefix-empty IsFifo (record { taken = refl; collected = λ c. refl });
+    once = record { ordinals = λ c. tt; takes = λ c n. omega arith; settlings = λ c n. omega arith };
+    membership = record { clients = tt; retires = λ c. omega arith };
+    standing = AtEach-empty (λ before e. StandsWell e.kind before e);
+    pairing = AtEach-empty (λ before e. IsPaired e.kind before e);
+    apart = AtEachPrefix-empty AreApart apart-empty;
+    bounds = AtEachPrefix-empty (IsBounded limits) (record { queue = omega arith; window = omega arith; client = λ c gone. omega arith });
+    size = AtEachPrefix-empty (IsWithin limits) (omega arith);
+  }
+
+pub AgreesWith-new : (limits : Limits) → AgreesWith [] (empty limits)
+AgreesWith-new limits = record {
+    legal = IsLegal-empty limits;
+    after = record { queue = refl; window = λ test. refl; members = tt; greatest = refl; entries = refl };
+  }
+
+pub KeepsRoom-new : (limits : Limits) → AreLimits limits → KeepsRoom (empty limits)
+KeepsRoom-new limits are = record {
+    limits = are;
+    queue = omega arith;
+    window = omega arith;
+    size = omega (arith, are.history.0);
+    boxes = tt;
+    queue_known = λ c above. refl;
+    window_known = λ c above. refl;
+    members_known = tt;
+    clients = tt;
+  }
