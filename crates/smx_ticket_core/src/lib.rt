@@ -13,6 +13,8 @@ mod callers;
 mod law;
 mod machine;
 mod table;
+#[cfg(test)]
+mod tests;
 
 pub use callers::{Caller, Event, Illegal};
 pub use law::exclusion_law;
