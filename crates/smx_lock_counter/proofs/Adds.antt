@@ -1,12 +1,12 @@
 -- What a hold of the counter may leave, and how it serves a call.
-use Rattle.std.proofs.Common.{rules, ◌≡◌, ℕ, ◌+◌, ◌<◌, ◌≤◌, Bool, true, false, List, [], ◌∷◌, ◌++◌, sym, refl, ap, ◌∙◌, subst, arith}
+use Rattle.std.proofs.Common.{rules, ◌≡◌, ℕ, ◌+◌, ◌<◌, ◌≤◌, Bool, true, false, List, [], ◌∷◌, ◌++◌, sym, ap, ◌∙◌, arith}
 use Rattle.std.specs.Prelude.{All, MatchBool}
 use Rattle.std.proofs.lemmas.List.{append-nil}
-use Rattle.smx_lock.specs.Fronts.{Front, Hold, MayLeave, Finds, Serves, after_hold, holding}
+use Rattle.smx_lock.specs.Fronts.{Front, Hold, MayLeave, Finds, after_hold, holding}
 use Rattle.smx_lock.proofs.Serving.{serves_hold}
 use Rattle.smx_lock_counter.specs.declared.counter.Added.{Added}
 use Rattle.smx_lock_counter.specs.declared.counter.Counter.{Counter}
-use Rattle.smx_lock_counter.specs.Counting.{by, limit, agrees, total, note, notes_told, deed_of, AddServes, ReadServes}
+use Rattle.smx_lock_counter.specs.Counting.{by, limit, agrees, total, note, notes_told, deed_of, AddServes}
 
 total-more : (h : List Added) (n : Added) → total (h ++ n ∷ []) ≡ total h + n.amount
 total-more [] n = omega arith
@@ -26,10 +26,6 @@ pub may : (f : Front Added ℕ) (h : Hold Counter Added ℕ) (c : Counter) (n : 
 may f h c n true found same did = record { own = one h.number n; agrees = let e = total-more h.found (note h.number n) in let a = found.agrees in let d = did.0 in omega arith; fixed = same ∙ found.fixed }
 may f h c n false found same did = record { own = no_note h.number; agrees = did.0 ∙ found.agrees ∙ ap total (sym (append-nil h.found)); fixed = same ∙ found.fixed }
 
--- a hold that changed nothing
-pub may_look : (f : Front Added ℕ) (h : Hold Counter Added ℕ) → Finds by limit agrees f h → MayLeave by limit agrees h []
-may_look f h found = record { own = no_note h.number; agrees = found.agrees ∙ ap total (sym (append-nil h.found)); fixed = found.fixed }
-
 pub serves : (f g : Front Added ℕ) (h : Hold Counter Added ℕ) (c : Counter) (n : ℕ) (done : Bool) → Finds by limit agrees f h → DidAdd h.value c n done → g ≡ after_hold (holding h c) (notes_told (deed_of done n) h.number) → AddServes f g n done
 serves f g h c n true found did is = (
   h.found,
@@ -41,6 +37,3 @@ serves f g h c n false found did is = (
   serves_hold by limit agrees f g h [] found is,
   (let a = found.agrees in let b = did.1 in let e = found.fixed in let l = ap (λ z. z.fixed) found.lock in omega arith),
 )
-
-pub looks : (f g : Front Added ℕ) (h : Hold Counter Added ℕ) → Finds by limit agrees f h → g ≡ after_hold h [] → ReadServes f g h.value.count
-looks f g h found is = (h.found, serves_hold by limit agrees f g h [] found is, found.agrees)

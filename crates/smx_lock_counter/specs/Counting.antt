@@ -1,8 +1,7 @@
 -- What a counter's history says, and how one hold serves a call.
 use Rattle.std.specs.Prelude.{◌≡◌, ℕ, ◌+◌, ◌≤◌, ◌<◌, Bool, true, false, List, [], ◌∷◌, Option, Some, None}
-use Rattle.atomic_table.specs.Seated.{TableId}
 use Rattle.smx_ticket_core.specs.declared.callers.Caller.TheVariants.{Idle}
-use Rattle.smx_lock.specs.Fronts.{LockId, Front, Serves}
+use Rattle.smx_lock.specs.Fronts.{Front, Serves}
 use Rattle.smx_lock_counter.specs.declared.counter.Added.{Added}
 use Rattle.smx_lock_counter.specs.declared.counter.Counter.{Counter}
 use Rattle.smx_lock_counter.specs.declared.counter.Deed.{Deed}

@@ -107,5 +107,9 @@ impl Adder {
 fn deed(done: bool, amount: u64) -> Deed
     ensures { result ≡ deed_of done amount }
 {
-    if done { Deed::Addition(amount) } else { Deed::Nothing }
+    if done {
+        Deed::Addition(amount)
+    } else {
+        Deed::Nothing
+    }
 }
