@@ -1,0 +1,179 @@
+//! The ticket lock beside the toolchain's `Mutex`, each round a counter.
+ghost use Rattle.std.specs.Prelude.{◌≡◌, IfOk};
+
+use crate::figures::Hundredths;
+use smx_lock::{LockSeat, Spent, TicketLock};
+use smx_lock_counter::{Adder, Counter, Deed};
+use std::rt::Clock;
+use std::sync::{Mutex, Wait};
+use std::thread;
+use std::thread::Threads;
+use std::time::{Duration, Instant};
+
+const ALONE: u64 = 2_000_000;
+
+const TOGETHER: u64 = 400_000;
+
+/// Prints the time of an uncontended hold in nanoseconds; then, for 2, 4 and 8 threads that add to
+/// a counter, holds in millions a second under each lock, and the first as a share of the second.
+pub fn run<R: Threads + Wait + Sync + Print + Clock + AllocGlobal>(rt: &R) -> anyhow::Result<()> {
+    let ticket = alone_under_ticket_lock(rt)?;
+    let mutex = alone_under_mutex(rt)?;
+    println!(rt;
+        "uncontended acquire and release: ticket lock {} ns, std Mutex {} ns",
+        Hundredths::nanos_each(ticket, ALONE),
+        Hundredths::nanos_each(mutex, ALONE)
+    )?;
+    for threads in [2, 4, 8] {
+        let times = TOGETHER / threads;
+        let ticket = together_under_ticket_lock(rt, threads, times)?;
+        let mutex = together_under_mutex(rt, threads, times)?;
+        println!(rt;
+            "{threads} threads, million holds a second: ticket lock {}, std Mutex {}, ratio {}",
+            Hundredths::millions_a_second(ticket, TOGETHER),
+            Hundredths::millions_a_second(mutex, TOGETHER),
+            Hundredths::quotient(mutex.as_nanos(), ticket.as_nanos())
+        )?;
+    }
+    Ok(())
+}
+
+fn alone_under_ticket_lock<R: Wait + Clock + AllocGlobal>(rt: &R) -> anyhow::Result<Duration> {
+    let (lock, seat) = match TicketLock::new(rt.alloc(), Counter::new(ALONE)) {
+        Ok(made) => made,
+        Err((_, refused)) => return Err(refused.into()),
+    };
+    let start = Instant::now(rt)?;
+    add_many(rt, &lock, Adder::new(seat), ALONE)?;
+    Ok(start.elapsed(rt)?)
+}
+
+fn alone_under_mutex<R: Wait + Clock>(rt: &R) -> anyhow::Result<Duration> {
+    let mutex = Mutex::new(Counter::new(ALONE));
+    let start = Instant::now(rt)?;
+    add_many_under_mutex(rt, &mutex, ALONE);
+    Ok(start.elapsed(rt)?)
+}
+
+/// What one thread does: it adds 1 so often.
+#[derive(Drop)]
+struct Work<'a> {
+    lock: &'a TicketLock<Counter>,
+    adder: Adder,
+    times: u64,
+    ghost fits: { adder.lock ≡ lock.now },
+}
+
+fn together_under_ticket_lock<R: Threads + Wait + Sync + Clock + AllocGlobal>(
+    rt: &R,
+    threads: u64,
+    times: u64,
+) -> anyhow::Result<Duration> {
+    let (lock, seat) = match TicketLock::new(rt.alloc(), Counter::new(u64::MAX)) {
+        Ok(made) => made,
+        Err((_, refused)) => return Err(refused.into()),
+    };
+    let (works, seat) = works_on(rt, &lock, seat, threads, times)?;
+    let start = Instant::now(rt)?;
+    thread::map_vec(
+        rt,
+        works,
+        &|work: Work| { add_many(rt, work.lock, work.adder, work.times) },
+    )?;
+    let took = start.elapsed(rt)?;
+    let counter = lock.finish(seat)?;
+    anyhow::ensure!(
+        counter.count / threads.max(1) == times,
+        "{} additions",
+        counter.count
+    );
+    Ok(took)
+}
+
+// The work of so many threads, and a seat that takes no part.
+fn works_on<'a, R: Wait + AllocGlobal>(
+    rt: &R,
+    lock: &'a TicketLock<Counter>,
+    first: LockSeat<Counter>,
+    threads: u64,
+    times: u64,
+) -> anyhow::Result<(Vec<Work<'a>>, LockSeat<Counter>)>
+    requires { first.lock ≡ lock.now }
+    ensures { IfOk result (λ r. r.1.lock ≡ lock.now) }
+{
+    let mut seat = first;
+    let mut works = Vec::new(rt.alloc());
+    for _ in 0..threads {
+        let (host, guest) = twin(rt, lock, seat)?;
+        seat = host;
+        works.push(Work {
+            lock,
+            adder: Adder::new(guest),
+            times,
+        })?;
+    }
+    Ok((works, seat))
+}
+
+fn together_under_mutex<R: Threads + Wait + Sync + Clock + AllocGlobal>(
+    rt: &R,
+    threads: u64,
+    times: u64,
+) -> anyhow::Result<Duration> {
+    let mutex = Mutex::new(Counter::new(u64::MAX));
+    let mut works = Vec::new(rt.alloc());
+    for _ in 0..threads {
+        works.push(times)?;
+    }
+    let start = Instant::now(rt)?;
+    thread::map_vec(
+        rt,
+        works,
+        &|times: u64| add_many_under_mutex(rt, &mutex, times),
+    )?;
+    Ok(start.elapsed(rt)?)
+}
+
+// Two seats for one.
+fn twin<R: Wait>(
+    rt: &R,
+    lock: &TicketLock<Counter>,
+    seat: LockSeat<Counter>,
+) -> Result<(LockSeat<Counter>, LockSeat<Counter>), Spent>
+    requires { seat.lock ≡ lock.now }
+    ensures host { IfOk result (λ s. s.0.lock ≡ lock.now) }
+    ensures guest { IfOk result (λ s. s.1.lock ≡ lock.now) }
+{
+    match lock.acquire(rt, seat) {
+        Ok(mut held) => {
+            let made = lock.split(&mut held);
+            let host = lock.release_told(held, &Deed::Nothing);
+            match made {
+                Ok(guest) => Ok((host, guest)),
+                Err(spent) => Err(spent),
+            }
+        }
+        Err((_, spent)) => Err(spent),
+    }
+}
+
+fn add_many<R: Wait>(
+    rt: &R,
+    lock: &TicketLock<Counter>,
+    adder: Adder,
+    times: u64,
+) -> Result<(), Spent>
+    requires { adder.lock ≡ lock.now }
+{
+    let mut adder = adder;
+    for _ in 0..times {
+        adder.add(rt, lock, 1)?;
+    }
+    Ok(())
+}
+
+fn add_many_under_mutex<R: Wait>(rt: &R, mutex: &Mutex<Counter>, times: u64) {
+    for _ in 0..times {
+        mutex.lock(rt).add(1);
+    }
+}

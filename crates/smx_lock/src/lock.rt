@@ -1,0 +1,292 @@
+//! The lock and its calls.
+ghost use Rattle.std.specs.Prelude.{◌≡◌, ◌≤◌, ◌<◌, ◌⊎◌, List, [], ◌∷◌, IfOk, IfErr, IfSome, IsSome};
+ghost use Rattle.smx_ticket_core.specs.Machine.{most};
+ghost use Rattle.smx_ticket_core.specs.declared.callers.Caller.TheVariants.{Idle, Waiting};
+ghost use Rattle.smx_lock.specs.Fronts.{front_of, first_front, Finds, IsSpent, MayLeave, after_hold, host_hold, guest_front, IsLast, Refused};
+
+use crate::faults::{Spent, StateOut, TryFault};
+use crate::kept::{Kept, Noted, Told};
+use crate::plays::{Draw, Leave, Look, ReadNext, ReadServing, TryDraw, Turns, Twin};
+use crate::tokens::{Held, LockSeat};
+use crate::views::{Case, Opening, View};
+use atomic_table::{Seat, Table};
+use crossbeam_utils::Backoff;
+use smx_ticket_core::MOST;
+use std::alloc::{AllocError, Global};
+use std::marker::{Brand, Model};
+use std::snapshot::Snapshot;
+use std::sync::Wait;
+
+/// A ticket lock round one value. Contracts see which lock it is, and the part of the value that
+/// never changes.
+#[derive(Drop)]
+pub struct TicketLock<S: Kept> {
+    // Word 0 is the ticket that is drawn next, word 1 the ticket that is served.
+    table: Table<Option<Case<S>>, View<S::Note, S::Fixed>, Opening<S>, Turns<S>, Global>,
+}
+
+impl<S: Kept> Model for TicketLock<S> {
+    ghost use Rattle.std.specs.Prelude.{◌≡◌};
+    ghost use Rattle.smx_lock.specs.Fronts.{LockId};
+
+    ghost Value = { LockId S.Fixed };
+
+    ghost view = { λ l. record { table = l.table.shared.table_id; fixed = S.fixed l.table.shared.key.opened.value } };
+
+    ghost invariant = { λ l. (l.table.shared.table_id.words ≡ 2) × (l.table.shared.table_id.slots ≡ 1) };
+}
+
+impl<S: Kept> TicketLock<S> {
+    /// A lock whose first ticket is 0, and its first seat, number 0. The value comes back where
+    /// memory is refused.
+    pub fn new(alloc: Global, value: S) -> Result<(TicketLock<S>, LockSeat<S>), (S, AllocError)>
+        requires { S.agrees value [] }
+        ensures fixed { IfOk result (λ l. l.0.fixed ≡ S.fixed value) }
+        ensures seat { IfOk result (λ l. l.1 ≡ first_front l.0) }
+        ensures back { IfErr result (λ e. e.0 ≡ value) }
+    {
+        TicketLock::new_at(alloc, value, 0)
+    }
+
+    /// The same, with the first ticket given: for tests of what comes when tickets end.
+    pub fn new_at(
+        alloc: Global,
+        value: S,
+        first: u64,
+    ) -> Result<(TicketLock<S>, LockSeat<S>), (S, AllocError)>
+        requires low { first ≤ most }
+        requires agrees { S.agrees value [] }
+        ensures fixed { IfOk result (λ l. l.0.fixed ≡ S.fixed value) }
+        ensures seat { IfOk result (λ l. l.1 ≡ first_front l.0) }
+        ensures back { IfErr result (λ e. e.0 ≡ value) }
+    {
+        let opened = Snapshot::of(&value);
+        let about = Opening { first, opened };
+        let mut slots = Vec::new(alloc);
+        if let Err(failed) = slots.push(Some(Case { value, seats: 1 })) {
+            slots.destroy_empty();
+            return Err((taken(failed.value), AllocError));
+        }
+        match Table::new(alloc, &[first, first], slots, &about) {
+            Ok((table, seat)) => Ok((TicketLock { table }, LockSeat::free(seat, 0))),
+            Err(mut refused) => {
+                let back = refused.slots.pop();
+                refused.slots.destroy_empty();
+                match back {
+                    Some(case) => Err((taken(case), AllocError)),
+                    None => unreachable!(),
+                }
+            }
+        }
+    }
+
+    /// Draws a ticket, waits until it is served, and takes the value. It waits by spinning and
+    /// then yielding, and may never return. `Spent` comes where all tickets below 2^62 are drawn,
+    /// and from then on at once.
+    pub fn acquire<R: Wait>(
+        &self,
+        rt: &R,
+        from: LockSeat<S>,
+    ) -> Result<Held<S>, (LockSeat<S>, Spent)>
+        requires { from.lock ≡ self.now }
+        ensures idle { IfOk result (λ _. from.caller ≡ Idle) }
+        ensures found { IfOk result (Finds S.writer S.fixed S.agrees from) }
+        ensures spent { IfErr result (λ e. IsSpent from e.0) }
+        ensures stays { IfErr result (λ e. (from.caller ≡ Idle) ⊎ (e.0 ≡ from)) }
+        ensures lock { IfErr result (λ e. e.0.lock ≡ from.lock) }
+    {
+        if from.spent {
+            return Err((from, Spent));
+        }
+        let number = from.number;
+        let LockSeat { mut seat, .. } = from;
+        let table = &self.table.shared;
+        let mut ticket = table.load::<ReadNext>(&mut seat, 0);
+        for _ in rt.forever() {
+            if ticket == MOST {
+                return Err((LockSeat::at_end(seat, number), Spent));
+            }
+            let found = table.compare_exchange::<Draw>(&mut seat, 0, ticket, ticket + 1);
+            if found == ticket {
+                return Ok(self.wait_for(rt, seat, number, ticket));
+            }
+            ticket = found;
+        }
+        unreachable!()
+    }
+
+    // Waits until the ticket is served, and takes the value out of the slot.
+    fn wait_for<R: Wait>(
+        &self,
+        rt: &R,
+        from: Seat<Option<Case<S>>, View<S::Note, S::Fixed>>,
+        number: u64,
+        ticket: u64,
+    ) -> Held<S>
+        requires lock { from.table_id ≡ self.now.table }
+        requires number { number ≡ from.me.0.number }
+        requires waiting { (from.me.0.caller ≡ Waiting ticket) × (from.me.1 ≡ []) }
+        ensures { Finds S.writer S.fixed S.agrees (front_of from.table_id from.me.0) result }
+    {
+        let mut seat = from;
+        let table = &self.table.shared;
+        let backoff = Backoff::new();
+        for _ in rt.forever() {
+            if table.load::<Look>(&mut seat, 1) == ticket {
+                match table.exchange(&mut seat, 0, None) {
+                    Some(Case { value, seats }) => {
+                        return Held {
+                            seat,
+                            value,
+                            number,
+                            ticket,
+                            seats,
+                        };
+                    }
+                    None => unreachable!(),
+                }
+            }
+            backoff.snooze();
+        }
+        unreachable!()
+    }
+
+    /// Takes the value where nobody holds or waits, without waiting. `Spent` comes where the
+    /// ticket that is served is 2^62, and from then on at once. `Busy` comes where another caller
+    /// has drawn the ticket.
+    pub fn try_acquire(&self, from: LockSeat<S>) -> Result<Held<S>, (LockSeat<S>, TryFault)>
+        requires { from.lock ≡ self.now }
+        ensures idle { IfOk result (λ _. from.caller ≡ Idle) }
+        ensures found { IfOk result (Finds S.writer S.fixed S.agrees from) }
+        ensures refused { IfErr result (λ e. Refused from e.0 e.1) }
+        ensures stays { IfErr result (λ e. (from.caller ≡ Idle) ⊎ (e.0 ≡ from)) }
+        ensures lock { IfErr result (λ e. e.0.lock ≡ from.lock) }
+    {
+        if from.spent {
+            return Err((from, TryFault::Spent));
+        }
+        let number = from.number;
+        let LockSeat { mut seat, .. } = from;
+        let table = &self.table.shared;
+        let ticket = table.load::<ReadServing>(&mut seat, 1);
+        if ticket == MOST {
+            return Err((LockSeat::at_end(seat, number), TryFault::Spent));
+        }
+        if table.compare_exchange::<TryDraw>(&mut seat, 0, ticket, ticket + 1) != ticket {
+            return Err((LockSeat::free(seat, number), TryFault::Busy));
+        }
+        match table.exchange(&mut seat, 0, None) {
+            Some(Case { value, seats }) => Ok(Held {
+                seat,
+                value,
+                number,
+                ticket,
+                seats,
+            }),
+            None => unreachable!(),
+        }
+    }
+
+    /// Puts the value back and serves the next ticket. The caller names, for contracts alone, the
+    /// notes that this hold adds to the history.
+    pub fn release(&self, held: Held<S>) -> LockSeat<S>
+        ghost notes: { List S.Note }
+        requires lock { held.lock ≡ self.now }
+        requires notes { MayLeave S.writer S.fixed S.agrees held notes }
+        ensures { result ≡ after_hold held notes }
+    {
+        self.put_back::<Brand>(held)
+    }
+
+    /// `release` where a value tells the notes, so that no caller has to name them in a proof.
+    pub fn release_told<T: Told<S::Note>>(&self, held: Held<S>, told: &T) -> LockSeat<S>
+        requires lock { held.lock ≡ self.now }
+        requires notes { MayLeave S.writer S.fixed S.agrees held (T.notes told.now held.number) }
+        ensures { result ≡ after_hold held (T.notes told.now held.number) }
+    {
+        self.put_told::<Brand, T>(held, told)
+    }
+
+    // What `told` tells is known to `M` alone, as a type.
+    fn put_told<M: Noted<S::Note>, T>(&self, held: Held<S>, told: &T) -> LockSeat<S>
+        requires lock { held.lock ≡ self.now }
+        requires notes { MayLeave S.writer S.fixed S.agrees held M.notes }
+        ensures { result ≡ after_hold held M.notes }
+    {
+        let _ = told;
+        self.put_back::<M>(held)
+    }
+
+    fn put_back<M: Noted<S::Note>>(&self, held: Held<S>) -> LockSeat<S>
+        requires lock { held.lock ≡ self.now }
+        requires notes { MayLeave S.writer S.fixed S.agrees held M.notes }
+        ensures { result ≡ after_hold held M.notes }
+    {
+        let Held {
+            mut seat,
+            value,
+            number,
+            ticket,
+            seats,
+        } = held;
+        let table = &self.table.shared;
+        match table.exchange(&mut seat, 0, Some(Case { value, seats })) {
+            None => {}
+            Some(_) => unreachable!(),
+        }
+        table.store::<Leave<M>>(&mut seat, 1, ticket + 1);
+        LockSeat::free(seat, number)
+    }
+
+    /// A new seat, which has seen what this hold found. Its number is the count of seats before.
+    /// `Spent` comes where there are 2^62 seats.
+    pub fn split(&self, held: &mut Held<S>) -> Result<LockSeat<S>, Spent>
+        requires { held.old.lock ≡ self.now }
+        ensures room { IfOk result (λ _. held.old.seats < most) }
+        ensures host { IfOk result (λ _. held.new ≡ host_hold held.old) }
+        ensures guest { IfOk result (λ f. f ≡ guest_front held.old) }
+        ensures spent { IfErr result (λ _. most ≤ held.old.seats) }
+        ensures unchanged { IfErr result (λ _. held.new ≡ held.old) }
+    {
+        if held.seats >= MOST {
+            return Err(Spent);
+        }
+        let number = held.seats;
+        held.seats += 1;
+        let seat = self.table.shared.split_seat::<Twin>(&mut held.seat);
+        Ok(LockSeat::free(seat, number))
+    }
+
+    /// Ends the lock and gives its value. `StateOut` comes where a drawn ticket was not served to
+    /// its end, as one whose thread was lost: the value is then lost too.
+    pub fn finish(self, last: LockSeat<S>) -> Result<S, StateOut>
+        requires { last.lock ≡ self }
+        ensures { IfOk result (IsLast S.fixed S.agrees last) }
+    {
+        let TicketLock { table } = self;
+        let LockSeat { seat, .. } = last;
+        let mut closed = table.close_with(seat);
+        let next = closed.word(0);
+        let serving = closed.word(1);
+        let slot = closed.take(0);
+        closed.free();
+        if next != serving {
+            return Err(StateOut);
+        }
+        match slot {
+            Some(Case { value, .. }) => Ok(value),
+            None => unreachable!(),
+        }
+    }
+}
+
+// The value of a slot that has one.
+fn taken<S>(slot: Option<Case<S>>) -> S
+    requires { IsSome slot }
+    ensures { IfSome slot (λ c. result ≡ c.value) }
+{
+    match slot {
+        Some(Case { value, .. }) => value,
+        None => unreachable!(),
+    }
+}

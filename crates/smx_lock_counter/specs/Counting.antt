@@ -1,0 +1,52 @@
+-- What a counter's history says, and how one hold serves a call.
+use Rattle.std.specs.Prelude.{◌≡◌, ℕ, ◌+◌, ◌≤◌, ◌<◌, Bool, true, false, List, [], ◌∷◌, Option, Some, None}
+use Rattle.smx_ticket_core.specs.declared.callers.Caller.TheVariants.{Idle}
+use Rattle.smx_lock.specs.Fronts.{Front, Serves}
+use Rattle.smx_lock_counter.specs.declared.counter.Added.{Added}
+use Rattle.smx_lock_counter.specs.declared.counter.Counter.{Counter}
+use Rattle.smx_lock_counter.specs.declared.counter.Deed.{Deed}
+use Rattle.smx_lock_counter.specs.declared.counter.Deed.TheVariants.{Addition, Nothing}
+
+-- the seat that made a note
+abbrev pub by : Added → ℕ
+by n = n.by
+
+-- what all additions make together
+abbrev pub total : List Added → ℕ
+total [] = 0
+total (n ∷ ns) = n.amount + total ns
+
+abbrev pub limit : Counter → ℕ
+limit c = c.limit
+
+abbrev pub agrees : Counter → List Added → Type 0
+agrees c h = c.count ≡ total h
+
+abbrev pub note : ℕ → ℕ → Added
+note k amount = record { by = k; amount = amount }
+
+-- the notes of a deed of the seat k
+abbrev pub notes_told : Deed → ℕ → List Added
+notes_told (Addition amount) k = note k amount ∷ []
+notes_told Nothing k = []
+
+abbrev pub deed_of : Bool → ℕ → Deed
+deed_of true amount = Addition amount
+deed_of false amount = Nothing
+
+-- the front of no seat; an adder never shows it between two calls
+abbrev pub blank : Front Added ℕ
+blank = record { lock = record { table = record { words = 0; slots = 0; views_name = 0; atom = 0; block = 0; offset = 0; slot_names = [] }; fixed = 0 }; caller = Idle; number = 0; seen = []; mine = []; last = 0 }
+
+abbrev pub front_in : Option (Front Added ℕ) → Front Added ℕ
+front_in (Some f) = f
+front_in None = blank
+
+-- one hold served an addition: it was noted exactly where it kept the limit
+abbrev pub AddServes : Front Added ℕ → Front Added ℕ → ℕ → Bool → Type 0
+AddServes f g amount true = (found : List Added) × Serves by f g found (note f.number amount ∷ []) × (total found + amount ≤ f.lock.fixed)
+AddServes f g amount false = (found : List Added) × Serves by f g found [] × (f.lock.fixed < total found + amount)
+
+-- one hold served a look at the count
+abbrev pub ReadServes : Front Added ℕ → Front Added ℕ → ℕ → Type 0
+ReadServes f g count = (found : List Added) × Serves by f g found [] × (count ≡ total found)
