@@ -15,7 +15,7 @@ const ALONE: u64 = 2_000_000;
 const TOGETHER: u64 = 400_000;
 
 /// Prints the time of an uncontended hold in nanoseconds; then, for 2, 4 and 8 threads that add to
-/// a counter, holds in millions a second under each lock, and the first as a share of the second.
+/// a counter, holds in millions a second under each lock, and the Mutex's by the ticket lock's.
 pub fn run<R: Threads + Wait + Sync + Print + Clock + AllocGlobal>(rt: &R) -> anyhow::Result<()> {
     let ticket = alone_under_ticket_lock(rt)?;
     let mutex = alone_under_mutex(rt)?;
@@ -29,10 +29,10 @@ pub fn run<R: Threads + Wait + Sync + Print + Clock + AllocGlobal>(rt: &R) -> an
         let ticket = together_under_ticket_lock(rt, threads, times)?;
         let mutex = together_under_mutex(rt, threads, times)?;
         println!(rt;
-            "{threads} threads, million holds a second: ticket lock {}, std Mutex {}, ratio {}",
+            "{threads} threads, million holds a second: ticket lock {}, std Mutex {} ({} to 1)",
             millions_a_second(TOGETHER, ticket),
             millions_a_second(TOGETHER, mutex),
-            Hundredths::quotient(u128::from(mutex), u128::from(ticket))
+            Hundredths::quotient(u128::from(ticket), u128::from(mutex))
         )?;
     }
     Ok(())
