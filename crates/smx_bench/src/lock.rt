@@ -1,58 +1,63 @@
 //! The ticket lock beside the toolchain's `Mutex`, each round a counter.
 ghost use Rattle.std.specs.Prelude.{◌≡◌, IfOk};
 
-use crate::figures::Hundredths;
+use crate::figures::{Hundredths, nanos_since};
 use smx_lock::{LockSeat, Spent, TicketLock};
 use smx_lock_counter::{Adder, Counter, Deed};
 use std::rt::Clock;
 use std::sync::{Mutex, Wait};
 use std::thread;
 use std::thread::Threads;
-use std::time::{Duration, Instant};
+use std::time::Instant;
 
 const ALONE: u64 = 2_000_000;
 
 const TOGETHER: u64 = 400_000;
 
 /// Prints the time of an uncontended hold in nanoseconds; then, for 2, 4 and 8 threads that add to
-/// a counter, holds in millions a second under each lock, and the first as a share of the second.
+/// a counter, holds in millions a second under each lock, and the Mutex's by the ticket lock's.
 pub fn run<R: Threads + Wait + Sync + Print + Clock + AllocGlobal>(rt: &R) -> anyhow::Result<()> {
     let ticket = alone_under_ticket_lock(rt)?;
     let mutex = alone_under_mutex(rt)?;
     println!(rt;
         "uncontended acquire and release: ticket lock {} ns, std Mutex {} ns",
-        Hundredths::nanos_each(ticket, ALONE),
-        Hundredths::nanos_each(mutex, ALONE)
+        Hundredths::quotient(u128::from(ticket), u128::from(ALONE)),
+        Hundredths::quotient(u128::from(mutex), u128::from(ALONE))
     )?;
     for threads in [2, 4, 8] {
         let times = TOGETHER / threads;
         let ticket = together_under_ticket_lock(rt, threads, times)?;
         let mutex = together_under_mutex(rt, threads, times)?;
         println!(rt;
-            "{threads} threads, million holds a second: ticket lock {}, std Mutex {}, ratio {}",
-            Hundredths::millions_a_second(ticket, TOGETHER),
-            Hundredths::millions_a_second(mutex, TOGETHER),
-            Hundredths::quotient(mutex.as_nanos(), ticket.as_nanos())
+            "{threads} threads, million holds a second: ticket lock {}, std Mutex {} ({} to 1)",
+            millions_a_second(TOGETHER, ticket),
+            millions_a_second(TOGETHER, mutex),
+            Hundredths::quotient(u128::from(ticket), u128::from(mutex))
         )?;
     }
     Ok(())
 }
 
-fn alone_under_ticket_lock<R: Wait + Clock + AllocGlobal>(rt: &R) -> anyhow::Result<Duration> {
+fn millions_a_second(calls: u64, nanos: u64) -> Hundredths {
+    Hundredths::quotient(u128::from(calls) * 1000, u128::from(nanos))
+}
+
+// Each of these measures, and answers in nanoseconds.
+fn alone_under_ticket_lock<R: Wait + Clock + AllocGlobal>(rt: &R) -> anyhow::Result<u64> {
     let (lock, seat) = match TicketLock::new(rt.alloc(), Counter::new(ALONE)) {
         Ok(made) => made,
         Err((_, refused)) => return Err(refused.into()),
     };
     let start = Instant::now(rt)?;
     add_many(rt, &lock, Adder::new(seat), ALONE)?;
-    Ok(start.elapsed(rt)?)
+    Ok(nanos_since(rt, start)?)
 }
 
-fn alone_under_mutex<R: Wait + Clock>(rt: &R) -> anyhow::Result<Duration> {
+fn alone_under_mutex<R: Wait + Clock>(rt: &R) -> anyhow::Result<u64> {
     let mutex = Mutex::new(Counter::new(ALONE));
     let start = Instant::now(rt)?;
     add_many_under_mutex(rt, &mutex, ALONE);
-    Ok(start.elapsed(rt)?)
+    Ok(nanos_since(rt, start)?)
 }
 
 /// What one thread does: it adds 1 so often.
@@ -68,7 +73,7 @@ fn together_under_ticket_lock<R: Threads + Wait + Sync + Clock + AllocGlobal>(
     rt: &R,
     threads: u64,
     times: u64,
-) -> anyhow::Result<Duration> {
+) -> anyhow::Result<u64> {
     let (lock, seat) = match TicketLock::new(rt.alloc(), Counter::new(u64::MAX)) {
         Ok(made) => made,
         Err((_, refused)) => return Err(refused.into()),
@@ -80,7 +85,7 @@ fn together_under_ticket_lock<R: Threads + Wait + Sync + Clock + AllocGlobal>(
         works,
         &|work: Work| { add_many(rt, work.lock, work.adder, work.times) },
     )?;
-    let took = start.elapsed(rt)?;
+    let took = nanos_since(rt, start)?;
     let counter = lock.finish(seat)?;
     anyhow::ensure!(
         counter.count / threads.max(1) == times,
@@ -119,7 +124,7 @@ fn together_under_mutex<R: Threads + Wait + Sync + Clock + AllocGlobal>(
     rt: &R,
     threads: u64,
     times: u64,
-) -> anyhow::Result<Duration> {
+) -> anyhow::Result<u64> {
     let mutex = Mutex::new(Counter::new(u64::MAX));
     let mut works = Vec::new(rt.alloc());
     for _ in 0..threads {
@@ -131,7 +136,7 @@ fn together_under_mutex<R: Threads + Wait + Sync + Clock + AllocGlobal>(
         works,
         &|times: u64| add_many_under_mutex(rt, &mutex, times),
     )?;
-    Ok(start.elapsed(rt)?)
+    Ok(nanos_since(rt, start)?)
 }
 
 // Two seats for one.

@@ -119,7 +119,7 @@ module _ {S N F : Type 0} where
     pub agrees : suits h.value (h.found ++ new)
     pub fixed : fixed_of h.value ≡ h.lock.fixed
 
--- a try that failed: every ticket was drawn, or another caller was there and nothing changed
+-- a try that failed: every ticket was drawn, or another caller was there and nothing changed; a seat that was spent before is spent
 abbrev pub Refused : {N F : Type 0} → Front N F → Front N F → TryFault → Type 0
 Refused f g Spent = IsSpent f g
-Refused f g Busy = g ≡ f
+Refused f g Busy = (g ≡ f) × (f.caller ≡ Idle)

@@ -30,12 +30,15 @@ Seated S N F = Me (Option (Case S)) (View N F)
 
 -- what the rule says of one seat: of the history h, the ticket served, the count of seats and whether the value is out
 pub record Knows {N F : Type 0} (writer : N → ℕ) (fixed : F) (h : List N) (serving seats j : ℕ) (out : Type 0) (v : View N F) : Type 0 where
+  -- numbers are distinct, since each is the seat's place
   pub number : v.number ≡ j
   pub made_with : v.fixed ≡ fixed
   pub saw : IsPrefix v.seen h
+  -- its own notes stand in the history, and in what it has seen, each once and in order
   pub own : notes_of writer v.number h ≡ v.mine
   pub own_seen : notes_of writer v.number v.seen ≡ v.mine
   pub last : v.last ≤ serving
+  -- a holder has seen all, and the value is out with it
   pub holds : (t : ℕ) → v.caller ≡ Holding t → (v.seen ≡ h) × (v.seats ≡ seats) × out
 
 -- a value that agrees with h, under the fixed part and the count of seats

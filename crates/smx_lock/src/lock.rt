@@ -49,6 +49,7 @@ impl<S: Kept> TicketLock<S> {
     }
 
     /// The same, with the first ticket given: for tests of what comes when tickets end.
+    // No clause sees a word of the table, so none says where the words start. A test shows it.
     pub fn new_at(
         alloc: Global,
         value: S,
@@ -259,6 +260,8 @@ impl<S: Kept> TicketLock<S> {
 
     /// Ends the lock and gives its value. `StateOut` comes where a drawn ticket was not served to
     /// its end, as one whose thread was lost: the value is then lost too.
+    // No clause sees the words, so none says when `StateOut` comes, and a body that always answers
+    // it is proved. Tests show both answers.
     pub fn finish(self, last: LockSeat<S>) -> Result<S, StateOut>
         requires { last.lock ≡ self }
         ensures { IfOk result (IsLast S.fixed S.agrees last) }

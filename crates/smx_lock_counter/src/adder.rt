@@ -96,6 +96,7 @@ impl Adder {
 
     /// Ends the lock and gives its counter, which agrees with a history that begins with all that
     /// this adder has seen.
+    // As of the lock's own `finish`, no clause says when `StateOut` comes.
     pub fn finish(self, lock: TicketLock<Counter>) -> Result<Counter, StateOut>
         requires { self.lock ≡ lock }
         ensures { IfOk result (IsLast limit agrees self) }
