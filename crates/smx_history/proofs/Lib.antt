@@ -19,3 +19,12 @@ pub mod Unseen
 pub mod AdmitAgrees
 pub mod RetireAgrees
 pub mod Beginning
+pub mod Nth
+pub mod Parts
+pub mod Following
+pub mod Kept
+pub mod FitsAdmit
+pub mod FitsAccept
+pub mod FitsTake
+pub mod FitsSettle
+pub mod FitsCollect

@@ -47,7 +47,7 @@ sum_part f p (x ∷ xs) = sum_part_at (p x) (sum_part f p xs)
     sum_part_at true le = omega (arith, le, sum_by-cons f x (filter p xs), sum_by-cons f x xs)
     sum_part_at false le = omega (arith, le, sum_by-cons f x xs)
 
-length_part : {X : Type 0} (p : X → Bool) (xs : List X) → length (filter p xs) ≤ length xs
+pub length_part : {X : Type 0} (p : X → Bool) (xs : List X) → length (filter p xs) ≤ length xs
 length_part p [] = omega arith
 length_part p (x ∷ xs) = length_part_at (p x) (length_part p xs)
   where

@@ -14,7 +14,7 @@ use Rattle.smx_history.proofs.Reading.{All-from_get, All-each, answer_accepted}
 use Rattle.smx_history.proofs.Taking.{any_none, filter_none, any_weaker}
 
 -- numbers that rise are none above the last
-rise_last : (low : ℕ) (xs : List ℕ) → RiseAbove low xs → (low ≤ last_or low xs) × AllByRecursion (λ x. x ≤ last_or low xs) xs
+pub rise_last : (low : ℕ) (xs : List ℕ) → RiseAbove low xs → (low ≤ last_or low xs) × AllByRecursion (λ x. x ≤ last_or low xs) xs
 rise_last low [] rise = (omega arith, tt)
 rise_last low (x ∷ xs) rise = let rest = rise_last x xs rise.1 in (omega (arith, rest.0, rise.0), (rest.0, rest.1))
 
