@@ -23,7 +23,7 @@ bounds_kept limits es e a t s c r h = record {
     client = λ d gone. rw (accepts_of-other d es e a, collects_of-other d es e c) (h.client d (sym (is_retired-other d es e r) ∙ gone));
   }
 
-clients_admitted : (es : List Entry) (e : Entry) → e.kind ≡ kind.Admit → map (λ x. x.client) (admits (es ++ e ∷ [])) ≡ map (λ x. x.client) (admits es) ++ e.client ∷ []
+pub clients_admitted : (es : List Entry) (e : Entry) → e.kind ≡ kind.Admit → map (λ x. x.client) (admits (es ++ e ∷ [])) ≡ map (λ x. x.client) (admits es) ++ e.client ∷ []
 clients_admitted es e k = ap (map (λ (x : Entry). x.client)) (filter_push (λ x. is_admit x.kind) es e (ap is_admit k)) ∙ map-append (λ x. x.client) (admits es) (e ∷ [])
 
 admit_to : (limits : Limits) (t : Totals) (es : List Entry) (e : Entry) → IsLegal limits es → Counted es t → e.kind ≡ kind.Admit → admit_fits t e ≡ true → Fits limits es e

@@ -127,14 +127,18 @@ take_to limits t es e legal k p =
       };
     }
 
+-- the first take of that name
+pub taken_first : (limits : Limits) (es : List Entry) (e : Entry) → Fits limits es e → e.kind ≡ kind.Take → is_taken e.client e.ordinal es ≡ false
+taken_first limits es e fits k =
+    let few = fits.once.takes e.client e.ordinal in
+    count_none_any (λ x. is_take x.kind && has_name e.client e.ordinal x) es
+      (omega (arith, few, count_one (λ x. is_take x.kind && has_name e.client e.ordinal x) es e (and_from _ _ (ap is_take k) (own_name e))))
+
 take_from : (limits : Limits) (t : Totals) (es : List Entry) (e : Entry) → IsLegal limits es → e.kind ≡ kind.Take → Fits limits es e → Passes limits t es e
 take_from limits t es e legal k fits =
     let form : HasForm kind.Take e = rw k at fits.form in
     let paired : IsPaired kind.Take es e = rw k at fits.pairing in
-    let few = fits.once.takes e.client e.ordinal in
-    let first : is_taken e.client e.ordinal es ≡ false =
-      count_none_any (λ x. is_take x.kind && has_name e.client e.ordinal x) es
-        (omega (arith, few, count_one (λ x. is_take x.kind && has_name e.client e.ordinal x) es e (and_from _ _ (ap is_take k) (own_name e)))) in
+    let first = taken_first limits es e fits k in
     let push = unanswered_taken es e k (untaken_unsettled es e.client e.ordinal legal.pairing first) in
     let starts : StartsWith (map name_of (accepts es)) (map name_of (takes es) ++ name_of e ∷ []) =
       rw (takes_push es e k, accepts-other es e (ap is_accept k), map-append name_of (takes es) (e ∷ [])) at fits.fifo.taken in

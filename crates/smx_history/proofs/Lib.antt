@@ -28,3 +28,6 @@ pub mod FitsAccept
 pub mod FitsTake
 pub mod FitsSettle
 pub mod FitsCollect
+pub mod Counting
+pub mod CountedEntries
+pub mod CountedSettle
