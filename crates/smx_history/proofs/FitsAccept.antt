@@ -39,7 +39,7 @@ record Passes (limits : Limits) (t : Totals) (es : List Entry) (e : Entry) : Typ
   queue : t.queued < limits.queue
   client : length (accepts_of e.client es) < length (collects_of e.client es) + limits.client
 
-passes_from : (limits : Limits) (t : Totals) (es : List Entry) (e : Entry) → accept_fits limits t es e ≡ true → Passes limits t es e
+passes_from : (limits : Limits) (t : Totals) (es : List Entry) (e : Entry) → accept_fits limits.queue limits.client t es e ≡ true → Passes limits t es e
 passes_from limits t es e test =
     let a = and_parts _ _ test in
     let b = and_parts _ _ a.0 in
@@ -56,7 +56,7 @@ passes_from limits t es e test =
       client = ltb-true _ _ a.1;
     }
 
-passes_to : (limits : Limits) (t : Totals) (es : List Entry) (e : Entry) → Passes limits t es e → accept_fits limits t es e ≡ true
+passes_to : (limits : Limits) (t : Totals) (es : List Entry) (e : Entry) → Passes limits t es e → accept_fits limits.queue limits.client t es e ≡ true
 passes_to limits t es e p =
     and_from _ _ (and_from _ _ (and_from _ _ (and_from _ _ (and_from _ _ p.forwarded (and_from _ _ p.served.0 (ap not p.served.1))) (lt-ltb _ _ p.positive)) (ap not p.rises)) (lt-ltb _ _ p.queue)) (lt-ltb _ _ p.client)
 
@@ -113,6 +113,6 @@ accept_from limits t es e legal counted k fits =
       client = omega (arith, client, length-append (accepts_of e.client es) (e ∷ []));
     }
 
-pub accept_iff : (limits : Limits) (t : Totals) (es : List Entry) (e : Entry) (b : Bool) → IsLegal limits es → Counted es t → e.kind ≡ kind.Accept → b ≡ accept_fits limits t es e → (b ≡ true) ↔ Fits limits es e
+pub accept_iff : (limits : Limits) (t : Totals) (es : List Entry) (e : Entry) (b : Bool) → IsLegal limits es → Counted es t → e.kind ≡ kind.Accept → b ≡ accept_fits limits.queue limits.client t es e → (b ≡ true) ↔ Fits limits es e
 accept_iff limits t es e b legal counted k is =
     (λ h. accept_to limits t es e legal counted k (passes_from limits t es e (sym is ∙ h)), λ fits. is ∙ passes_to limits t es e (accept_from limits t es e legal counted k fits))

@@ -31,3 +31,4 @@ pub mod FitsCollect
 pub mod Counting
 pub mod CountedEntries
 pub mod CountedSettle
+pub mod Steps

@@ -78,10 +78,10 @@ is_bare e = (e.number == 0) && (e.command == 0)
 abbrev pub admit_fits : Totals → Entry → Bool
 admit_fits t e = (e.ordinal == 0) && is_bare e && nat_lt t.greatest e.client
 
-abbrev pub accept_fits : Limits → Totals → List Entry → Entry → Bool
-accept_fits l t es e =
+abbrev pub accept_fits : ℕ → ℕ → Totals → List Entry → Entry → Bool
+accept_fits queue client t es e =
     is_forwarded e.command && is_served es e && nat_lt 0 e.ordinal && not (has_reached e.client e.ordinal es)
-    && nat_lt t.queued l.queue && nat_lt (length (accepts_of e.client es)) (length (collects_of e.client es) + l.client)
+    && nat_lt t.queued queue && nat_lt (length (accepts_of e.client es)) (length (collects_of e.client es) + client)
 
 abbrev pub take_fits : Limits → Totals → List Entry → Entry → Bool
 take_fits l t es e =

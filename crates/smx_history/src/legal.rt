@@ -28,16 +28,17 @@ fn admit_fits(totals: Totals, entry: Entry) -> bool
     entry.ordinal == 0 && is_bare(entry) && totals.greatest < entry.client
 }
 
-fn accept_fits(limits: Limits, totals: Totals, before: &[Entry], entry: Entry) -> bool
-    ensures { result ≡ accept_fits limits totals before.now entry }
+fn accept_fits(queue: u32, client: u32, totals: Totals, before: &[Entry], entry: Entry) -> bool
+    requires { length before.now < 2 ^ 32 }
+    ensures { result ≡ accept_fits queue client totals before.now entry }
 {
     is_forwarded(entry.command)
         && is_served(before, entry)
         && 0 < entry.ordinal
         && !scan::has_reached(before, entry.client, entry.ordinal)
-        && totals.queued < limits.queue as usize
+        && totals.queued < queue as usize
         && scan::accepts_of(before, entry.client)
-            < scan::collects_of(before, entry.client) + limits.client as usize
+            < scan::collects_of(before, entry.client) + client as usize
 }
 
 // Whether the request of that name is the next to be taken.
@@ -116,13 +117,14 @@ fn retire_fits(before: &[Entry], entry: Entry) -> bool
 
 // Whether the entry may follow, but for the size.
 fn fits(limits: Limits, totals: Totals, before: &[Entry], entry: Entry) -> bool
+    requires small { limits.history < 2 ^ 32 }
     requires legal { IsLegal limits before.now }
     requires counted { Counted before.now totals }
     ensures { IsTrue result ↔ Fits limits before.now entry }
 {
     match entry.kind {
         Kind::Admit => admit_fits(totals, entry),
-        Kind::Accept => accept_fits(limits, totals, before, entry),
+        Kind::Accept => accept_fits(limits.queue, limits.client, totals, before, entry),
         Kind::Take => take_fits(limits, totals, before, entry),
         Kind::Answer => answer_fits(before, entry),
         Kind::Late => late_fits(before, entry),
@@ -133,10 +135,13 @@ fn fits(limits: Limits, totals: Totals, before: &[Entry], entry: Entry) -> bool
 
 // The totals with one entry more.
 fn after(limits: Limits, totals: Totals, before: &[Entry], entry: Entry) -> Totals
+    requires small { limits.history < 2 ^ 32 }
     requires legal { IsLegal limits before.now }
     requires counted { Counted before.now totals }
     requires fits { Fits limits before.now entry }
-    ensures { Counted (before.now ++ entry ∷ []) result }
+    ensures counted { Counted (before.now ++ entry ∷ []) result }
+    ensures near { (result.queued ≤ totals.queued + 1) × (result.unanswered ≤ totals.unanswered + 1)
+        × (result.waiting ≤ totals.waiting + 1) × (result.present ≤ totals.present + 1) }
 {
     match entry.kind {
         Kind::Admit => Totals {
@@ -187,11 +192,19 @@ fn size(stored: usize, totals: Totals) -> usize
     stored + 3 * totals.queued + 2 * totals.unanswered + totals.waiting + totals.present
 }
 
+// The greatest size.
+fn history_of(limits: Limits) -> u32
+    ensures { result ≡ limits.history }
+{
+    limits.history
+}
+
 /// Whether the entries are those of a legal history under the limits: the history of a lane with
 /// these limits that began with no entry. The time grows with the square of the number of entries.
 pub fn is_legal(entries: &[Entry], limits: Limits) -> bool
     ensures { IsTrue result ↔ IsLegal limits entries.now }
 {
+    let history = history_of(limits);
     let mut totals = Totals::none();
     for at in 0..entries.len() {
         let before = &entries[..at];
@@ -200,7 +213,7 @@ pub fn is_legal(entries: &[Entry], limits: Limits) -> bool
             return false;
         }
         totals = after(limits, totals, before, entry);
-        if size(at + 1, totals) > limits.history as usize {
+        if size(at + 1, totals) > history as usize {
             return false;
         }
     }

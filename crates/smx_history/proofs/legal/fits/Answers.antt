@@ -1,3 +1,5 @@
+use Rattle.std.proofs.Common.{arith}
+use Rattle.smx_history.proofs.Following.{IsLegal-within}
 use Rattle.smx_history.proofs.FitsAdmit.{admit_iff}
 use Rattle.smx_history.proofs.FitsAccept.{accept_iff}
 use Rattle.smx_history.proofs.FitsTake.{take_iff}
@@ -25,3 +27,6 @@ returns-in-Collect c = collect_iff c.args.limits c.args.before.now c.args.entry 
 
 pub returns-in-Retire : goal.returns-in-Retire
 returns-in-Retire c = retire_iff c.args.limits c.args.before.now c.args.entry _ c.requires.legal c.in-Retire.is c.retire_fits.ensures
+
+pub accept_fits-requires : goal.accept_fits-requires
+accept_fits-requires c = let w = IsLegal-within c.args.limits c.args.before.now c.requires.legal in omega (arith, w, c.requires.small)

@@ -1,41 +1,57 @@
-use Rattle.std.proofs.Common.{rules, ◌≡◌, ◌≤◌, ◌+◌, ◌-◌, ◌*◌, ◌<◌, ◌^◌, ◌↔◌, [], ◌∷◌, ◌++◌, ◌&&◌, IsTrue, not, length, ℕ, ◌/◌, ◌%◌, Bool, true, false, nat_eq, nat_lt, List, slice_index_or, slice_set, bit_and, bit_or, w8, w32, w64, Bor, MutBor}
-use Rattle.smx_history.specs.Entries.{is_retired}
-use Rattle.smx_history.specs.Legal.{IsLegal, size}
-use Rattle.smx_history.specs.Checks.{Counted, Fits, is_bare, is_served, is_next, is_response, is_oldest, admit_fits, accept_fits, take_fits, settle_fits, answer_fits, late_fits, collect_fits, retire_fits}
+use Rattle.std.proofs.Common.{rules, ◌≡◌, ◌≤◌, ◌+◌, ◌*◌, ◌<◌, ◌∙◌, sym, true, false, arith, refl, get_or, take, ap, not}
+use Rattle.std.proofs.lemmas.Bool.{false≢true}
+use Rattle.smx_history.proofs.Beginning.{IsLegal-empty}
+use Rattle.smx_history.proofs.Following.{IsLegal-fits}
+use Rattle.smx_history.proofs.Steps.{legal_step, counted_step, legal_prefix, legal_end, size_counted, within_counted, totals_small}
 use Rattle.smx_history.proofs.legal.is_legal.Goals as goal
 
--- src/legal.rt:196:5
 pub loop-at-init : goal.loop-at-init
-loop-at-init c = ?
+loop-at-init c = record { legal = IsLegal-empty c.args.limits; counted = c.none-totals.ensures }
 
--- src/legal.rt:199:13
 pub fits-requires-clause-legal : goal.fits-requires-clause-legal
-fits-requires-clause-legal c = ?
+fits-requires-clause-legal c = c.loop-at.invariant.legal
 
--- src/legal.rt:199:13
 pub fits-requires-clause-counted : goal.fits-requires-clause-counted
-fits-requires-clause-counted c = ?
+fits-requires-clause-counted c = c.loop-at.invariant.counted
 
--- src/legal.rt:200:13
+pub fits-requires-clause-small : goal.fits-requires-clause-small
+fits-requires-clause-small c = omega (arith, c.history_of-history.ensures, c.history_of-history.type_inv)
+
 pub returns-then-not-fits : goal.returns-then-not-fits
-returns-then-not-fits c = ?
+returns-then-not-fits c =
+    (λ h. absurd (false≢true h),
+      λ legal. sym c.if-not-fits.true ∙ c.fits.ensures.1 (IsLegal-fits c.args.limits (take c.loop-at.at c.args.entries.now) _ (legal_prefix c.args.limits c.args.entries.now c.loop-at.at _ c.loop-at-test.true legal)))
 
--- src/legal.rt:202:9
+pub after-totals-requires-clause-small : goal.after-totals-requires-clause-small
+after-totals-requires-clause-small c = omega (arith, c.history_of-history.ensures, c.history_of-history.type_inv)
+
+pub after-totals-requires-clause-fits : goal.after-totals-requires-clause-fits
+after-totals-requires-clause-fits c = c.fits.ensures.0 c.if-not-fits.false
+
 pub after-totals-requires-clause-legal : goal.after-totals-requires-clause-legal
-after-totals-requires-clause-legal c = ?
+after-totals-requires-clause-legal c = c.loop-at.invariant.legal
 
--- src/legal.rt:202:9
 pub after-totals-requires-clause-counted : goal.after-totals-requires-clause-counted
-after-totals-requires-clause-counted c = ?
+after-totals-requires-clause-counted c = c.loop-at.invariant.counted
 
--- src/legal.rt:203:12
 pub size-requires : goal.size-requires
-size-requires c = ?
+size-requires c =
+    let small = totals_small c.args.limits c.args.entries.now c.loop-at.at c.loop-at.totals c.loop-at-test.true c.loop-at.invariant.legal c.loop-at.invariant.counted in
+    let near = c.after-totals.ensures.near in
+    omega (arith, small, near.0, near.1, near.2, near.3, c.history_of-history.ensures, c.history_of-history.type_inv)
 
--- src/legal.rt:196:5
+pub returns-then-size-history : goal.returns-then-size-history
+returns-then-size-history c =
+    (λ h. absurd (false≢true h),
+      λ legal. let le = within_counted c.args.entries.now c.loop-at.at c.size.result _ c.after-totals.result c.args.limits c.loop-at-test.true c.after-totals.ensures.counted c.size.ensures (legal_prefix c.args.limits c.args.entries.now c.loop-at.at _ c.loop-at-test.true legal) in
+        absurd (omega (arith, le, c.if-size-history.true, c.history_of-history.ensures)))
+
 pub loop-at-preserved : goal.loop-at-preserved
-loop-at-preserved c = ?
+loop-at-preserved c = record {
+    legal = legal_step c.args.limits c.args.entries.now c.loop-at.at _ c.loop-at-test.true c.loop-at.invariant.legal (c.fits.ensures.0 c.if-not-fits.false)
+      (size_counted c.args.entries.now c.loop-at.at c.size.result _ c.after-totals.result c.args.limits c.loop-at-test.true c.after-totals.ensures.counted c.size.ensures (omega (arith, c.if-size-history.false, c.history_of-history.ensures)));
+    counted = counted_step c.args.entries.now c.loop-at.at _ c.after-totals.result c.loop-at-test.true c.after-totals.ensures.counted;
+  }
 
--- src/legal.rt:192:1
 pub returns : goal.returns
-returns c = ?
+returns c = (λ _. legal_end c.args.limits c.args.entries.now c.loop-at.at c.loop-at-test.false c.loop-at.auto.at-end c.loop-at.invariant.legal, λ _. refl)
