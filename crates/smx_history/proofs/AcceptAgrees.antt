@@ -52,9 +52,9 @@ once-accepted es by r above h =
     let e = entry_by by (Accept r) in
     record {
       ordinals = λ c. elim (cases_eq r.client c) [
-          inl same ↦ rw (accepts_of-push c es by r same, map-append (λ x. x.ordinal) (accepts_of c es) (e ∷ [])) (RiseAbove-push 0 (map (λ x. x.ordinal) (accepts_of c es)) r.ordinal (h.ordinals c) (rw (← same) above))
-          | inr apart ↦ rw (accepts_of-other_client c es by r apart) (h.ordinals c)
-        ];
+        | inl same ↦ rw (accepts_of-push c es by r same, map-append (λ x. x.ordinal) (accepts_of c es) (e ∷ [])) (RiseAbove-push 0 (map (λ x. x.ordinal) (accepts_of c es)) r.ordinal (h.ordinals c) (rw (← same) above))
+        | inr apart ↦ rw (accepts_of-other_client c es by r apart) (h.ordinals c)
+      ];
       takes = λ c n. omega (arith, count_by-push (λ x. is_take x.kind && has_name c n x) es e, h.takes c n);
       settlings = λ c n. omega (arith, count_by-push (λ x. is_settling x.kind && has_name c n x) es e, h.settlings c n);
     }
@@ -72,7 +72,7 @@ size-accepted : (es : List Entry) (by : ℕ) (r : Request) → length (takes es)
 size-accepted es by r le =
     let e = entry_by by (Accept r) in
     rw (unanswered-other es e refl refl, waiting-other es e refl refl refl refl, present-other es e refl refl, accepts-push es by r, takes-other es e refl)
-      (omega (arith, length-append es (e ∷ []), length-append (accepts es) (e ∷ [])))
+    (omega (arith, length-append es (e ∷ []), length-append (accepts es) (e ∷ [])))
 
 bounds-accepted : (limits : Limits) (es : List Entry) (by : ℕ) (r : Request) → MayAccept limits es by r → IsBounded limits es → IsBounded limits (es ++ entry_by by (Accept r) ∷ [])
 bounds-accepted limits es by r may h =
@@ -81,11 +81,11 @@ bounds-accepted limits es by r may h =
       queue = rw (accepts-push es by r, takes-other es e refl) (omega (arith, length-append (accepts es) (e ∷ []), may.queue));
       window = rw (unanswered-other es e refl refl) h.window;
       client = λ c gone.
-        let was : is_retired c es ≡ false = sym (is_retired-other c es e refl) ∙ gone in
-        elim (cases_eq r.client c) [
-          inl same ↦ rw (accepts_of-push c es by r same, collects_of-other c es e refl) (let m = may.client in let m' = rw same at m in omega (arith, length-append (accepts_of c es) (e ∷ []), m'))
-          | inr apart ↦ rw (accepts_of-other_client c es by r apart, collects_of-other c es e refl) (h.client c was)
-        ];
+          let was : is_retired c es ≡ false = sym (is_retired-other c es e refl) ∙ gone in
+          elim (cases_eq r.client c) [
+            | inl same ↦ rw (accepts_of-push c es by r same, collects_of-other c es e refl) (let m = may.client in let m' = rw same at m in omega (arith, length-append (accepts_of c es) (e ∷ []), m'))
+            | inr apart ↦ rw (accepts_of-other_client c es by r apart, collects_of-other c es e refl) (h.client c was)
+          ];
     }
 
 within-accepted : (limits : Limits) (es : List Entry) (by : ℕ) (r : Request) → size es + 4 ≤ limits.history → IsFifo es → IsWithin limits (es ++ entry_by by (Accept r) ∷ [])
@@ -113,7 +113,7 @@ zip-with_row R S c f here there [] (m ∷ ms) z = z
 zip-with_row R S c f here there (a ∷ us) [] z = z
 zip-with_row R S c f here there (a ∷ us) (m ∷ ms) z =
     let head : S a (cond (m.client == c) (f m) m) =
-      cond_both (m.client == c) (f m) m (S a) (λ e. here a m (eqb-true m.client c e) z.0) (λ e. there a m (eqb-false m.client c e) z.0) in
+    cond_both (m.client == c) (f m) m (S a) (λ e. here a m (eqb-true m.client c e) z.0) (λ e. there a m (eqb-false m.client c e) z.0) in
     (head, zip-with_row R S c f here there us ms z.1)
 
 -- the accepted request's client has one more pending, and the request's ordinal is its last
@@ -178,12 +178,12 @@ AgreesWith-accepted h v by r m a found ok above own =
     record {
       legal = rw push (IsLegal-accepted v.limits es by r (may_accept h v by r m a found ok above own) a.legal);
       after = record {
-      queue = rw (push, takes-other es e refl, requests-push h by r, drop-append-le (length (takes es)) (requests h) (r ∷ []) (omega (arith, takes-le-accepts es fifo, length-requests h))) (ap (λ q. q ++ r ∷ []) a.after.queue);
-      window = rw (push, unanswered-other es e refl refl, places-kept es (e ∷ []) fifo) a.after.window;
-      members = rw (push, present-other es e refl refl)
-        (zip-with_row (IsMemberAfter h) (IsMemberAfter (h ++ n ∷ [])) r.client (λ x. record x { last = r.ordinal; pending = x.pending + 1 })
-          (λ x y same is. member-accepted h by r x y a.legal.pairing same is) (λ x y apart is. member-accepted_other h by r x y a.legal.pairing apart is) (present es) v.members a.after.members);
-      greatest = rw (push, admits-other es e refl) a.after.greatest;
-      entries = rw push (ap (λ xs. xs ++ e ∷ []) a.after.entries);
+        queue = rw (push, takes-other es e refl, requests-push h by r, drop-append-le (length (takes es)) (requests h) (r ∷ []) (omega (arith, takes-le-accepts es fifo, length-requests h))) (ap (λ q. q ++ r ∷ []) a.after.queue);
+        window = rw (push, unanswered-other es e refl refl, places-kept es (e ∷ []) fifo) a.after.window;
+        members = rw (push, present-other es e refl refl)
+            (zip-with_row (IsMemberAfter h) (IsMemberAfter (h ++ n ∷ [])) r.client (λ x. record x { last = r.ordinal; pending = x.pending + 1 })
+            (λ x y same is. member-accepted h by r x y a.legal.pairing same is) (λ x y apart is. member-accepted_other h by r x y a.legal.pairing apart is) (present es) v.members a.after.members);
+        greatest = rw (push, admits-other es e refl) a.after.greatest;
+        entries = rw push (ap (λ xs. xs ++ e ∷ []) a.after.entries);
       };
     }

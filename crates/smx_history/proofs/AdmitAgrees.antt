@@ -42,8 +42,8 @@ admit_allowed v c above room = rw (lt-leb c v.greatest above, room) refl
 pub admit_fresh : (v : Content) (c : ℕ) → admit_refusal v c ≡ None → IsFresh v c
 admit_fresh v c h =
     elim (cases_lt v.greatest c) [
-      inl above ↦ elim (cases_Bool (has_room v)) [
-        inl room ↦ record { above = above; room = leb-true _ _ room }
+      | inl above ↦ elim (cases_Bool (has_room v)) [
+        | inl room ↦ record { above = above; room = leb-true _ _ room }
         | inr full ↦ absurd (let x : Some HistoryFull ≡ None = sym (admit_full v c above full) ∙ h in cc)
       ]
       | inr known ↦ absurd (let x : Some Known ≡ None = sym (admit_known v c known) ∙ h in cc)
@@ -66,12 +66,12 @@ KeepsRoom-admitted v by c k allowed =
       window = k.window;
       size = omega (arith, e, n, w, fresh.room);
       boxes = All-push (FitsBox (admitted v by c)) v.members (new_row by c) k.boxes
-        (omega (arith, k.queue_known c fresh.above, k.window_known c fresh.above), omega arith);
+          (omega (arith, k.queue_known c fresh.above, k.window_known c fresh.above), omega arith);
       queue_known = λ d above. k.queue_known d (omega (arith, above, fresh.above));
       window_known = λ d above. k.window_known d (omega (arith, above, fresh.above));
       members_known = All-push (λ m. m.client ≤ c) v.members (new_row by c) (All-each (λ m. m.client ≤ v.greatest) (λ m. m.client ≤ c) (λ m h. omega (arith, h, fresh.above)) v.members k.members_known) (omega arith);
       clients = rw (map-append (λ m. m.client) v.members (new_row by c ∷ []))
-        (RiseAbove-push 0 (map (λ m. m.client) v.members) c k.clients (let l = last_within 0 v.greatest v.members (omega arith) k.members_known in omega (arith, l, fresh.above)));
+          (RiseAbove-push 0 (map (λ m. m.client) v.members) c k.clients (let l = last_within 0 v.greatest v.members (omega arith) k.members_known in omega (arith, l, fresh.above)));
     }
 
 pub zip-push : {X Y : Type 0} (R : X → Y → Type 0) (xs : List X) (ys : List Y) (x : X) (y : Y) → AllZip R xs ys → R x y → AllZip R (xs ++ x ∷ []) (ys ++ y ∷ [])
@@ -99,7 +99,7 @@ member-admitted h by c none =
     let n = note by (Admit c) in
     let push = entries_of-push h n in
     let came : responses c (h ++ n ∷ []) ≡ [] =
-      responses-other c h n refl ∙ empty_of (responses c h) (length-responses c h ∙ ap length none.answers) in
+    responses-other c h n refl ∙ empty_of (responses c h) (length-responses c h ∙ ap length none.answers) in
     record {
       client = refl;
       by = refl;
@@ -119,7 +119,7 @@ IsAfter-admitted h v by c a none =
       queue = rw (push, takes-other es e refl, requests-other h n refl) a.after.queue;
       window = rw (push, unanswered-other es e refl refl, places-kept es (e ∷ []) fifo) a.after.window;
       members = rw (push, present-admitted es by c none.retired)
-        (zip-push (IsMemberAfter (h ++ n ∷ [])) (present es) v.members e (new_row by c)
+          (zip-push (IsMemberAfter (h ++ n ∷ [])) (present es) v.members e (new_row by c)
           (zip-each (IsMemberAfter h) (IsMemberAfter (h ++ n ∷ [])) (λ x m is. IsMemberAfter-other h n x m refl refl refl a.legal.pairing is) (present es) v.members a.after.members)
           (member-admitted h by c none));
       greatest = rw (push, filter_push (λ x. is_admit x.kind) es e refl, map-append (λ x. x.client) (admits es) (e ∷ []), last_or-push 0 (map (λ x. x.client) (admits es)) c) refl;

@@ -48,17 +48,17 @@ taken_places : (es : List Entry) → IsFifo es → AllByRecursion (λ t. is_take
 unfolding is_taken
 taken_places es fifo =
     let taken : AllByRecursion (λ t. list_any (λ x. is_take x.kind && (has_name t.client t.ordinal x && (x.number == t.number))) es ≡ true) (takes es) =
-      All-filtered (λ t. list_any (λ x. is_take x.kind && (has_name t.client t.ordinal x && (x.number == t.number))) es ≡ true) (λ t. is_take t.kind) es
-        (All-from_get (λ t. is_take t.kind ≡ true → list_any (λ x. is_take x.kind && (has_name t.client t.ordinal x && (x.number == t.number))) es ≡ true) es (λ k t at take.
-          any_at (λ x. is_take x.kind && (has_name t.client t.ordinal x && (x.number == t.number))) es k t at
-            (and_from _ _ take (and_from _ _ (and_from _ _ (eq-eqb t.client t.client refl) (eq-eqb t.ordinal t.ordinal refl)) (eq-eqb t.number t.number refl))))) in
+    All-filtered (λ t. list_any (λ x. is_take x.kind && (has_name t.client t.ordinal x && (x.number == t.number))) es ≡ true) (λ t. is_take t.kind) es
+    (All-from_get (λ t. is_take t.kind ≡ true → list_any (λ x. is_take x.kind && (has_name t.client t.ordinal x && (x.number == t.number))) es ≡ true) es (λ k t at take.
+    any_at (λ x. is_take x.kind && (has_name t.client t.ordinal x && (x.number == t.number))) es k t at
+    (and_from _ _ take (and_from _ _ (and_from _ _ (eq-eqb t.client t.client refl) (eq-eqb t.ordinal t.ordinal refl)) (eq-eqb t.number t.number refl))))) in
     All-filtered (λ t. is_taken es (place_of es t) ≡ true) (λ t. not (is_settled t.client t.ordinal es)) (takes es)
-      (both (takes es) taken (takes_accepted es fifo))
+    (both (takes es) taken (takes_accepted es fifo))
   where
     both : (us : List Entry) → AllByRecursion (λ t. list_any (λ x. is_take x.kind && (has_name t.client t.ordinal x && (x.number == t.number))) es ≡ true) us → AllByRecursion (λ t. is_accepted t.client t.ordinal es ≡ true) us → AllByRecursion (λ t. not (is_settled t.client t.ordinal es) ≡ true → is_taken es (place_of es t) ≡ true) us
     both [] a b = tt
     both (t ∷ us) a b =
-      ((λ n. and_from _ _ a.0 (and_from _ _ n (and_from _ _ b.0 (and_from _ _ (eq-eqb (own_of t.client t.ordinal es) _ refl) (eq-eqb (command_of t.client t.ordinal es) _ refl))))), both us a.1 b.1)
+        ((λ n. and_from _ _ a.0 (and_from _ _ n (and_from _ _ b.0 (and_from _ _ (eq-eqb (own_of t.client t.ordinal es) _ refl) (eq-eqb (command_of t.client t.ordinal es) _ refl))))), both us a.1 b.1)
 
 taken_from : (es : List Entry) (q : Place) → is_taken es q ≡ true → IsTaken es q
 unfolding is_taken
@@ -75,7 +75,7 @@ place_taken h v i q a within is =
     let es = entries_of h in
     let fifo = AtEachPrefix-whole IsFifo es a.legal.fifo in
     let none : list_any (λ x. not (is_taken es x)) (window_after h) ≡ false =
-      any_map_none (unanswered es) (taken_places es fifo) in
+    any_map_none (unanswered es) (taken_places es fifo) in
     taken_from es q (All-same (is_taken es) (window_after h) v.window a.after.window none i q within is)
   where
     any_map_none : (us : List Entry) → AllByRecursion (λ t. is_taken (entries_of h) (place_of (entries_of h) t) ≡ true) us → list_any (λ x. not (is_taken (entries_of h) x)) (map (place_of (entries_of h)) us) ≡ false
@@ -94,9 +94,9 @@ pub record MayAnswer (es : List Entry) (p : Pdu) (q : Place) : Type 0 where
 
 pub eqb_sym : (a b : ℕ) → (a == b) ≡ (b == a)
 eqb_sym a b = elim (cases_eq a b) [
-    inl same ↦ eq-eqb a b same ∙ sym (eq-eqb b a (sym same))
-    | inr apart ↦ ne_eqb a b apart ∙ sym (ne_eqb b a (λ e. apart (sym e)))
-  ]
+  | inl same ↦ eq-eqb a b same ∙ sym (eq-eqb b a (sym same))
+  | inr apart ↦ ne_eqb a b apart ∙ sym (ne_eqb b a (λ e. apart (sym e)))
+]
 
 -- the takes without an answer are those that were, without that of the name
 unanswered-answered : (es : List Entry) (by : ℕ) (p : Pdu) (q : Place) → unanswered (es ++ entry_by by (Answer q.client q.ordinal p) ∷ []) ≡ filter (λ t. not (has_name q.client q.ordinal t)) (unanswered es)
@@ -104,15 +104,17 @@ unanswered-answered es by p q =
     let e = entry_by by (Answer q.client q.ordinal p) in
     ap (filter (λ x. not (is_settled x.client x.ordinal (es ++ e ∷ [])))) (takes-other es e refl)
     ∙ filter_agree (λ x. not (is_settled x.client x.ordinal (es ++ e ∷ []))) (λ x. not (is_settled x.client x.ordinal es) && not (has_name q.client q.ordinal x))
-      (λ x. ap not (list_any-append (λ y. is_settling y.kind && has_name x.client x.ordinal y) es (e ∷ []) ∙ ap (λ b. is_settled x.client x.ordinal es || b) (one x)) ∙ de_morgan (is_settled x.client x.ordinal es) (has_name q.client q.ordinal x)) (takes es)
+    (λ x. ap not (list_any-append (λ y. is_settling y.kind && has_name x.client x.ordinal y) es (e ∷ []) ∙ ap (λ b. is_settled x.client x.ordinal es || b) (one x)) ∙ de_morgan (is_settled x.client x.ordinal es) (has_name q.client q.ordinal x)) (takes es)
     ∙ filter-and (λ x. not (is_settled x.client x.ordinal es)) (λ x. not (has_name q.client q.ordinal x)) (takes es)
   where
     or_nothing : (b : Bool) → (b || false) ≡ b
     or_nothing true = refl
     or_nothing false = refl
+
     de_morgan : (a b : Bool) → not (a || b) ≡ (not a && not b)
     de_morgan true b = refl
     de_morgan false b = refl
+
     one : (x : Entry) → (((q.client == x.client) && (q.ordinal == x.ordinal)) || false) ≡ has_name q.client q.ordinal x
     one x = or_nothing ((q.client == x.client) && (q.ordinal == x.ordinal)) ∙ ap (λ b. b && (q.ordinal == x.ordinal)) (eqb_sym q.client x.client) ∙ ap (λ b. (x.client == q.client) && b) (eqb_sym q.ordinal x.ordinal)
 
@@ -122,7 +124,7 @@ fifo-answered es by p q h =
     record {
       taken = rw (accepts-other es e refl, takes-other es e refl) h.taken;
       collected = λ c. rw (collects_of-other c es e refl, filter-append (λ x. is_answer x.kind && (x.client == c)) es (e ∷ []), map-append (λ x. x.ordinal) (answers_of c es) (answers_of c (e ∷ [])))
-        (StartsWith-more (map (λ x. x.ordinal) (answers_of c es)) (map (λ x. x.ordinal) (collects_of c es)) (map (λ x. x.ordinal) (answers_of c (e ∷ []))) (h.collected c));
+          (StartsWith-more (map (λ x. x.ordinal) (answers_of c es)) (map (λ x. x.ordinal) (collects_of c es)) (map (λ x. x.ordinal) (answers_of c (e ∷ []))) (h.collected c));
     }
 
 once-answered : (es : List Entry) (by : ℕ) (p : Pdu) (q : Place) → is_settled q.client q.ordinal es ≡ false → IsOnce es → IsOnce (es ++ entry_by by (Answer q.client q.ordinal p) ∷ [])
@@ -132,19 +134,19 @@ once-answered es by p q none h =
       ordinals = λ c. rw (accepts_of-other c es e refl) (h.ordinals c);
       takes = λ c n. omega (arith, count_by-push (λ x. is_take x.kind && has_name c n x) es e, h.takes c n);
       settlings = λ c n. elim (cases_Bool (has_name c n e)) [
-          inl same ↦
+        | inl same ↦
             let w = and_parts (q.client == c) (q.ordinal == n) same in
             let before : count_by (λ x. is_settling x.kind && has_name c n x) es ≡ 0 =
-              none_count (λ x. is_settling x.kind && has_name c n x) es
-                (sym (ap (λ k. is_settled k q.ordinal es) (eqb-true q.client c w.0) ∙ ap (λ k. is_settled c k es) (eqb-true q.ordinal n w.1)) ∙ none) in
+            none_count (λ x. is_settling x.kind && has_name c n x) es
+            (sym (ap (λ k. is_settled k q.ordinal es) (eqb-true q.client c w.0) ∙ ap (λ k. is_settled c k es) (eqb-true q.ordinal n w.1)) ∙ none) in
             let push : count_by (λ x. is_settling x.kind && has_name c n x) (es ++ e ∷ []) ≡ count_by (λ x. is_settling x.kind && has_name c n x) es + 1 =
-              count_by-push (λ x. is_settling x.kind && has_name c n x) es e ∙ ap (λ b. count_by (λ x. is_settling x.kind && has_name c n x) es + cond b 1 0) same in
+            count_by-push (λ x. is_settling x.kind && has_name c n x) es e ∙ ap (λ b. count_by (λ x. is_settling x.kind && has_name c n x) es + cond b 1 0) same in
             omega (arith, push, before)
-          | inr apart ↦
+        | inr apart ↦
             let push : count_by (λ x. is_settling x.kind && has_name c n x) (es ++ e ∷ []) ≡ count_by (λ x. is_settling x.kind && has_name c n x) es + 0 =
-              count_by-push (λ x. is_settling x.kind && has_name c n x) es e ∙ ap (λ b. count_by (λ x. is_settling x.kind && has_name c n x) es + cond b 1 0) apart in
+            count_by-push (λ x. is_settling x.kind && has_name c n x) es e ∙ ap (λ b. count_by (λ x. is_settling x.kind && has_name c n x) es + cond b 1 0) apart in
             omega (arith, push, h.settlings c n)
-        ];
+      ];
     }
 
 membership-answered : (es : List Entry) (by : ℕ) (p : Pdu) (q : Place) → IsMembership es → IsMembership (es ++ entry_by by (Answer q.client q.ordinal p) ∷ [])
@@ -164,9 +166,11 @@ apart-filter p (t ∷ us) h = apart-filter_at (p t) (apart-filter p us h.1) (oth
     others_at : (w : Entry) (ws : List Entry) (b : Bool) → nat_eq t.number w.number ≡ false → AllByRecursion (λ y. nat_eq t.number y ≡ false) (map (λ e. e.number) (filter p ws)) → AllByRecursion (λ y. nat_eq t.number y ≡ false) (map (λ e. e.number) (cond b (w ∷ filter p ws) (filter p ws)))
     others_at w ws true a rest = (a, rest)
     others_at w ws false a rest = rest
+
     others : (ws : List Entry) → AllByRecursion (λ y. nat_eq t.number y ≡ false) (map (λ e. e.number) ws) → AllByRecursion (λ y. nat_eq t.number y ≡ false) (map (λ e. e.number) (filter p ws))
     others [] a = a
     others (w ∷ ws) a = others_at w ws (p w) a.0 (others ws a.1)
+
     apart-filter_at : (b : Bool) → IsDistinct nat_eq (map (λ e. e.number) (filter p us)) → AllByRecursion (λ y. nat_eq t.number y ≡ false) (map (λ e. e.number) (filter p us)) → IsDistinct nat_eq (map (λ e. e.number) (cond b (t ∷ filter p us) (filter p us)))
     apart-filter_at true rest apart = (apart, rest)
     apart-filter_at false rest apart = rest
@@ -175,11 +179,11 @@ pub few_named : (h : List Note) (v : Content) (q : Place) → count_by (λ (x : 
 few_named h v q same once =
     let es = entries_of h in
     let a : count_by (λ (x : Place). (x.client == q.client) && (x.ordinal == q.ordinal)) (window_after h) ≡ count_by (has_name q.client q.ordinal) (unanswered es) =
-      count_by-map (λ (x : Place). (x.client == q.client) && (x.ordinal == q.ordinal)) (place_of es) (unanswered es) in
+    count_by-map (λ (x : Place). (x.client == q.client) && (x.ordinal == q.ordinal)) (place_of es) (unanswered es) in
     let b : count_by (has_name q.client q.ordinal) (unanswered es) ≤ count_by (has_name q.client q.ordinal) (takes es) =
-      count-filter-le (has_name q.client q.ordinal) (λ t. not (is_settled t.client t.ordinal es)) (takes es) in
+    count-filter-le (has_name q.client q.ordinal) (λ t. not (is_settled t.client t.ordinal es)) (takes es) in
     let c : count_by (has_name q.client q.ordinal) (takes es) ≡ count_by (λ x. is_take x.kind && has_name q.client q.ordinal x) es =
-      sym (length-filter (has_name q.client q.ordinal) (takes es)) ∙ ap length (sym (filter-and (λ x. is_take x.kind) (has_name q.client q.ordinal) es)) ∙ length-filter (λ x. is_take x.kind && has_name q.client q.ordinal x) es in
+    sym (length-filter (has_name q.client q.ordinal) (takes es)) ∙ ap length (sym (filter-and (λ x. is_take x.kind) (has_name q.client q.ordinal) es)) ∙ length-filter (λ x. is_take x.kind && has_name q.client q.ordinal x) es in
     omega (arith, same, a, b, c, once)
 
 -- the places of what is left
@@ -191,19 +195,19 @@ window-answered h v by p q i a within is =
     let named : Place → Bool = λ x. (x.client == q.client) && (x.ordinal == q.ordinal) in
     let left = filter (λ t. not (has_name q.client q.ordinal t)) (unanswered es) in
     let kept : map (place_of (es ++ e ∷ [])) left ≡ map (place_of es) left =
-      map_agree (place_of (es ++ e ∷ [])) (place_of es) left
-        (All-each (λ t. is_accepted t.client t.ordinal es ≡ true) (λ t. place_of (es ++ e ∷ []) t ≡ place_of es t)
-          (λ t is. rw (own_of-kept t.client t.ordinal es (e ∷ []) is, command_of-kept t.client t.ordinal es (e ∷ []) is) refl) left
-          (All-kept (λ t. is_accepted t.client t.ordinal es ≡ true) (λ t. not (has_name q.client q.ordinal t)) (unanswered es)
-            (All-kept (λ t. is_accepted t.client t.ordinal es ≡ true) (λ t. not (is_settled t.client t.ordinal es)) (takes es) (takes_accepted es fifo)))) in
+    map_agree (place_of (es ++ e ∷ [])) (place_of es) left
+    (All-each (λ t. is_accepted t.client t.ordinal es ≡ true) (λ t. place_of (es ++ e ∷ []) t ≡ place_of es t)
+    (λ t is. rw (own_of-kept t.client t.ordinal es (e ∷ []) is, command_of-kept t.client t.ordinal es (e ∷ []) is) refl) left
+    (All-kept (λ t. is_accepted t.client t.ordinal es ≡ true) (λ t. not (has_name q.client q.ordinal t)) (unanswered es)
+    (All-kept (λ t. is_accepted t.client t.ordinal es ≡ true) (λ t. not (is_settled t.client t.ordinal es)) (takes es) (takes_accepted es fifo)))) in
     let places : map (place_of (es ++ e ∷ [])) (unanswered (es ++ e ∷ [])) ≡ filter (λ x. not (named x)) (window_after h) =
-      ap (map (place_of (es ++ e ∷ []))) (unanswered-answered es by p q) ∙ kept ∙ sym (filter-map (λ x. not (named x)) (place_of es) (unanswered es)) in
+    ap (map (place_of (es ++ e ∷ []))) (unanswered-answered es by p q) ∙ kept ∙ sym (filter-map (λ x. not (named x)) (place_of es) (unanswered es)) in
     let few : count_by named v.window ≤ 1 =
-      few_named h v q (a.after.window named) (a.legal.once.takes q.client q.ordinal) in
+    few_named h v q (a.after.window named) (a.legal.once.takes q.client q.ordinal) in
     λ test.
-      remove_only named v.window i q within is (and_from _ _ (eq-eqb q.client q.client refl) (eq-eqb q.ordinal q.ordinal refl)) few test
-      ∙ count_by-filter test (λ x. not (named x)) v.window ∙ a.after.window (λ x. test x && not (named x))
-      ∙ sym (count_by-filter test (λ x. not (named x)) (window_after h)) ∙ ap (count_by test) (sym places)
+    remove_only named v.window i q within is (and_from _ _ (eq-eqb q.client q.client refl) (eq-eqb q.ordinal q.ordinal refl)) few test
+    ∙ count_by-filter test (λ x. not (named x)) v.window ∙ a.after.window (λ x. test x && not (named x))
+    ∙ sym (count_by-filter test (λ x. not (named x)) (window_after h)) ∙ ap (count_by test) (sym places)
 
 -- the bounds after a call, from what the lane keeps room for
 pub bounds-answered : (h : List Note) (v' : Content) (by : ℕ) (p : Pdu) (q : Place) → IsAfter (h ++ note by (Answer q.client q.ordinal p) ∷ []) v' → KeepsRoom v' → IsBounded v'.limits (entries_of h) → IsBounded v'.limits (entries_of h ++ entry_by by (Answer q.client q.ordinal p) ∷ [])
@@ -235,13 +239,13 @@ IsLegal-answered limits es by p q may bounds within legal =
       membership = membership-answered es by p q legal.membership;
       standing = AtEach-push (λ before x. StandsWell x.kind before x) es e legal.standing may.here;
       pairing = AtEach-push (λ before x. IsPaired x.kind before x) es e legal.pairing (record {
-          taken = rw (← may.number) may.place.taken;
-          first = may.place.unsettled;
-          accepted = may.place.accepted;
-          command = rw may.place.command may.command;
-        });
+        taken = rw (← may.number) may.place.taken;
+        first = may.place.unsettled;
+        accepted = may.place.accepted;
+        command = rw may.place.command may.command;
+      });
       apart = AtEachPrefix-push AreApart es e legal.apart
-        (rw (unanswered-answered es by p q) (apart-filter (λ t. not (has_name q.client q.ordinal t)) (unanswered es) (AtEachPrefix-whole AreApart es legal.apart)));
+          (rw (unanswered-answered es by p q) (apart-filter (λ t. not (has_name q.client q.ordinal t)) (unanswered es) (AtEachPrefix-whole AreApart es legal.apart)));
       bounds = AtEachPrefix-push (IsBounded limits) es e legal.bounds bounds;
       size = AtEachPrefix-push (IsWithin limits) es e legal.size within;
     }
@@ -260,20 +264,20 @@ member-answered h by p q a m fifo paired place same is =
     let of : q.client ≡ a.client = sym same ∙ is.client in
     let k = length (collects_of a.client es) in
     let le : k ≤ length (answers_of a.client es) =
-      let l = StartsWith-length (map (λ x. x.ordinal) (answers_of a.client es)) (map (λ x. x.ordinal) (collects_of a.client es)) (fifo.collected a.client) in
-      omega (arith, l, length-map (answers_of a.client es) (λ x. x.ordinal), length-map (collects_of a.client es) (λ x. x.ordinal)) in
+    let l = StartsWith-length (map (λ x. x.ordinal) (answers_of a.client es)) (map (λ x. x.ordinal) (collects_of a.client es)) (fifo.collected a.client) in
+    omega (arith, l, length-map (answers_of a.client es) (λ x. x.ordinal), length-map (collects_of a.client es) (λ x. x.ordinal)) in
     let old = map (shown es a.client) (responses a.client h) in
     let long : length old ≡ length (answers_of a.client es) = length-map (responses a.client h) (shown es a.client) ∙ length-responses a.client h in
     let came : responses a.client (h ++ note by (Answer q.client q.ordinal p) ∷ []) ≡ responses a.client h ++ record { ordinal = q.ordinal; pdu = p } ∷ [] =
-      ap (λ c. responses c (h ++ note by (Answer q.client q.ordinal p) ∷ [])) (sym of) ∙ responses-push q.client h by q.ordinal p ∙ ap (λ c. responses c h ++ record { ordinal = q.ordinal; pdu = p } ∷ []) of in
+    ap (λ c. responses c (h ++ note by (Answer q.client q.ordinal p) ∷ [])) (sym of) ∙ responses-push q.client h by q.ordinal p ∙ ap (λ c. responses c h ++ record { ordinal = q.ordinal; pdu = p } ∷ []) of in
     let own : own_of a.client q.ordinal (es ++ e ∷ []) ≡ q.own =
-      ap (λ c. own_of c q.ordinal (es ++ e ∷ [])) (sym of) ∙ own_of-kept q.client q.ordinal es (e ∷ []) place.accepted ∙ place.own in
+    ap (λ c. own_of c q.ordinal (es ++ e ∷ [])) (sym of) ∙ own_of-kept q.client q.ordinal es (e ∷ []) place.accepted ∙ place.own in
     let see : ℕ → Response = λ n. record { ordinal = q.ordinal; pdu = record { command = p.command; status = p.status; number = n; body = p.body } } in
     let last : shown (es ++ e ∷ []) a.client (record { ordinal = q.ordinal; pdu = p }) ≡ response_for q p = ap see own in
     let all : map (shown (es ++ e ∷ []) a.client) (responses a.client h ++ record { ordinal = q.ordinal; pdu = p } ∷ []) ≡ old ++ response_for q p ∷ [] =
-      map-append (shown (es ++ e ∷ []) a.client) (responses a.client h) (record { ordinal = q.ordinal; pdu = p } ∷ [])
-      ∙ ap (λ xs. xs ++ shown (es ++ e ∷ []) a.client (record { ordinal = q.ordinal; pdu = p }) ∷ []) (shown-kept a.client h (e ∷ []) paired)
-      ∙ ap (λ x. old ++ x ∷ []) last in
+    map-append (shown (es ++ e ∷ []) a.client) (responses a.client h) (record { ordinal = q.ordinal; pdu = p } ∷ [])
+    ∙ ap (λ xs. xs ++ shown (es ++ e ∷ []) a.client (record { ordinal = q.ordinal; pdu = p }) ∷ []) (shown-kept a.client h (e ∷ []) paired)
+    ∙ ap (λ x. old ++ x ∷ []) last in
     record {
       client = is.client;
       by = is.by;
@@ -295,7 +299,7 @@ IsAfter-answered h v by p q i a within is =
       queue = rw (push, takes-other es e refl, requests-other h n refl) a.after.queue;
       window = rw push (window-answered h v by p q i a within is);
       members = rw (push, present-other es e refl refl)
-        (zip-with_row (IsMemberAfter h) (IsMemberAfter (h ++ n ∷ [])) q.client (λ m. record m { waiting = m.waiting ++ response_for q p ∷ [] })
+          (zip-with_row (IsMemberAfter h) (IsMemberAfter (h ++ n ∷ [])) q.client (λ m. record m { waiting = m.waiting ++ response_for q p ∷ [] })
           (λ x m same is. member-answered h by p q x m fifo a.legal.pairing place same is)
           (λ x m apart is. IsMemberAfter-other h n x m refl refl (ap (λ b. cond b (Some (record { ordinal = q.ordinal; pdu = p })) None) (ne_eqb q.client x.client (λ of. apart (is.client ∙ sym of)))) a.legal.pairing is)
           (present es) v.members a.after.members);
@@ -313,6 +317,6 @@ AgreesWith-answered h v by p q i m a within is number command found room =
     let may : MayAnswer es p q = record { place = place_taken h v i q a within is; number = number; command = command; here = here } in
     record {
       legal = rw (entries_of-push h (note by (Answer q.client q.ordinal p)))
-        (IsLegal-answered v.limits es by p q may (bounds-answered h (answered v by p q i) by p q after room (AtEachPrefix-whole (IsBounded v.limits) es a.legal.bounds)) (within-answered h (answered v by p q i) by p q after room) a.legal);
+          (IsLegal-answered v.limits es by p q may (bounds-answered h (answered v by p q i) by p q after room (AtEachPrefix-whole (IsBounded v.limits) es a.legal.bounds)) (within-answered h (answered v by p q i) by p q after room) a.legal);
       after = after;
     }

@@ -32,7 +32,6 @@ use Rattle.smx_history.specs.Legal.{IsServed}
 use Rattle.std.proofs.lemmas.List.{drop-map}
 use Rattle.smx_history.proofs.TakeAgrees.{IsMemberAfter-other, requests-other}
 
-
 drop_more : {X : Type 0} (k : ℕ) (xs : List X) → drop 1 (drop k xs) ≡ drop (k + 1) xs
 drop_more k xs = rw add-one (drop_suc k xs)
   where
@@ -64,19 +63,19 @@ fifo-collected es by c n rest next h =
     record {
       taken = rw (accepts-other es e refl, takes-other es e refl) h.taken;
       collected = λ d. elim (cases_eq c d) [
-          inl same ↦ subst (λ (x : ℕ). StartsWith (map (λ y. y.ordinal) (answers_of x (es ++ e ∷ []))) (map (λ y. y.ordinal) (collects_of x (es ++ e ∷ [])))) same (here e)
-          | inr apart ↦ rw (answers_of-other d es e refl, collects-apart d c es by n apart) (h.collected d)
-        ];
+        | inl same ↦ subst (λ (x : ℕ). StartsWith (map (λ y. y.ordinal) (answers_of x (es ++ e ∷ []))) (map (λ y. y.ordinal) (collects_of x (es ++ e ∷ [])))) same (here e)
+        | inr apart ↦ rw (answers_of-other d es e refl, collects-apart d c es by n apart) (h.collected d)
+      ];
     }
   where
     here : (e : Entry) → StartsWith (map (λ y. y.ordinal) (answers_of c (es ++ entry_by by (Collect c n) ∷ []))) (map (λ y. y.ordinal) (collects_of c (es ++ entry_by by (Collect c n) ∷ [])))
     here e =
-      let x = entry_by by (Collect c n) in
-      let old = map (λ y. y.ordinal) (collects_of c es) in
-      let count : length (old ++ n ∷ []) ≡ suc (length (collects_of c es)) = omega (arith, length-append old (n ∷ []), length-map (collects_of c es) (λ (y : Entry). y.ordinal)) in
-      let was : take (length (collects_of c es)) (map (λ y. y.ordinal) (answers_of c es)) ≡ old =
+        let x = entry_by by (Collect c n) in
+        let old = map (λ y. y.ordinal) (collects_of c es) in
+        let count : length (old ++ n ∷ []) ≡ suc (length (collects_of c es)) = omega (arith, length-append old (n ∷ []), length-map (collects_of c es) (λ (y : Entry). y.ordinal)) in
+        let was : take (length (collects_of c es)) (map (λ y. y.ordinal) (answers_of c es)) ≡ old =
         ap (λ k. take k (map (λ y. y.ordinal) (answers_of c es))) (sym (length-map (collects_of c es) (λ (y : Entry). y.ordinal))) ∙ h.collected c in
-      rw (answers_of-other c es x refl, collects-push c es by n, map-append (λ y. y.ordinal) (collects_of c es) (x ∷ []))
+        rw (answers_of-other c es x refl, collects-push c es by n, map-append (λ y. y.ordinal) (collects_of c es) (x ∷ []))
         (ap (λ k. take k (map (λ y. y.ordinal) (answers_of c es))) count ∙ take-next (length (collects_of c es)) (map (λ y. y.ordinal) (answers_of c es)) n rest next ∙ ap (λ xs. xs ++ n ∷ []) was)
 
 zip-with_known : {X : Type 0} (R S : X → Member → Type 0) (K : Member → Type 0) (c : ℕ) (f : Member → Member) → ((a : X) (m : Member) → m.client ≡ c → K m → R a m → S a (f m)) → ((a : X) (m : Member) → (m.client ≡ c → ⊥) → R a m → S a m) → (xs : List X) (ms : List Member) → AllByRecursion K ms → AllZip R xs ms → AllZip S xs (with_row c f ms)
@@ -85,7 +84,7 @@ zip-with_known R S K c f here there [] (m ∷ ms) k z = z
 zip-with_known R S K c f here there (a ∷ us) [] k z = z
 zip-with_known R S K c f here there (a ∷ us) (m ∷ ms) k z =
     let head : S a (cond (m.client == c) (f m) m) =
-      cond_both (m.client == c) (f m) m (S a) (λ e. here a m (eqb-true m.client c e) k.0 z.0) (λ e. there a m (eqb-false m.client c e) z.0) in
+    cond_both (m.client == c) (f m) m (S a) (λ e. here a m (eqb-true m.client c e) k.0 z.0) (λ e. there a m (eqb-false m.client c e) z.0) in
     (head, zip-with_known R S K c f here there us ms k.1 z.1)
 
 member-collected : (h : List Note) (by c n : ℕ) (a : Entry) (m : Member) → AtEach (λ before e. IsPaired e.kind before e) (entries_of h) → m.client ≡ c → 1 ≤ m.pending → IsMemberAfter h a m → IsMemberAfter (h ++ note by (Collect c n) ∷ []) a (record m { pending = m.pending - 1; waiting = drop 1 m.waiting })
@@ -95,7 +94,7 @@ member-collected h by c n a m paired same some is =
     let push = entries_of-push h (note by (Collect c n)) in
     let of : c ≡ a.client = sym same ∙ is.client in
     let col : collects_of a.client (es ++ e ∷ []) ≡ collects_of a.client es ++ e ∷ [] =
-      filter_push (λ x. is_collect x.kind && (x.client == a.client)) es e (eq-eqb c a.client of) in
+    filter_push (λ x. is_collect x.kind && (x.client == a.client)) es e (eq-eqb c a.client of) in
     let k = length (collects_of a.client es) in
     let count : length (collects_of a.client es ++ e ∷ []) ≡ k + 1 = length-append (collects_of a.client es) (e ∷ []) in
     record {
@@ -134,7 +133,7 @@ IsAfter-collected h v by c r m a rise found some =
       queue = rw (push, takes-other es e refl, requests-other h n refl) a.after.queue;
       window = rw (push, unanswered-other es e refl refl, places-kept es (e ∷ []) fifo) a.after.window;
       members = rw (push, present-other es e refl refl)
-        (zip-with_known (IsMemberAfter h) (IsMemberAfter (h ++ n ∷ [])) (λ x. x.client ≡ c → x ≡ m) c (λ x. record x { pending = x.pending - 1; waiting = drop 1 x.waiting })
+          (zip-with_known (IsMemberAfter h) (IsMemberAfter (h ++ n ∷ [])) (λ x. x.client ≡ c → x ≡ m) c (λ x. record x { pending = x.pending - 1; waiting = drop 1 x.waiting })
           (λ x y same only is. member-collected h by c r.ordinal x y a.legal.pairing same (let y' = only same in omega (arith, ap (λ (z : Member). z.pending) y', some)) is)
           (λ x y apart is. member-collected_other h by c r.ordinal x y a.legal.pairing apart is) (present es) v.members (one_row v.members c 0 m rise found) a.after.members);
       greatest = rw (push, admits-other es e refl) a.after.greatest;
@@ -150,18 +149,18 @@ AgreesWith-collected_at h v by c r rest m admit a is admitted here of own waits 
     let fifo = AtEachPrefix-whole IsFifo es a.legal.fifo in
     let was = AtEachPrefix-whole (IsBounded v.limits) es a.legal.bounds in
     let wait : r ∷ rest ≡ drop (length (collects_of c es)) (map (shown es c) (responses c h)) =
-      sym waits ∙ is.waiting ∙ ap (λ d. drop (length (collects_of d es)) (map (shown es d) (responses d h))) of in
+    sym waits ∙ is.waiting ∙ ap (λ d. drop (length (collects_of d es)) (map (shown es d) (responses d h))) of in
     let next = ordinals_next h c r rest wait in
     let size' : size (es ++ e ∷ []) ≡ size_of (collected v by c r) = ap size (sym push) ∙ size_agrees (h ++ n ∷ []) (collected v by c r) after in
     let bounds : IsBounded v.limits (es ++ e ∷ []) = record {
-        queue = rw (accepts-other es e refl, takes-other es e refl) was.queue;
-        window = rw (unanswered-other es e refl refl) was.window;
-        client = λ d gone.
+      queue = rw (accepts-other es e refl, takes-other es e refl) was.queue;
+      window = rw (unanswered-other es e refl refl) was.window;
+      client = λ d gone.
           let old = was.client d (sym (is_retired-other d es e refl) ∙ gone) in
           let more : length (collects_of d es) ≤ length (collects_of d (es ++ e ∷ [])) =
-            omega (arith, ap length (filter-append (λ x. is_collect x.kind && (x.client == d)) es (e ∷ [])), length-append (collects_of d es) (collects_of d (e ∷ []))) in
+          omega (arith, ap length (filter-append (λ x. is_collect x.kind && (x.client == d)) es (e ∷ [])), length-append (collects_of d es) (collects_of d (e ∷ []))) in
           rw (accepts_of-other d es e refl) (omega (arith, old, more));
-      } in
+    } in
     record {
       legal = rw push (record {
         form = AtEach-push (λ before x. HasForm x.kind x) es e a.legal.form (refl, refl);
@@ -176,7 +175,7 @@ AgreesWith-collected_at h v by c r rest m admit a is admitted here of own waits 
           retires = λ d. omega (arith, count_by-push (λ x. is_retire x.kind && (x.client == d)) es e, a.legal.membership.retires d);
         };
         standing = AtEach-push (λ before x. StandsWell x.kind before x) es e a.legal.standing
-          (sym (ap (λ b. is_admitted b admit.client es) (sym is.by ∙ own) ∙ ap (λ d. is_admitted by d es) of) ∙ admitted, ap (λ d. is_retired d es) (sym of) ∙ here);
+            (sym (ap (λ b. is_admitted b admit.client es) (sym is.by ∙ own) ∙ ap (λ d. is_admitted by d es) of) ∙ admitted, ap (λ d. is_retired d es) (sym of) ∙ here);
         pairing = AtEach-push (λ before x. IsPaired x.kind before x) es e a.legal.pairing tt;
         apart = AtEachPrefix-push AreApart es e a.legal.apart (rw (unanswered-other es e refl refl) (AtEachPrefix-whole AreApart es a.legal.apart));
         bounds = AtEachPrefix-push (IsBounded v.limits) es e a.legal.bounds bounds;

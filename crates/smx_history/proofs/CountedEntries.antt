@@ -49,8 +49,8 @@ counted_admit limits t es e legal counted fits k =
     let none = unseen e.client es legal.standing legal.pairing (none_admitted es e.client legal.membership.clients above) in
     let push = present_admitted es e k none.retired in
     let wait : waiting (es ++ e ∷ []) ≡ waiting es =
-      ap (sum_by (waits (es ++ e ∷ []))) push ∙ sum_by-agree (waits (es ++ e ∷ [])) (waits es) (λ x. waits_kept es e x (ap is_answer k) (ap is_collect k)) (present es ++ e ∷ [])
-      ∙ sum_by-append (waits es) (present es) (e ∷ []) ∙ (let n : waits es e ≡ 0 = rw (none.answers, none.collects) refl in omega (arith, n, sum_by-cons (waits es) e [])) in
+    ap (sum_by (waits (es ++ e ∷ []))) push ∙ sum_by-agree (waits (es ++ e ∷ [])) (waits es) (λ x. waits_kept es e x (ap is_answer k) (ap is_collect k)) (present es ++ e ∷ [])
+    ∙ sum_by-append (waits es) (present es) (e ∷ []) ∙ (let n : waits es e ≡ 0 = rw (none.answers, none.collects) refl in omega (arith, n, sum_by-cons (waits es) e [])) in
     record {
       numbers = numbers_kept es e (ap is_take k) (ap is_settling k) counted.numbers;
       greatest = rw (clients_admitted es e k, last_or-push 0 (map (λ x. x.client) (admits es)) e.client) refl;
@@ -86,12 +86,12 @@ counted_take limits t es e legal counted fits k =
     let more = queued_before limits es e fits k in
     record {
       numbers = λ u.
-        let p : Entry → Bool = λ x. is_take x.kind && (x.number == u) in
-        let bearing : takes_as u (es ++ e ∷ []) ≡ takes_as u es + cond (e.number == u) 1 0 =
+          let p : Entry → Bool = λ x. is_take x.kind && (x.number == u) in
+          let bearing : takes_as u (es ++ e ∷ []) ≡ takes_as u es + cond (e.number == u) 1 0 =
           length-filter p (es ++ e ∷ []) ∙ count_by-push p es e ∙ ap (λ b. count_by p es + cond (b && (e.number == u)) 1 0) (ap is_take k) ∙ ap (λ n. n + cond (e.number == u) 1 0) (sym (length-filter p es)) in
-        let open' : count_by (λ x. x.number == u) (unanswered (es ++ e ∷ [])) ≡ count_by (λ x. x.number == u) (unanswered es) + cond (e.number == u) 1 0 =
+          let open' : count_by (λ x. x.number == u) (unanswered (es ++ e ∷ [])) ≡ count_by (λ x. x.number == u) (unanswered es) + cond (e.number == u) 1 0 =
           ap (count_by (λ x. x.number == u)) push ∙ count_by-push (λ x. x.number == u) (unanswered es) e in
-        omega (arith, bearing, open', settlings_as-other u es e (ap is_settling k), counted.numbers u);
+          omega (arith, bearing, open', settlings_as-other u es e (ap is_settling k), counted.numbers u);
       greatest = rw (admits-other es e (ap is_admit k)) counted.greatest;
       taken = rw (takes_push es e k) (omega (arith, length-append (takes es) (e ∷ []), counted.taken));
       queued = rw (takes_push es e k, accepts-other es e (ap is_accept k)) (omega (arith, length-append (takes es) (e ∷ []), counted.queued, more));
@@ -105,18 +105,18 @@ collect_waits : (es : List Entry) (e x : Entry) → e.kind ≡ kind.Collect → 
 unfolding waits
 collect_waits es e x k fifo =
     elim (cases_eq e.client x.client) [
-      inl same ↦
-        let le = collected_le (es ++ e ∷ []) x.client fifo in
-        let n = ap length (answers_of-other x.client es e (ap is_answer k)) in
-        let c = ap length (collected_own x.client es e k same) in
-        let l = length-append (collects_of x.client es) (e ∷ []) in
-        let one : cond (x.client == e.client) 1 0 ≡ 0 + 1 = ap {B = ℕ} (λ b. cond b 1 0) (eq-eqb x.client e.client (sym same)) in
-        omega (arith, le, n, c, l, one)
+      | inl same ↦
+          let le = collected_le (es ++ e ∷ []) x.client fifo in
+          let n = ap length (answers_of-other x.client es e (ap is_answer k)) in
+          let c = ap length (collected_own x.client es e k same) in
+          let l = length-append (collects_of x.client es) (e ∷ []) in
+          let one : cond (x.client == e.client) 1 0 ≡ 0 + 1 = ap {B = ℕ} (λ b. cond b 1 0) (eq-eqb x.client e.client (sym same)) in
+          omega (arith, le, n, c, l, one)
       | inr apart ↦
-        let n = ap length (answers_of-other x.client es e (ap is_answer k)) in
-        let c = ap length (collected_other x.client es e k apart) in
-        let none : ◌≡◌ {A = ℕ} (cond (x.client == e.client) 1 0) 0 = ap {B = ℕ} (λ b. cond b 1 0) (ne_eqb x.client e.client (λ same. apart (sym same))) in
-        omega (arith, n, c, none)
+          let n = ap length (answers_of-other x.client es e (ap is_answer k)) in
+          let c = ap length (collected_other x.client es e k apart) in
+          let none : ◌≡◌ {A = ℕ} (cond (x.client == e.client) 1 0) 0 = ap {B = ℕ} (λ b. cond b 1 0) (ne_eqb x.client e.client (λ same. apart (sym same))) in
+          omega (arith, n, c, none)
     ]
 
 pub collect_waiting : (limits : Limits) (es : List Entry) (e : Entry) → IsLegal limits es → Fits limits es e → e.kind ≡ kind.Collect → waiting es ≡ waiting (es ++ e ∷ []) + 1
@@ -144,15 +144,17 @@ present_retired : (es : List Entry) (e : Entry) → e.kind ≡ kind.Retire → p
 present_retired es e k =
     ap (filter (λ x. not (is_retired x.client (es ++ e ∷ [])))) (admits-other es e (ap is_admit k))
     ∙ filter_agree (λ x. not (is_retired x.client (es ++ e ∷ []))) (λ x. not (is_retired x.client es) && not (x.client == e.client))
-      (λ x. ap not (list_any-append (λ y. is_retire y.kind && (y.client == x.client)) es (e ∷ []) ∙ ap (λ b. is_retired x.client es || b) (one x)) ∙ de_morgan (is_retired x.client es) (x.client == e.client)) (admits es)
+    (λ x. ap not (list_any-append (λ y. is_retire y.kind && (y.client == x.client)) es (e ∷ []) ∙ ap (λ b. is_retired x.client es || b) (one x)) ∙ de_morgan (is_retired x.client es) (x.client == e.client)) (admits es)
     ∙ filter-and (λ x. not (is_retired x.client es)) (λ x. not (x.client == e.client)) (admits es)
   where
     or_nothing : (b : Bool) → (b || false) ≡ b
     or_nothing true = refl
     or_nothing false = refl
+
     de_morgan : (a b : Bool) → not (a || b) ≡ (not a && not b)
     de_morgan true b = refl
     de_morgan false b = refl
+
     one : (x : Entry) → ((is_retire e.kind && (e.client == x.client)) || false) ≡ (x.client == e.client)
     one x = or_nothing (is_retire e.kind && (e.client == x.client)) ∙ ap (λ b. b && (e.client == x.client)) (ap is_retire k) ∙ eqb_sym e.client x.client
 
@@ -168,11 +170,11 @@ leaves limits es e legal fits k =
     let once = present_once es e.client legal.membership (admitted_any es e.by e.client served.0) served.1 in
     let push = present_retired es e k in
     let kept : waiting (es ++ e ∷ []) ≡ sum_by (waits es) (filter (λ a. not (a.client == e.client)) (present es)) =
-      ap (sum_by (waits (es ++ e ∷ []))) push ∙ sum_by-agree (waits (es ++ e ∷ [])) (waits es) (λ x. waits_kept es e x (ap is_answer k) (ap is_collect k)) (filter (λ a. not (a.client == e.client)) (present es)) in
+    ap (sum_by (waits (es ++ e ∷ []))) push ∙ sum_by-agree (waits (es ++ e ∷ [])) (waits es) (λ x. waits_kept es e x (ap is_answer k) (ap is_collect k)) (filter (λ a. not (a.client == e.client)) (present es)) in
     record {
       waiting =
-        let out = sum_without (waits es) (λ a. a.client == e.client) (waits es e) (present es) once (λ x same. ap (λ c. length (answers_of c es) - length (collects_of c es)) (eqb-true x.client e.client same)) in
-        ap (λ n. n + waits es e) kept ∙ out;
+          let out = sum_without (waits es) (λ a. a.client == e.client) (waits es e) (present es) once (λ x same. ap (λ c. length (answers_of c es) - length (collects_of c es)) (eqb-true x.client e.client same)) in
+          ap (λ n. n + waits es e) kept ∙ out;
       present = let l = length_without (λ (a : Entry). a.client == e.client) (present es) in omega (arith, l, once, ap length push);
     }
 

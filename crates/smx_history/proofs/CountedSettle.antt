@@ -25,20 +25,22 @@ unanswered_named es c n r none =
     count_by-filter (λ x. r x && has_name c n x) (λ t. not (is_settled t.client t.ordinal es)) (takes es)
     ∙ count_by-filter (λ x. (r x && has_name c n x) && not (is_settled x.client x.ordinal es)) (λ t. is_take t.kind) es
     ∙ count_agree (λ x. ((r x && has_name c n x) && not (is_settled x.client x.ordinal es)) && is_take x.kind) (λ x. (is_take x.kind && has_name c n x) && r x)
-      (λ x. point (r x) (has_name c n x) (not (is_settled x.client x.ordinal es)) (is_take x.kind) (λ named.
-        let w = and_parts (x.client == c) (x.ordinal == n) named in
-        ap not (ap (λ i. is_settled i x.ordinal es) (eqb-true x.client c w.0) ∙ ap (λ i. is_settled c i es) (eqb-true x.ordinal n w.1) ∙ none))) es
+    (λ x. point (r x) (has_name c n x) (not (is_settled x.client x.ordinal es)) (is_take x.kind) (λ named.
+    let w = and_parts (x.client == c) (x.ordinal == n) named in
+    ap not (ap (λ i. is_settled i x.ordinal es) (eqb-true x.client c w.0) ∙ ap (λ i. is_settled c i es) (eqb-true x.ordinal n w.1) ∙ none))) es
   where
     turn : (r t : Bool) → (((r && true) && true) && t) ≡ ((t && true) && r)
     turn true true = refl
     turn true false = refl
     turn false true = refl
     turn false false = refl
+
     drop : (r u t : Bool) → (((r && false) && u) && t) ≡ ((t && false) && r)
     drop true u true = refl
     drop true u false = refl
     drop false u true = refl
     drop false u false = refl
+
     point : (r m u t : Bool) → (m ≡ true → u ≡ true) → (((r && m) && u) && t) ≡ ((t && m) && r)
     point r true u t h = ap (λ b. ((r && true) && b) && t) (h refl) ∙ turn r t
     point r false u t h = drop r u t
@@ -55,28 +57,28 @@ is_one limits es e legal p =
     let t : Entry → Bool = λ x. is_take x.kind && has_name c n x in
     let few = legal.once.takes c n in
     let some = any_count (λ x. t x && (x.number == e.number)) es
-      (any_weaker (λ x. is_take x.kind && (has_name c n x && (x.number == e.number))) (λ x. t x && (x.number == e.number)) es
-        (λ x h. let w = and_parts (is_take x.kind) (has_name c n x && (x.number == e.number)) h in
-          let y = and_parts (has_name c n x) (x.number == e.number) w.1 in and_from _ _ (and_from _ _ w.0 y.0) y.1) p.taken) in
+    (any_weaker (λ x. is_take x.kind && (has_name c n x && (x.number == e.number))) (λ x. t x && (x.number == e.number)) es
+    (λ x h. let w = and_parts (is_take x.kind) (has_name c n x && (x.number == e.number)) h in
+    let y = and_parts (has_name c n x) (x.number == e.number) w.1 in and_from _ _ (and_from _ _ w.0 y.0) y.1) p.taken) in
     let split = count_split t (λ x. x.number == e.number) es in
     let all = unanswered_named es c n (λ x. true) p.first in
     let whole : count_by (λ x. t x && true) es ≡ count_by t es = count_agree (λ x. t x && true) t (λ x. and_true (t x)) es in
     record {
       named = omega (arith, all, whole, few, some, split);
       numbered = λ u. elim (cases_eq e.number u) [
-          inl same ↦
+        | inl same ↦
             let one : cond (e.number == u) 1 0 ≡ 0 + 1 = ap {B = ℕ} (λ b. cond b 1 0) (eq-eqb e.number u same) in
             let there : count_by (λ x. (x.number == u) && has_name c n x) (unanswered es) ≡ count_by (λ x. t x && (x.number == e.number)) es =
-              unanswered_named es c n (λ x. x.number == u) p.first ∙ ap (λ i. count_by (λ (x : Entry). t x && (x.number == i)) es) (sym same) in
+            unanswered_named es c n (λ x. x.number == u) p.first ∙ ap (λ i. count_by (λ (x : Entry). t x && (x.number == i)) es) (sym same) in
             omega (arith, there, few, some, split, one)
-          | inr apart ↦
+        | inr apart ↦
             let none : ◌≡◌ {A = ℕ} (cond (e.number == u) 1 0) 0 = ap {B = ℕ} (λ b. cond b 1 0) (ne_eqb e.number u apart) in
             let there = unanswered_named es c n (λ x. x.number == u) p.first in
             let le = count_implies (λ x. t x && (x.number == u)) (λ x. t x && not (x.number == e.number))
-              (λ x h. let w = and_parts (t x) (x.number == u) h in
-                and_from _ _ w.0 (ap not (ne_eqb x.number e.number (λ is. apart (sym is ∙ eqb-true x.number u w.1))))) es in
+            (λ x h. let w = and_parts (t x) (x.number == u) h in
+            and_from _ _ w.0 (ap not (ne_eqb x.number e.number (λ is. apart (sym is ∙ eqb-true x.number u w.1))))) es in
             omega (arith, there, le, few, some, split, none)
-        ];
+      ];
     }
   where
     and_true : (b : Bool) → (b && true) ≡ b
@@ -95,12 +97,12 @@ closes limits es e legal s p =
     let gone = unanswered_settled es e s in
     record {
       numbers = λ u was.
-        let q : Entry → Bool = λ x. is_settling x.kind && (x.number == u) in
-        let settlings : settlings_as u (es ++ e ∷ []) ≡ settlings_as u es + cond (e.number == u) 1 0 =
+          let q : Entry → Bool = λ x. is_settling x.kind && (x.number == u) in
+          let settlings : settlings_as u (es ++ e ∷ []) ≡ settlings_as u es + cond (e.number == u) 1 0 =
           length-filter q (es ++ e ∷ []) ∙ count_by-push q es e ∙ ap (λ b. count_by q es + cond (b && (e.number == u)) 1 0) s.settling ∙ ap (λ n. n + cond (e.number == u) 1 0) (sym (length-filter q es)) in
-        let left : count_by (λ x. x.number == u) (unanswered (es ++ e ∷ [])) ≡ count_by (λ x. (x.number == u) && not (named x)) (unanswered es) =
+          let left : count_by (λ x. x.number == u) (unanswered (es ++ e ∷ [])) ≡ count_by (λ x. (x.number == u) && not (named x)) (unanswered es) =
           ap (count_by (λ x. x.number == u)) gone ∙ count_by-filter (λ x. x.number == u) (λ x. not (named x)) (unanswered es) in
-        omega (arith, settlings, left, one.numbered u, count_split (λ (x : Entry). x.number == u) named (unanswered es), takes_as-other u es e s.take, was);
+          omega (arith, settlings, left, one.numbered u, count_split (λ (x : Entry). x.number == u) named (unanswered es), takes_as-other u es e s.take, was);
       fewer = let l = length_without named (unanswered es) in omega (arith, l, one.named, ap length gone);
     }
 
@@ -109,29 +111,29 @@ answer_waits : (es : List Entry) (e x : Entry) → e.kind ≡ kind.Answer → Is
 answer_waits es e x k fifo =
     let c = ap length (collects_of-other x.client es e (ap is_collect k)) in
     elim (cases_eq e.client x.client) [
-      inl same ↦
-        let le = collected_le es x.client fifo in
-        let n = ap length (filter_push (λ y. is_answer y.kind && (y.client == x.client)) es e (and_from _ _ (ap is_answer k) (eq-eqb e.client x.client same))) in
-        let l = length-append (answers_of x.client es) (e ∷ []) in
-        let one : cond (x.client == e.client) 1 0 ≡ 0 + 1 = ap {B = ℕ} (λ b. cond b 1 0) (eq-eqb x.client e.client (sym same)) in
-        omega (arith, le, n, c, l, one)
+      | inl same ↦
+          let le = collected_le es x.client fifo in
+          let n = ap length (filter_push (λ y. is_answer y.kind && (y.client == x.client)) es e (and_from _ _ (ap is_answer k) (eq-eqb e.client x.client same))) in
+          let l = length-append (answers_of x.client es) (e ∷ []) in
+          let one : cond (x.client == e.client) 1 0 ≡ 0 + 1 = ap {B = ℕ} (λ b. cond b 1 0) (eq-eqb x.client e.client (sym same)) in
+          omega (arith, le, n, c, l, one)
       | inr apart ↦
-        let n = ap length (filter_other (λ y. is_answer y.kind && (y.client == x.client)) es e (ap (λ b. b && (e.client == x.client)) (ap is_answer k) ∙ ne_eqb e.client x.client apart)) in
-        let none : ◌≡◌ {A = ℕ} (cond (x.client == e.client) 1 0) 0 = ap {B = ℕ} (λ b. cond b 1 0) (ne_eqb x.client e.client (λ same. apart (sym same))) in
-        omega (arith, n, c, none)
+          let n = ap length (filter_other (λ y. is_answer y.kind && (y.client == x.client)) es e (ap (λ b. b && (e.client == x.client)) (ap is_answer k) ∙ ne_eqb e.client x.client apart)) in
+          let none : ◌≡◌ {A = ℕ} (cond (x.client == e.client) 1 0) 0 = ap {B = ℕ} (λ b. cond b 1 0) (ne_eqb x.client e.client (λ same. apart (sym same))) in
+          omega (arith, n, c, none)
     ]
 
 -- a client with an accept was admitted
 accepted_admitted : (limits : Limits) (es : List Entry) (c n : ℕ) → IsLegal limits es → is_accepted c n es ≡ true → list_any (λ e. is_admit e.kind && (e.client == c)) es ≡ true
 accepted_admitted limits es c n legal there =
     elim (cases_Bool (list_any (λ e. is_admit e.kind && (e.client == c)) es)) [
-      inl some ↦ some
+      | inl some ↦ some
       | inr none ↦
-        let empty = unseen c es legal.standing legal.pairing none in
-        let weak = any_weaker (λ x. is_accept x.kind && has_name c n x) (λ x. is_accept x.kind && (x.client == c)) es
+          let empty = unseen c es legal.standing legal.pairing none in
+          let weak = any_weaker (λ x. is_accept x.kind && has_name c n x) (λ x. is_accept x.kind && (x.client == c)) es
           (λ x h. let w = and_parts (is_accept x.kind) (has_name c n x) h in let y = and_parts (x.client == c) (x.ordinal == n) w.1 in and_from _ _ w.0 y.0) there in
-        let some = any_count (λ x. is_accept x.kind && (x.client == c)) es weak in
-        absurd (omega (arith, some, length-filter (λ x. is_accept x.kind && (x.client == c)) es, ap length empty.accepts))
+          let some = any_count (λ x. is_accept x.kind && (x.client == c)) es weak in
+          absurd (omega (arith, some, length-filter (λ x. is_accept x.kind && (x.client == c)) es, ap length empty.accepts))
     ]
 
 answer_waiting : (limits : Limits) (es : List Entry) (e : Entry) → IsLegal limits es → Answers es e → is_retired e.client es ≡ false → e.kind ≡ kind.Answer → waiting (es ++ e ∷ []) ≡ waiting es + 1

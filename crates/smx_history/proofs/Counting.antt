@@ -55,7 +55,7 @@ pub sum_without : {X : Type 0} (f : X → ℕ) (p : X → Bool) (k : ℕ) (xs : 
 sum_without f p k xs one same =
     let both = sum_by-filter_both p (λ x. not (p x)) (λ x. refl) f xs in
     let single : sum_by f (filter p xs) ≡ k =
-      sum_single f k (filter p xs) (length-filter p xs ∙ one) (All-filtered (λ x. f x ≡ k) p xs (All-from_get (λ x. p x ≡ true → f x ≡ k) xs (λ i x at. same x))) in
+    sum_single f k (filter p xs) (length-filter p xs ∙ one) (All-filtered (λ x. f x ≡ k) p xs (All-from_get (λ x. p x ≡ true → f x ≡ k) xs (λ i x at. same x))) in
     omega (arith, both, single)
 
 -- numbers that rise have each number once
@@ -65,13 +65,13 @@ rise_count f c low (x ∷ xs) rise =
     let rest = rise_count f c (f x) xs rise.1 in
     let cons = sum_by-cons (λ y. cond (f y == c) 1 0) x xs in
     elim (cases_eq (f x) c) [
-      inl same ↦
-        let one : cond (f x == c) 1 0 ≡ suc 0 = ap {B = ℕ} (λ b. cond b 1 0) (eq-eqb (f x) c same) in
-        let none = rest.1 (omega (arith, same)) in
-        (omega (arith, cons, one, none), λ h. absurd (omega (arith, h, rise.0, same)))
+      | inl same ↦
+          let one : cond (f x == c) 1 0 ≡ suc 0 = ap {B = ℕ} (λ b. cond b 1 0) (eq-eqb (f x) c same) in
+          let none = rest.1 (omega (arith, same)) in
+          (omega (arith, cons, one, none), λ h. absurd (omega (arith, h, rise.0, same)))
       | inr apart ↦
-        let zero' : ◌≡◌ {A = ℕ} (cond (f x == c) 1 0) 0 = ap {B = ℕ} (λ b. cond b 1 0) (ne_eqb (f x) c apart) in
-        (omega (arith, cons, zero', rest.0), λ h. let none = rest.1 (omega (arith, h, rise.0)) in omega (arith, cons, zero', none))
+          let zero' : ◌≡◌ {A = ℕ} (cond (f x == c) 1 0) 0 = ap {B = ℕ} (λ b. cond b 1 0) (ne_eqb (f x) c apart) in
+          (omega (arith, cons, zero', rest.0), λ h. let none = rest.1 (omega (arith, h, rise.0)) in omega (arith, cons, zero', none))
     ]
 
 -- a client that was admitted and has not retired is present once
@@ -81,17 +81,17 @@ present_once es c membership there here =
     let once = (rise_count (λ (e : Entry). e.client) c 0 (admits es) membership.clients).0 in
     let all = count_by-filter (λ (a : Entry). a.client == c) (λ a. not (is_retired a.client es)) (admits es) ∙ count_by-filter (λ (a : Entry). (a.client == c) && not (is_retired a.client es)) (λ a. is_admit a.kind) es in
     let some = any_count (λ (a : Entry). ((a.client == c) && not (is_retired a.client es)) && is_admit a.kind) es
-      (any_weaker (λ e. is_admit e.kind && (e.client == c)) (λ (a : Entry). ((a.client == c) && not (is_retired a.client es)) && is_admit a.kind) es
-        (λ x h. let w = and_parts (is_admit x.kind) (x.client == c) h in
-          and_from _ _ (and_from _ _ w.1 (ap not (ap (λ d. is_retired d es) (eqb-true x.client c w.1) ∙ here))) w.0) there) in
+    (any_weaker (λ e. is_admit e.kind && (e.client == c)) (λ (a : Entry). ((a.client == c) && not (is_retired a.client es)) && is_admit a.kind) es
+    (λ x h. let w = and_parts (is_admit x.kind) (x.client == c) h in
+    and_from _ _ (and_from _ _ w.1 (ap not (ap (λ d. is_retired d es) (eqb-true x.client c w.1) ∙ here))) w.0) there) in
     omega (arith, few, once, all, some)
 
 -- who admitted the client is no matter
 pub admitted_any : (es : List Entry) (by c : ℕ) → is_admitted by c es ≡ true → list_any (λ e. is_admit e.kind && (e.client == c)) es ≡ true
 admitted_any es by c h =
     any_weaker (λ x. is_admit x.kind && ((x.client == c) && (x.by == by))) (λ x. is_admit x.kind && (x.client == c)) es
-      (λ x t. let w = and_parts (is_admit x.kind) ((x.client == c) && (x.by == by)) t in
-        let y = and_parts (x.client == c) (x.by == by) w.1 in and_from _ _ w.0 y.0) h
+    (λ x t. let w = and_parts (is_admit x.kind) ((x.client == c) && (x.by == by)) t in
+    let y = and_parts (x.client == c) (x.by == by) w.1 in and_from _ _ w.0 y.0) h
 
 pub collected_le : (es : List Entry) (c : ℕ) → IsFifo es → length (collects_of c es) ≤ length (answers_of c es)
 collected_le es c fifo =

@@ -39,9 +39,9 @@ none_count p (x ∷ xs) h = none_count_at (p x) refl h (none_count p xs)
 
 pub count_none_any : {X : Type 0} (p : X → Bool) (xs : List X) → count_by p xs ≡ 0 → list_any p xs ≡ false
 count_none_any p xs h = elim (cases_Bool (list_any p xs)) [
-    inl some ↦ absurd (let l = any_count p xs some in omega (arith, l, h))
-    | inr none ↦ none
-  ]
+  | inl some ↦ absurd (let l = any_count p xs some in omega (arith, l, h))
+  | inr none ↦ none
+]
 
 -- a test finds something in both or in neither
 pub any-same : {X : Type 0} (p : X → Bool) (xs ys : List X) → SameCounts xs ys → list_any p ys ≡ false → list_any p xs ≡ false
@@ -73,9 +73,11 @@ count_by-filter p q (x ∷ xs) = count_by-filter_at (q x) refl (count_by-filter 
     one : (a b : Bool) → b ≡ true → ◌≡◌ {A = ℕ} (cond (a && b) 1 0) (cond a 1 0)
     one true b e = ap {B = ℕ} (λ c. cond c 1 0) e
     one false b e = refl
+
     none : (a b : Bool) → b ≡ false → ◌≡◌ {A = ℕ} (cond (a && b) 1 0) 0
     none true b e = ap {B = ℕ} (λ c. cond c 1 0) e
     none false b e = refl
+
     count_by-filter_at : (b : Bool) → q x ≡ b → count_by p (filter q xs) ≡ count_by (λ x. p x && q x) xs → count_by p (cond b (x ∷ filter q xs) (filter q xs)) ≡ count_by (λ x. p x && q x) (x ∷ xs)
     count_by-filter_at true e h = omega (arith, h, count_by-cons p x (filter q xs), count_by-cons (λ x. p x && q x) x xs, one (p x) (q x) e)
     count_by-filter_at false e h = omega (arith, h, count_by-cons (λ x. p x && q x) x xs, none (p x) (q x) e)
@@ -102,7 +104,7 @@ All-same p xs ys h none i y within is =
     let z : count_by (λ x. not (p x)) ys ≡ 0 = h (λ x. not (p x)) ∙ none_count (λ x. not (p x)) xs none in
     let r = count_by-remove (λ x. not (p x)) ys i y within is in
     elim (cases_Bool (p y)) [
-      inl good ↦ good
+      | inl good ↦ good
       | inr bad ↦ absurd (let one : cond (not (p y)) 1 0 ≡ suc 0 = ap {B = ℕ} (λ b. cond (not b) 1 0) bad in omega (arith, r, z, one))
     ]
 

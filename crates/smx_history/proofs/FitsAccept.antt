@@ -73,9 +73,9 @@ accept_to limits t es e legal counted k p =
       };
       once = record {
         ordinals = λ c. elim (cases_eq e.client c) [
-            inl same ↦ rw (ordinals_accepted c es e k same) (RiseAbove-push 0 (map (λ x. x.ordinal) (accepts_of c es)) e.ordinal (legal.once.ordinals c) (rw (← same) below))
-            | inr apart ↦ rw (accepted_other c es e k apart) (legal.once.ordinals c)
-          ];
+          | inl same ↦ rw (ordinals_accepted c es e k same) (RiseAbove-push 0 (map (λ x. x.ordinal) (accepts_of c es)) e.ordinal (legal.once.ordinals c) (rw (← same) below))
+          | inr apart ↦ rw (accepted_other c es e k apart) (legal.once.ordinals c)
+        ];
         takes = takes_kept es e (ap is_take k) legal.once;
         settlings = settlings_kept es e (ap is_settling k) legal.once;
       };
@@ -87,9 +87,9 @@ accept_to limits t es e legal counted k p =
         queue = rw (accepted_push es e k, takes-other es e (ap is_take k)) (omega (arith, length-append (accepts es) (e ∷ []), p.queue, counted.queued, takes-le-accepts es fifo));
         window = rw (unanswered-other es e (ap is_take k) (ap is_settling k)) was.window;
         client = λ c gone. elim (cases_eq e.client c) [
-            inl same ↦ rw (accepted_own c es e k same, collects_of-other c es e (ap is_collect k)) (let m = p.client in let m' = rw same at m in omega (arith, length-append (accepts_of c es) (e ∷ []), m'))
-            | inr apart ↦ rw (accepted_other c es e k apart, collects_of-other c es e (ap is_collect k)) (was.client c (sym (is_retired-other c es e (ap is_retire k)) ∙ gone))
-          ];
+          | inl same ↦ rw (accepted_own c es e k same, collects_of-other c es e (ap is_collect k)) (let m = p.client in let m' = rw same at m in omega (arith, length-append (accepts_of c es) (e ∷ []), m'))
+          | inr apart ↦ rw (accepted_other c es e k apart, collects_of-other c es e (ap is_collect k)) (was.client c (sym (is_retired-other c es e (ap is_retire k)) ∙ gone))
+        ];
       };
     }
 
@@ -103,7 +103,7 @@ accept_from limits t es e legal counted k fits =
     let all = rise_last 0 (map (λ x. x.ordinal) (accepts_of e.client es)) (legal.once.ordinals e.client) in
     let queue : length (accepts es ++ e ∷ []) ≤ length (takes es) + limits.queue = rw (accepted_push es e k, takes-other es e (ap is_take k)) at fits.bounds.queue in
     let client : length (accepts_of e.client es ++ e ∷ []) ≤ length (collects_of e.client es) + limits.client =
-      rw (accepted_own e.client es e k refl, collects_of-other e.client es e (ap is_collect k)) at (fits.bounds.client e.client (is_retired-other e.client es e (ap is_retire k) ∙ served.1)) in
+    rw (accepted_own e.client es e k refl, collects_of-other e.client es e (ap is_collect k)) at (fits.bounds.client e.client (is_retired-other e.client es e (ap is_retire k) ∙ served.1)) in
     record {
       forwarded = form;
       served = served;

@@ -18,10 +18,10 @@ use Rattle.smx_history.proofs.Parts.{RiseAbove-end}
 -- a list of entries keeps to its bounds where an entry is neither accept nor take, answers nothing and retires nobody
 pub bounds_kept : (limits : Limits) (es : List Entry) (e : Entry) → is_accept e.kind ≡ false → is_take e.kind ≡ false → is_settling e.kind ≡ false → is_collect e.kind ≡ false → is_retire e.kind ≡ false → IsBounded limits es → IsBounded limits (es ++ e ∷ [])
 bounds_kept limits es e a t s c r h = record {
-    queue = rw (accepts-other es e a, takes-other es e t) h.queue;
-    window = rw (unanswered-other es e t s) h.window;
-    client = λ d gone. rw (accepts_of-other d es e a, collects_of-other d es e c) (h.client d (sym (is_retired-other d es e r) ∙ gone));
-  }
+  queue = rw (accepts-other es e a, takes-other es e t) h.queue;
+  window = rw (unanswered-other es e t s) h.window;
+  client = λ d gone. rw (accepts_of-other d es e a, collects_of-other d es e c) (h.client d (sym (is_retired-other d es e r) ∙ gone));
+}
 
 pub clients_admitted : (es : List Entry) (e : Entry) → e.kind ≡ kind.Admit → map (λ x. x.client) (admits (es ++ e ∷ [])) ≡ map (λ x. x.client) (admits es) ++ e.client ∷ []
 clients_admitted es e k = ap (map (λ (x : Entry). x.client)) (filter_push (λ x. is_admit x.kind) es e (ap is_admit k)) ∙ map-append (λ x. x.client) (admits es) (e ∷ [])

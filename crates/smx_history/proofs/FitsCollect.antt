@@ -41,22 +41,22 @@ ordinals_collected es e k = ap (map (λ (x : Entry). x.ordinal)) (collected_own 
 fifo_collected : (es : List Entry) (e : Entry) → e.kind ≡ kind.Collect → IsOldest es e → IsFifo es → IsFifo (es ++ e ∷ [])
 unfolding IsOldest
 fifo_collected es e k oldest h = record {
-    taken = rw (accepts-other es e (ap is_accept k), takes-other es e (ap is_take k)) h.taken;
-    collected = λ d. elim (cases_eq e.client d) [
-        inl same ↦ subst (λ (x : ℕ). StartsWith (map (λ y. y.ordinal) (answers_of x (es ++ e ∷ []))) (map (λ y. y.ordinal) (collects_of x (es ++ e ∷ [])))) same here
-        | inr apart ↦ rw (answers_of-other d es e (ap is_answer k), collected_other d es e k apart) (h.collected d)
-      ];
-  }
+  taken = rw (accepts-other es e (ap is_accept k), takes-other es e (ap is_take k)) h.taken;
+  collected = λ d. elim (cases_eq e.client d) [
+    | inl same ↦ subst (λ (x : ℕ). StartsWith (map (λ y. y.ordinal) (answers_of x (es ++ e ∷ []))) (map (λ y. y.ordinal) (collects_of x (es ++ e ∷ [])))) same here
+    | inr apart ↦ rw (answers_of-other d es e (ap is_answer k), collected_other d es e k apart) (h.collected d)
+  ];
+}
   where
     here : StartsWith (map (λ y. y.ordinal) (answers_of e.client (es ++ e ∷ []))) (map (λ y. y.ordinal) (collects_of e.client (es ++ e ∷ [])))
     here = rw (answers_of-other e.client es e (ap is_answer k), ordinals_collected es e k)
-      (StartsWith-next (map (λ x. x.ordinal) (answers_of e.client es)) (map (λ x. x.ordinal) (collects_of e.client es)) e.ordinal (h.collected e.client) oldest)
+        (StartsWith-next (map (λ x. x.ordinal) (answers_of e.client es)) (map (λ x. x.ordinal) (collects_of e.client es)) e.ordinal (h.collected e.client) oldest)
 
 pub oldest_from : (es : List Entry) (e : Entry) → e.kind ≡ kind.Collect → IsFifo (es ++ e ∷ []) → IsOldest es e
 unfolding IsOldest
 oldest_from es e k fifo =
     let starts : StartsWith (map (λ x. x.ordinal) (answers_of e.client es)) (map (λ x. x.ordinal) (collects_of e.client es) ++ e.ordinal ∷ []) =
-      rw (answers_of-other e.client es e (ap is_answer k), ordinals_collected es e k) at (fifo.collected e.client) in
+    rw (answers_of-other e.client es e (ap is_answer k), ordinals_collected es e k) at (fifo.collected e.client) in
     StartsWith-end (map (λ x. x.ordinal) (answers_of e.client es)) (map (λ x. x.ordinal) (collects_of e.client es)) e.ordinal starts
 
 oldest_test : (es : List Entry) (e : Entry) → is_oldest es e ≡ true → IsOldest es e
@@ -69,71 +69,73 @@ test_oldest es e oldest = some_numbered (slice_get (answers_of e.client es) (len
 
 pub collect_iff : (limits : Limits) (es : List Entry) (e : Entry) (b : Bool) → IsLegal limits es → e.kind ≡ kind.Collect → b ≡ collect_fits es e → (b ≡ true) ↔ Fits limits es e
 collect_iff limits es e b legal k is =
-    let was = AtEachPrefix-whole (IsBounded limits) es legal.bounds in
-    (λ h.
-      let a = and_parts _ _ (sym is ∙ h) in
-      let c = and_parts _ _ a.0 in
-      let bare = and_parts _ _ c.0 in
-      let served = and_parts _ _ c.1 in
-      record {
-        form = HasForm-by e kind.Collect k (eqb-true _ _ bare.0, eqb-true _ _ bare.1);
-        fifo = fifo_collected es e k (oldest_test es e a.1) (AtEachPrefix-whole IsFifo es legal.fifo);
-        once = once_kept es e (ap is_accept k) (ap is_take k) (ap is_settling k) legal.once;
-        membership = membership_kept es e (ap is_admit k) (ap is_retire k) legal.membership;
-        standing = StandsWell-by es e kind.Collect k (served.0, not-true _ served.1);
-        pairing = IsPaired-by es e kind.Collect k tt;
-        apart = apart_kept es e (ap is_take k) (ap is_settling k) (AtEachPrefix-whole AreApart es legal.apart);
-        bounds = record {
-          queue = rw (accepts-other es e (ap is_accept k), takes-other es e (ap is_take k)) was.queue;
-          window = rw (unanswered-other es e (ap is_take k) (ap is_settling k)) was.window;
-          client = λ d stays.
-            let old = was.client d (sym (is_retired-other d es e (ap is_retire k)) ∙ stays) in
-            let more : length (collects_of d es) ≤ length (collects_of d (es ++ e ∷ [])) =
-              omega (arith, ap length (filter-append (λ x. is_collect x.kind && (x.client == d)) es (e ∷ [])), length-append (collects_of d es) (collects_of d (e ∷ []))) in
-            rw (accepts_of-other d es e (ap is_accept k)) (omega (arith, old, more));
-        };
-      },
+    let was = AtEachPrefix-whole (IsBounded limits) es legal.bounds in (
+      λ h.
+          let a = and_parts _ _ (sym is ∙ h) in
+          let c = and_parts _ _ a.0 in
+          let bare = and_parts _ _ c.0 in
+          let served = and_parts _ _ c.1 in
+          record {
+            form = HasForm-by e kind.Collect k (eqb-true _ _ bare.0, eqb-true _ _ bare.1);
+            fifo = fifo_collected es e k (oldest_test es e a.1) (AtEachPrefix-whole IsFifo es legal.fifo);
+            once = once_kept es e (ap is_accept k) (ap is_take k) (ap is_settling k) legal.once;
+            membership = membership_kept es e (ap is_admit k) (ap is_retire k) legal.membership;
+            standing = StandsWell-by es e kind.Collect k (served.0, not-true _ served.1);
+            pairing = IsPaired-by es e kind.Collect k tt;
+            apart = apart_kept es e (ap is_take k) (ap is_settling k) (AtEachPrefix-whole AreApart es legal.apart);
+            bounds = record {
+              queue = rw (accepts-other es e (ap is_accept k), takes-other es e (ap is_take k)) was.queue;
+              window = rw (unanswered-other es e (ap is_take k) (ap is_settling k)) was.window;
+              client = λ d stays.
+                  let old = was.client d (sym (is_retired-other d es e (ap is_retire k)) ∙ stays) in
+                  let more : length (collects_of d es) ≤ length (collects_of d (es ++ e ∷ [])) =
+                  omega (arith, ap length (filter-append (λ x. is_collect x.kind && (x.client == d)) es (e ∷ [])), length-append (collects_of d es) (collects_of d (e ∷ []))) in
+                  rw (accepts_of-other d es e (ap is_accept k)) (omega (arith, old, more));
+            };
+          },
       λ fits.
-        let form : HasForm kind.Collect e = rw k at fits.form in
-        let served : StandsWell kind.Collect es e = rw k at fits.standing in
-        is ∙ and_from _ _ (and_from _ _ (and_from _ _ (eq-eqb e.number 0 form.0) (eq-eqb e.command 0 form.1)) (and_from _ _ served.0 (ap not served.1))) (test_oldest es e (oldest_from es e k fits.fifo)))
+          let form : HasForm kind.Collect e = rw k at fits.form in
+          let served : StandsWell kind.Collect es e = rw k at fits.standing in
+          is ∙ and_from _ _ (and_from _ _ (and_from _ _ (eq-eqb e.number 0 form.0) (eq-eqb e.command 0 form.1)) (and_from _ _ served.0 (ap not served.1))) (test_oldest es e (oldest_from es e k fits.fifo)),
+    )
 
 retires_more : (es : List Entry) (e : Entry) → e.kind ≡ kind.Retire → is_retired e.client es ≡ false → IsMembership es → (d : ℕ) → count_by (λ x. is_retire x.kind && (x.client == d)) (es ++ e ∷ []) ≤ 1
 retires_more es e k none h d =
     elim (cases_eq e.client d) [
-      inl same ↦
-        let before : count_by (λ x. is_retire x.kind && (x.client == d)) es ≡ 0 = none_count (λ x. is_retire x.kind && (x.client == d)) es (ap (λ i. is_retired i es) (sym same) ∙ none) in
-        omega (arith, count_one (λ x. is_retire x.kind && (x.client == d)) es e (and_from _ _ (ap is_retire k) (eq-eqb e.client d same)), before)
+      | inl same ↦
+          let before : count_by (λ x. is_retire x.kind && (x.client == d)) es ≡ 0 = none_count (λ x. is_retire x.kind && (x.client == d)) es (ap (λ i. is_retired i es) (sym same) ∙ none) in
+          omega (arith, count_one (λ x. is_retire x.kind && (x.client == d)) es e (and_from _ _ (ap is_retire k) (eq-eqb e.client d same)), before)
       | inr apart ↦
-        omega (arith, count_other (λ x. is_retire x.kind && (x.client == d)) es e (ap (λ b. b && (e.client == d)) (ap is_retire k) ∙ ne_eqb e.client d apart), h.retires d)
+          omega (arith, count_other (λ x. is_retire x.kind && (x.client == d)) es e (ap (λ b. b && (e.client == d)) (ap is_retire k) ∙ ne_eqb e.client d apart), h.retires d)
     ]
 
 pub retire_iff : (limits : Limits) (es : List Entry) (e : Entry) (b : Bool) → IsLegal limits es → e.kind ≡ kind.Retire → b ≡ retire_fits es e → (b ≡ true) ↔ Fits limits es e
 retire_iff limits es e b legal k is =
-    let was = AtEachPrefix-whole (IsBounded limits) es legal.bounds in
-    (λ h.
-      let a = and_parts _ _ (sym is ∙ h) in
-      let c = and_parts _ _ a.0 in
-      let bare = and_parts _ _ c.1 in
-      let served = and_parts _ _ a.1 in
-      record {
-        form = HasForm-by e kind.Retire k (eqb-true _ _ c.0, eqb-true _ _ bare.0, eqb-true _ _ bare.1);
-        fifo = fifo_kept es e (ap is_accept k) (ap is_take k) (ap is_answer k) (ap is_collect k) (AtEachPrefix-whole IsFifo es legal.fifo);
-        once = once_kept es e (ap is_accept k) (ap is_take k) (ap is_settling k) legal.once;
-        membership = record {
-          clients = rw (admits-other es e (ap is_admit k)) legal.membership.clients;
-          retires = retires_more es e k (not-true _ served.1) legal.membership;
-        };
-        standing = StandsWell-by es e kind.Retire k (served.0, not-true _ served.1);
-        pairing = IsPaired-by es e kind.Retire k tt;
-        apart = apart_kept es e (ap is_take k) (ap is_settling k) (AtEachPrefix-whole AreApart es legal.apart);
-        bounds = record {
-          queue = rw (accepts-other es e (ap is_accept k), takes-other es e (ap is_take k)) was.queue;
-          window = rw (unanswered-other es e (ap is_take k) (ap is_settling k)) was.window;
-          client = λ d stays. rw (accepts_of-other d es e (ap is_accept k), collects_of-other d es e (ap is_collect k)) (was.client d (retired_before d es e stays));
-        };
-      },
+    let was = AtEachPrefix-whole (IsBounded limits) es legal.bounds in (
+      λ h.
+          let a = and_parts _ _ (sym is ∙ h) in
+          let c = and_parts _ _ a.0 in
+          let bare = and_parts _ _ c.1 in
+          let served = and_parts _ _ a.1 in
+          record {
+            form = HasForm-by e kind.Retire k (eqb-true _ _ c.0, eqb-true _ _ bare.0, eqb-true _ _ bare.1);
+            fifo = fifo_kept es e (ap is_accept k) (ap is_take k) (ap is_answer k) (ap is_collect k) (AtEachPrefix-whole IsFifo es legal.fifo);
+            once = once_kept es e (ap is_accept k) (ap is_take k) (ap is_settling k) legal.once;
+            membership = record {
+              clients = rw (admits-other es e (ap is_admit k)) legal.membership.clients;
+              retires = retires_more es e k (not-true _ served.1) legal.membership;
+            };
+            standing = StandsWell-by es e kind.Retire k (served.0, not-true _ served.1);
+            pairing = IsPaired-by es e kind.Retire k tt;
+            apart = apart_kept es e (ap is_take k) (ap is_settling k) (AtEachPrefix-whole AreApart es legal.apart);
+            bounds = record {
+              queue = rw (accepts-other es e (ap is_accept k), takes-other es e (ap is_take k)) was.queue;
+              window = rw (unanswered-other es e (ap is_take k) (ap is_settling k)) was.window;
+              client = λ d stays. rw (accepts_of-other d es e (ap is_accept k), collects_of-other d es e (ap is_collect k)) (was.client d (retired_before d es e stays));
+            };
+          },
       λ fits.
-        let form : HasForm kind.Retire e = rw k at fits.form in
-        let served : StandsWell kind.Retire es e = rw k at fits.standing in
-        is ∙ and_from _ _ (and_from _ _ (eq-eqb e.ordinal 0 form.0) (and_from _ _ (eq-eqb e.number 0 form.1) (eq-eqb e.command 0 form.2))) (and_from _ _ served.0 (ap not served.1)))
+          let form : HasForm kind.Retire e = rw k at fits.form in
+          let served : StandsWell kind.Retire es e = rw k at fits.standing in
+          is ∙ and_from _ _ (and_from _ _ (eq-eqb e.ordinal 0 form.0) (and_from _ _ (eq-eqb e.number 0 form.1) (eq-eqb e.command 0 form.2))) (and_from _ _ served.0 (ap not served.1)),
+    )

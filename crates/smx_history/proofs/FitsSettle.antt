@@ -42,31 +42,33 @@ pub unanswered_settled : (es : List Entry) (e : Entry) → Settles e.kind → un
 unanswered_settled es e s =
     ap (filter (λ x. not (is_settled x.client x.ordinal (es ++ e ∷ [])))) (takes-other es e s.take)
     ∙ filter_agree (λ x. not (is_settled x.client x.ordinal (es ++ e ∷ []))) (λ x. not (is_settled x.client x.ordinal es) && not (has_name e.client e.ordinal x))
-      (λ x. ap not (list_any-append (λ y. is_settling y.kind && has_name x.client x.ordinal y) es (e ∷ []) ∙ ap (λ b. is_settled x.client x.ordinal es || b) (one x)) ∙ de_morgan (is_settled x.client x.ordinal es) (has_name e.client e.ordinal x)) (takes es)
+    (λ x. ap not (list_any-append (λ y. is_settling y.kind && has_name x.client x.ordinal y) es (e ∷ []) ∙ ap (λ b. is_settled x.client x.ordinal es || b) (one x)) ∙ de_morgan (is_settled x.client x.ordinal es) (has_name e.client e.ordinal x)) (takes es)
     ∙ filter-and (λ x. not (is_settled x.client x.ordinal es)) (λ x. not (has_name e.client e.ordinal x)) (takes es)
   where
     or_nothing : (b : Bool) → (b || false) ≡ b
     or_nothing true = refl
     or_nothing false = refl
+
     de_morgan : (a b : Bool) → not (a || b) ≡ (not a && not b)
     de_morgan true b = refl
     de_morgan false b = refl
+
     one : (x : Entry) → ((is_settling e.kind && has_name x.client x.ordinal e) || false) ≡ has_name e.client e.ordinal x
     one x =
-      or_nothing (is_settling e.kind && has_name x.client x.ordinal e) ∙ ap (λ b. b && has_name x.client x.ordinal e) s.settling
-      ∙ ap (λ b. b && (e.ordinal == x.ordinal)) (eqb_sym e.client x.client) ∙ ap (λ b. (x.client == e.client) && b) (eqb_sym e.ordinal x.ordinal)
+        or_nothing (is_settling e.kind && has_name x.client x.ordinal e) ∙ ap (λ b. b && has_name x.client x.ordinal e) s.settling
+        ∙ ap (λ b. b && (e.ordinal == x.ordinal)) (eqb_sym e.client x.client) ∙ ap (λ b. (x.client == e.client) && b) (eqb_sym e.ordinal x.ordinal)
 
 settles_once : (es : List Entry) (e : Entry) → Settles e.kind → is_settled e.client e.ordinal es ≡ false → IsOnce es → (c n : ℕ) → count_by (λ x. is_settling x.kind && has_name c n x) (es ++ e ∷ []) ≤ 1
 settles_once es e s none h c n =
     elim (cases_Bool (has_name c n e)) [
-      inl same ↦
-        let w = and_parts (e.client == c) (e.ordinal == n) same in
-        let before : count_by (λ x. is_settling x.kind && has_name c n x) es ≡ 0 =
+      | inl same ↦
+          let w = and_parts (e.client == c) (e.ordinal == n) same in
+          let before : count_by (λ x. is_settling x.kind && has_name c n x) es ≡ 0 =
           none_count (λ x. is_settling x.kind && has_name c n x) es
-            (sym (ap (λ i. is_settled i e.ordinal es) (eqb-true e.client c w.0) ∙ ap (λ i. is_settled c i es) (eqb-true e.ordinal n w.1)) ∙ none) in
-        omega (arith, count_one (λ x. is_settling x.kind && has_name c n x) es e (and_from _ _ s.settling same), before)
+          (sym (ap (λ i. is_settled i e.ordinal es) (eqb-true e.client c w.0) ∙ ap (λ i. is_settled c i es) (eqb-true e.ordinal n w.1)) ∙ none) in
+          omega (arith, count_one (λ x. is_settling x.kind && has_name c n x) es e (and_from _ _ s.settling same), before)
       | inr apart ↦
-        omega (arith, count_other (λ x. is_settling x.kind && has_name c n x) es e (and_right (is_settling e.kind) (has_name c n e) apart), h.settlings c n)
+          omega (arith, count_other (λ x. is_settling x.kind && has_name c n x) es e (and_right (is_settling e.kind) (has_name c n e) apart), h.settlings c n)
     ]
 
 settle_from : (es : List Entry) (e : Entry) → settle_fits es e ≡ true → Answers es e
@@ -79,7 +81,7 @@ settle_from es e test =
 settle_to : (es : List Entry) (e : Entry) → Answers es e → settle_fits es e ≡ true
 settle_to es e p =
     and_from _ _ (and_from _ _ p.taken (ap not p.first))
-      (passes_find (λ x. is_accept x.kind && has_name e.client e.ordinal x) (λ x. x.command) (λ n. is_response_to n e.command) es ∙ and_from _ _ p.accepted p.command)
+    (passes_find (λ x. is_accept x.kind && has_name e.client e.ordinal x) (λ x. x.command) (λ n. is_response_to n e.command) es ∙ and_from _ _ p.accepted p.command)
 
 -- what is the same for an answer in time and for one that is late
 record FitsBut (limits : Limits) (es : List Entry) (e : Entry) : Type 0 where
@@ -97,7 +99,7 @@ settle_but limits es e legal s p =
       fifo = record {
         taken = rw (accepts-other es e s.accept, takes-other es e s.take) fifo.taken;
         collected = λ c. rw (collects_of-other c es e s.collect, filter-append (λ x. is_answer x.kind && (x.client == c)) es (e ∷ []), map-append (λ x. x.ordinal) (answers_of c es) (answers_of c (e ∷ [])))
-          (StartsWith-more (map (λ x. x.ordinal) (answers_of c es)) (map (λ x. x.ordinal) (collects_of c es)) (map (λ x. x.ordinal) (answers_of c (e ∷ []))) (fifo.collected c));
+            (StartsWith-more (map (λ x. x.ordinal) (answers_of c es)) (map (λ x. x.ordinal) (collects_of c es)) (map (λ x. x.ordinal) (answers_of c (e ∷ []))) (fifo.collected c));
       };
       once = record {
         ordinals = λ c. rw (accepts_of-other c es e s.accept) (legal.once.ordinals c);
@@ -114,44 +116,46 @@ settle_but limits es e legal s p =
 
 pub answer_iff : (limits : Limits) (es : List Entry) (e : Entry) (b : Bool) → IsLegal limits es → e.kind ≡ kind.Answer → b ≡ answer_fits es e → (b ≡ true) ↔ Fits limits es e
 answer_iff limits es e b legal k is =
-    let s = settles_answer e.kind k in
-    (λ h.
-      let w = and_parts _ _ (sym is ∙ h) in
-      let p = settle_from es e w.0 in
-      let but = settle_but limits es e legal s p in
-      record {
-        form = HasForm-by e kind.Answer k tt;
-        fifo = but.fifo;
-        once = but.once;
-        membership = membership_kept es e s.admit s.retire legal.membership;
-        standing = StandsWell-by es e kind.Answer k (not-true _ w.1);
-        pairing = IsPaired-by es e kind.Answer k p;
-        apart = but.apart;
-        bounds = but.bounds;
-      },
+    let s = settles_answer e.kind k in (
+      λ h.
+          let w = and_parts _ _ (sym is ∙ h) in
+          let p = settle_from es e w.0 in
+          let but = settle_but limits es e legal s p in
+          record {
+            form = HasForm-by e kind.Answer k tt;
+            fifo = but.fifo;
+            once = but.once;
+            membership = membership_kept es e s.admit s.retire legal.membership;
+            standing = StandsWell-by es e kind.Answer k (not-true _ w.1);
+            pairing = IsPaired-by es e kind.Answer k p;
+            apart = but.apart;
+            bounds = but.bounds;
+          },
       λ fits.
-        let standing : StandsWell kind.Answer es e = rw k at fits.standing in
-        let paired : IsPaired kind.Answer es e = subst (λ (x : Kind). IsPaired x es e) k fits.pairing in
-        is ∙ and_from _ _ (settle_to es e paired) (ap not standing))
+          let standing : StandsWell kind.Answer es e = rw k at fits.standing in
+          let paired : IsPaired kind.Answer es e = subst (λ (x : Kind). IsPaired x es e) k fits.pairing in
+          is ∙ and_from _ _ (settle_to es e paired) (ap not standing),
+    )
 
 pub late_iff : (limits : Limits) (es : List Entry) (e : Entry) (b : Bool) → IsLegal limits es → e.kind ≡ kind.Late → b ≡ late_fits es e → (b ≡ true) ↔ Fits limits es e
 late_iff limits es e b legal k is =
-    let s = settles_late e.kind k in
-    (λ h.
-      let w = and_parts _ _ (sym is ∙ h) in
-      let p = settle_from es e w.0 in
-      let but = settle_but limits es e legal s p in
-      record {
-        form = HasForm-by e kind.Late k tt;
-        fifo = but.fifo;
-        once = but.once;
-        membership = membership_kept es e s.admit s.retire legal.membership;
-        standing = StandsWell-by es e kind.Late k w.1;
-        pairing = IsPaired-by es e kind.Late k p;
-        apart = but.apart;
-        bounds = but.bounds;
-      },
+    let s = settles_late e.kind k in (
+      λ h.
+          let w = and_parts _ _ (sym is ∙ h) in
+          let p = settle_from es e w.0 in
+          let but = settle_but limits es e legal s p in
+          record {
+            form = HasForm-by e kind.Late k tt;
+            fifo = but.fifo;
+            once = but.once;
+            membership = membership_kept es e s.admit s.retire legal.membership;
+            standing = StandsWell-by es e kind.Late k w.1;
+            pairing = IsPaired-by es e kind.Late k p;
+            apart = but.apart;
+            bounds = but.bounds;
+          },
       λ fits.
-        let standing : StandsWell kind.Late es e = rw k at fits.standing in
-        let paired : IsPaired kind.Late es e = subst (λ (x : Kind). IsPaired x es e) k fits.pairing in
-        is ∙ and_from _ _ (settle_to es e paired) standing)
+          let standing : StandsWell kind.Late es e = rw k at fits.standing in
+          let paired : IsPaired kind.Late es e = subst (λ (x : Kind). IsPaired x es e) k fits.pairing in
+          is ∙ and_from _ _ (settle_to es e paired) standing,
+    )

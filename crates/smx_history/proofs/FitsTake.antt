@@ -84,19 +84,19 @@ passes_to : (limits : Limits) (t : Totals) (es : List Entry) (e : Entry) → Cou
 passes_to limits t es e counted p =
     let same : settlings_as e.number es ≡ takes_as e.number es = omega (arith, p.free, counted.numbers e.number) in
     and_from _ _ (and_from _ _ (and_from _ _ (and_from _ _ (and_from _ _ (and_from _ _ (eq-eqb _ _ p.command) (lt-ltb _ _ p.positive)) (le-leb _ _ p.within))
-      (some_named (slice_get (accepts es) t.taken) e.client e.ordinal (next_is t es e counted ∙ p.next))) (ap not p.first)) (eq-eqb _ _ same)) (lt-ltb _ _ (omega (arith, p.window, counted.unanswered)))
+    (some_named (slice_get (accepts es) t.taken) e.client e.ordinal (next_is t es e counted ∙ p.next))) (ap not p.first)) (eq-eqb _ _ same)) (lt-ltb _ _ (omega (arith, p.window, counted.unanswered)))
 
 takes_once : (es : List Entry) (e : Entry) → e.kind ≡ kind.Take → is_taken e.client e.ordinal es ≡ false → ((c n : ℕ) → count_by (λ x. is_take x.kind && has_name c n x) es ≤ 1) → (c n : ℕ) → count_by (λ x. is_take x.kind && has_name c n x) (es ++ e ∷ []) ≤ 1
 takes_once es e k none few c n =
     elim (cases_Bool (has_name c n e)) [
-      inl same ↦
-        let w = and_parts (e.client == c) (e.ordinal == n) same in
-        let before : count_by (λ x. is_take x.kind && has_name c n x) es ≡ 0 =
+      | inl same ↦
+          let w = and_parts (e.client == c) (e.ordinal == n) same in
+          let before : count_by (λ x. is_take x.kind && has_name c n x) es ≡ 0 =
           none_count (λ x. is_take x.kind && has_name c n x) es
-            (sym (ap (λ i. is_taken i e.ordinal es) (eqb-true e.client c w.0) ∙ ap (λ i. is_taken c i es) (eqb-true e.ordinal n w.1)) ∙ none) in
-        omega (arith, count_one (λ x. is_take x.kind && has_name c n x) es e (and_from _ _ (ap is_take k) same), before)
+          (sym (ap (λ i. is_taken i e.ordinal es) (eqb-true e.client c w.0) ∙ ap (λ i. is_taken c i es) (eqb-true e.ordinal n w.1)) ∙ none) in
+          omega (arith, count_one (λ x. is_take x.kind && has_name c n x) es e (and_from _ _ (ap is_take k) same), before)
       | inr apart ↦
-        omega (arith, count_other (λ x. is_take x.kind && has_name c n x) es e (and_right (is_take e.kind) (has_name c n e) apart), few c n)
+          omega (arith, count_other (λ x. is_take x.kind && has_name c n x) es e (and_right (is_take e.kind) (has_name c n e) apart), few c n)
     ]
 
 take_to : (limits : Limits) (t : Totals) (es : List Entry) (e : Entry) → IsLegal limits es → e.kind ≡ kind.Take → Passes limits t es e → Fits limits es e
@@ -119,7 +119,7 @@ take_to limits t es e legal k p =
       standing = StandsWell-by es e kind.Take k tt;
       pairing = IsPaired-by es e kind.Take k (p.positive, p.within);
       apart = rw (push, map-append (λ x. x.number) (unanswered es) (e ∷ []))
-        (IsDistinct-push (map (λ x. x.number) (unanswered es)) e.number (AtEachPrefix-whole AreApart es legal.apart) (none_numbered e.number (unanswered es) p.free));
+          (IsDistinct-push (map (λ x. x.number) (unanswered es)) e.number (AtEachPrefix-whole AreApart es legal.apart) (none_numbered e.number (unanswered es) p.free));
       bounds = record {
         queue = rw (accepts-other es e (ap is_accept k), takes_push es e k) (omega (arith, length-append (takes es) (e ∷ []), was.queue));
         window = rw push (omega (arith, length-append (unanswered es) (e ∷ []), p.window));
@@ -132,7 +132,7 @@ pub taken_first : (limits : Limits) (es : List Entry) (e : Entry) → Fits limit
 taken_first limits es e fits k =
     let few = fits.once.takes e.client e.ordinal in
     count_none_any (λ x. is_take x.kind && has_name e.client e.ordinal x) es
-      (omega (arith, few, count_one (λ x. is_take x.kind && has_name e.client e.ordinal x) es e (and_from _ _ (ap is_take k) (own_name e))))
+    (omega (arith, few, count_one (λ x. is_take x.kind && has_name e.client e.ordinal x) es e (and_from _ _ (ap is_take k) (own_name e))))
 
 take_from : (limits : Limits) (t : Totals) (es : List Entry) (e : Entry) → IsLegal limits es → e.kind ≡ kind.Take → Fits limits es e → Passes limits t es e
 take_from limits t es e legal k fits =
@@ -141,9 +141,9 @@ take_from limits t es e legal k fits =
     let first = taken_first limits es e fits k in
     let push = unanswered_taken es e k (untaken_unsettled es e.client e.ordinal legal.pairing first) in
     let starts : StartsWith (map name_of (accepts es)) (map name_of (takes es) ++ name_of e ∷ []) =
-      rw (takes_push es e k, accepts-other es e (ap is_accept k), map-append name_of (takes es) (e ∷ [])) at fits.fifo.taken in
+    rw (takes_push es e k, accepts-other es e (ap is_accept k), map-append name_of (takes es) (e ∷ [])) at fits.fifo.taken in
     let distinct : IsDistinct nat_eq (map (λ x. x.number) (unanswered es) ++ e.number ∷ []) =
-      subst (λ (xs : List ℕ). IsDistinct nat_eq xs) (ap (map (λ (x : Entry). x.number)) push ∙ map-append (λ x. x.number) (unanswered es) (e ∷ [])) fits.apart in
+    subst (λ (xs : List ℕ). IsDistinct nat_eq xs) (ap (map (λ (x : Entry). x.number)) push ∙ map-append (λ x. x.number) (unanswered es) (e ∷ [])) fits.apart in
     let window : length (unanswered es ++ e ∷ []) ≤ limits.window = rw push at fits.bounds.window in
     record {
       command = form;

@@ -50,4 +50,4 @@ pub waiting-other : (es : List Entry) (e : Entry) → is_admit e.kind ≡ false 
 waiting-other es e a r n c =
     ap (sum_by (λ x. length (answers_of x.client (es ++ e ∷ [])) - length (collects_of x.client (es ++ e ∷ [])))) (present-other es e a r)
     ∙ sum_by-agree (λ x. length (answers_of x.client (es ++ e ∷ [])) - length (collects_of x.client (es ++ e ∷ []))) (λ x. length (answers_of x.client es) - length (collects_of x.client es))
-      (λ x. ap (λ xs. length xs - length (collects_of x.client (es ++ e ∷ []))) (answers_of-other x.client es e n) ∙ ap (λ xs. length (answers_of x.client es) - length xs) (collects_of-other x.client es e c)) (present es)
+    (λ x. ap (λ xs. length xs - length (collects_of x.client (es ++ e ∷ []))) (answers_of-other x.client es e n) ∙ ap (λ xs. length (answers_of x.client es) - length xs) (collects_of-other x.client es e c)) (present es)

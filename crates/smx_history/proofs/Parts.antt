@@ -59,7 +59,7 @@ pub passes_find : (p : Entry → Bool) (f : Entry → ℕ) (g : ℕ → Bool) (x
 passes_find p f g [] = refl
 passes_find p f g (x ∷ xs) =
     elim (p x) as (λ b. passes (λ x. g (f x)) (cond b (Some x) (find p xs)) ≡ ((b || list_any p xs) && g (first_or 0 (map f (cond b (x ∷ filter p xs) (filter p xs)))))) [
-      true ↦ refl
+      | true ↦ refl
       | false ↦ passes_find p f g xs
     ]
 
@@ -90,9 +90,9 @@ some_numbered (Some e) n h = let same : e.ordinal ≡ n = cc in eq-eqb e.ordinal
 
 leb-below : (a b : ℕ) → nat_le a b ≡ false → b < a
 leb-below a b h = elim (cases_lt b a) [
-    inl below ↦ below
-    | inr above ↦ absurd (let x : false ≡ true = sym h ∙ le-leb a b above in cc)
-  ]
+  | inl below ↦ below
+  | inr above ↦ absurd (let x : false ≡ true = sym h ∙ le-leb a b above in cc)
+]
 
 -- numbers of which none has reached n end below it
 pub last_below : {X : Type 0} (f : X → ℕ) (p : X → Bool) (low n : ℕ) (xs : List X) → low < n → list_any (λ x. p x && nat_le n (f x)) xs ≡ false → last_or low (map f (filter p xs)) < n

@@ -89,15 +89,17 @@ present-retired es by c =
     let e = entry_by by (Retire c) in
     ap (filter (λ x. not (is_retired x.client (es ++ e ∷ [])))) (admits-other es e refl)
     ∙ filter_agree (λ x. not (is_retired x.client (es ++ e ∷ []))) (λ x. not (is_retired x.client es) && not (x.client == c))
-      (λ x. ap not (list_any-append (λ y. is_retire y.kind && (y.client == x.client)) es (e ∷ []) ∙ ap (λ b. is_retired x.client es || b) (one x)) ∙ de_morgan (is_retired x.client es) (x.client == c)) (admits es)
+    (λ x. ap not (list_any-append (λ y. is_retire y.kind && (y.client == x.client)) es (e ∷ []) ∙ ap (λ b. is_retired x.client es || b) (one x)) ∙ de_morgan (is_retired x.client es) (x.client == c)) (admits es)
     ∙ filter-and (λ x. not (is_retired x.client es)) (λ x. not (x.client == c)) (admits es)
   where
     or_nothing : (b : Bool) → (b || false) ≡ b
     or_nothing true = refl
     or_nothing false = refl
+
     de_morgan : (a b : Bool) → not (a || b) ≡ (not a && not b)
     de_morgan true b = refl
     de_morgan false b = refl
+
     one : (x : Entry) → ((c == x.client) || false) ≡ (x.client == c)
     one x = or_nothing (c == x.client) ∙ eqb_sym c x.client
 
@@ -125,7 +127,7 @@ IsAfter-retired h v by c a =
       queue = rw (push, takes-other es e refl, requests-other h n refl) a.after.queue;
       window = rw (push, unanswered-other es e refl refl, places-kept es (e ∷ []) fifo) a.after.window;
       members = rw (push, present-retired es by c)
-        (zip-each (IsMemberAfter h) (IsMemberAfter (h ++ n ∷ [])) (λ x y is. IsMemberAfter-other h n x y refl refl refl a.legal.pairing is)
+          (zip-each (IsMemberAfter h) (IsMemberAfter (h ++ n ∷ [])) (λ x y is. IsMemberAfter-other h n x y refl refl refl a.legal.pairing is)
           (filter (λ x. not (x.client == c)) (present es)) (without c v.members) (zip-without h c (present es) v.members a.after.members));
       greatest = rw (push, admits-other es e refl) a.after.greatest;
       entries = rw push (ap (λ xs. xs ++ e ∷ []) a.after.entries);
@@ -140,15 +142,15 @@ retires-once d es by c here few =
     let e = entry_by by (Retire c) in
     let push = count_by-push (λ x. is_retire x.kind && (x.client == d)) es e in
     elim (cases_eq c d) [
-      inl same ↦
-        let zero_before : count_by (λ x. is_retire x.kind && (x.client == d)) es ≡ 0 = none_count (λ x. is_retire x.kind && (x.client == d)) es (ap (λ k. is_retired k es) (sym same) ∙ here) in
-        let one : count_by (λ x. is_retire x.kind && (x.client == d)) (es ++ e ∷ []) ≡ count_by (λ x. is_retire x.kind && (x.client == d)) es + 1 =
+      | inl same ↦
+          let zero_before : count_by (λ x. is_retire x.kind && (x.client == d)) es ≡ 0 = none_count (λ x. is_retire x.kind && (x.client == d)) es (ap (λ k. is_retired k es) (sym same) ∙ here) in
+          let one : count_by (λ x. is_retire x.kind && (x.client == d)) (es ++ e ∷ []) ≡ count_by (λ x. is_retire x.kind && (x.client == d)) es + 1 =
           push ∙ ap (λ b. count_by (λ x. is_retire x.kind && (x.client == d)) es + cond b 1 0) (eq-eqb c d same) in
-        omega (arith, one, zero_before)
+          omega (arith, one, zero_before)
       | inr apart ↦
-        let none : count_by (λ x. is_retire x.kind && (x.client == d)) (es ++ e ∷ []) ≡ count_by (λ x. is_retire x.kind && (x.client == d)) es + 0 =
+          let none : count_by (λ x. is_retire x.kind && (x.client == d)) (es ++ e ∷ []) ≡ count_by (λ x. is_retire x.kind && (x.client == d)) es + 0 =
           push ∙ ap (λ b. count_by (λ x. is_retire x.kind && (x.client == d)) es + cond b 1 0) (ne_eqb c d apart) in
-        omega (arith, none, few)
+          omega (arith, none, few)
     ]
 
 AgreesWith-retired_at : (h : List Note) (v : Content) (by c : ℕ) (m : Member) (admit : Entry) → AgreesWith h v → IsMemberAfter h admit m → is_admitted admit.by admit.client (entries_of h) ≡ true → is_retired admit.client (entries_of h) ≡ false → admit.client ≡ c → m.by ≡ by → KeepsRoom (retired v by c) → AgreesWith (h ++ note by (Retire c) ∷ []) (retired v by c)
@@ -179,7 +181,7 @@ AgreesWith-retired_at h v by c m admit a is admitted here of own room =
           retires = λ d. retires-once d es by c not_yet (a.legal.membership.retires d);
         };
         standing = AtEach-push (λ before x. StandsWell x.kind before x) es e a.legal.standing
-          (sym (ap (λ b. is_admitted b admit.client es) (sym is.by ∙ own) ∙ ap (λ d. is_admitted by d es) of) ∙ admitted, not_yet);
+            (sym (ap (λ b. is_admitted b admit.client es) (sym is.by ∙ own) ∙ ap (λ d. is_admitted by d es) of) ∙ admitted, not_yet);
         pairing = AtEach-push (λ before x. IsPaired x.kind before x) es e a.legal.pairing tt;
         apart = AtEachPrefix-push AreApart es e a.legal.apart (rw (unanswered-other es e refl refl) (AtEachPrefix-whole AreApart es a.legal.apart));
         bounds = AtEachPrefix-push (IsBounded v.limits) es e a.legal.bounds (record {

@@ -26,7 +26,7 @@ counted_step es i d t within counted = subst (λ (xs : List Entry). Counted xs t
 pub legal_prefix : (limits : Limits) (es : List Entry) (i : ℕ) (d : Entry) → i < length es → IsLegal limits es → IsLegal limits (take i es ++ get_or es i d ∷ [])
 legal_prefix limits es i d within legal =
     subst (λ (xs : List Entry). IsLegal limits xs) (up_to es i d within)
-      (IsLegal-start limits (take (i + 1) es) (drop (i + 1) es) (subst (λ (xs : List Entry). IsLegal limits xs) (sym (take-append-drop (i + 1) es)) legal))
+    (IsLegal-start limits (take (i + 1) es) (drop (i + 1) es) (subst (λ (xs : List Entry). IsLegal limits xs) (sym (take-append-drop (i + 1) es)) legal))
 
 pub legal_end : (limits : Limits) (es : List Entry) (i : ℕ) → length es ≤ i → i ≤ length es → IsLegal limits (take i es) → IsLegal limits es
 legal_end limits es i past within legal =

@@ -44,7 +44,7 @@ next_accept h r rest q =
     let es = entries_of h in
     let n = length (takes es) in
     next_in es (drop n (accepts es)) r (map (λ x. entry_by 0 (Accept x)) rest) refl
-      (sym (drop-map unsigned n (accepts es)) ∙ ap (drop n) (sym (requests_are_accepts h)) ∙ drop-map (λ x. entry_by 0 (Accept x)) n (requests h) ∙ ap (map (λ x. entry_by 0 (Accept x))) (sym q))
+    (sym (drop-map unsigned n (accepts es)) ∙ ap (drop n) (sym (requests_are_accepts h)) ∙ drop-map (λ x. entry_by 0 (Accept x)) n (requests h) ∙ ap (map (λ x. entry_by 0 (Accept x))) (sym q))
 
 -- no accept before the next one has its name
 before_next : (es : List Entry) (r : Request) (y : Entry) (zs : List Entry) → IsNext es r y zs → IsOnce es → AllByRecursion (λ x. has_name r.client r.ordinal x ≡ false) (take (length (takes es)) (accepts es))
@@ -52,11 +52,11 @@ before_next es r y zs next once =
     let n = length (takes es) in
     let whole : accepts es ≡ take n (accepts es) ++ y ∷ zs = drop-split n (accepts es) y zs next.there in
     let rise : RiseAbove 0 (map (λ e. e.ordinal) (filter (λ e. e.client == r.client) (accepts es))) =
-      subst (λ (xs : List Entry). RiseAbove 0 (map (λ e. e.ordinal) xs)) (filter-and (λ e. is_accept e.kind) (λ e. e.client == r.client) es) (once.ordinals r.client) in
+    subst (λ (xs : List Entry). RiseAbove 0 (map (λ e. e.ordinal) xs)) (filter-and (λ e. is_accept e.kind) (λ e. e.client == r.client) es) (once.ordinals r.client) in
     let rise' : RiseAbove 0 (map (λ e. e.ordinal) (filter (λ e. e.client == r.client) (take n (accepts es) ++ y ∷ zs))) =
-      subst (λ (xs : List Entry). RiseAbove 0 (map (λ e. e.ordinal) (filter (λ e. e.client == r.client) xs))) whole rise in
+    subst (λ (xs : List Entry). RiseAbove 0 (map (λ e. e.ordinal) (filter (λ e. e.client == r.client) xs))) whole rise in
     subst (λ (m : ℕ). AllByRecursion (λ x. has_name r.client m x ≡ false) (take n (accepts es))) next.ordinal
-      (none_before 0 r.client (take n (accepts es)) y zs next.client rise')
+    (none_before 0 r.client (take n (accepts es)) y zs next.client rise')
 
 -- the name of a request: the same test on a name
 abbrev is_named : ℕ → ℕ → Name → Bool
@@ -69,7 +69,7 @@ no_take es r y zs next fifo once =
     let P : Name → Type 0 = λ x. is_named r.client r.ordinal x ≡ false in
     let names : AllByRecursion P (map name_of (take n (accepts es))) = All-to_map P name_of (take n (accepts es)) (before_next es r y zs next once) in
     let same : map name_of (take n (accepts es)) ≡ map name_of (takes es) =
-      sym (take-map name_of n (accepts es)) ∙ ap (λ k. take k (map name_of (accepts es))) (sym (length-map (takes es) name_of)) ∙ fifo.taken in
+    sym (take-map name_of n (accepts es)) ∙ ap (λ k. take k (map name_of (accepts es))) (sym (length-map (takes es) name_of)) ∙ fifo.taken in
     All-of_map P name_of (takes es) (subst (AllByRecursion P) same names)
 
 -- what a legal list allows a take by
@@ -112,12 +112,12 @@ fifo-taken es by r u y zs next h =
     let names = map name_of (accepts es) in
     let old = map name_of (takes es) in
     let there : drop (length old) names ≡ name_of y ∷ map name_of zs =
-      ap (λ k. drop k names) (length-map (takes es) name_of) ∙ drop-map name_of (length (takes es)) (accepts es) ∙ ap (map name_of) next.there in
+    ap (λ k. drop k names) (length-map (takes es) name_of) ∙ drop-map name_of (length (takes es)) (accepts es) ∙ ap (map name_of) next.there in
     let name : name_of y ≡ name_of e = cong_name next.client next.ordinal in
     let count : length (old ++ name_of e ∷ []) ≡ suc (length old) = omega (arith, length-append old (name_of e ∷ [])) in
     record {
       taken = rw (takes-push es by r u, accepts-other es e refl, map-append name_of (takes es) (e ∷ []))
-        (ap (λ k. take k names) count ∙ take-next (length old) names (name_of y) (map name_of zs) there ∙ ap (λ xs. xs ++ name_of y ∷ []) h.taken ∙ ap (λ x. old ++ x ∷ []) name);
+          (ap (λ k. take k names) count ∙ take-next (length old) names (name_of y) (map name_of zs) there ∙ ap (λ xs. xs ++ name_of y ∷ []) h.taken ∙ ap (λ x. old ++ x ∷ []) name);
       collected = λ c. rw (answers_of-other c es e refl, collects_of-other c es e refl) (h.collected c);
     }
 
@@ -127,19 +127,19 @@ once-taken es by r u none h =
     record {
       ordinals = λ c. rw (accepts_of-other c es e refl) (h.ordinals c);
       takes = λ c n. elim (cases_Bool (has_name c n e)) [
-          inl same ↦
+        | inl same ↦
             let w = and_parts (r.client == c) (r.ordinal == n) same in
             let zero_before : count_by (λ x. is_take x.kind && has_name c n x) es ≡ 0 =
-              subst (λ (k : ℕ). count_by (λ x. is_take x.kind && has_name k n x) es ≡ 0) (eqb-true r.client c w.0)
-                (subst (λ (k : ℕ). count_by (λ x. is_take x.kind && has_name r.client k x) es ≡ 0) (eqb-true r.ordinal n w.1) (count_none es r.client r.ordinal none)) in
+            subst (λ (k : ℕ). count_by (λ x. is_take x.kind && has_name k n x) es ≡ 0) (eqb-true r.client c w.0)
+            (subst (λ (k : ℕ). count_by (λ x. is_take x.kind && has_name r.client k x) es ≡ 0) (eqb-true r.ordinal n w.1) (count_none es r.client r.ordinal none)) in
             let push : count_by (λ x. is_take x.kind && has_name c n x) (es ++ e ∷ []) ≡ count_by (λ x. is_take x.kind && has_name c n x) es + 1 =
-              count_by-push (λ x. is_take x.kind && has_name c n x) es e ∙ ap (λ b. count_by (λ x. is_take x.kind && has_name c n x) es + cond b 1 0) same in
+            count_by-push (λ x. is_take x.kind && has_name c n x) es e ∙ ap (λ b. count_by (λ x. is_take x.kind && has_name c n x) es + cond b 1 0) same in
             omega (arith, push, zero_before)
-          | inr apart ↦
+        | inr apart ↦
             let push : count_by (λ x. is_take x.kind && has_name c n x) (es ++ e ∷ []) ≡ count_by (λ x. is_take x.kind && has_name c n x) es + 0 =
-              count_by-push (λ x. is_take x.kind && has_name c n x) es e ∙ ap (λ b. count_by (λ x. is_take x.kind && has_name c n x) es + cond b 1 0) apart in
+            count_by-push (λ x. is_take x.kind && has_name c n x) es e ∙ ap (λ b. count_by (λ x. is_take x.kind && has_name c n x) es + cond b 1 0) apart in
             omega (arith, push, h.takes c n)
-        ];
+      ];
       settlings = λ c n. omega (arith, count_by-push (λ x. is_settling x.kind && has_name c n x) es e, h.settlings c n);
     }
 
@@ -155,7 +155,7 @@ size-taken : (es : List Entry) (by : ℕ) (r : Request) (u : ℕ) → is_settled
 size-taken es by r u none lt =
     let e = entry_by by (Take r.client r.ordinal u) in
     rw (unanswered-push es by r u none, waiting-other es e refl refl refl refl, present-other es e refl refl, accepts-other es e refl, takes-push es by r u)
-      (omega (arith, length-append es (e ∷ []), length-append (takes es) (e ∷ []), length-append (unanswered es) (e ∷ [])))
+    (omega (arith, length-append es (e ∷ []), length-append (takes es) (e ∷ []), length-append (unanswered es) (e ∷ [])))
 
 bounds-taken : (limits : Limits) (es : List Entry) (by : ℕ) (r : Request) (u : ℕ) → is_settled r.client r.ordinal es ≡ false → length (takes es) < length (accepts es) → length (unanswered es) < limits.window → IsBounded limits es → IsBounded limits (es ++ entry_by by (Take r.client r.ordinal u) ∷ [])
 bounds-taken limits es by r u none lt room h =
@@ -181,7 +181,7 @@ IsLegal-taken limits es by r u y zs may legal =
       standing = AtEach-push (λ before x. StandsWell x.kind before x) es e legal.standing tt;
       pairing = AtEach-push (λ before x. IsPaired x.kind before x) es e legal.pairing (may.positive, may.within);
       apart = AtEachPrefix-push AreApart es e legal.apart
-        (rw (unanswered-push es by r u unsettled, map-append (λ x. x.number) (unanswered es) (e ∷ [])) (IsDistinct-push (map (λ x. x.number) (unanswered es)) u (AtEachPrefix-whole AreApart es legal.apart) may.free));
+          (rw (unanswered-push es by r u unsettled, map-append (λ x. x.number) (unanswered es) (e ∷ [])) (IsDistinct-push (map (λ x. x.number) (unanswered es)) u (AtEachPrefix-whole AreApart es legal.apart) may.free));
       bounds = AtEachPrefix-push (IsBounded limits) es e legal.bounds (bounds-taken limits es by r u unsettled lt may.window (AtEachPrefix-whole (IsBounded limits) es legal.bounds));
       size = AtEachPrefix-push (IsWithin limits) es e legal.size (let was = AtEachPrefix-whole (IsWithin limits) es legal.size in omega (arith, size-taken es by r u unsettled lt, was));
     }
@@ -250,31 +250,31 @@ AgreesWith-taken_at h v by r rest u y zs next a front room positive within free 
     let unsettled = not_settled r.client r.ordinal es a.legal.pairing (no_take es r y zs next fifo a.legal.once) in
     let named = named_next es r y zs next a.legal.once in
     let own : own_of r.client r.ordinal (es ++ e ∷ []) ≡ r.own =
-      ap (λ xs. first_or 0 (map (λ x. x.number) xs)) (filter_other (λ x. is_accept x.kind && has_name r.client r.ordinal x) es e refl ∙ named) ∙ next.own in
+    ap (λ xs. first_or 0 (map (λ x. x.number) xs)) (filter_other (λ x. is_accept x.kind && has_name r.client r.ordinal x) es e refl ∙ named) ∙ next.own in
     let command : command_of r.client r.ordinal (es ++ e ∷ []) ≡ r.command =
-      ap (λ xs. first_or 0 (map (λ x. x.command) xs)) (filter_other (λ x. is_accept x.kind && has_name r.client r.ordinal x) es e refl ∙ named) ∙ next.command in
+    ap (λ xs. first_or 0 (map (λ x. x.command) xs)) (filter_other (λ x. is_accept x.kind && has_name r.client r.ordinal x) es e refl ∙ named) ∙ next.command in
     let place : place_of (es ++ e ∷ []) e ≡ place_for r u = cong_place own command in
     let numbers : list_any (λ k. nat_eq k u) (map (λ x. x.number) (unanswered es)) ≡ false =
-      ap (list_any (λ k. nat_eq k u)) (sym (places_numbers es (unanswered es))) ∙ any-map (λ k. nat_eq k u) (λ (p : Place). p.upstream) (window_after h)
-      ∙ any-same (λ (p : Place). p.upstream == u) (window_after h) v.window a.after.window free in
+    ap (list_any (λ k. nat_eq k u)) (sym (places_numbers es (unanswered es))) ∙ any-map (λ k. nat_eq k u) (λ (p : Place). p.upstream) (window_after h)
+    ∙ any-same (λ (p : Place). p.upstream == u) (window_after h) v.window a.after.window free in
     let may : MayTake v.limits es r u y zs = record {
-        next = next;
-        positive = positive;
-        within = within;
-        free = free_numbers u (map (λ x. x.number) (unanswered es)) numbers;
-        window = omega (arith, length-window h v a.after, room);
-      } in
+      next = next;
+      positive = positive;
+      within = within;
+      free = free_numbers u (map (λ x. x.number) (unanswered es)) numbers;
+      window = omega (arith, length-window h v a.after, room);
+    } in
     let window : map (place_of (es ++ e ∷ [])) (unanswered es ++ e ∷ []) ≡ window_after h ++ place_for r u ∷ [] =
-      map-append (place_of (es ++ e ∷ [])) (unanswered es) (e ∷ []) ∙ ap (λ xs. xs ++ place_of (es ++ e ∷ []) e ∷ []) (places-kept es (e ∷ []) fifo) ∙ ap (λ x. window_after h ++ x ∷ []) place in
+    map-append (place_of (es ++ e ∷ [])) (unanswered es) (e ∷ []) ∙ ap (λ xs. xs ++ place_of (es ++ e ∷ []) e ∷ []) (places-kept es (e ∷ []) fifo) ∙ ap (λ x. window_after h ++ x ∷ []) place in
     record {
       legal = rw push (IsLegal-taken v.limits es by r u y zs may a.legal);
       after = record {
-      queue = rw (push, takes-push es by r u, requests-other h n refl) (queue_taken (length (takes es)) (takes es) e v.queue (requests h) r rest refl front a.after.queue);
-      window = rw (push, unanswered-push es by r u unsettled, window) (SameCounts-push (window_after h) v.window (place_for r u) a.after.window);
-      members = rw (push, present-other es e refl refl)
-        (zip-each (IsMemberAfter h) (IsMemberAfter (h ++ n ∷ [])) (λ x m is. IsMemberAfter-other h n x m refl refl refl a.legal.pairing is) (present es) v.members a.after.members);
-      greatest = rw (push, admits-other es e refl) a.after.greatest;
-      entries = rw push (ap (λ xs. xs ++ e ∷ []) a.after.entries);
+        queue = rw (push, takes-push es by r u, requests-other h n refl) (queue_taken (length (takes es)) (takes es) e v.queue (requests h) r rest refl front a.after.queue);
+        window = rw (push, unanswered-push es by r u unsettled, window) (SameCounts-push (window_after h) v.window (place_for r u) a.after.window);
+        members = rw (push, present-other es e refl refl)
+            (zip-each (IsMemberAfter h) (IsMemberAfter (h ++ n ∷ [])) (λ x m is. IsMemberAfter-other h n x m refl refl refl a.legal.pairing is) (present es) v.members a.after.members);
+        greatest = rw (push, admits-other es e refl) a.after.greatest;
+        entries = rw push (ap (λ xs. xs ++ e ∷ []) a.after.entries);
       };
     }
 

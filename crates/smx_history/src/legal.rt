@@ -97,7 +97,11 @@ fn late_fits(before: &[Entry], entry: Entry) -> bool
 fn is_oldest(before: &[Entry], entry: Entry) -> bool
     ensures { result ≡ is_oldest before.now entry }
 {
-    match scan::nth_answer(before, entry.client, scan::collects_of(before, entry.client)) {
+    match scan::nth_answer(
+        before,
+        entry.client,
+        scan::collects_of(before, entry.client),
+    ) {
         Some(answer) => answer.ordinal == entry.ordinal,
         None => false,
     }

@@ -20,3 +20,6 @@ pub use place::Place;
 pub use reply::{AdmitRefusal, Answered, Refusal, TakeRefusal};
 pub use request::Request;
 pub use response::Response;
+
+#[cfg(test)]
+mod tests;

@@ -8,9 +8,7 @@ use crate::entry::{Entry, Kind};
 pub fn is_admitted(entries: &[Entry], by: u64, client: u64) -> bool
     ensures { result ≡ is_admitted by client entries.now }
 {
-    entries
-        .iter()
-        .any(|e| matches!(e.kind, Kind::Admit) && e.client == client && e.by == by)
+    entries.iter().any(|e| matches!(e.kind, Kind::Admit) && e.client == client && e.by == by)
 }
 
 pub fn is_retired(entries: &[Entry], client: u64) -> bool

@@ -18,9 +18,10 @@ pub fits-requires-clause-small : goal.fits-requires-clause-small
 fits-requires-clause-small c = omega (arith, c.history_of-history.ensures, c.history_of-history.type_inv)
 
 pub returns-then-not-fits : goal.returns-then-not-fits
-returns-then-not-fits c =
-    (λ h. absurd (false≢true h),
-      λ legal. sym c.if-not-fits.true ∙ c.fits.ensures.1 (IsLegal-fits c.args.limits (take c.loop-at.at c.args.entries.now) _ (legal_prefix c.args.limits c.args.entries.now c.loop-at.at _ c.loop-at-test.true legal)))
+returns-then-not-fits c = (
+  λ h. absurd (false≢true h),
+  λ legal. sym c.if-not-fits.true ∙ c.fits.ensures.1 (IsLegal-fits c.args.limits (take c.loop-at.at c.args.entries.now) _ (legal_prefix c.args.limits c.args.entries.now c.loop-at.at _ c.loop-at-test.true legal)),
+)
 
 pub after-totals-requires-clause-small : goal.after-totals-requires-clause-small
 after-totals-requires-clause-small c = omega (arith, c.history_of-history.ensures, c.history_of-history.type_inv)
@@ -41,17 +42,18 @@ size-requires c =
     omega (arith, small, near.0, near.1, near.2, near.3, c.history_of-history.ensures, c.history_of-history.type_inv)
 
 pub returns-then-size-history : goal.returns-then-size-history
-returns-then-size-history c =
-    (λ h. absurd (false≢true h),
-      λ legal. let le = within_counted c.args.entries.now c.loop-at.at c.size.result _ c.after-totals.result c.args.limits c.loop-at-test.true c.after-totals.ensures.counted c.size.ensures (legal_prefix c.args.limits c.args.entries.now c.loop-at.at _ c.loop-at-test.true legal) in
-        absurd (omega (arith, le, c.if-size-history.true, c.history_of-history.ensures)))
+returns-then-size-history c = (
+  λ h. absurd (false≢true h),
+  λ legal. let le = within_counted c.args.entries.now c.loop-at.at c.size.result _ c.after-totals.result c.args.limits c.loop-at-test.true c.after-totals.ensures.counted c.size.ensures (legal_prefix c.args.limits c.args.entries.now c.loop-at.at _ c.loop-at-test.true legal) in
+      absurd (omega (arith, le, c.if-size-history.true, c.history_of-history.ensures)),
+)
 
 pub loop-at-preserved : goal.loop-at-preserved
 loop-at-preserved c = record {
-    legal = legal_step c.args.limits c.args.entries.now c.loop-at.at _ c.loop-at-test.true c.loop-at.invariant.legal (c.fits.ensures.0 c.if-not-fits.false)
+  legal = legal_step c.args.limits c.args.entries.now c.loop-at.at _ c.loop-at-test.true c.loop-at.invariant.legal (c.fits.ensures.0 c.if-not-fits.false)
       (size_counted c.args.entries.now c.loop-at.at c.size.result _ c.after-totals.result c.args.limits c.loop-at-test.true c.after-totals.ensures.counted c.size.ensures (omega (arith, c.if-size-history.false, c.history_of-history.ensures)));
-    counted = counted_step c.args.entries.now c.loop-at.at _ c.after-totals.result c.loop-at-test.true c.after-totals.ensures.counted;
-  }
+  counted = counted_step c.args.entries.now c.loop-at.at _ c.after-totals.result c.loop-at-test.true c.after-totals.ensures.counted;
+}
 
 pub returns : goal.returns
 returns c = (λ _. legal_end c.args.limits c.args.entries.now c.loop-at.at c.loop-at-test.false c.loop-at.auto.at-end c.loop-at.invariant.legal, λ _. refl)

@@ -10,11 +10,11 @@ returns-then-left-eq0 c =
 
 pub loop-entry-preserved : goal.loop-entry-preserved
 loop-entry-preserved c = elim c.if-is_answer_of.branch [
-    then-is_answer_of+else-left-eq0 w ↦
+  | then-is_answer_of+else-left-eq0 w ↦
       nth_over (λ e. is_answer e.kind && (e.client == c.args.client)) c.args.entries.now c.loop-entry.entry-index c.loop-entry.left _ _ _ c.loop-entry-test.true (sym c.is_answer_of.ensures ∙ w.if-is_answer_of.true) (let n = w.if-left-eq0.false in omega arith) w.left-is c.loop-entry.invariant
-    | else-is_answer_of w ↦
+  | else-is_answer_of w ↦
       nth_other (λ e. is_answer e.kind && (e.client == c.args.client)) c.args.entries.now c.loop-entry.entry-index c.loop-entry.left _ _ _ c.loop-entry-test.true (sym c.is_answer_of.ensures ∙ w.if-is_answer_of.false) w.left-is c.loop-entry.invariant
-  ]
+]
 
 pub returns : goal.returns
 returns c = nth_none (λ e. is_answer e.kind && (e.client == c.args.client)) c.args.entries.now c.loop-entry.entry-index c.loop-entry.left _ c.loop-entry-test.false c.loop-entry.invariant
