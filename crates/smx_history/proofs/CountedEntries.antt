@@ -19,7 +19,7 @@ use Rattle.smx_history.proofs.Counts.{count_by-push}
 use Rattle.smx_history.proofs.Frames.{accepts-other, takes-other, admits-other, answers_of-other, collects_of-other, is_retired-other, unanswered-other, present-other, waiting-other, sum_by-agree}
 use Rattle.smx_history.proofs.Sizes.{takes-le-accepts}
 use Rattle.smx_history.proofs.Taking.{filter-and}
-use Rattle.smx_history.proofs.AnswerAgrees.{eqb_sym}
+use Rattle.smx_history.proofs.Counts.{eqb_sym}
 use Rattle.smx_history.proofs.Unseen.{none_admitted, unseen}
 use Rattle.smx_history.proofs.Parts.{RiseAbove-end}
 use Rattle.smx_history.proofs.FitsAccept.{accepted_push}

@@ -12,6 +12,7 @@ pub mod Settled
 pub mod AcceptAgrees
 pub mod Taking
 pub mod TakeAgrees
+pub mod SettleAgrees
 pub mod AnswerAgrees
 pub mod LateAgrees
 pub mod CollectAgrees

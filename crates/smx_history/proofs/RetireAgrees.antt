@@ -24,7 +24,7 @@ use Rattle.smx_history.proofs.Frames.{accepts-other, takes-other, admits-other, 
 use Rattle.smx_history.proofs.Keeping.{count_by-push}
 use Rattle.smx_history.proofs.Taking.{filter-and}
 use Rattle.smx_history.proofs.TakeAgrees.{IsMemberAfter-other, zip-each, requests-other}
-use Rattle.smx_history.proofs.AnswerAgrees.{eqb_sym}
+use Rattle.smx_history.proofs.Counts.{eqb_sym}
 
 -- part of what rises rises
 rise_lower : (low x : ℕ) (xs : List ℕ) → low < x → RiseAbove x xs → RiseAbove low xs
