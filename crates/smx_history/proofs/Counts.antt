@@ -128,3 +128,11 @@ eqb_sym a b = elim (cases_eq a b) [
   | inl same ↦ eq-eqb a b same ∙ sym (eq-eqb b a (sym same))
   | inr apart ↦ ne_eqb a b apart ∙ sym (ne_eqb b a (λ e. apart (sym e)))
 ]
+
+pub length_part : {X : Type 0} (p : X → Bool) (xs : List X) → length (filter p xs) ≤ length xs
+length_part p [] = omega arith
+length_part p (x ∷ xs) = length_part_at (p x) (length_part p xs)
+  where
+    length_part_at : (b : Bool) → length (filter p xs) ≤ length xs → length (cond b (x ∷ filter p xs) (filter p xs)) ≤ length (x ∷ xs)
+    length_part_at true le = omega (arith, le)
+    length_part_at false le = omega (arith, le)

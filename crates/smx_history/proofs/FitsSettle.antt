@@ -20,7 +20,7 @@ use Rattle.smx_history.proofs.Kept.{takes_kept, membership_kept, HasForm-by, Sta
 use Rattle.smx_history.proofs.Taking.{filter-and}
 use Rattle.smx_history.proofs.Counts.{eqb_sym}
 use Rattle.smx_history.proofs.Parts.{apart-filter}
-use Rattle.smx_history.proofs.RetireAgrees.{length_part}
+use Rattle.smx_history.proofs.Counts.{length_part}
 use Rattle.smx_history.proofs.Parts.{passes_find, count_one, count_other}
 
 -- an entry that settles is no admit, accept, take, collect or retire

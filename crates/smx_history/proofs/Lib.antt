@@ -30,6 +30,7 @@ pub mod FitsTake
 pub mod FitsSettle
 pub mod FitsCollect
 pub mod Counting
+pub mod Presence
 pub mod CountedEntries
 pub mod CountedSettle
 pub mod Steps
