@@ -1,4 +1,5 @@
 -- The totals after an admit, an accept, a take, a collect or a retire.
+use Rattle.smx_history.proofs.Presence.{present_admitted, present_retired}
 use Rattle.std.proofs.Common.{◌≡◌, ◌<◌, ◌≤◌, ◌+◌, ◌-◌, ◌*◌, ◌==◌, ℕ, Bool, true, false, not, ◌&&◌, ◌||◌, cond, List, [], ◌∷◌, ◌++◌, length, map, filter, refl, sym, ◌∙◌, ap, subst, arith, length-append, inl, inr, count_by, sum_by}
 use Rattle.std.specs.List.{list_any}
 use Rattle.std.proofs.lemmas.List.{map-append}
@@ -19,7 +20,7 @@ use Rattle.smx_history.proofs.Counts.{count_by-push}
 use Rattle.smx_history.proofs.Frames.{accepts-other, takes-other, admits-other, answers_of-other, collects_of-other, is_retired-other, unanswered-other, present-other, waiting-other, sum_by-agree}
 use Rattle.smx_history.proofs.Sizes.{takes-le-accepts}
 use Rattle.smx_history.proofs.Taking.{filter-and}
-use Rattle.smx_history.proofs.AnswerAgrees.{eqb_sym}
+use Rattle.smx_history.proofs.Counts.{eqb_sym}
 use Rattle.smx_history.proofs.Unseen.{none_admitted, unseen}
 use Rattle.smx_history.proofs.Parts.{RiseAbove-end}
 use Rattle.smx_history.proofs.FitsAccept.{accepted_push}
@@ -31,12 +32,6 @@ use Rattle.smx_history.proofs.Counting.{sum_more, length_without, sum_without, p
 -- responses that wait for one client
 waits : List Entry → Entry → ℕ
 waits es x = length (answers_of x.client es) - length (collects_of x.client es)
-
-pub present_admitted : (es : List Entry) (e : Entry) → e.kind ≡ kind.Admit → is_retired e.client es ≡ false → present (es ++ e ∷ []) ≡ present es ++ e ∷ []
-present_admitted es e k here =
-    ap (filter (λ x. not (is_retired x.client (es ++ e ∷ [])))) (filter_push (λ x. is_admit x.kind) es e (ap is_admit k))
-    ∙ filter_agree (λ x. not (is_retired x.client (es ++ e ∷ []))) (λ x. not (is_retired x.client es)) (λ x. ap not (is_retired-other x.client es e (ap is_retire k))) (admits es ++ e ∷ [])
-    ∙ filter_push (λ x. not (is_retired x.client es)) (admits es) e (ap not here)
 
 waits_kept : (es : List Entry) (e x : Entry) → is_answer e.kind ≡ false → is_collect e.kind ≡ false → waits (es ++ e ∷ []) x ≡ waits es x
 unfolding waits
@@ -139,24 +134,6 @@ counted_collect limits t es e legal counted fits k =
       waiting = let less = collect_waiting limits es e legal fits k in omega (arith, less, counted.waiting);
       present = rw (present-other es e (ap is_admit k) (ap is_retire k)) counted.present;
     }
-
-present_retired : (es : List Entry) (e : Entry) → e.kind ≡ kind.Retire → present (es ++ e ∷ []) ≡ filter (λ a. not (a.client == e.client)) (present es)
-present_retired es e k =
-    ap (filter (λ x. not (is_retired x.client (es ++ e ∷ [])))) (admits-other es e (ap is_admit k))
-    ∙ filter_agree (λ x. not (is_retired x.client (es ++ e ∷ []))) (λ x. not (is_retired x.client es) && not (x.client == e.client))
-    (λ x. ap not (list_any-append (λ y. is_retire y.kind && (y.client == x.client)) es (e ∷ []) ∙ ap (λ b. is_retired x.client es || b) (one x)) ∙ de_morgan (is_retired x.client es) (x.client == e.client)) (admits es)
-    ∙ filter-and (λ x. not (is_retired x.client es)) (λ x. not (x.client == e.client)) (admits es)
-  where
-    or_nothing : (b : Bool) → (b || false) ≡ b
-    or_nothing true = refl
-    or_nothing false = refl
-
-    de_morgan : (a b : Bool) → not (a || b) ≡ (not a && not b)
-    de_morgan true b = refl
-    de_morgan false b = refl
-
-    one : (x : Entry) → ((is_retire e.kind && (e.client == x.client)) || false) ≡ (x.client == e.client)
-    one x = or_nothing (is_retire e.kind && (e.client == x.client)) ∙ ap (λ b. b && (e.client == x.client)) (ap is_retire k) ∙ eqb_sym e.client x.client
 
 -- the client that retires, and what waits for it
 pub record Leaves (es : List Entry) (e : Entry) : Type 0 where

@@ -124,7 +124,7 @@ answer_waits es e x k fifo =
     ]
 
 -- a client with an accept was admitted
-accepted_admitted : (limits : Limits) (es : List Entry) (c n : ℕ) → IsLegal limits es → is_accepted c n es ≡ true → list_any (λ e. is_admit e.kind && (e.client == c)) es ≡ true
+pub accepted_admitted : (limits : Limits) (es : List Entry) (c n : ℕ) → IsLegal limits es → is_accepted c n es ≡ true → list_any (λ e. is_admit e.kind && (e.client == c)) es ≡ true
 accepted_admitted limits es c n legal there =
     elim (cases_Bool (list_any (λ e. is_admit e.kind && (e.client == c)) es)) [
       | inl some ↦ some

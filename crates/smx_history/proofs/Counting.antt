@@ -16,7 +16,7 @@ use Rattle.smx_history.proofs.Counts.{count_by-filter, count-filter-le, any_coun
 use Rattle.smx_history.proofs.Frames.{unanswered-other}
 use Rattle.smx_history.proofs.Reading.{All-filtered, All-from_get}
 use Rattle.smx_history.proofs.Taking.{any_weaker}
-use Rattle.smx_history.proofs.RetireAgrees.{length_part}
+use Rattle.smx_history.proofs.Counts.{length_part}
 use Rattle.smx_history.proofs.Following.{IsLegal-within}
 use Rattle.std.proofs.lemmas.List.{length-map}
 

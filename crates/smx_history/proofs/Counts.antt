@@ -1,8 +1,8 @@
 -- Lists that have the same elements, each as often.
-use Rattle.std.proofs.Common.{◌≡◌, ◌<◌, ◌≤◌, ◌+◌, ℕ, Bool, true, false, cond, not, ◌||◌, ◌&&◌, List, [], ◌∷◌, ◌++◌, length, map, filter, get_or, refl, sym, ◌∙◌, ap, arith, sum_by, count_by, suc, inl, inr}
+use Rattle.std.proofs.Common.{◌==◌, ◌≡◌, ◌<◌, ◌≤◌, ◌+◌, ℕ, Bool, true, false, cond, not, ◌||◌, ◌&&◌, List, [], ◌∷◌, ◌++◌, length, map, filter, get_or, refl, sym, ◌∙◌, ap, arith, sum_by, count_by, suc, inl, inr}
 use Rattle.std.specs.List.{list_any, remove}
 use Rattle.std.proofs.lemmas.List.Sums.{sum_by-cons, sum_by-append, sum_by-remove, length-filter}
-use Rattle.std.proofs.lemmas.Bool.{cases_Bool, and_left}
+use Rattle.std.proofs.lemmas.Bool.{cases_Bool, and_left, cases_eq, eq-eqb, ne_eqb}
 use Rattle.smx_history.specs.Prefixes.{SameCounts}
 
 pub count_by-push : {X : Type 0} (p : X → Bool) (xs : List X) (x : X) → count_by p (xs ++ x ∷ []) ≡ count_by p xs + cond (p x) 1 0
@@ -122,3 +122,17 @@ count_by-map p f (x ∷ xs) = omega (arith, count_by-map p f xs, count_by-cons p
 
 pub count-filter-le : {X : Type 0} (p q : X → Bool) (xs : List X) → count_by p (filter q xs) ≤ count_by p xs
 count-filter-le p q xs = omega (arith, count_by-filter p q xs, count_split p q xs)
+
+pub eqb_sym : (a b : ℕ) → (a == b) ≡ (b == a)
+eqb_sym a b = elim (cases_eq a b) [
+  | inl same ↦ eq-eqb a b same ∙ sym (eq-eqb b a (sym same))
+  | inr apart ↦ ne_eqb a b apart ∙ sym (ne_eqb b a (λ e. apart (sym e)))
+]
+
+pub length_part : {X : Type 0} (p : X → Bool) (xs : List X) → length (filter p xs) ≤ length xs
+length_part p [] = omega arith
+length_part p (x ∷ xs) = length_part_at (p x) (length_part p xs)
+  where
+    length_part_at : (b : Bool) → length (filter p xs) ≤ length xs → length (cond b (x ∷ filter p xs) (filter p xs)) ≤ length (x ∷ xs)
+    length_part_at true le = omega (arith, le)
+    length_part_at false le = omega (arith, le)

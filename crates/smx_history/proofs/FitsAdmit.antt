@@ -26,17 +26,14 @@ bounds_kept limits es e a t s c r h = record {
 pub clients_admitted : (es : List Entry) (e : Entry) → e.kind ≡ kind.Admit → map (λ x. x.client) (admits (es ++ e ∷ [])) ≡ map (λ x. x.client) (admits es) ++ e.client ∷ []
 clients_admitted es e k = ap (map (λ (x : Entry). x.client)) (filter_push (λ x. is_admit x.kind) es e (ap is_admit k)) ∙ map-append (λ x. x.client) (admits es) (e ∷ [])
 
-admit_to : (limits : Limits) (t : Totals) (es : List Entry) (e : Entry) → IsLegal limits es → Counted es t → e.kind ≡ kind.Admit → admit_fits t e ≡ true → Fits limits es e
-admit_to limits t es e legal counted k test =
-    let a = and_parts _ _ test in
-    let b = and_parts _ _ a.0 in
-    let c = and_parts _ _ b.1 in
+pub admit_fit : (limits : Limits) (es : List Entry) (e : Entry) → IsLegal limits es → e.kind ≡ kind.Admit → HasForm kind.Admit e → last_or 0 (map (λ x. x.client) (admits es)) < e.client → Fits limits es e
+admit_fit limits es e legal k form above =
     record {
-      form = HasForm-by e kind.Admit k (eqb-true _ _ b.0, eqb-true _ _ c.0, eqb-true _ _ c.1);
+      form = HasForm-by e kind.Admit k form;
       fifo = fifo_kept es e (ap is_accept k) (ap is_take k) (ap is_answer k) (ap is_collect k) (AtEachPrefix-whole IsFifo es legal.fifo);
       once = once_kept es e (ap is_accept k) (ap is_take k) (ap is_settling k) legal.once;
       membership = record {
-        clients = rw (clients_admitted es e k) (RiseAbove-push 0 (map (λ x. x.client) (admits es)) e.client legal.membership.clients (omega (arith, ltb-true _ _ a.1, counted.greatest)));
+        clients = rw (clients_admitted es e k) (RiseAbove-push 0 (map (λ x. x.client) (admits es)) e.client legal.membership.clients above);
         retires = retires_kept es e (ap is_retire k) legal.membership;
       };
       standing = StandsWell-by es e kind.Admit k tt;
@@ -44,6 +41,13 @@ admit_to limits t es e legal counted k test =
       apart = apart_kept es e (ap is_take k) (ap is_settling k) (AtEachPrefix-whole AreApart es legal.apart);
       bounds = bounds_kept limits es e (ap is_accept k) (ap is_take k) (ap is_settling k) (ap is_collect k) (ap is_retire k) (AtEachPrefix-whole (IsBounded limits) es legal.bounds);
     }
+
+admit_to : (limits : Limits) (t : Totals) (es : List Entry) (e : Entry) → IsLegal limits es → Counted es t → e.kind ≡ kind.Admit → admit_fits t e ≡ true → Fits limits es e
+admit_to limits t es e legal counted k test =
+    let a = and_parts _ _ test in
+    let b = and_parts _ _ a.0 in
+    let c = and_parts _ _ b.1 in
+    admit_fit limits es e legal k (eqb-true _ _ b.0, eqb-true _ _ c.0, eqb-true _ _ c.1) (omega (arith, ltb-true _ _ a.1, counted.greatest))
 
 admit_from : (limits : Limits) (t : Totals) (es : List Entry) (e : Entry) → Counted es t → e.kind ≡ kind.Admit → Fits limits es e → admit_fits t e ≡ true
 admit_from limits t es e counted k fits =

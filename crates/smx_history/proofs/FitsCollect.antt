@@ -1,4 +1,5 @@
 -- A collect or a retire fits exactly where the check says so.
+use Rattle.std.proofs.Common.{drop, zero, suc}
 use Rattle.std.proofs.Common.{◌≡◌, ◌<◌, ◌≤◌, ◌+◌, ◌-◌, ◌==◌, ◌↔◌, ℕ, Bool, true, false, not, ◌&&◌, List, [], ◌∷◌, ◌++◌, length, map, refl, sym, ◌∙◌, ap, subst, arith, length-append, inl, inr, count_by, Some, slice_get}
 use Rattle.std.specs.Option.{option_map}
 use Rattle.std.proofs.lemmas.List.{map-append, length-map}
@@ -17,7 +18,7 @@ use Rattle.smx_history.proofs.Growing.{filter_push, filter_other, AtEachPrefix-w
 use Rattle.smx_history.proofs.Counts.{none_count}
 use Rattle.smx_history.proofs.Frames.{accepts-other, takes-other, admits-other, accepts_of-other, answers_of-other, collects_of-other, is_retired-other, unanswered-other}
 use Rattle.smx_history.proofs.Kept.{fifo_kept, once_kept, membership_kept, apart_kept, HasForm-by, StandsWell-by, IsPaired-by}
-use Rattle.smx_history.proofs.RetireAgrees.{retired_before}
+use Rattle.smx_history.proofs.Frames.{retired_before}
 use Rattle.smx_history.proofs.Parts.{StartsWith-next, StartsWith-end, numbered_some, some_numbered, count_one, count_other}
 
 pub collected_own : (c : ℕ) (es : List Entry) (e : Entry) → e.kind ≡ kind.Collect → e.client ≡ c → collects_of c (es ++ e ∷ []) ≡ collects_of c es ++ e ∷ []
@@ -59,6 +60,19 @@ oldest_from es e k fifo =
     rw (answers_of-other e.client es e (ap is_answer k), ordinals_collected es e k) at (fifo.collected e.client) in
     StartsWith-end (map (λ x. x.ordinal) (answers_of e.client es)) (map (λ x. x.ordinal) (collects_of e.client es)) e.ordinal starts
 
+-- where the ordinals left begin with that of the entry
+pub oldest_next : (es : List Entry) (e : Entry) (rest : List ℕ) → drop (length (collects_of e.client es)) (map (λ x. x.ordinal) (answers_of e.client es)) ≡ e.ordinal ∷ rest → IsOldest es e
+unfolding IsOldest
+oldest_next es e rest next =
+    ap (slice_get (map (λ (x : Entry). x.ordinal) (answers_of e.client es))) (length-map (collects_of e.client es) (λ (x : Entry). x.ordinal))
+    ∙ front (length (collects_of e.client es)) (map (λ x. x.ordinal) (answers_of e.client es)) next
+  where
+    front : (n : ℕ) (xs : List ℕ) → drop n xs ≡ e.ordinal ∷ rest → slice_get xs n ≡ Some e.ordinal
+    front zero [] h = cc
+    front (suc n) [] h = cc
+    front zero (x ∷ xs) h = cc
+    front (suc n) (x ∷ xs) h = front n xs h
+
 oldest_test : (es : List Entry) (e : Entry) → is_oldest es e ≡ true → IsOldest es e
 unfolding IsOldest
 oldest_test es e test = sym (oldest_is es e) ∙ numbered_some (slice_get (answers_of e.client es) (length (collects_of e.client es))) e.ordinal test
@@ -67,37 +81,40 @@ test_oldest : (es : List Entry) (e : Entry) → IsOldest es e → is_oldest es e
 unfolding IsOldest
 test_oldest es e oldest = some_numbered (slice_get (answers_of e.client es) (length (collects_of e.client es))) e.ordinal (oldest_is es e ∙ oldest)
 
+pub collect_fit : (limits : Limits) (es : List Entry) (e : Entry) → IsLegal limits es → e.kind ≡ kind.Collect → HasForm kind.Collect e → IsServed es e → IsOldest es e → Fits limits es e
+collect_fit limits es e legal k form served oldest =
+    let was = AtEachPrefix-whole (IsBounded limits) es legal.bounds in
+    record {
+      form = HasForm-by e kind.Collect k form;
+      fifo = fifo_collected es e k oldest (AtEachPrefix-whole IsFifo es legal.fifo);
+      once = once_kept es e (ap is_accept k) (ap is_take k) (ap is_settling k) legal.once;
+      membership = membership_kept es e (ap is_admit k) (ap is_retire k) legal.membership;
+      standing = StandsWell-by es e kind.Collect k served;
+      pairing = IsPaired-by es e kind.Collect k tt;
+      apart = apart_kept es e (ap is_take k) (ap is_settling k) (AtEachPrefix-whole AreApart es legal.apart);
+      bounds = record {
+        queue = rw (accepts-other es e (ap is_accept k), takes-other es e (ap is_take k)) was.queue;
+        window = rw (unanswered-other es e (ap is_take k) (ap is_settling k)) was.window;
+        client = λ d stays.
+          let old = was.client d (sym (is_retired-other d es e (ap is_retire k)) ∙ stays) in
+          let more : length (collects_of d es) ≤ length (collects_of d (es ++ e ∷ [])) =
+            omega (arith, ap length (filter-append (λ x. is_collect x.kind && (x.client == d)) es (e ∷ [])), length-append (collects_of d es) (collects_of d (e ∷ []))) in
+          rw (accepts_of-other d es e (ap is_accept k)) (omega (arith, old, more));
+      };
+    }
+
 pub collect_iff : (limits : Limits) (es : List Entry) (e : Entry) (b : Bool) → IsLegal limits es → e.kind ≡ kind.Collect → b ≡ collect_fits es e → (b ≡ true) ↔ Fits limits es e
 collect_iff limits es e b legal k is =
-    let was = AtEachPrefix-whole (IsBounded limits) es legal.bounds in (
-      λ h.
-          let a = and_parts _ _ (sym is ∙ h) in
-          let c = and_parts _ _ a.0 in
-          let bare = and_parts _ _ c.0 in
-          let served = and_parts _ _ c.1 in
-          record {
-            form = HasForm-by e kind.Collect k (eqb-true _ _ bare.0, eqb-true _ _ bare.1);
-            fifo = fifo_collected es e k (oldest_test es e a.1) (AtEachPrefix-whole IsFifo es legal.fifo);
-            once = once_kept es e (ap is_accept k) (ap is_take k) (ap is_settling k) legal.once;
-            membership = membership_kept es e (ap is_admit k) (ap is_retire k) legal.membership;
-            standing = StandsWell-by es e kind.Collect k (served.0, not-true _ served.1);
-            pairing = IsPaired-by es e kind.Collect k tt;
-            apart = apart_kept es e (ap is_take k) (ap is_settling k) (AtEachPrefix-whole AreApart es legal.apart);
-            bounds = record {
-              queue = rw (accepts-other es e (ap is_accept k), takes-other es e (ap is_take k)) was.queue;
-              window = rw (unanswered-other es e (ap is_take k) (ap is_settling k)) was.window;
-              client = λ d stays.
-                  let old = was.client d (sym (is_retired-other d es e (ap is_retire k)) ∙ stays) in
-                  let more : length (collects_of d es) ≤ length (collects_of d (es ++ e ∷ [])) =
-                  omega (arith, ap length (filter-append (λ x. is_collect x.kind && (x.client == d)) es (e ∷ [])), length-append (collects_of d es) (collects_of d (e ∷ []))) in
-                  rw (accepts_of-other d es e (ap is_accept k)) (omega (arith, old, more));
-            };
-          },
+    (λ h.
+      let a = and_parts _ _ (sym is ∙ h) in
+      let c = and_parts _ _ a.0 in
+      let bare = and_parts _ _ c.0 in
+      let served = and_parts _ _ c.1 in
+      collect_fit limits es e legal k (eqb-true _ _ bare.0, eqb-true _ _ bare.1) (served.0, not-true _ served.1) (oldest_test es e a.1),
       λ fits.
-          let form : HasForm kind.Collect e = rw k at fits.form in
-          let served : StandsWell kind.Collect es e = rw k at fits.standing in
-          is ∙ and_from _ _ (and_from _ _ (and_from _ _ (eq-eqb e.number 0 form.0) (eq-eqb e.command 0 form.1)) (and_from _ _ served.0 (ap not served.1))) (test_oldest es e (oldest_from es e k fits.fifo)),
-    )
+        let form : HasForm kind.Collect e = rw k at fits.form in
+        let served : StandsWell kind.Collect es e = rw k at fits.standing in
+        is ∙ and_from _ _ (and_from _ _ (and_from _ _ (eq-eqb e.number 0 form.0) (eq-eqb e.command 0 form.1)) (and_from _ _ served.0 (ap not served.1))) (test_oldest es e (oldest_from es e k fits.fifo)))
 
 retires_more : (es : List Entry) (e : Entry) → e.kind ≡ kind.Retire → is_retired e.client es ≡ false → IsMembership es → (d : ℕ) → count_by (λ x. is_retire x.kind && (x.client == d)) (es ++ e ∷ []) ≤ 1
 retires_more es e k none h d =
@@ -109,33 +126,36 @@ retires_more es e k none h d =
           omega (arith, count_other (λ x. is_retire x.kind && (x.client == d)) es e (ap (λ b. b && (e.client == d)) (ap is_retire k) ∙ ne_eqb e.client d apart), h.retires d)
     ]
 
+pub retire_fit : (limits : Limits) (es : List Entry) (e : Entry) → IsLegal limits es → e.kind ≡ kind.Retire → HasForm kind.Retire e → IsServed es e → Fits limits es e
+retire_fit limits es e legal k form served =
+    let was = AtEachPrefix-whole (IsBounded limits) es legal.bounds in
+    record {
+      form = HasForm-by e kind.Retire k form;
+      fifo = fifo_kept es e (ap is_accept k) (ap is_take k) (ap is_answer k) (ap is_collect k) (AtEachPrefix-whole IsFifo es legal.fifo);
+      once = once_kept es e (ap is_accept k) (ap is_take k) (ap is_settling k) legal.once;
+      membership = record {
+        clients = rw (admits-other es e (ap is_admit k)) legal.membership.clients;
+        retires = retires_more es e k served.1 legal.membership;
+      };
+      standing = StandsWell-by es e kind.Retire k served;
+      pairing = IsPaired-by es e kind.Retire k tt;
+      apart = apart_kept es e (ap is_take k) (ap is_settling k) (AtEachPrefix-whole AreApart es legal.apart);
+      bounds = record {
+        queue = rw (accepts-other es e (ap is_accept k), takes-other es e (ap is_take k)) was.queue;
+        window = rw (unanswered-other es e (ap is_take k) (ap is_settling k)) was.window;
+        client = λ d stays. rw (accepts_of-other d es e (ap is_accept k), collects_of-other d es e (ap is_collect k)) (was.client d (retired_before d es e stays));
+      };
+    }
+
 pub retire_iff : (limits : Limits) (es : List Entry) (e : Entry) (b : Bool) → IsLegal limits es → e.kind ≡ kind.Retire → b ≡ retire_fits es e → (b ≡ true) ↔ Fits limits es e
 retire_iff limits es e b legal k is =
-    let was = AtEachPrefix-whole (IsBounded limits) es legal.bounds in (
-      λ h.
-          let a = and_parts _ _ (sym is ∙ h) in
-          let c = and_parts _ _ a.0 in
-          let bare = and_parts _ _ c.1 in
-          let served = and_parts _ _ a.1 in
-          record {
-            form = HasForm-by e kind.Retire k (eqb-true _ _ c.0, eqb-true _ _ bare.0, eqb-true _ _ bare.1);
-            fifo = fifo_kept es e (ap is_accept k) (ap is_take k) (ap is_answer k) (ap is_collect k) (AtEachPrefix-whole IsFifo es legal.fifo);
-            once = once_kept es e (ap is_accept k) (ap is_take k) (ap is_settling k) legal.once;
-            membership = record {
-              clients = rw (admits-other es e (ap is_admit k)) legal.membership.clients;
-              retires = retires_more es e k (not-true _ served.1) legal.membership;
-            };
-            standing = StandsWell-by es e kind.Retire k (served.0, not-true _ served.1);
-            pairing = IsPaired-by es e kind.Retire k tt;
-            apart = apart_kept es e (ap is_take k) (ap is_settling k) (AtEachPrefix-whole AreApart es legal.apart);
-            bounds = record {
-              queue = rw (accepts-other es e (ap is_accept k), takes-other es e (ap is_take k)) was.queue;
-              window = rw (unanswered-other es e (ap is_take k) (ap is_settling k)) was.window;
-              client = λ d stays. rw (accepts_of-other d es e (ap is_accept k), collects_of-other d es e (ap is_collect k)) (was.client d (retired_before d es e stays));
-            };
-          },
+    (λ h.
+      let a = and_parts _ _ (sym is ∙ h) in
+      let c = and_parts _ _ a.0 in
+      let bare = and_parts _ _ c.1 in
+      let served = and_parts _ _ a.1 in
+      retire_fit limits es e legal k (eqb-true _ _ c.0, eqb-true _ _ bare.0, eqb-true _ _ bare.1) (served.0, not-true _ served.1),
       λ fits.
-          let form : HasForm kind.Retire e = rw k at fits.form in
-          let served : StandsWell kind.Retire es e = rw k at fits.standing in
-          is ∙ and_from _ _ (and_from _ _ (eq-eqb e.ordinal 0 form.0) (and_from _ _ (eq-eqb e.number 0 form.1) (eq-eqb e.command 0 form.2))) (and_from _ _ served.0 (ap not served.1)),
-    )
+        let form : HasForm kind.Retire e = rw k at fits.form in
+        let served : StandsWell kind.Retire es e = rw k at fits.standing in
+        is ∙ and_from _ _ (and_from _ _ (eq-eqb e.ordinal 0 form.0) (and_from _ _ (eq-eqb e.number 0 form.1) (eq-eqb e.command 0 form.2))) (and_from _ _ served.0 (ap not served.1)))

@@ -18,8 +18,9 @@ use Rattle.smx_history.proofs.Counts.{none_count}
 use Rattle.smx_history.proofs.Frames.{accepts-other, takes-other, accepts_of-other, collects_of-other, is_retired-other}
 use Rattle.smx_history.proofs.Kept.{takes_kept, membership_kept, HasForm-by, StandsWell-by, IsPaired-by}
 use Rattle.smx_history.proofs.Taking.{filter-and}
-use Rattle.smx_history.proofs.AnswerAgrees.{eqb_sym, apart-filter}
-use Rattle.smx_history.proofs.RetireAgrees.{length_part}
+use Rattle.smx_history.proofs.Counts.{eqb_sym}
+use Rattle.smx_history.proofs.Parts.{apart-filter}
+use Rattle.smx_history.proofs.Counts.{length_part}
 use Rattle.smx_history.proofs.Parts.{passes_find, count_one, count_other}
 
 -- an entry that settles is no admit, accept, take, collect or retire
@@ -114,48 +115,48 @@ settle_but limits es e legal s p =
       };
     }
 
+pub answer_fit : (limits : Limits) (es : List Entry) (e : Entry) → IsLegal limits es → e.kind ≡ kind.Answer → Answers es e → is_retired e.client es ≡ false → Fits limits es e
+answer_fit limits es e legal k p here =
+    let s = settles_answer e.kind k in
+    let but = settle_but limits es e legal s p in
+    record {
+      form = HasForm-by e kind.Answer k tt;
+      fifo = but.fifo;
+      once = but.once;
+      membership = membership_kept es e s.admit s.retire legal.membership;
+      standing = StandsWell-by es e kind.Answer k here;
+      pairing = IsPaired-by es e kind.Answer k p;
+      apart = but.apart;
+      bounds = but.bounds;
+    }
+
+pub late_fit : (limits : Limits) (es : List Entry) (e : Entry) → IsLegal limits es → e.kind ≡ kind.Late → Answers es e → is_retired e.client es ≡ true → Fits limits es e
+late_fit limits es e legal k p gone =
+    let s = settles_late e.kind k in
+    let but = settle_but limits es e legal s p in
+    record {
+      form = HasForm-by e kind.Late k tt;
+      fifo = but.fifo;
+      once = but.once;
+      membership = membership_kept es e s.admit s.retire legal.membership;
+      standing = StandsWell-by es e kind.Late k gone;
+      pairing = IsPaired-by es e kind.Late k p;
+      apart = but.apart;
+      bounds = but.bounds;
+    }
+
 pub answer_iff : (limits : Limits) (es : List Entry) (e : Entry) (b : Bool) → IsLegal limits es → e.kind ≡ kind.Answer → b ≡ answer_fits es e → (b ≡ true) ↔ Fits limits es e
 answer_iff limits es e b legal k is =
-    let s = settles_answer e.kind k in (
-      λ h.
-          let w = and_parts _ _ (sym is ∙ h) in
-          let p = settle_from es e w.0 in
-          let but = settle_but limits es e legal s p in
-          record {
-            form = HasForm-by e kind.Answer k tt;
-            fifo = but.fifo;
-            once = but.once;
-            membership = membership_kept es e s.admit s.retire legal.membership;
-            standing = StandsWell-by es e kind.Answer k (not-true _ w.1);
-            pairing = IsPaired-by es e kind.Answer k p;
-            apart = but.apart;
-            bounds = but.bounds;
-          },
+    (λ h. let w = and_parts _ _ (sym is ∙ h) in answer_fit limits es e legal k (settle_from es e w.0) (not-true _ w.1),
       λ fits.
-          let standing : StandsWell kind.Answer es e = rw k at fits.standing in
-          let paired : IsPaired kind.Answer es e = subst (λ (x : Kind). IsPaired x es e) k fits.pairing in
-          is ∙ and_from _ _ (settle_to es e paired) (ap not standing),
-    )
+        let standing : StandsWell kind.Answer es e = rw k at fits.standing in
+        let paired : IsPaired kind.Answer es e = subst (λ (x : Kind). IsPaired x es e) k fits.pairing in
+        is ∙ and_from _ _ (settle_to es e paired) (ap not standing))
 
 pub late_iff : (limits : Limits) (es : List Entry) (e : Entry) (b : Bool) → IsLegal limits es → e.kind ≡ kind.Late → b ≡ late_fits es e → (b ≡ true) ↔ Fits limits es e
 late_iff limits es e b legal k is =
-    let s = settles_late e.kind k in (
-      λ h.
-          let w = and_parts _ _ (sym is ∙ h) in
-          let p = settle_from es e w.0 in
-          let but = settle_but limits es e legal s p in
-          record {
-            form = HasForm-by e kind.Late k tt;
-            fifo = but.fifo;
-            once = but.once;
-            membership = membership_kept es e s.admit s.retire legal.membership;
-            standing = StandsWell-by es e kind.Late k w.1;
-            pairing = IsPaired-by es e kind.Late k p;
-            apart = but.apart;
-            bounds = but.bounds;
-          },
+    (λ h. let w = and_parts _ _ (sym is ∙ h) in late_fit limits es e legal k (settle_from es e w.0) w.1,
       λ fits.
-          let standing : StandsWell kind.Late es e = rw k at fits.standing in
-          let paired : IsPaired kind.Late es e = subst (λ (x : Kind). IsPaired x es e) k fits.pairing in
-          is ∙ and_from _ _ (settle_to es e paired) standing,
-    )
+        let standing : StandsWell kind.Late es e = rw k at fits.standing in
+        let paired : IsPaired kind.Late es e = subst (λ (x : Kind). IsPaired x es e) k fits.pairing in
+        is ∙ and_from _ _ (settle_to es e paired) standing)

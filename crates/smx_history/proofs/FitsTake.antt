@@ -20,7 +20,7 @@ use Rattle.smx_history.proofs.Frames.{accepts-other, accepts_of-other, answers_o
 use Rattle.smx_history.proofs.Kept.{settlings_kept, membership_kept, HasForm-by, StandsWell-by, IsPaired-by}
 use Rattle.smx_history.proofs.Sizes.{takes-le-accepts}
 use Rattle.smx_history.proofs.Taking.{not_settled}
-use Rattle.smx_history.proofs.TakeAgrees.{IsDistinct-push}
+use Rattle.smx_history.proofs.Parts.{IsDistinct-push}
 use Rattle.smx_history.proofs.Parts.{StartsWith-next, StartsWith-end, IsDistinct-end, named_some, some_named, none_numbered, count_numbered, count_one, count_other}
 
 none_filtered : {X : Type 0} (p q : X → Bool) (xs : List X) → list_any (λ x. p x && q x) xs ≡ false → AllByRecursion (λ x. q x ≡ false) (filter p xs)
@@ -47,21 +47,21 @@ unanswered_taken es e k none =
     ∙ filter_agree (λ x. not (is_settled x.client x.ordinal (es ++ e ∷ []))) (λ x. not (is_settled x.client x.ordinal es)) (λ x. ap not (is_settled-other x.client x.ordinal es e (ap is_settling k))) (takes es ++ e ∷ [])
     ∙ filter_push (λ x. not (is_settled x.client x.ordinal es)) (takes es) e (ap not none)
 
--- what the test says of a take
-record Passes (limits : Limits) (t : Totals) (es : List Entry) (e : Entry) : Type 0 where
-  command : e.command ≡ 0
-  positive : 0 < e.number
-  within : e.number ≤ 2147483644
-  next : slice_get (map name_of (accepts es)) (length (map name_of (takes es))) ≡ Some (name_of e)
-  first : is_taken e.client e.ordinal es ≡ false
-  free : count_by (λ x. x.number == e.number) (unanswered es) ≡ 0
-  window : length (unanswered es) < limits.window
+-- what a legal list allows a take by
+pub record MayTake (limits : Limits) (es : List Entry) (e : Entry) : Type 0 where
+  pub command : e.command ≡ 0
+  pub positive : 0 < e.number
+  pub within : e.number ≤ 2147483644
+  pub next : slice_get (map name_of (accepts es)) (length (map name_of (takes es))) ≡ Some (name_of e)
+  pub first : is_taken e.client e.ordinal es ≡ false
+  pub free : count_by (λ x. x.number == e.number) (unanswered es) ≡ 0
+  pub window : length (unanswered es) < limits.window
 
 next_is : (t : Totals) (es : List Entry) (e : Entry) → Counted es t → option_map name_of (slice_get (accepts es) t.taken) ≡ slice_get (map name_of (accepts es)) (length (map name_of (takes es)))
 next_is t es e counted =
     sym (slice_get-map name_of (accepts es) t.taken) ∙ ap (slice_get (map name_of (accepts es))) (counted.taken ∙ sym (length-map (takes es) name_of))
 
-passes_from : (limits : Limits) (t : Totals) (es : List Entry) (e : Entry) → Counted es t → take_fits limits t es e ≡ true → Passes limits t es e
+passes_from : (limits : Limits) (t : Totals) (es : List Entry) (e : Entry) → Counted es t → take_fits limits t es e ≡ true → MayTake limits es e
 passes_from limits t es e counted test =
     let a = and_parts _ _ test in
     let b = and_parts _ _ a.0 in
@@ -80,7 +80,7 @@ passes_from limits t es e counted test =
       window = omega (arith, ltb-true _ _ a.1, counted.unanswered);
     }
 
-passes_to : (limits : Limits) (t : Totals) (es : List Entry) (e : Entry) → Counted es t → Passes limits t es e → take_fits limits t es e ≡ true
+passes_to : (limits : Limits) (t : Totals) (es : List Entry) (e : Entry) → Counted es t → MayTake limits es e → take_fits limits t es e ≡ true
 passes_to limits t es e counted p =
     let same : settlings_as e.number es ≡ takes_as e.number es = omega (arith, p.free, counted.numbers e.number) in
     and_from _ _ (and_from _ _ (and_from _ _ (and_from _ _ (and_from _ _ (and_from _ _ (eq-eqb _ _ p.command) (lt-ltb _ _ p.positive)) (le-leb _ _ p.within))
@@ -99,8 +99,8 @@ takes_once es e k none few c n =
           omega (arith, count_other (λ x. is_take x.kind && has_name c n x) es e (and_right (is_take e.kind) (has_name c n e) apart), few c n)
     ]
 
-take_to : (limits : Limits) (t : Totals) (es : List Entry) (e : Entry) → IsLegal limits es → e.kind ≡ kind.Take → Passes limits t es e → Fits limits es e
-take_to limits t es e legal k p =
+pub take_fit : (limits : Limits) (es : List Entry) (e : Entry) → IsLegal limits es → e.kind ≡ kind.Take → MayTake limits es e → Fits limits es e
+take_fit limits es e legal k p =
     let fifo = AtEachPrefix-whole IsFifo es legal.fifo in
     let was = AtEachPrefix-whole (IsBounded limits) es legal.bounds in
     let push = unanswered_taken es e k (untaken_unsettled es e.client e.ordinal legal.pairing p.first) in
@@ -134,8 +134,8 @@ taken_first limits es e fits k =
     count_none_any (λ x. is_take x.kind && has_name e.client e.ordinal x) es
     (omega (arith, few, count_one (λ x. is_take x.kind && has_name e.client e.ordinal x) es e (and_from _ _ (ap is_take k) (own_name e))))
 
-take_from : (limits : Limits) (t : Totals) (es : List Entry) (e : Entry) → IsLegal limits es → e.kind ≡ kind.Take → Fits limits es e → Passes limits t es e
-take_from limits t es e legal k fits =
+take_from : (limits : Limits) (es : List Entry) (e : Entry) → IsLegal limits es → e.kind ≡ kind.Take → Fits limits es e → MayTake limits es e
+take_from limits es e legal k fits =
     let form : HasForm kind.Take e = rw k at fits.form in
     let paired : IsPaired kind.Take es e = rw k at fits.pairing in
     let first = taken_first limits es e fits k in
@@ -157,4 +157,4 @@ take_from limits t es e legal k fits =
 
 pub take_iff : (limits : Limits) (t : Totals) (es : List Entry) (e : Entry) (b : Bool) → IsLegal limits es → Counted es t → e.kind ≡ kind.Take → b ≡ take_fits limits t es e → (b ≡ true) ↔ Fits limits es e
 take_iff limits t es e b legal counted k is =
-    (λ h. take_to limits t es e legal k (passes_from limits t es e counted (sym is ∙ h)), λ fits. is ∙ passes_to limits t es e counted (take_from limits t es e legal k fits))
+    (λ h. take_fit limits es e legal k (passes_from limits t es e counted (sym is ∙ h)), λ fits. is ∙ passes_to limits t es e counted (take_from limits es e legal k fits))

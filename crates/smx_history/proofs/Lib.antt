@@ -12,6 +12,7 @@ pub mod Settled
 pub mod AcceptAgrees
 pub mod Taking
 pub mod TakeAgrees
+pub mod SettleAgrees
 pub mod AnswerAgrees
 pub mod LateAgrees
 pub mod CollectAgrees
@@ -29,6 +30,7 @@ pub mod FitsTake
 pub mod FitsSettle
 pub mod FitsCollect
 pub mod Counting
+pub mod Presence
 pub mod CountedEntries
 pub mod CountedSettle
 pub mod Steps

@@ -12,7 +12,7 @@ use Rattle.smx_history.specs.declared.entry.Entry.{Entry}
 use Rattle.smx_history.specs.Prefixes.{StartsWith, RiseAbove, last_or, first_or}
 use Rattle.smx_history.specs.Entries.{Name, name_of, has_name}
 use Rattle.smx_history.specs.Checks.{passes}
-use Rattle.smx_history.proofs.Growing.{StartsWith-length}
+use Rattle.smx_history.proofs.Growing.{All-push}
 use Rattle.smx_history.proofs.Counts.{count_by-push}
 
 pub RiseAbove-init : (low : ℕ) (xs ys : List ℕ) → RiseAbove low (xs ++ ys) → RiseAbove low xs
@@ -129,3 +129,26 @@ count_other p xs x h = count_by-push p xs x ∙ ap (λ b. count_by p xs + cond b
 
 pub count_one : {X : Type 0} (p : X → Bool) (xs : List X) (x : X) → p x ≡ true → count_by p (xs ++ x ∷ []) ≡ count_by p xs + 1
 count_one p xs x h = count_by-push p xs x ∙ ap (λ b. count_by p xs + cond b 1 0) h
+
+-- part of numbers that are apart are apart
+pub apart-filter : (p : Entry → Bool) (us : List Entry) → IsDistinct nat_eq (map (λ e. e.number) us) → IsDistinct nat_eq (map (λ e. e.number) (filter p us))
+unfolding IsDistinct
+apart-filter p [] h = h
+apart-filter p (t ∷ us) h = apart-filter_at (p t) (apart-filter p us h.1) (others us h.0)
+  where
+    others_at : (w : Entry) (ws : List Entry) (b : Bool) → nat_eq t.number w.number ≡ false → AllByRecursion (λ y. nat_eq t.number y ≡ false) (map (λ e. e.number) (filter p ws)) → AllByRecursion (λ y. nat_eq t.number y ≡ false) (map (λ e. e.number) (cond b (w ∷ filter p ws) (filter p ws)))
+    others_at w ws true a rest = (a, rest)
+    others_at w ws false a rest = rest
+
+    others : (ws : List Entry) → AllByRecursion (λ y. nat_eq t.number y ≡ false) (map (λ e. e.number) ws) → AllByRecursion (λ y. nat_eq t.number y ≡ false) (map (λ e. e.number) (filter p ws))
+    others [] a = a
+    others (w ∷ ws) a = others_at w ws (p w) a.0 (others ws a.1)
+
+    apart-filter_at : (b : Bool) → IsDistinct nat_eq (map (λ e. e.number) (filter p us)) → AllByRecursion (λ y. nat_eq t.number y ≡ false) (map (λ e. e.number) (filter p us)) → IsDistinct nat_eq (map (λ e. e.number) (cond b (t ∷ filter p us) (filter p us)))
+    apart-filter_at true rest apart = (apart, rest)
+    apart-filter_at false rest apart = rest
+
+pub IsDistinct-push : (xs : List ℕ) (x : ℕ) → IsDistinct nat_eq xs → AllByRecursion (λ y. nat_eq y x ≡ false) xs → IsDistinct nat_eq (xs ++ x ∷ [])
+unfolding IsDistinct
+IsDistinct-push [] x h apart = (tt, tt)
+IsDistinct-push (y ∷ xs) x h apart = (All-push (λ z. nat_eq y z ≡ false) xs x h.0 apart.0, IsDistinct-push xs x h.1 apart.1)

@@ -92,7 +92,7 @@ any_weaker p q (x ∷ xs) w h = any_weaker_at (p x) refl h (any_weaker p q xs w)
     any_weaker_at true e t later = rw (w x e) refl
     any_weaker_at false e t later = or_right (q x) (list_any q xs) (later t)
 
-any-and : (es : List Entry) (c n : ℕ) → AllByRecursion (λ t. has_name c n t ≡ false) (takes es) → list_any (λ t. is_take t.kind && has_name c n t) es ≡ false
+pub any-and : (es : List Entry) (c n : ℕ) → AllByRecursion (λ t. has_name c n t ≡ false) (takes es) → list_any (λ t. is_take t.kind && has_name c n t) es ≡ false
 any-and [] c n none = refl
 any-and (e ∷ es) c n none = any-and_at (is_take e.kind) none (any-and es c n)
   where

@@ -1,6 +1,6 @@
 use Rattle.std.proofs.Common.{arith, ◌==◌, ◌&&◌}
 use Rattle.smx_history.specs.Entries.{is_collect}
-use Rattle.smx_history.proofs.RetireAgrees.{length_part}
+use Rattle.smx_history.proofs.Counts.{length_part}
 use Rattle.smx_history.specs.declared.entry.Entry.{Entry}
 use Rattle.smx_history.proofs.legal.accept_fits.Goals as goal
 
