@@ -1,4 +1,6 @@
 -- An accept takes a lane that agrees with a history to one that agrees with the longer history.
+use Rattle.smx_history.proofs.FitsAccept.{MayAccept, accepted_push, accepted_own, accepted_other, accept_fit}
+use Rattle.smx_history.proofs.Following.{IsLegal-next}
 use Rattle.std.proofs.Common.{◌≡◌, ◌<◌, ◌≤◌, ◌+◌, ◌-◌, ◌*◌, ◌==◌, ℕ, Bool, true, false, cond, not, ◌||◌, ◌&&◌, List, [], ◌∷◌, ◌++◌, length, map, take, drop, refl, sym, ◌∙◌, ap, subst, arith, filter, sum_by, count_by, length-append, inl, inr, Option, Some, None}
 use Rattle.std.specs.List.{list_any, AllByRecursion, IsDistinct, AllZip}
 use Rattle.std.proofs.lemmas.List.{append-nil, length-map, map-append, drop-append-le}
@@ -22,90 +24,12 @@ use Rattle.smx_history.proofs.Growing.{filter_other, filter_push, any_other, AtE
 use Rattle.smx_history.proofs.Frames.{accepts_of-other, answers_of-other, collects_of-other, is_retired-other, is_settled-other, admits-other, takes-other, unanswered-other, present-other, waiting-other}
 use Rattle.smx_history.proofs.Keeping.{count_by-push}
 
--- what a legal list allows an accept by
-pub record MayAccept (limits : Limits) (es : List Entry) (by : ℕ) (r : Request) : Type 0 where
-  pub served : IsServed es (entry_by by (Accept r))
-  pub rises : last_or 0 (map (λ e. e.ordinal) (accepts_of r.client es)) < r.ordinal
-  pub queue : length (accepts es) < length (takes es) + limits.queue
-  pub client : length (accepts_of r.client es) < length (collects_of r.client es) + limits.client
-  pub room : size es + 4 ≤ limits.history
-
-accepts-push : (es : List Entry) (by : ℕ) (r : Request) → accepts (es ++ entry_by by (Accept r) ∷ []) ≡ accepts es ++ entry_by by (Accept r) ∷ []
-accepts-push es by r = filter_push (λ x. is_accept x.kind) es (entry_by by (Accept r)) refl
-
-accepts_of-push : (c : ℕ) (es : List Entry) (by : ℕ) (r : Request) → r.client ≡ c → accepts_of c (es ++ entry_by by (Accept r) ∷ []) ≡ accepts_of c es ++ entry_by by (Accept r) ∷ []
-accepts_of-push c es by r h = filter_push (λ x. is_accept x.kind && (x.client == c)) es (entry_by by (Accept r)) (eq-eqb r.client c h)
-
-accepts_of-other_client : (c : ℕ) (es : List Entry) (by : ℕ) (r : Request) → (r.client ≡ c → ⊥) → accepts_of c (es ++ entry_by by (Accept r) ∷ []) ≡ accepts_of c es
-accepts_of-other_client c es by r h = filter_other (λ x. is_accept x.kind && (x.client == c)) es (entry_by by (Accept r)) (ne_eqb r.client c h)
-
-fifo-accepted : (es : List Entry) (by : ℕ) (r : Request) → IsFifo es → IsFifo (es ++ entry_by by (Accept r) ∷ [])
-fifo-accepted es by r h =
-    let e = entry_by by (Accept r) in
-    record {
-      taken = rw (accepts-push es by r, takes-other es e refl, map-append name_of (accepts es) (e ∷ [])) (StartsWith-more (map name_of (accepts es)) (map name_of (takes es)) (name_of e ∷ []) h.taken);
-      collected = λ c. rw (answers_of-other c es e refl, collects_of-other c es e refl) (h.collected c);
-    }
-
-once-accepted : (es : List Entry) (by : ℕ) (r : Request) → last_or 0 (map (λ e. e.ordinal) (accepts_of r.client es)) < r.ordinal → IsOnce es → IsOnce (es ++ entry_by by (Accept r) ∷ [])
-once-accepted es by r above h =
-    let e = entry_by by (Accept r) in
-    record {
-      ordinals = λ c. elim (cases_eq r.client c) [
-          inl same ↦ rw (accepts_of-push c es by r same, map-append (λ x. x.ordinal) (accepts_of c es) (e ∷ [])) (RiseAbove-push 0 (map (λ x. x.ordinal) (accepts_of c es)) r.ordinal (h.ordinals c) (rw (← same) above))
-          | inr apart ↦ rw (accepts_of-other_client c es by r apart) (h.ordinals c)
-        ];
-      takes = λ c n. omega (arith, count_by-push (λ x. is_take x.kind && has_name c n x) es e, h.takes c n);
-      settlings = λ c n. omega (arith, count_by-push (λ x. is_settling x.kind && has_name c n x) es e, h.settlings c n);
-    }
-
-membership-accepted : (es : List Entry) (by : ℕ) (r : Request) → IsMembership es → IsMembership (es ++ entry_by by (Accept r) ∷ [])
-membership-accepted es by r h =
-    let e = entry_by by (Accept r) in
-    record {
-      clients = rw (admits-other es e refl) h.clients;
-      retires = λ c. omega (arith, count_by-push (λ x. is_retire x.kind && (x.client == c)) es e, h.retires c);
-    }
-
 -- a size grows by one entry, and by three for a request that is queued
 size-accepted : (es : List Entry) (by : ℕ) (r : Request) → length (takes es) ≤ length (accepts es) → size (es ++ entry_by by (Accept r) ∷ []) ≡ size es + 4
 size-accepted es by r le =
     let e = entry_by by (Accept r) in
-    rw (unanswered-other es e refl refl, waiting-other es e refl refl refl refl, present-other es e refl refl, accepts-push es by r, takes-other es e refl)
-      (omega (arith, length-append es (e ∷ []), length-append (accepts es) (e ∷ [])))
-
-bounds-accepted : (limits : Limits) (es : List Entry) (by : ℕ) (r : Request) → MayAccept limits es by r → IsBounded limits es → IsBounded limits (es ++ entry_by by (Accept r) ∷ [])
-bounds-accepted limits es by r may h =
-    let e = entry_by by (Accept r) in
-    record {
-      queue = rw (accepts-push es by r, takes-other es e refl) (omega (arith, length-append (accepts es) (e ∷ []), may.queue));
-      window = rw (unanswered-other es e refl refl) h.window;
-      client = λ c gone.
-        let was : is_retired c es ≡ false = sym (is_retired-other c es e refl) ∙ gone in
-        elim (cases_eq r.client c) [
-          inl same ↦ rw (accepts_of-push c es by r same, collects_of-other c es e refl) (let m = may.client in let m' = rw same at m in omega (arith, length-append (accepts_of c es) (e ∷ []), m'))
-          | inr apart ↦ rw (accepts_of-other_client c es by r apart, collects_of-other c es e refl) (h.client c was)
-        ];
-    }
-
-within-accepted : (limits : Limits) (es : List Entry) (by : ℕ) (r : Request) → size es + 4 ≤ limits.history → IsFifo es → IsWithin limits (es ++ entry_by by (Accept r) ∷ [])
-within-accepted limits es by r room fifo = omega (arith, size-accepted es by r (takes-le-accepts es fifo), room)
-
-pub IsLegal-accepted : (limits : Limits) (es : List Entry) (by : ℕ) (r : Request) → MayAccept limits es by r → IsLegal limits es → IsLegal limits (es ++ entry_by by (Accept r) ∷ [])
-IsLegal-accepted limits es by r may legal =
-    let e = entry_by by (Accept r) in
-    let fifo = AtEachPrefix-whole IsFifo es legal.fifo in
-    record {
-      form = AtEach-push (λ before x. HasForm x.kind x) es e legal.form r.forwarded;
-      fifo = AtEachPrefix-push IsFifo es e legal.fifo (fifo-accepted es by r fifo);
-      once = once-accepted es by r may.rises legal.once;
-      membership = membership-accepted es by r legal.membership;
-      standing = AtEach-push (λ before x. StandsWell x.kind before x) es e legal.standing may.served;
-      pairing = AtEach-push (λ before x. IsPaired x.kind before x) es e legal.pairing tt;
-      apart = AtEachPrefix-push AreApart es e legal.apart (rw (unanswered-other es e refl refl) (AtEachPrefix-whole AreApart es legal.apart));
-      bounds = AtEachPrefix-push (IsBounded limits) es e legal.bounds (bounds-accepted limits es by r may (AtEachPrefix-whole (IsBounded limits) es legal.bounds));
-      size = AtEachPrefix-push (IsWithin limits) es e legal.size (within-accepted limits es by r may.room fifo);
-    }
+    rw (unanswered-other es e refl refl, waiting-other es e refl refl refl refl, present-other es e refl refl, accepted_push es e refl, takes-other es e refl)
+    (omega (arith, length-append es (e ∷ []), length-append (accepts es) (e ∷ [])))
 
 pub zip-with_row : {X : Type 0} (R S : X → Member → Type 0) (c : ℕ) (f : Member → Member) → ((a : X) (m : Member) → m.client ≡ c → R a m → S a (f m)) → ((a : X) (m : Member) → (m.client ≡ c → ⊥) → R a m → S a m) → (xs : List X) (ms : List Member) → AllZip R xs ms → AllZip S xs (with_row c f ms)
 zip-with_row R S c f here there [] [] z = z
@@ -113,7 +37,7 @@ zip-with_row R S c f here there [] (m ∷ ms) z = z
 zip-with_row R S c f here there (a ∷ us) [] z = z
 zip-with_row R S c f here there (a ∷ us) (m ∷ ms) z =
     let head : S a (cond (m.client == c) (f m) m) =
-      cond_both (m.client == c) (f m) m (S a) (λ e. here a m (eqb-true m.client c e) z.0) (λ e. there a m (eqb-false m.client c e) z.0) in
+    cond_both (m.client == c) (f m) m (S a) (λ e. here a m (eqb-true m.client c e) z.0) (λ e. there a m (eqb-false m.client c e) z.0) in
     (head, zip-with_row R S c f here there us ms z.1)
 
 -- the accepted request's client has one more pending, and the request's ordinal is its last
@@ -126,8 +50,8 @@ member-accepted h by r a m paired same is =
     record {
       client = is.client;
       by = is.by;
-      last = rw (push, accepts_of-push a.client es by r of, map-append (λ x. x.ordinal) (accepts_of a.client es) (e ∷ []), last_or-push 0 (map (λ x. x.ordinal) (accepts_of a.client es)) r.ordinal) refl;
-      pending = rw (push, accepts_of-push a.client es by r of, collects_of-other a.client es e refl) (omega (arith, length-append (accepts_of a.client es) (e ∷ []), is.pending));
+      last = rw (push, accepted_own a.client es e refl of, map-append (λ x. x.ordinal) (accepts_of a.client es) (e ∷ []), last_or-push 0 (map (λ x. x.ordinal) (accepts_of a.client es)) r.ordinal) refl;
+      pending = rw (push, accepted_own a.client es e refl of, collects_of-other a.client es e refl) (omega (arith, length-append (accepts_of a.client es) (e ∷ []), is.pending));
       waiting = rw (push, collects_of-other a.client es e refl, responses-other a.client h (note by (Accept r)) refl, shown-kept a.client h (e ∷ []) paired) is.waiting;
     }
 
@@ -140,28 +64,28 @@ member-accepted_other h by r a m paired apart is =
     record {
       client = is.client;
       by = is.by;
-      last = rw (push, accepts_of-other_client a.client es by r of) is.last;
-      pending = rw (push, accepts_of-other_client a.client es by r of, collects_of-other a.client es e refl) is.pending;
+      last = rw (push, accepted_other a.client es e refl of) is.last;
+      pending = rw (push, accepted_other a.client es e refl of, collects_of-other a.client es e refl) is.pending;
       waiting = rw (push, collects_of-other a.client es e refl, responses-other a.client h (note by (Accept r)) refl, shown-kept a.client h (e ∷ []) paired) is.waiting;
     }
 
 requests-push : (h : List Note) (by : ℕ) (r : Request) → requests (h ++ note by (Accept r) ∷ []) ≡ requests h ++ r ∷ []
 requests-push h by r = filter_map-append (λ x. request_in x.event) h (note by (Accept r) ∷ [])
 
-may_accept_at : (h : List Note) (v : Content) (by : ℕ) (r : Request) (m : Member) (admit : Entry) → AgreesWith h v → IsMemberAfter h admit m → is_admitted admit.by admit.client (entries_of h) ≡ true → is_retired admit.client (entries_of h) ≡ false → admit.client ≡ r.client → IsAllowed v m → m.last < r.ordinal → m.by ≡ by → MayAccept v.limits (entries_of h) by r
+may_accept_at : (h : List Note) (v : Content) (by : ℕ) (r : Request) (m : Member) (admit : Entry) → AgreesWith h v → IsMemberAfter h admit m → is_admitted admit.by admit.client (entries_of h) ≡ true → is_retired admit.client (entries_of h) ≡ false → admit.client ≡ r.client → IsAllowed v m → m.last < r.ordinal → m.by ≡ by → MayAccept v.limits (entries_of h) (entry_by by (Accept r))
 may_accept_at h v by r m admit a is admitted here of ok above own =
     let es = entries_of h in
     let fifo = AtEachPrefix-whole IsFifo es a.legal.fifo in
     record {
+      forwarded = r.forwarded;
       served = (sym (ap (λ b. is_admitted b admit.client es) (sym is.by ∙ own) ∙ ap (λ c. is_admitted by c es) of) ∙ admitted, ap (λ c. is_retired c es) (sym of) ∙ here);
       rises = rw (← of) (omega (arith, above, is.last));
       queue = omega (arith, length-queue h v a.after, takes-le-accepts es fifo, ok.queue);
       client = rw (← of) (omega (arith, is.pending, ok.client));
-      room = omega (arith, size_agrees h v a.after, ok.history);
     }
 
 -- the lane's content allows what the history allows
-pub may_accept : (h : List Note) (v : Content) (by : ℕ) (r : Request) (m : Member) → AgreesWith h v → member_with r.client v.members ≡ Some m → IsAllowed v m → m.last < r.ordinal → m.by ≡ by → MayAccept v.limits (entries_of h) by r
+pub may_accept : (h : List Note) (v : Content) (by : ℕ) (r : Request) (m : Member) → AgreesWith h v → member_with r.client v.members ≡ Some m → IsAllowed v m → m.last < r.ordinal → m.by ≡ by → MayAccept v.limits (entries_of h) (entry_by by (Accept r))
 may_accept h v by r m a found ok above own =
     let es = entries_of h in
     let w = found_admit (λ x. (is_admitted x.by x.client es ≡ true) × (is_retired x.client es ≡ false)) h r.client m (present es) v.members a.after.members (present_served es) found in
@@ -176,14 +100,14 @@ AgreesWith-accepted h v by r m a found ok above own =
     let fifo = AtEachPrefix-whole IsFifo es a.legal.fifo in
     let push = entries_of-push h n in
     record {
-      legal = rw push (IsLegal-accepted v.limits es by r (may_accept h v by r m a found ok above own) a.legal);
+      legal = rw push (IsLegal-next v.limits es e a.legal (accept_fit v.limits es e a.legal refl (may_accept h v by r m a found ok above own)) (omega (arith, size-accepted es by r (takes-le-accepts es fifo), size_agrees h v a.after, ok.history)));
       after = record {
-      queue = rw (push, takes-other es e refl, requests-push h by r, drop-append-le (length (takes es)) (requests h) (r ∷ []) (omega (arith, takes-le-accepts es fifo, length-requests h))) (ap (λ q. q ++ r ∷ []) a.after.queue);
-      window = rw (push, unanswered-other es e refl refl, places-kept es (e ∷ []) fifo) a.after.window;
-      members = rw (push, present-other es e refl refl)
-        (zip-with_row (IsMemberAfter h) (IsMemberAfter (h ++ n ∷ [])) r.client (λ x. record x { last = r.ordinal; pending = x.pending + 1 })
-          (λ x y same is. member-accepted h by r x y a.legal.pairing same is) (λ x y apart is. member-accepted_other h by r x y a.legal.pairing apart is) (present es) v.members a.after.members);
-      greatest = rw (push, admits-other es e refl) a.after.greatest;
-      entries = rw push (ap (λ xs. xs ++ e ∷ []) a.after.entries);
+        queue = rw (push, takes-other es e refl, requests-push h by r, drop-append-le (length (takes es)) (requests h) (r ∷ []) (omega (arith, takes-le-accepts es fifo, length-requests h))) (ap (λ q. q ++ r ∷ []) a.after.queue);
+        window = rw (push, unanswered-other es e refl refl, places-kept es (e ∷ []) fifo) a.after.window;
+        members = rw (push, present-other es e refl refl)
+            (zip-with_row (IsMemberAfter h) (IsMemberAfter (h ++ n ∷ [])) r.client (λ x. record x { last = r.ordinal; pending = x.pending + 1 })
+            (λ x y same is. member-accepted h by r x y a.legal.pairing same is) (λ x y apart is. member-accepted_other h by r x y a.legal.pairing apart is) (present es) v.members a.after.members);
+        greatest = rw (push, admits-other es e refl) a.after.greatest;
+        entries = rw push (ap (λ xs. xs ++ e ∷ []) a.after.entries);
       };
     }

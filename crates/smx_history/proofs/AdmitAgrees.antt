@@ -1,4 +1,8 @@
 -- An admit takes a lane that agrees with a history to one that agrees with the longer history.
+use Rattle.smx_history.proofs.FitsAdmit.{admit_fit}
+use Rattle.smx_history.proofs.Presence.{present_admitted}
+use Rattle.smx_history.proofs.Following.{IsLegal-next}
+use Rattle.smx_history.proofs.SettleAgrees.{within-after}
 use Rattle.std.proofs.Common.{◌≡◌, ◌<◌, ◌≤◌, ◌+◌, ◌-◌, ◌*◌, ◌==◌, ℕ, Bool, true, false, cond, not, ◌||◌, ◌&&◌, List, [], ◌∷◌, ◌++◌, length, map, take, drop, refl, sym, ◌∙◌, ap, subst, arith, filter, sum_by, count_by, length-append, inl, inr, Option, Some, None, nat_le}
 use Rattle.std.specs.List.{list_any, AllByRecursion, AllZip}
 use Rattle.std.proofs.lemmas.List.{map-append}
@@ -42,8 +46,8 @@ admit_allowed v c above room = rw (lt-leb c v.greatest above, room) refl
 pub admit_fresh : (v : Content) (c : ℕ) → admit_refusal v c ≡ None → IsFresh v c
 admit_fresh v c h =
     elim (cases_lt v.greatest c) [
-      inl above ↦ elim (cases_Bool (has_room v)) [
-        inl room ↦ record { above = above; room = leb-true _ _ room }
+      | inl above ↦ elim (cases_Bool (has_room v)) [
+        | inl room ↦ record { above = above; room = leb-true _ _ room }
         | inr full ↦ absurd (let x : Some HistoryFull ≡ None = sym (admit_full v c above full) ∙ h in cc)
       ]
       | inr known ↦ absurd (let x : Some Known ≡ None = sym (admit_known v c known) ∙ h in cc)
@@ -66,12 +70,12 @@ KeepsRoom-admitted v by c k allowed =
       window = k.window;
       size = omega (arith, e, n, w, fresh.room);
       boxes = All-push (FitsBox (admitted v by c)) v.members (new_row by c) k.boxes
-        (omega (arith, k.queue_known c fresh.above, k.window_known c fresh.above), omega arith);
+          (omega (arith, k.queue_known c fresh.above, k.window_known c fresh.above), omega arith);
       queue_known = λ d above. k.queue_known d (omega (arith, above, fresh.above));
       window_known = λ d above. k.window_known d (omega (arith, above, fresh.above));
       members_known = All-push (λ m. m.client ≤ c) v.members (new_row by c) (All-each (λ m. m.client ≤ v.greatest) (λ m. m.client ≤ c) (λ m h. omega (arith, h, fresh.above)) v.members k.members_known) (omega arith);
       clients = rw (map-append (λ m. m.client) v.members (new_row by c ∷ []))
-        (RiseAbove-push 0 (map (λ m. m.client) v.members) c k.clients (let l = last_within 0 v.greatest v.members (omega arith) k.members_known in omega (arith, l, fresh.above)));
+          (RiseAbove-push 0 (map (λ m. m.client) v.members) c k.clients (let l = last_within 0 v.greatest v.members (omega arith) k.members_known in omega (arith, l, fresh.above)));
     }
 
 pub zip-push : {X Y : Type 0} (R : X → Y → Type 0) (xs : List X) (ys : List Y) (x : X) (y : Y) → AllZip R xs ys → R x y → AllZip R (xs ++ x ∷ []) (ys ++ y ∷ [])
@@ -79,14 +83,6 @@ zip-push R [] [] x y z new = (new, tt)
 zip-push R [] (b ∷ ys) x y z new = absurd z
 zip-push R (a ∷ xs) [] x y z new = absurd z
 zip-push R (a ∷ xs) (b ∷ ys) x y z new = (z.0, zip-push R xs ys x y z.1 new)
-
--- the client joins those that are present
-pub present-admitted : (es : List Entry) (by c : ℕ) → is_retired c es ≡ false → present (es ++ entry_by by (Admit c) ∷ []) ≡ present es ++ entry_by by (Admit c) ∷ []
-present-admitted es by c here =
-    let e = entry_by by (Admit c) in
-    ap (filter (λ x. not (is_retired x.client (es ++ e ∷ [])))) (filter_push (λ x. is_admit x.kind) es e refl)
-    ∙ filter_agree (λ x. not (is_retired x.client (es ++ e ∷ []))) (λ x. not (is_retired x.client es)) (λ x. ap not (is_retired-other x.client es e refl)) (admits es ++ e ∷ [])
-    ∙ filter_push (λ x. not (is_retired x.client es)) (admits es) e (ap not here)
 
 empty_of : {X : Type 0} (xs : List X) → length xs ≡ 0 → xs ≡ []
 empty_of [] h = refl
@@ -99,7 +95,7 @@ member-admitted h by c none =
     let n = note by (Admit c) in
     let push = entries_of-push h n in
     let came : responses c (h ++ n ∷ []) ≡ [] =
-      responses-other c h n refl ∙ empty_of (responses c h) (length-responses c h ∙ ap length none.answers) in
+    responses-other c h n refl ∙ empty_of (responses c h) (length-responses c h ∙ ap length none.answers) in
     record {
       client = refl;
       by = refl;
@@ -118,8 +114,8 @@ IsAfter-admitted h v by c a none =
     record {
       queue = rw (push, takes-other es e refl, requests-other h n refl) a.after.queue;
       window = rw (push, unanswered-other es e refl refl, places-kept es (e ∷ []) fifo) a.after.window;
-      members = rw (push, present-admitted es by c none.retired)
-        (zip-push (IsMemberAfter (h ++ n ∷ [])) (present es) v.members e (new_row by c)
+      members = rw (push, present_admitted es e refl none.retired)
+          (zip-push (IsMemberAfter (h ++ n ∷ [])) (present es) v.members e (new_row by c)
           (zip-each (IsMemberAfter h) (IsMemberAfter (h ++ n ∷ [])) (λ x m is. IsMemberAfter-other h n x m refl refl refl a.legal.pairing is) (present es) v.members a.after.members)
           (member-admitted h by c none));
       greatest = rw (push, filter_push (λ x. is_admit x.kind) es e refl, map-append (λ x. x.client) (admits es) (e ∷ []), last_or-push 0 (map (λ x. x.client) (admits es)) c) refl;
@@ -133,38 +129,11 @@ AgreesWith-admitted h v by c a k allowed =
     let e = entry_by by (Admit c) in
     let n = note by (Admit c) in
     let push = entries_of-push h n in
-    let fifo = AtEachPrefix-whole IsFifo es a.legal.fifo in
-    let was = AtEachPrefix-whole (IsBounded v.limits) es a.legal.bounds in
     let fresh = admit_fresh v c allowed in
     let above : last_or 0 (map (λ x. x.client) (admits es)) < c = omega (arith, fresh.above, a.after.greatest) in
     let none = unseen c es a.legal.standing a.legal.pairing (none_admitted es c a.legal.membership.clients above) in
     let after = IsAfter-admitted h v by c a none in
-    let size' : size (es ++ e ∷ []) ≡ size_of (admitted v by c) = ap size (sym push) ∙ size_agrees (h ++ n ∷ []) (admitted v by c) after in
     record {
-      legal = rw push (record {
-        form = AtEach-push (λ before x. HasForm x.kind x) es e a.legal.form (refl, refl, refl);
-        fifo = AtEachPrefix-push IsFifo es e a.legal.fifo (record {
-          taken = rw (accepts-other es e refl, takes-other es e refl) fifo.taken;
-          collected = λ d. rw (answers_of-other d es e refl, collects_of-other d es e refl) (fifo.collected d);
-        });
-        once = record {
-          ordinals = λ d. rw (accepts_of-other d es e refl) (a.legal.once.ordinals d);
-          takes = λ d i. omega (arith, count_by-push (λ x. is_take x.kind && has_name d i x) es e, a.legal.once.takes d i);
-          settlings = λ d i. omega (arith, count_by-push (λ x. is_settling x.kind && has_name d i x) es e, a.legal.once.settlings d i);
-        };
-        membership = record {
-          clients = rw (filter_push (λ x. is_admit x.kind) es e refl, map-append (λ x. x.client) (admits es) (e ∷ [])) (RiseAbove-push 0 (map (λ x. x.client) (admits es)) c a.legal.membership.clients above);
-          retires = λ d. omega (arith, count_by-push (λ x. is_retire x.kind && (x.client == d)) es e, a.legal.membership.retires d);
-        };
-        standing = AtEach-push (λ before x. StandsWell x.kind before x) es e a.legal.standing tt;
-        pairing = AtEach-push (λ before x. IsPaired x.kind before x) es e a.legal.pairing tt;
-        apart = AtEachPrefix-push AreApart es e a.legal.apart (rw (unanswered-other es e refl refl) (AtEachPrefix-whole AreApart es a.legal.apart));
-        bounds = AtEachPrefix-push (IsBounded v.limits) es e a.legal.bounds (record {
-          queue = rw (accepts-other es e refl, takes-other es e refl) was.queue;
-          window = rw (unanswered-other es e refl refl) was.window;
-          client = λ d gone. rw (accepts_of-other d es e refl, collects_of-other d es e refl) (was.client d (sym (is_retired-other d es e refl) ∙ gone));
-        });
-        size = AtEachPrefix-push (IsWithin v.limits) es e a.legal.size (let room = KeepsRoom-admitted v by c k allowed in omega (arith, size', room.size));
-      });
+      legal = rw push (IsLegal-next v.limits es e a.legal (admit_fit v.limits es e a.legal refl (refl, refl, refl) above) (within-after h n (admitted v by c) after (KeepsRoom-admitted v by c k allowed)));
       after = after;
     }

@@ -23,32 +23,32 @@ apart-empty = tt
 -- no entries are legal
 pub IsLegal-empty : (limits : Limits) → IsLegal limits []
 IsLegal-empty limits = record {
-    form = AtEach-empty (λ before e. HasForm e.kind e);
-    fifo = AtEachPrefix-empty IsFifo (record { taken = refl; collected = λ c. refl });
-    once = record { ordinals = λ c. tt; takes = λ c n. omega arith; settlings = λ c n. omega arith };
-    membership = record { clients = tt; retires = λ c. omega arith };
-    standing = AtEach-empty (λ before e. StandsWell e.kind before e);
-    pairing = AtEach-empty (λ before e. IsPaired e.kind before e);
-    apart = AtEachPrefix-empty AreApart apart-empty;
-    bounds = AtEachPrefix-empty (IsBounded limits) (record { queue = omega arith; window = omega arith; client = λ c gone. omega arith });
-    size = AtEachPrefix-empty (IsWithin limits) (omega arith);
-  }
+  form = AtEach-empty (λ before e. HasForm e.kind e);
+  fifo = AtEachPrefix-empty IsFifo (record { taken = refl; collected = λ c. refl });
+  once = record { ordinals = λ c. tt; takes = λ c n. omega arith; settlings = λ c n. omega arith };
+  membership = record { clients = tt; retires = λ c. omega arith };
+  standing = AtEach-empty (λ before e. StandsWell e.kind before e);
+  pairing = AtEach-empty (λ before e. IsPaired e.kind before e);
+  apart = AtEachPrefix-empty AreApart apart-empty;
+  bounds = AtEachPrefix-empty (IsBounded limits) (record { queue = omega arith; window = omega arith; client = λ c gone. omega arith });
+  size = AtEachPrefix-empty (IsWithin limits) (omega arith);
+}
 
 pub AgreesWith-new : (limits : Limits) → AgreesWith [] (empty limits)
 AgreesWith-new limits = record {
-    legal = IsLegal-empty limits;
-    after = record { queue = refl; window = λ test. refl; members = tt; greatest = refl; entries = refl };
-  }
+  legal = IsLegal-empty limits;
+  after = record { queue = refl; window = λ test. refl; members = tt; greatest = refl; entries = refl };
+}
 
 pub KeepsRoom-new : (limits : Limits) → AreLimits limits → KeepsRoom (empty limits)
 KeepsRoom-new limits are = record {
-    limits = are;
-    queue = omega arith;
-    window = omega arith;
-    size = omega (arith, are.history.0);
-    boxes = tt;
-    queue_known = λ c above. refl;
-    window_known = λ c above. refl;
-    members_known = tt;
-    clients = tt;
-  }
+  limits = are;
+  queue = omega arith;
+  window = omega arith;
+  size = omega (arith, are.history.0);
+  boxes = tt;
+  queue_known = λ c above. refl;
+  window_known = λ c above. refl;
+  members_known = tt;
+  clients = tt;
+}

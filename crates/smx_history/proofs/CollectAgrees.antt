@@ -1,4 +1,7 @@
 -- A collect takes a lane that agrees with a history to one that agrees with the longer history.
+use Rattle.smx_history.proofs.FitsCollect.{collect_fit, collected_other, oldest_next}
+use Rattle.smx_history.proofs.Following.{IsLegal-next}
+use Rattle.smx_history.proofs.SettleAgrees.{within-after}
 use Rattle.std.proofs.Common.{◌≡◌, ◌<◌, ◌≤◌, ◌+◌, ◌-◌, ◌*◌, ◌==◌, ℕ, Bool, true, false, cond, not, ◌||◌, ◌&&◌, List, [], ◌∷◌, ◌++◌, length, map, take, drop, get_or, refl, sym, ◌∙◌, ap, subst, arith, filter, sum_by, count_by, length-append, length-drop, nat_eq, inl, inr, Option, Some, None, suc, zero, add-one}
 use Rattle.std.specs.List.{list_any, AllByRecursion, AllZip, IsDistinct, cons_option, remove}
 use Rattle.std.proofs.lemmas.List.{append-nil, length-map, map-append, drop-append-le}
@@ -32,7 +35,6 @@ use Rattle.smx_history.specs.Legal.{IsServed}
 use Rattle.std.proofs.lemmas.List.{drop-map}
 use Rattle.smx_history.proofs.TakeAgrees.{IsMemberAfter-other, requests-other}
 
-
 drop_more : {X : Type 0} (k : ℕ) (xs : List X) → drop 1 (drop k xs) ≡ drop (k + 1) xs
 drop_more k xs = rw add-one (drop_suc k xs)
   where
@@ -40,12 +42,6 @@ drop_more k xs = rw add-one (drop_suc k xs)
     drop_suc zero xs = refl
     drop_suc (suc k) [] = refl
     drop_suc (suc k) (x ∷ xs) = drop_suc k xs
-
-collects-push : (c : ℕ) (es : List Entry) (by n : ℕ) → collects_of c (es ++ entry_by by (Collect c n) ∷ []) ≡ collects_of c es ++ entry_by by (Collect c n) ∷ []
-collects-push c es by n = filter_push (λ x. is_collect x.kind && (x.client == c)) es (entry_by by (Collect c n)) (eq-eqb c c refl)
-
-collects-apart : (d c : ℕ) (es : List Entry) (by n : ℕ) → (c ≡ d → ⊥) → collects_of d (es ++ entry_by by (Collect c n) ∷ []) ≡ collects_of d es
-collects-apart d c es by n apart = filter_other (λ x. is_collect x.kind && (x.client == d)) es (entry_by by (Collect c n)) (ne_eqb c d apart)
 
 -- the ordinals of what waits are those of the answers that were not collected
 ordinals_next : (h : List Note) (c : ℕ) (r : Response) (rest : List Response) → r ∷ rest ≡ drop (length (collects_of c (entries_of h))) (map (shown (entries_of h) c) (responses c h)) → drop (length (collects_of c (entries_of h))) (map (λ e. e.ordinal) (answers_of c (entries_of h))) ≡ r.ordinal ∷ map (λ (x : Response). x.ordinal) rest
@@ -58,34 +54,13 @@ ordinals_next h c r rest w =
     ordinals_shown es c [] = refl
     ordinals_shown es c (x ∷ rs) = ap (λ ns. x.ordinal ∷ ns) (ordinals_shown es c rs)
 
-fifo-collected : (es : List Entry) (by c n : ℕ) (rest : List ℕ) → drop (length (collects_of c es)) (map (λ e. e.ordinal) (answers_of c es)) ≡ n ∷ rest → IsFifo es → IsFifo (es ++ entry_by by (Collect c n) ∷ [])
-fifo-collected es by c n rest next h =
-    let e = entry_by by (Collect c n) in
-    record {
-      taken = rw (accepts-other es e refl, takes-other es e refl) h.taken;
-      collected = λ d. elim (cases_eq c d) [
-          inl same ↦ subst (λ (x : ℕ). StartsWith (map (λ y. y.ordinal) (answers_of x (es ++ e ∷ []))) (map (λ y. y.ordinal) (collects_of x (es ++ e ∷ [])))) same (here e)
-          | inr apart ↦ rw (answers_of-other d es e refl, collects-apart d c es by n apart) (h.collected d)
-        ];
-    }
-  where
-    here : (e : Entry) → StartsWith (map (λ y. y.ordinal) (answers_of c (es ++ entry_by by (Collect c n) ∷ []))) (map (λ y. y.ordinal) (collects_of c (es ++ entry_by by (Collect c n) ∷ [])))
-    here e =
-      let x = entry_by by (Collect c n) in
-      let old = map (λ y. y.ordinal) (collects_of c es) in
-      let count : length (old ++ n ∷ []) ≡ suc (length (collects_of c es)) = omega (arith, length-append old (n ∷ []), length-map (collects_of c es) (λ (y : Entry). y.ordinal)) in
-      let was : take (length (collects_of c es)) (map (λ y. y.ordinal) (answers_of c es)) ≡ old =
-        ap (λ k. take k (map (λ y. y.ordinal) (answers_of c es))) (sym (length-map (collects_of c es) (λ (y : Entry). y.ordinal))) ∙ h.collected c in
-      rw (answers_of-other c es x refl, collects-push c es by n, map-append (λ y. y.ordinal) (collects_of c es) (x ∷ []))
-        (ap (λ k. take k (map (λ y. y.ordinal) (answers_of c es))) count ∙ take-next (length (collects_of c es)) (map (λ y. y.ordinal) (answers_of c es)) n rest next ∙ ap (λ xs. xs ++ n ∷ []) was)
-
 zip-with_known : {X : Type 0} (R S : X → Member → Type 0) (K : Member → Type 0) (c : ℕ) (f : Member → Member) → ((a : X) (m : Member) → m.client ≡ c → K m → R a m → S a (f m)) → ((a : X) (m : Member) → (m.client ≡ c → ⊥) → R a m → S a m) → (xs : List X) (ms : List Member) → AllByRecursion K ms → AllZip R xs ms → AllZip S xs (with_row c f ms)
 zip-with_known R S K c f here there [] [] k z = z
 zip-with_known R S K c f here there [] (m ∷ ms) k z = z
 zip-with_known R S K c f here there (a ∷ us) [] k z = z
 zip-with_known R S K c f here there (a ∷ us) (m ∷ ms) k z =
     let head : S a (cond (m.client == c) (f m) m) =
-      cond_both (m.client == c) (f m) m (S a) (λ e. here a m (eqb-true m.client c e) k.0 z.0) (λ e. there a m (eqb-false m.client c e) z.0) in
+    cond_both (m.client == c) (f m) m (S a) (λ e. here a m (eqb-true m.client c e) k.0 z.0) (λ e. there a m (eqb-false m.client c e) z.0) in
     (head, zip-with_known R S K c f here there us ms k.1 z.1)
 
 member-collected : (h : List Note) (by c n : ℕ) (a : Entry) (m : Member) → AtEach (λ before e. IsPaired e.kind before e) (entries_of h) → m.client ≡ c → 1 ≤ m.pending → IsMemberAfter h a m → IsMemberAfter (h ++ note by (Collect c n) ∷ []) a (record m { pending = m.pending - 1; waiting = drop 1 m.waiting })
@@ -95,7 +70,7 @@ member-collected h by c n a m paired same some is =
     let push = entries_of-push h (note by (Collect c n)) in
     let of : c ≡ a.client = sym same ∙ is.client in
     let col : collects_of a.client (es ++ e ∷ []) ≡ collects_of a.client es ++ e ∷ [] =
-      filter_push (λ x. is_collect x.kind && (x.client == a.client)) es e (eq-eqb c a.client of) in
+    filter_push (λ x. is_collect x.kind && (x.client == a.client)) es e (eq-eqb c a.client of) in
     let k = length (collects_of a.client es) in
     let count : length (collects_of a.client es ++ e ∷ []) ≡ k + 1 = length-append (collects_of a.client es) (e ∷ []) in
     record {
@@ -114,7 +89,7 @@ member-collected_other h by c n a m paired apart is =
     let es = entries_of h in
     let e = entry_by by (Collect c n) in
     let push = entries_of-push h (note by (Collect c n)) in
-    let col = collects-apart a.client c es by n (λ of. apart (is.client ∙ sym of)) in
+    let col = collected_other a.client es e refl (λ of. apart (is.client ∙ sym of)) in
     record {
       client = is.client;
       by = is.by;
@@ -134,7 +109,7 @@ IsAfter-collected h v by c r m a rise found some =
       queue = rw (push, takes-other es e refl, requests-other h n refl) a.after.queue;
       window = rw (push, unanswered-other es e refl refl, places-kept es (e ∷ []) fifo) a.after.window;
       members = rw (push, present-other es e refl refl)
-        (zip-with_known (IsMemberAfter h) (IsMemberAfter (h ++ n ∷ [])) (λ x. x.client ≡ c → x ≡ m) c (λ x. record x { pending = x.pending - 1; waiting = drop 1 x.waiting })
+          (zip-with_known (IsMemberAfter h) (IsMemberAfter (h ++ n ∷ [])) (λ x. x.client ≡ c → x ≡ m) c (λ x. record x { pending = x.pending - 1; waiting = drop 1 x.waiting })
           (λ x y same only is. member-collected h by c r.ordinal x y a.legal.pairing same (let y' = only same in omega (arith, ap (λ (z : Member). z.pending) y', some)) is)
           (λ x y apart is. member-collected_other h by c r.ordinal x y a.legal.pairing apart is) (present es) v.members (one_row v.members c 0 m rise found) a.after.members);
       greatest = rw (push, admits-other es e refl) a.after.greatest;
@@ -147,41 +122,12 @@ AgreesWith-collected_at h v by c r rest m admit a is admitted here of own waits 
     let e = entry_by by (Collect c r.ordinal) in
     let n = note by (Collect c r.ordinal) in
     let push = entries_of-push h n in
-    let fifo = AtEachPrefix-whole IsFifo es a.legal.fifo in
-    let was = AtEachPrefix-whole (IsBounded v.limits) es a.legal.bounds in
     let wait : r ∷ rest ≡ drop (length (collects_of c es)) (map (shown es c) (responses c h)) =
-      sym waits ∙ is.waiting ∙ ap (λ d. drop (length (collects_of d es)) (map (shown es d) (responses d h))) of in
+    sym waits ∙ is.waiting ∙ ap (λ d. drop (length (collects_of d es)) (map (shown es d) (responses d h))) of in
     let next = ordinals_next h c r rest wait in
-    let size' : size (es ++ e ∷ []) ≡ size_of (collected v by c r) = ap size (sym push) ∙ size_agrees (h ++ n ∷ []) (collected v by c r) after in
-    let bounds : IsBounded v.limits (es ++ e ∷ []) = record {
-        queue = rw (accepts-other es e refl, takes-other es e refl) was.queue;
-        window = rw (unanswered-other es e refl refl) was.window;
-        client = λ d gone.
-          let old = was.client d (sym (is_retired-other d es e refl) ∙ gone) in
-          let more : length (collects_of d es) ≤ length (collects_of d (es ++ e ∷ [])) =
-            omega (arith, ap length (filter-append (λ x. is_collect x.kind && (x.client == d)) es (e ∷ [])), length-append (collects_of d es) (collects_of d (e ∷ []))) in
-          rw (accepts_of-other d es e refl) (omega (arith, old, more));
-      } in
+    let served : IsServed es e = (sym (ap (λ b. is_admitted b admit.client es) (sym is.by ∙ own) ∙ ap (λ d. is_admitted by d es) of) ∙ admitted, ap (λ d. is_retired d es) (sym of) ∙ here) in
     record {
-      legal = rw push (record {
-        form = AtEach-push (λ before x. HasForm x.kind x) es e a.legal.form (refl, refl);
-        fifo = AtEachPrefix-push IsFifo es e a.legal.fifo (fifo-collected es by c r.ordinal (map (λ (x : Response). x.ordinal) rest) next fifo);
-        once = record {
-          ordinals = λ d. rw (accepts_of-other d es e refl) (a.legal.once.ordinals d);
-          takes = λ d k. omega (arith, count_by-push (λ x. is_take x.kind && has_name d k x) es e, a.legal.once.takes d k);
-          settlings = λ d k. omega (arith, count_by-push (λ x. is_settling x.kind && has_name d k x) es e, a.legal.once.settlings d k);
-        };
-        membership = record {
-          clients = rw (admits-other es e refl) a.legal.membership.clients;
-          retires = λ d. omega (arith, count_by-push (λ x. is_retire x.kind && (x.client == d)) es e, a.legal.membership.retires d);
-        };
-        standing = AtEach-push (λ before x. StandsWell x.kind before x) es e a.legal.standing
-          (sym (ap (λ b. is_admitted b admit.client es) (sym is.by ∙ own) ∙ ap (λ d. is_admitted by d es) of) ∙ admitted, ap (λ d. is_retired d es) (sym of) ∙ here);
-        pairing = AtEach-push (λ before x. IsPaired x.kind before x) es e a.legal.pairing tt;
-        apart = AtEachPrefix-push AreApart es e a.legal.apart (rw (unanswered-other es e refl refl) (AtEachPrefix-whole AreApart es a.legal.apart));
-        bounds = AtEachPrefix-push (IsBounded v.limits) es e a.legal.bounds bounds;
-        size = AtEachPrefix-push (IsWithin v.limits) es e a.legal.size (omega (arith, size', room.size));
-      });
+      legal = rw push (IsLegal-next v.limits es e a.legal (collect_fit v.limits es e a.legal refl (refl, refl) served (oldest_next es e (map (λ (x : Response). x.ordinal) rest) next)) (within-after h n (collected v by c r) after room));
       after = after;
     }
 

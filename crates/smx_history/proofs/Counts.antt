@@ -1,8 +1,8 @@
 -- Lists that have the same elements, each as often.
-use Rattle.std.proofs.Common.{◌≡◌, ◌<◌, ◌≤◌, ◌+◌, ℕ, Bool, true, false, cond, not, ◌||◌, ◌&&◌, List, [], ◌∷◌, ◌++◌, length, map, filter, get_or, refl, sym, ◌∙◌, ap, arith, sum_by, count_by, suc, inl, inr}
+use Rattle.std.proofs.Common.{◌==◌, ◌≡◌, ◌<◌, ◌≤◌, ◌+◌, ℕ, Bool, true, false, cond, not, ◌||◌, ◌&&◌, List, [], ◌∷◌, ◌++◌, length, map, filter, get_or, refl, sym, ◌∙◌, ap, arith, sum_by, count_by, suc, inl, inr}
 use Rattle.std.specs.List.{list_any, remove}
 use Rattle.std.proofs.lemmas.List.Sums.{sum_by-cons, sum_by-append, sum_by-remove, length-filter}
-use Rattle.std.proofs.lemmas.Bool.{cases_Bool, and_left}
+use Rattle.std.proofs.lemmas.Bool.{cases_Bool, and_left, cases_eq, eq-eqb, ne_eqb}
 use Rattle.smx_history.specs.Prefixes.{SameCounts}
 
 pub count_by-push : {X : Type 0} (p : X → Bool) (xs : List X) (x : X) → count_by p (xs ++ x ∷ []) ≡ count_by p xs + cond (p x) 1 0
@@ -39,9 +39,9 @@ none_count p (x ∷ xs) h = none_count_at (p x) refl h (none_count p xs)
 
 pub count_none_any : {X : Type 0} (p : X → Bool) (xs : List X) → count_by p xs ≡ 0 → list_any p xs ≡ false
 count_none_any p xs h = elim (cases_Bool (list_any p xs)) [
-    inl some ↦ absurd (let l = any_count p xs some in omega (arith, l, h))
-    | inr none ↦ none
-  ]
+  | inl some ↦ absurd (let l = any_count p xs some in omega (arith, l, h))
+  | inr none ↦ none
+]
 
 -- a test finds something in both or in neither
 pub any-same : {X : Type 0} (p : X → Bool) (xs ys : List X) → SameCounts xs ys → list_any p ys ≡ false → list_any p xs ≡ false
@@ -73,9 +73,11 @@ count_by-filter p q (x ∷ xs) = count_by-filter_at (q x) refl (count_by-filter 
     one : (a b : Bool) → b ≡ true → ◌≡◌ {A = ℕ} (cond (a && b) 1 0) (cond a 1 0)
     one true b e = ap {B = ℕ} (λ c. cond c 1 0) e
     one false b e = refl
+
     none : (a b : Bool) → b ≡ false → ◌≡◌ {A = ℕ} (cond (a && b) 1 0) 0
     none true b e = ap {B = ℕ} (λ c. cond c 1 0) e
     none false b e = refl
+
     count_by-filter_at : (b : Bool) → q x ≡ b → count_by p (filter q xs) ≡ count_by (λ x. p x && q x) xs → count_by p (cond b (x ∷ filter q xs) (filter q xs)) ≡ count_by (λ x. p x && q x) (x ∷ xs)
     count_by-filter_at true e h = omega (arith, h, count_by-cons p x (filter q xs), count_by-cons (λ x. p x && q x) x xs, one (p x) (q x) e)
     count_by-filter_at false e h = omega (arith, h, count_by-cons (λ x. p x && q x) x xs, none (p x) (q x) e)
@@ -102,7 +104,7 @@ All-same p xs ys h none i y within is =
     let z : count_by (λ x. not (p x)) ys ≡ 0 = h (λ x. not (p x)) ∙ none_count (λ x. not (p x)) xs none in
     let r = count_by-remove (λ x. not (p x)) ys i y within is in
     elim (cases_Bool (p y)) [
-      inl good ↦ good
+      | inl good ↦ good
       | inr bad ↦ absurd (let one : cond (not (p y)) 1 0 ≡ suc 0 = ap {B = ℕ} (λ b. cond (not b) 1 0) bad in omega (arith, r, z, one))
     ]
 
@@ -120,3 +122,17 @@ count_by-map p f (x ∷ xs) = omega (arith, count_by-map p f xs, count_by-cons p
 
 pub count-filter-le : {X : Type 0} (p q : X → Bool) (xs : List X) → count_by p (filter q xs) ≤ count_by p xs
 count-filter-le p q xs = omega (arith, count_by-filter p q xs, count_split p q xs)
+
+pub eqb_sym : (a b : ℕ) → (a == b) ≡ (b == a)
+eqb_sym a b = elim (cases_eq a b) [
+  | inl same ↦ eq-eqb a b same ∙ sym (eq-eqb b a (sym same))
+  | inr apart ↦ ne_eqb a b apart ∙ sym (ne_eqb b a (λ e. apart (sym e)))
+]
+
+pub length_part : {X : Type 0} (p : X → Bool) (xs : List X) → length (filter p xs) ≤ length xs
+length_part p [] = omega arith
+length_part p (x ∷ xs) = length_part_at (p x) (length_part p xs)
+  where
+    length_part_at : (b : Bool) → length (filter p xs) ≤ length xs → length (cond b (x ∷ filter p xs) (filter p xs)) ≤ length (x ∷ xs)
+    length_part_at true le = omega (arith, le)
+    length_part_at false le = omega (arith, le)

@@ -1,4 +1,6 @@
 -- What an entry of another kind leaves as it is.
+use Rattle.std.proofs.lemmas.Bool.{false_from_ne_true, both_ways}
+use Rattle.smx_history.proofs.Growing.{any_kept}
 use Rattle.std.proofs.Common.{◌≡◌, ◌<◌, ◌≤◌, ◌+◌, ◌-◌, ◌*◌, ◌==◌, ℕ, Bool, true, false, cond, not, ◌||◌, ◌&&◌, List, [], ◌∷◌, ◌++◌, length, map, refl, sym, ◌∙◌, ap, subst, arith, filter, sum_by}
 use Rattle.std.specs.List.{list_any, AllByRecursion}
 use Rattle.std.proofs.lemmas.List.Elements.{filter_agree}
@@ -50,4 +52,8 @@ pub waiting-other : (es : List Entry) (e : Entry) → is_admit e.kind ≡ false 
 waiting-other es e a r n c =
     ap (sum_by (λ x. length (answers_of x.client (es ++ e ∷ [])) - length (collects_of x.client (es ++ e ∷ [])))) (present-other es e a r)
     ∙ sum_by-agree (λ x. length (answers_of x.client (es ++ e ∷ [])) - length (collects_of x.client (es ++ e ∷ []))) (λ x. length (answers_of x.client es) - length (collects_of x.client es))
-      (λ x. ap (λ xs. length xs - length (collects_of x.client (es ++ e ∷ []))) (answers_of-other x.client es e n) ∙ ap (λ xs. length (answers_of x.client es) - length xs) (collects_of-other x.client es e c)) (present es)
+    (λ x. ap (λ xs. length xs - length (collects_of x.client (es ++ e ∷ []))) (answers_of-other x.client es e n) ∙ ap (λ xs. length (answers_of x.client es) - length xs) (collects_of-other x.client es e c)) (present es)
+
+-- who had not retired before an entry more
+pub retired_before : (d : ℕ) (es : List Entry) (e : Entry) → is_retired d (es ++ e ∷ []) ≡ false → is_retired d es ≡ false
+retired_before d es e gone = false_from_ne_true _ (λ was. both_ways _ gone (any_kept (λ x. is_retire x.kind && (x.client == d)) es (e ∷ []) was))

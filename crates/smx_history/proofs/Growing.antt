@@ -41,7 +41,7 @@ take_past (suc k) (x ∷ xs) h = ap (λ ys. x ∷ ys) (take_past k xs (omega ari
 pub AtEachPrefix-push : {X : Type 0} (P : List X → Type 0) (xs : List X) (x : X) → AtEachPrefix P xs → P (xs ++ x ∷ []) → AtEachPrefix P (xs ++ x ∷ [])
 AtEachPrefix-push P xs x h new k =
     elim (cases_lt (length xs) k) [
-      inl past ↦ subst P (sym (take_past k (xs ++ x ∷ []) (let n = length-append xs (x ∷ []) in omega arith))) new
+      | inl past ↦ subst P (sym (take_past k (xs ++ x ∷ []) (let n = length-append xs (x ∷ []) in omega arith))) new
       | inr within ↦ subst P (sym (take-append-le k xs (x ∷ []) within)) (h k)
     ]
 
@@ -54,15 +54,15 @@ AtEach-push Q xs x h new k y at =
     let n = length-append xs (x ∷ []) in
     let is : get_or (xs ++ x ∷ []) k y ≡ y = get_or_from_slice_get (xs ++ x ∷ []) k y y at in
     elim (cases_lt k (length xs)) [
-      inl inside ↦
-        let there : get_or xs k y ≡ y = sym (get_or-append xs (x ∷ []) y k inside) ∙ is in
-        let was : slice_get xs k ≡ Some y = slice_get-get_or xs k y inside ∙ ap Some there in
-        rw (take-append-le k xs (x ∷ []) (omega arith)) (h k y was)
+      | inl inside ↦
+          let there : get_or xs k y ≡ y = sym (get_or-append xs (x ∷ []) y k inside) ∙ is in
+          let was : slice_get xs k ≡ Some y = slice_get-get_or xs k y inside ∙ ap Some there in
+          rw (take-append-le k xs (x ∷ []) (omega arith)) (h k y was)
       | inr last ↦
-        let here : k ≡ length xs = omega arith in
-        let same : x ≡ y = sym (get_or-append_seam xs x [] y) ∙ ap (λ j. get_or (xs ++ x ∷ []) j y) (sym here) ∙ is in
-        let all : take k (xs ++ x ∷ []) ≡ xs = ap (λ j. take j (xs ++ x ∷ [])) here ∙ take-append_seam xs (x ∷ []) in
-        rw (all, ← same) new
+          let here : k ≡ length xs = omega arith in
+          let same : x ≡ y = sym (get_or-append_seam xs x [] y) ∙ ap (λ j. get_or (xs ++ x ∷ []) j y) (sym here) ∙ is in
+          let all : take k (xs ++ x ∷ []) ≡ xs = ap (λ j. take j (xs ++ x ∷ [])) here ∙ take-append_seam xs (x ∷ []) in
+          rw (all, ← same) new
     ]
 
 -- a longer list begins with what it began with
@@ -104,6 +104,6 @@ AtEach-last Q xs x h =
 pub AtEachPrefix-init : {X : Type 0} (P : List X → Type 0) (xs : List X) (x : X) → AtEachPrefix P (xs ++ x ∷ []) → AtEachPrefix P xs
 AtEachPrefix-init P xs x h k =
     elim (cases_lt (length xs) k) [
-      inl past ↦ subst P (take-append_seam xs (x ∷ []) ∙ sym (take_past k xs (omega arith))) (h (length xs))
+      | inl past ↦ subst P (take-append_seam xs (x ∷ []) ∙ sym (take_past k xs (omega arith))) (h (length xs))
       | inr within ↦ subst P (take-append-le k xs (x ∷ []) within) (h k)
     ]

@@ -19,7 +19,7 @@ map-with_row g f c same [] = refl
 map-with_row g f c same (m ∷ ms) =
     let rest = map-with_row g f c same ms in
     elim (m.client == c) as (λ b. g (cond b (f m) m) ∷ map g (with_row c f ms) ≡ g m ∷ map g ms) [
-      true ↦ rw (same m, rest) refl
+      | true ↦ rw (same m, rest) refl
       | false ↦ rw rest refl
     ]
 
@@ -34,7 +34,7 @@ pub All-with_row : (P Q : Member → Type 0) (f : Member → Member) (c : ℕ) �
 All-with_row P Q f c here there [] h = tt
 All-with_row P Q f c here there (m ∷ ms) h =
     let head : Q (cond (m.client == c) (f m) m) =
-      cond_both (m.client == c) (f m) m Q (λ e. here m (eqb-true m.client c e) h.0) (λ e. there m (eqb-false m.client c e) h.0) in
+    cond_both (m.client == c) (f m) m Q (λ e. here m (eqb-true m.client c e) h.0) (λ e. there m (eqb-false m.client c e) h.0) in
     (head, All-with_row P Q f c here there ms h.1)
 
 pub All-both : {X : Type 0} (P Q : X → Type 0) (xs : List X) → AllByRecursion P xs → AllByRecursion Q xs → AllByRecursion (λ x. P x × Q x) xs
@@ -55,14 +55,14 @@ pub one_row : (ms : List Member) (c low : ℕ) (m : Member) → RiseAbove low (m
 one_row [] c low m rise found = tt
 one_row (n ∷ ms) c low m rise found =
     elim (cases_eq n.client c) [
-      inl e ↦
-        let here : (n.client == c) ≡ true = eq-eqb n.client c e in
-        let same : Some n ≡ Some m = rw here at found in
-        ((λ _. cc), rows_above ms c n.client (λ x. x ≡ m) (omega arith) rise.1)
+      | inl e ↦
+          let here : (n.client == c) ≡ true = eq-eqb n.client c e in
+          let same : Some n ≡ Some m = rw here at found in
+          ((λ _. cc), rows_above ms c n.client (λ x. x ≡ m) (omega arith) rise.1)
       | inr e ↦
-        let other : (n.client == c) ≡ false = ne_eqb n.client c e in
-        let later : member_with c ms ≡ Some m = rw other at found in
-        ((λ same. absurd (e same)), one_row ms c n.client m rise.1 later)
+          let other : (n.client == c) ≡ false = ne_eqb n.client c e in
+          let later : member_with c ms ≡ Some m = rw other at found in
+          ((λ same. absurd (e same)), one_row ms c n.client m rise.1 later)
     ]
 
 -- one more request of c
@@ -73,14 +73,14 @@ count_by-push p xs x = omega (arith, sum_by-append (λ y. cond (p y) 1 0) xs (x 
 box-accepted : (v : Content) (by : ℕ) (r : Request) (n : Member) → n.client ≡ r.client → FitsBox v n → n.pending < v.limits.client → FitsBox (accepted v by r) (record n { last = r.ordinal; pending = n.pending + 1 })
 box-accepted v by r n is fits few =
     let q : count_by (λ x. x.client == n.client) (v.queue ++ r ∷ []) ≡ count_by (λ x. x.client == n.client) v.queue + 1 =
-      count_by-push (λ x. x.client == n.client) v.queue r ∙ ap (λ b. count_by (λ x. x.client == n.client) v.queue + cond b 1 0) (eq-eqb r.client n.client (sym is)) in
+    count_by-push (λ x. x.client == n.client) v.queue r ∙ ap (λ b. count_by (λ x. x.client == n.client) v.queue + cond b 1 0) (eq-eqb r.client n.client (sym is)) in
     (omega (arith, q, fits.0), omega (arith, few))
 
 -- and that of another client has what it had
 box-accepted_other : (v : Content) (by : ℕ) (r : Request) (n : Member) → (n.client ≡ r.client → ⊥) → FitsBox v n → FitsBox (accepted v by r) n
 box-accepted_other v by r n apart fits =
     let q : count_by (λ x. x.client == n.client) (v.queue ++ r ∷ []) ≡ count_by (λ x. x.client == n.client) v.queue + 0 =
-      count_by-push (λ x. x.client == n.client) v.queue r ∙ ap (λ b. count_by (λ x. x.client == n.client) v.queue + cond b 1 0) (ne_eqb r.client n.client (λ e. apart (sym e))) in
+    count_by-push (λ x. x.client == n.client) v.queue r ∙ ap (λ b. count_by (λ x. x.client == n.client) v.queue + cond b 1 0) (ne_eqb r.client n.client (λ e. apart (sym e))) in
     (omega (arith, q, fits.0), fits.1)
 
 -- the row that was found is the client's, and meets what all rows of the client meet
@@ -110,15 +110,15 @@ KeepsRoom-accepted v by r m k found a =
     let w : sum_by (λ x. length x.waiting) (with_row r.client f v.members) ≡ sum_by (λ x. length x.waiting) v.members = sum_by-with_row (λ x. length x.waiting) f r.client (λ _. refl) v.members in
     let l : length (with_row r.client f v.members) ≡ length v.members = length-with_row f r.client v.members in
     let few : AllByRecursion (λ x. FitsBox v x × (x.client ≡ r.client → x.pending < v.limits.client)) v.members =
-      All-both (FitsBox v) (λ x. x.client ≡ r.client → x.pending < v.limits.client) v.members k.boxes
-        (All-each (λ x. x.client ≡ r.client → x ≡ m) (λ x. x.client ≡ r.client → x.pending < v.limits.client) (λ x h is. let y = h is in omega (arith, ap (λ (z : Member). z.pending) y, a.client)) v.members (one_row v.members r.client 0 m k.clients found)) in
+    All-both (FitsBox v) (λ x. x.client ≡ r.client → x.pending < v.limits.client) v.members k.boxes
+    (All-each (λ x. x.client ≡ r.client → x ≡ m) (λ x. x.client ≡ r.client → x.pending < v.limits.client) (λ x h is. let y = h is in omega (arith, ap (λ (z : Member). z.pending) y, a.client)) v.members (one_row v.members r.client 0 m k.clients found)) in
     record {
       limits = k.limits;
       queue = omega (arith, a.queue, n);
       window = k.window;
       size = omega (arith, a.history, n, e, w, l);
       boxes = All-with_row (λ x. FitsBox v x × (x.client ≡ r.client → x.pending < v.limits.client)) (FitsBox (accepted v by r)) f r.client
-        (λ x is h. box-accepted v by r x is h.0 (h.1 is)) (λ x apart h. box-accepted_other v by r x apart h.0) v.members few;
+          (λ x is h. box-accepted v by r x is h.0 (h.1 is)) (λ x apart h. box-accepted_other v by r x apart h.0) v.members few;
       queue_known = λ c above. push_none (λ x. x.client == c) v.queue r (k.queue_known c above) (ne_eqb r.client c (λ e. let known = found_known v.greatest r.client m v.members k.members_known found in omega (arith, known, above, e)));
       window_known = k.window_known;
       members_known = All-with_row (λ x. x.client ≤ v.greatest) (λ x. x.client ≤ v.greatest) f r.client (λ x _ h. h) (λ x _ h. h) v.members k.members_known;

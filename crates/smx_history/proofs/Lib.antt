@@ -12,6 +12,7 @@ pub mod Settled
 pub mod AcceptAgrees
 pub mod Taking
 pub mod TakeAgrees
+pub mod SettleAgrees
 pub mod AnswerAgrees
 pub mod LateAgrees
 pub mod CollectAgrees
@@ -19,3 +20,17 @@ pub mod Unseen
 pub mod AdmitAgrees
 pub mod RetireAgrees
 pub mod Beginning
+pub mod Nth
+pub mod Parts
+pub mod Following
+pub mod Kept
+pub mod FitsAdmit
+pub mod FitsAccept
+pub mod FitsTake
+pub mod FitsSettle
+pub mod FitsCollect
+pub mod Counting
+pub mod Presence
+pub mod CountedEntries
+pub mod CountedSettle
+pub mod Steps

@@ -57,4 +57,3 @@ set_is_with_row f (m ∷ ms) c low (suc i) d rise within is =
     let above = rise_at ms m.client i d rise.1 (omega arith) in
     let other : (m.client == c) ≡ false = ne_eqb m.client c (λ e. omega (arith, above)) in
     rw other (ap (λ xs. m ∷ xs) (set_is_with_row f ms c m.client i d rise.1 (omega arith) is))
-

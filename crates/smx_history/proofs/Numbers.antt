@@ -22,12 +22,12 @@ count_next m (p ∷ ps) =
   where
     one : (u m : ℕ) → cond (nat_le u m) 1 0 + cond (u == (m + 1)) 1 0 ≤ cond (nat_le u (m + 1)) 1 0
     one u m = elim (cases_order u (m + 1)) [
-        inl same ↦ rw (lt-leb u m (omega arith), eq-eqb u (m + 1) same, le-leb u (m + 1) (omega arith)) (omega arith)
-        | inr apart ↦ elim apart [
-            inl below ↦ rw (le-leb u m (omega arith), ne_eqb u (m + 1) (λ e. omega arith), le-leb u (m + 1) (omega arith)) (omega arith)
-            | inr above ↦ rw (lt-leb u m (omega arith), ne_eqb u (m + 1) (λ e. omega arith), lt-leb u (m + 1) above) (omega arith)
-          ]
+      | inl same ↦ rw (lt-leb u m (omega arith), eq-eqb u (m + 1) same, le-leb u (m + 1) (omega arith)) (omega arith)
+      | inr apart ↦ elim apart [
+        | inl below ↦ rw (le-leb u m (omega arith), ne_eqb u (m + 1) (λ e. omega arith), le-leb u (m + 1) (omega arith)) (omega arith)
+        | inr above ↦ rw (lt-leb u m (omega arith), ne_eqb u (m + 1) (λ e. omega arith), lt-leb u (m + 1) above) (omega arith)
       ]
+    ]
 
 all_had : (m : ℕ) (ps : List Place) → ((k : ℕ) → 1 ≤ k → k < m + 1 → list_any (λ p. p.upstream == k) ps ≡ true) → m ≤ count_by (λ p. nat_le p.upstream m) ps
 all_had zero ps h = omega arith
@@ -46,6 +46,6 @@ had-le-length m ps h = omega (arith, all_had m ps h, count_by-le-length (λ (p :
 pub had_more : (ps : List Place) (n : ℕ) → ((k : ℕ) → 1 ≤ k → k < n → list_any (λ p. p.upstream == k) ps ≡ true) → list_any (λ p. p.upstream == n) ps ≡ true → (k : ℕ) → 1 ≤ k → k < n + 1 → list_any (λ p. p.upstream == k) ps ≡ true
 had_more ps n before here k low high =
     elim (cases_lt k n) [
-      inl lt ↦ before k low lt
+      | inl lt ↦ before k low lt
       | inr ge ↦ let same : n ≡ k = omega arith in rw (← same) here
     ]

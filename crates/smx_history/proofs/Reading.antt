@@ -49,7 +49,7 @@ responses-cons c by (Accept r) h same = same
 responses-cons c by (Take d n u) h same = same
 responses-cons c by (Answer d n p) h same =
     elim (d == c) as (λ b. map (λ r. r.ordinal) (cons_option (cond b (Some (record { ordinal = n; pdu = p })) None) (responses c h)) ≡ map (λ e. e.ordinal) (cond b (entry_by by (Answer d n p) ∷ answers_of c (entries_of h)) (answers_of c (entries_of h)))) [
-      true ↦ ap (λ ns. n ∷ ns) same
+      | true ↦ ap (λ ns. n ∷ ns) same
       | false ↦ same
     ]
 responses-cons c by (Late d n u k) h same = same
@@ -100,17 +100,17 @@ any_at p xs k x at passes = list_any_at p xs k x (slice_get_within xs k x at) (a
 accept_named : (es : List Entry) → AllByRecursion (λ e. is_accept e.kind ≡ true → is_accepted e.client e.ordinal es ≡ true) es
 accept_named es = All-from_get (λ e. is_accept e.kind ≡ true → is_accepted e.client e.ordinal es ≡ true) es (λ k e at passes.
     any_at (λ x. is_accept x.kind && has_name e.client e.ordinal x) es k e at
-      (and_from _ _ passes (and_from _ _ (eq-eqb e.client e.client refl) (eq-eqb e.ordinal e.ordinal refl))))
+    (and_from _ _ passes (and_from _ _ (eq-eqb e.client e.client refl) (eq-eqb e.ordinal e.ordinal refl))))
 
 -- a request that was taken was accepted
 pub takes_accepted : (es : List Entry) → IsFifo es → AllByRecursion (λ t. is_accepted t.client t.ordinal es ≡ true) (takes es)
 takes_accepted es fifo =
     let named : AllByRecursion (λ (n : Name). is_accepted n.client n.ordinal es ≡ true) (map name_of (accepts es)) =
-      All-to_map (λ (n : Name). is_accepted n.client n.ordinal es ≡ true) name_of (accepts es)
-        (All-filtered (λ e. is_accepted e.client e.ordinal es ≡ true) (λ e. is_accept e.kind) es (accept_named es)) in
+    All-to_map (λ (n : Name). is_accepted n.client n.ordinal es ≡ true) name_of (accepts es)
+    (All-filtered (λ e. is_accepted e.client e.ordinal es ≡ true) (λ e. is_accept e.kind) es (accept_named es)) in
     let P : List Name → Type 0 = AllByRecursion (λ (n : Name). is_accepted n.client n.ordinal es ≡ true) in
     All-of_map (λ (n : Name). is_accepted n.client n.ordinal es ≡ true) name_of (takes es)
-      (subst P fifo.taken (All-start (λ (n : Name). is_accepted n.client n.ordinal es ≡ true) (length (map name_of (takes es))) (map name_of (accepts es)) named))
+    (subst P fifo.taken (All-start (λ (n : Name). is_accepted n.client n.ordinal es ≡ true) (length (map name_of (takes es))) (map name_of (accepts es)) named))
 
 pub answer_accepted : (kind : Kind) (es : List Entry) (e : Entry) → IsPaired kind es e → is_answer kind ≡ true → is_accepted e.client e.ordinal es ≡ true
 answer_accepted kind.Answer es e paired passes = paired.accepted
@@ -125,13 +125,13 @@ answer_accepted kind.Retire es e paired passes = cc
 pub answers_accepted : (c : ℕ) (es : List Entry) → AtEach (λ before e. IsPaired e.kind before e) es → AllByRecursion (λ n. is_accepted c n es ≡ true) (map (λ e. e.ordinal) (answers_of c es))
 answers_accepted c es paired =
     All-to_map (λ n. is_accepted c n es ≡ true) (λ e. e.ordinal) (answers_of c es)
-      (All-filtered (λ e. is_accepted c e.ordinal es ≡ true) (λ e. is_answer e.kind && (e.client == c)) es
-        (All-from_get (λ e. (is_answer e.kind && (e.client == c)) ≡ true → is_accepted c e.ordinal es ≡ true) es (λ k e at passes.
-          let w = and_parts (is_answer e.kind) (e.client == c) passes in
-          let before : is_accepted e.client e.ordinal (take k es) ≡ true = answer_accepted e.kind (take k es) e (paired k e at) w.0 in
-          let now : is_accepted e.client e.ordinal (take k es ++ drop k es) ≡ true = any_kept (λ x. is_accept x.kind && has_name e.client e.ordinal x) (take k es) (drop k es) before in
-          let here : is_accepted e.client e.ordinal es ≡ true = rw take-append-drop at now in
-          rw (← eqb-true e.client c w.1) here)))
+    (All-filtered (λ e. is_accepted c e.ordinal es ≡ true) (λ e. is_answer e.kind && (e.client == c)) es
+    (All-from_get (λ e. (is_answer e.kind && (e.client == c)) ≡ true → is_accepted c e.ordinal es ≡ true) es (λ k e at passes.
+    let w = and_parts (is_answer e.kind) (e.client == c) passes in
+    let before : is_accepted e.client e.ordinal (take k es) ≡ true = answer_accepted e.kind (take k es) e (paired k e at) w.0 in
+    let now : is_accepted e.client e.ordinal (take k es ++ drop k es) ≡ true = any_kept (λ x. is_accept x.kind && has_name e.client e.ordinal x) (take k es) (drop k es) before in
+    let here : is_accepted e.client e.ordinal es ≡ true = rw take-append-drop at now in
+    rw (← eqb-true e.client c w.1) here)))
 
 -- what was found first stays the first
 first-kept : (p : Entry → Bool) (f : Entry → ℕ) (es more : List Entry) → list_any p es ≡ true → first_or 0 (map f (filter p (es ++ more))) ≡ first_or 0 (map f (filter p es))
@@ -158,7 +158,7 @@ pub responses_accepted : (c : ℕ) (h : List Note) → AtEach (λ before e. IsPa
 responses_accepted c h paired =
     let P : List ℕ → Type 0 = AllByRecursion (λ n. is_accepted c n (entries_of h) ≡ true) in
     All-of_map (λ n. is_accepted c n (entries_of h) ≡ true) (λ r. r.ordinal) (responses c h)
-      (subst P (sym (responses_are_answers c h)) (answers_accepted c (entries_of h) paired))
+    (subst P (sym (responses_are_answers c h)) (answers_accepted c (entries_of h) paired))
 
 pub All-kept : {X : Type 0} (P : X → Type 0) (p : X → Bool) (xs : List X) → AllByRecursion P xs → AllByRecursion P (filter p xs)
 All-kept P p [] h = tt
@@ -179,16 +179,16 @@ All-each P Q f (x ∷ xs) h = (f x h.0, All-each P Q f xs h.1)
 pub places-kept : (es more : List Entry) → IsFifo es → map (place_of (es ++ more)) (unanswered es) ≡ map (place_of es) (unanswered es)
 places-kept es more fifo =
     map_agree (place_of (es ++ more)) (place_of es) (unanswered es)
-      (All-each (λ t. is_accepted t.client t.ordinal es ≡ true) (λ t. place_of (es ++ more) t ≡ place_of es t)
-        (λ t h. rw (own_of-kept t.client t.ordinal es more h, command_of-kept t.client t.ordinal es more h) refl) (unanswered es)
-        (All-kept (λ t. is_accepted t.client t.ordinal es ≡ true) (λ t. not (is_settled t.client t.ordinal es)) (takes es) (takes_accepted es fifo)))
+    (All-each (λ t. is_accepted t.client t.ordinal es ≡ true) (λ t. place_of (es ++ more) t ≡ place_of es t)
+    (λ t h. rw (own_of-kept t.client t.ordinal es more h, command_of-kept t.client t.ordinal es more h) refl) (unanswered es)
+    (All-kept (λ t. is_accepted t.client t.ordinal es ≡ true) (λ t. not (is_settled t.client t.ordinal es)) (takes es) (takes_accepted es fifo)))
 
 -- nor what a client sees of a response
 pub shown-kept : (c : ℕ) (h : List Note) (more : List Entry) → AtEach (λ before e. IsPaired e.kind before e) (entries_of h) → map (shown (entries_of h ++ more) c) (responses c h) ≡ map (shown (entries_of h) c) (responses c h)
 shown-kept c h more paired =
     map_agree (shown (entries_of h ++ more) c) (shown (entries_of h) c) (responses c h)
-      (All-each (λ (r : Response). is_accepted c r.ordinal (entries_of h) ≡ true) (λ r. shown (entries_of h ++ more) c r ≡ shown (entries_of h) c r)
-        (λ r is. rw (own_of-kept c r.ordinal (entries_of h) more is) refl) (responses c h) (responses_accepted c h paired))
+    (All-each (λ (r : Response). is_accepted c r.ordinal (entries_of h) ≡ true) (λ r. shown (entries_of h ++ more) c r ≡ shown (entries_of h) c r)
+    (λ r is. rw (own_of-kept c r.ordinal (entries_of h) more is) refl) (responses c h) (responses_accepted c h paired))
 
 -- a note that is no answer of the client's adds no response
 pub responses-other : (c : ℕ) (h : List Note) (n : Note) → response_in c n.event ≡ None → responses c (h ++ n ∷ []) ≡ responses c h

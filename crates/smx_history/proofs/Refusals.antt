@@ -32,8 +32,8 @@ allowed_history v m false e p q h = absurd (let x : Some HistoryFull ≡ None = 
 pub allowed : (v : Content) (m : Member) → refusal_for v (Some m) ≡ None → IsAllowed v m
 allowed v m h =
     elim (cases_lt m.pending v.limits.client) [
-      inl p ↦ elim (cases_lt (length v.queue) v.limits.queue) [
-        inl q ↦ allowed_history v m (has_room v) refl p q h
+      | inl p ↦ elim (cases_lt (length v.queue) v.limits.queue) [
+        | inl q ↦ allowed_history v m (has_room v) refl p q h
         | inr q ↦ absurd (let x : Some QueueFull ≡ None = sym (refused_queue v m p q) ∙ h in cc)
       ]
       | inr p ↦ absurd (let x : Some ClientFull ≡ None = sym (refused_client v m p) ∙ h in cc)

@@ -1,4 +1,9 @@
 -- A retire takes a lane that agrees with a history to one that agrees with the longer history.
+use Rattle.smx_history.proofs.FitsCollect.{retire_fit}
+use Rattle.smx_history.proofs.Presence.{present_retired}
+use Rattle.smx_history.proofs.Following.{IsLegal-next}
+use Rattle.smx_history.proofs.SettleAgrees.{within-after}
+use Rattle.smx_history.proofs.Counts.{length_part}
 use Rattle.std.proofs.Common.{◌≡◌, ◌<◌, ◌≤◌, ◌+◌, ◌-◌, ◌*◌, ◌==◌, ℕ, Bool, true, false, cond, not, ◌||◌, ◌&&◌, List, [], ◌∷◌, ◌++◌, length, map, refl, sym, ◌∙◌, ap, subst, arith, filter, sum_by, count_by, length-append, inl, inr, Option, Some, None}
 use Rattle.std.specs.List.{list_any, AllByRecursion, AllZip}
 use Rattle.std.proofs.lemmas.List.Elements.{filter_agree}
@@ -24,7 +29,7 @@ use Rattle.smx_history.proofs.Frames.{accepts-other, takes-other, admits-other, 
 use Rattle.smx_history.proofs.Keeping.{count_by-push}
 use Rattle.smx_history.proofs.Taking.{filter-and}
 use Rattle.smx_history.proofs.TakeAgrees.{IsMemberAfter-other, zip-each, requests-other}
-use Rattle.smx_history.proofs.AnswerAgrees.{eqb_sym}
+use Rattle.smx_history.proofs.Counts.{eqb_sym}
 
 -- part of what rises rises
 rise_lower : (low x : ℕ) (xs : List ℕ) → low < x → RiseAbove x xs → RiseAbove low xs
@@ -46,14 +51,6 @@ sum_part f p (x ∷ xs) = sum_part_at (p x) (sum_part f p xs)
     sum_part_at : (b : Bool) → sum_by f (filter p xs) ≤ sum_by f xs → sum_by f (cond b (x ∷ filter p xs) (filter p xs)) ≤ sum_by f (x ∷ xs)
     sum_part_at true le = omega (arith, le, sum_by-cons f x (filter p xs), sum_by-cons f x xs)
     sum_part_at false le = omega (arith, le, sum_by-cons f x xs)
-
-length_part : {X : Type 0} (p : X → Bool) (xs : List X) → length (filter p xs) ≤ length xs
-length_part p [] = omega arith
-length_part p (x ∷ xs) = length_part_at (p x) (length_part p xs)
-  where
-    length_part_at : (b : Bool) → length (filter p xs) ≤ length xs → length (cond b (x ∷ filter p xs) (filter p xs)) ≤ length (x ∷ xs)
-    length_part_at true le = omega (arith, le)
-    length_part_at false le = omega (arith, le)
 
 -- a row goes
 fewer : (c : ℕ) (m : Member) (ms : List Member) → member_with c ms ≡ Some m → length (without c ms) + 1 ≤ length ms
@@ -83,24 +80,6 @@ KeepsRoom-retired v by c m k found =
       clients = rise_part (λ x. x.client) stays 0 v.members k.clients;
     }
 
--- the client leaves those that are present
-pub present-retired : (es : List Entry) (by c : ℕ) → present (es ++ entry_by by (Retire c) ∷ []) ≡ filter (λ a. not (a.client == c)) (present es)
-present-retired es by c =
-    let e = entry_by by (Retire c) in
-    ap (filter (λ x. not (is_retired x.client (es ++ e ∷ [])))) (admits-other es e refl)
-    ∙ filter_agree (λ x. not (is_retired x.client (es ++ e ∷ []))) (λ x. not (is_retired x.client es) && not (x.client == c))
-      (λ x. ap not (list_any-append (λ y. is_retire y.kind && (y.client == x.client)) es (e ∷ []) ∙ ap (λ b. is_retired x.client es || b) (one x)) ∙ de_morgan (is_retired x.client es) (x.client == c)) (admits es)
-    ∙ filter-and (λ x. not (is_retired x.client es)) (λ x. not (x.client == c)) (admits es)
-  where
-    or_nothing : (b : Bool) → (b || false) ≡ b
-    or_nothing true = refl
-    or_nothing false = refl
-    de_morgan : (a b : Bool) → not (a || b) ≡ (not a && not b)
-    de_morgan true b = refl
-    de_morgan false b = refl
-    one : (x : Entry) → ((c == x.client) || false) ≡ (x.client == c)
-    one x = or_nothing (c == x.client) ∙ eqb_sym c x.client
-
 zip-without : (h : List Note) (c : ℕ) (us : List Entry) (ms : List Member) → AllZip (IsMemberAfter h) us ms → AllZip (IsMemberAfter h) (filter (λ a. not (a.client == c)) us) (without c ms)
 zip-without h c [] [] z = z
 zip-without h c [] (m ∷ ms) z = absurd z
@@ -124,32 +103,12 @@ IsAfter-retired h v by c a =
     record {
       queue = rw (push, takes-other es e refl, requests-other h n refl) a.after.queue;
       window = rw (push, unanswered-other es e refl refl, places-kept es (e ∷ []) fifo) a.after.window;
-      members = rw (push, present-retired es by c)
-        (zip-each (IsMemberAfter h) (IsMemberAfter (h ++ n ∷ [])) (λ x y is. IsMemberAfter-other h n x y refl refl refl a.legal.pairing is)
+      members = rw (push, present_retired es e refl)
+          (zip-each (IsMemberAfter h) (IsMemberAfter (h ++ n ∷ [])) (λ x y is. IsMemberAfter-other h n x y refl refl refl a.legal.pairing is)
           (filter (λ x. not (x.client == c)) (present es)) (without c v.members) (zip-without h c (present es) v.members a.after.members));
       greatest = rw (push, admits-other es e refl) a.after.greatest;
       entries = rw push (ap (λ xs. xs ++ e ∷ []) a.after.entries);
     }
-
--- who had not retired before an entry more
-pub retired_before : (d : ℕ) (es : List Entry) (e : Entry) → is_retired d (es ++ e ∷ []) ≡ false → is_retired d es ≡ false
-retired_before d es e gone = false_from_ne_true _ (λ was. both_ways _ gone (any_kept (λ x. is_retire x.kind && (x.client == d)) es (e ∷ []) was))
-
-retires-once : (d : ℕ) (es : List Entry) (by c : ℕ) → is_retired c es ≡ false → count_by (λ x. is_retire x.kind && (x.client == d)) es ≤ 1 → count_by (λ x. is_retire x.kind && (x.client == d)) (es ++ entry_by by (Retire c) ∷ []) ≤ 1
-retires-once d es by c here few =
-    let e = entry_by by (Retire c) in
-    let push = count_by-push (λ x. is_retire x.kind && (x.client == d)) es e in
-    elim (cases_eq c d) [
-      inl same ↦
-        let zero_before : count_by (λ x. is_retire x.kind && (x.client == d)) es ≡ 0 = none_count (λ x. is_retire x.kind && (x.client == d)) es (ap (λ k. is_retired k es) (sym same) ∙ here) in
-        let one : count_by (λ x. is_retire x.kind && (x.client == d)) (es ++ e ∷ []) ≡ count_by (λ x. is_retire x.kind && (x.client == d)) es + 1 =
-          push ∙ ap (λ b. count_by (λ x. is_retire x.kind && (x.client == d)) es + cond b 1 0) (eq-eqb c d same) in
-        omega (arith, one, zero_before)
-      | inr apart ↦
-        let none : count_by (λ x. is_retire x.kind && (x.client == d)) (es ++ e ∷ []) ≡ count_by (λ x. is_retire x.kind && (x.client == d)) es + 0 =
-          push ∙ ap (λ b. count_by (λ x. is_retire x.kind && (x.client == d)) es + cond b 1 0) (ne_eqb c d apart) in
-        omega (arith, none, few)
-    ]
 
 AgreesWith-retired_at : (h : List Note) (v : Content) (by c : ℕ) (m : Member) (admit : Entry) → AgreesWith h v → IsMemberAfter h admit m → is_admitted admit.by admit.client (entries_of h) ≡ true → is_retired admit.client (entries_of h) ≡ false → admit.client ≡ c → m.by ≡ by → KeepsRoom (retired v by c) → AgreesWith (h ++ note by (Retire c) ∷ []) (retired v by c)
 AgreesWith-retired_at h v by c m admit a is admitted here of own room =
@@ -157,38 +116,11 @@ AgreesWith-retired_at h v by c m admit a is admitted here of own room =
     let e = entry_by by (Retire c) in
     let n = note by (Retire c) in
     let push = entries_of-push h n in
-    let fifo = AtEachPrefix-whole IsFifo es a.legal.fifo in
-    let was = AtEachPrefix-whole (IsBounded v.limits) es a.legal.bounds in
     let after = IsAfter-retired h v by c a in
-    let size' : size (es ++ e ∷ []) ≡ size_of (retired v by c) = ap size (sym push) ∙ size_agrees (h ++ n ∷ []) (retired v by c) after in
     let not_yet : is_retired c es ≡ false = ap (λ d. is_retired d es) (sym of) ∙ here in
+    let served : IsServed es e = (sym (ap (λ b. is_admitted b admit.client es) (sym is.by ∙ own) ∙ ap (λ d. is_admitted by d es) of) ∙ admitted, not_yet) in
     record {
-      legal = rw push (record {
-        form = AtEach-push (λ before x. HasForm x.kind x) es e a.legal.form (refl, refl, refl);
-        fifo = AtEachPrefix-push IsFifo es e a.legal.fifo (record {
-          taken = rw (accepts-other es e refl, takes-other es e refl) fifo.taken;
-          collected = λ d. rw (answers_of-other d es e refl, collects_of-other d es e refl) (fifo.collected d);
-        });
-        once = record {
-          ordinals = λ d. rw (accepts_of-other d es e refl) (a.legal.once.ordinals d);
-          takes = λ d i. omega (arith, count_by-push (λ x. is_take x.kind && has_name d i x) es e, a.legal.once.takes d i);
-          settlings = λ d i. omega (arith, count_by-push (λ x. is_settling x.kind && has_name d i x) es e, a.legal.once.settlings d i);
-        };
-        membership = record {
-          clients = rw (admits-other es e refl) a.legal.membership.clients;
-          retires = λ d. retires-once d es by c not_yet (a.legal.membership.retires d);
-        };
-        standing = AtEach-push (λ before x. StandsWell x.kind before x) es e a.legal.standing
-          (sym (ap (λ b. is_admitted b admit.client es) (sym is.by ∙ own) ∙ ap (λ d. is_admitted by d es) of) ∙ admitted, not_yet);
-        pairing = AtEach-push (λ before x. IsPaired x.kind before x) es e a.legal.pairing tt;
-        apart = AtEachPrefix-push AreApart es e a.legal.apart (rw (unanswered-other es e refl refl) (AtEachPrefix-whole AreApart es a.legal.apart));
-        bounds = AtEachPrefix-push (IsBounded v.limits) es e a.legal.bounds (record {
-          queue = rw (accepts-other es e refl, takes-other es e refl) was.queue;
-          window = rw (unanswered-other es e refl refl) was.window;
-          client = λ d gone. rw (accepts_of-other d es e refl, collects_of-other d es e refl) (was.client d (retired_before d es e gone));
-        });
-        size = AtEachPrefix-push (IsWithin v.limits) es e a.legal.size (omega (arith, size', room.size));
-      });
+      legal = rw push (IsLegal-next v.limits es e a.legal (retire_fit v.limits es e a.legal refl (refl, refl, refl) served) (within-after h n (retired v by c) after room));
       after = after;
     }
 

@@ -23,15 +23,15 @@ sum_one : (g : Member → ℕ) (f : Member → Member) (c low : ℕ) (m : Member
 sum_one g f c low m [] more rise found = cc
 sum_one g f c low m (x ∷ ms) more rise found =
     elim (cases_eq x.client c) [
-      inl same ↦
-        let here : (x.client == c) ≡ true = eq-eqb x.client c same in
-        let rest = with_row-above f ms c x.client (omega arith) rise.1 in
-        rw (here, rest) (omega (arith, sum_by-cons g (f x) ms, sum_by-cons g x ms, more x))
+      | inl same ↦
+          let here : (x.client == c) ≡ true = eq-eqb x.client c same in
+          let rest = with_row-above f ms c x.client (omega arith) rise.1 in
+          rw (here, rest) (omega (arith, sum_by-cons g (f x) ms, sum_by-cons g x ms, more x))
       | inr apart ↦
-        let there : (x.client == c) ≡ false = ne_eqb x.client c apart in
-        let later : member_with c ms ≡ Some m = rw there at found in
-        let ih = sum_one g f c x.client m ms more rise.1 later in
-        rw there (omega (arith, sum_by-cons g x (with_row c f ms), sum_by-cons g x ms, ih))
+          let there : (x.client == c) ≡ false = ne_eqb x.client c apart in
+          let later : member_with c ms ≡ Some m = rw there at found in
+          let ih = sum_one g f c x.client m ms more rise.1 later in
+          rw there (omega (arith, sum_by-cons g x (with_row c f ms), sum_by-cons g x ms, ih))
     ]
 
 -- a client with a place in the window has room in its box
@@ -48,7 +48,7 @@ KeepsRoom-answered v by p q i m k within is found =
     let w = length-remove v.window i within in
     let e : length (v.entries ++ entry_by by (Answer q.client q.ordinal p) ∷ []) ≡ length v.entries + 1 = length-append v.entries (entry_by by (Answer q.client q.ordinal p) ∷ []) in
     let s : sum_by (λ x. length x.waiting) (with_row q.client f v.members) ≡ sum_by (λ x. length x.waiting) v.members + 1 =
-      sum_one (λ x. length x.waiting) f q.client 0 m v.members (λ x. length-append x.waiting (response_for q p ∷ [])) k.clients found in
+    sum_one (λ x. length x.waiting) f q.client 0 m v.members (λ x. length-append x.waiting (response_for q p ∷ [])) k.clients found in
     let l : length (with_row q.client f v.members) ≡ length v.members = length-with_row f q.client v.members in
     record {
       limits = k.limits;
@@ -56,11 +56,11 @@ KeepsRoom-answered v by p q i m k within is found =
       window = omega (arith, w, k.window);
       size = omega (arith, w, e, s, l, k.size);
       boxes = All-with_row (FitsBox v) (FitsBox (answered v by p q i)) f q.client
-        (λ x same fits.
+          (λ x same fits.
           let r = count_by-remove (λ y. y.client == x.client) v.window i q within is in
           let one : cond (q.client == x.client) 1 0 ≡ suc 0 = ap {B = ℕ} (λ b. cond b 1 0) (eq-eqb q.client x.client (sym same)) in
           (omega (arith, r, one, length-append x.waiting (response_for q p ∷ []), fits.0), fits.1))
-        (λ x apart fits.
+          (λ x apart fits.
           let r = count_by-remove (λ y. y.client == x.client) v.window i q within is in
           (omega (arith, r, fits.0), fits.1)) v.members k.boxes;
       queue_known = k.queue_known;
@@ -80,7 +80,7 @@ KeepsRoom-late v e q i k within is =
       window = omega (arith, w, k.window);
       size = omega (arith, w, n, k.size);
       boxes = All-each (FitsBox v) (FitsBox (record v { window = remove v.window i; entries = v.entries ++ e ∷ [] }))
-        (λ x fits. let r = count_by-remove (λ y. y.client == x.client) v.window i q within is in (omega (arith, r, fits.0), fits.1)) v.members k.boxes;
+          (λ x fits. let r = count_by-remove (λ y. y.client == x.client) v.window i q within is in (omega (arith, r, fits.0), fits.1)) v.members k.boxes;
       queue_known = k.queue_known;
       window_known = λ c above. let r = count_by-remove (λ y. y.client == c) v.window i q within is in omega (arith, r, k.window_known c above);
       members_known = k.members_known;
@@ -91,18 +91,18 @@ sum_down : (f : Member → Member) (c low : ℕ) (m : Member) (ms : List Member)
 sum_down f c low m [] less rise found = cc
 sum_down f c low m (x ∷ ms) less rise found =
     elim (cases_eq x.client c) [
-      inl same ↦
-        let here : (x.client == c) ≡ true = eq-eqb x.client c same in
-        let is : Some x ≡ Some m = rw here at found in
-        let x-is : x ≡ m = cc in
-        let rest = with_row-above f ms c x.client (omega arith) rise.1 in
-        let one : length (f x).waiting + 1 ≡ length x.waiting = subst (λ (y : Member). length (f y).waiting + 1 ≡ length y.waiting) (sym x-is) less in
-        rw (here, rest) (omega (arith, sum_by-cons (λ (y : Member). length y.waiting) (f x) ms, sum_by-cons (λ (y : Member). length y.waiting) x ms, one))
+      | inl same ↦
+          let here : (x.client == c) ≡ true = eq-eqb x.client c same in
+          let is : Some x ≡ Some m = rw here at found in
+          let x-is : x ≡ m = cc in
+          let rest = with_row-above f ms c x.client (omega arith) rise.1 in
+          let one : length (f x).waiting + 1 ≡ length x.waiting = subst (λ (y : Member). length (f y).waiting + 1 ≡ length y.waiting) (sym x-is) less in
+          rw (here, rest) (omega (arith, sum_by-cons (λ (y : Member). length y.waiting) (f x) ms, sum_by-cons (λ (y : Member). length y.waiting) x ms, one))
       | inr apart ↦
-        let there : (x.client == c) ≡ false = ne_eqb x.client c apart in
-        let later : member_with c ms ≡ Some m = rw there at found in
-        let ih = sum_down f c x.client m ms less rise.1 later in
-        rw there (omega (arith, sum_by-cons (λ (y : Member). length y.waiting) x (with_row c f ms), sum_by-cons (λ (y : Member). length y.waiting) x ms, ih))
+          let there : (x.client == c) ≡ false = ne_eqb x.client c apart in
+          let later : member_with c ms ≡ Some m = rw there at found in
+          let ih = sum_down f c x.client m ms less rise.1 later in
+          rw there (omega (arith, sum_by-cons (λ (y : Member). length y.waiting) x (with_row c f ms), sum_by-cons (λ (y : Member). length y.waiting) x ms, ih))
     ]
 
 -- a collect keeps the room
@@ -119,10 +119,10 @@ KeepsRoom-collected v by c r m k found some =
       window = k.window;
       size = omega (arith, e, s, l, k.size);
       boxes = All-with_row (λ x. FitsBox v x × (x.client ≡ c → x ≡ m)) (FitsBox (collected v by c r)) f c
-        (λ x same h.
+          (λ x same h.
           let long : length x.waiting ≡ length m.waiting = ap (λ (y : Member). length y.waiting) (h.1 same) in
           (omega (arith, h.0.0, length-drop 1 x.waiting, long, some), omega (arith, h.0.1)))
-        (λ x apart h. h.0) v.members (All-both (FitsBox v) (λ x. x.client ≡ c → x ≡ m) v.members k.boxes (one_row v.members c 0 m k.clients found));
+          (λ x apart h. h.0) v.members (All-both (FitsBox v) (λ x. x.client ≡ c → x ≡ m) v.members k.boxes (one_row v.members c 0 m k.clients found));
       queue_known = k.queue_known;
       window_known = k.window_known;
       members_known = All-with_row (λ x. x.client ≤ v.greatest) (λ x. x.client ≤ v.greatest) f c (λ x _ h. h) (λ x _ h. h) v.members k.members_known;

@@ -65,16 +65,17 @@ found_admit P h c m (a ∷ us) (n ∷ ms) z all found = found_admit_at (n.client
   where
     found_admit_at : (b : Bool) → (n.client == c) ≡ b → cond b (Some n) (member_with c ms) ≡ Some m → (member_with c ms ≡ Some m → (a : Entry) × IsMemberAfter h a m × P a × (a.client ≡ c)) → (a : Entry) × IsMemberAfter h a m × P a × (a.client ≡ c)
     found_admit_at true e f later =
-      let same : n ≡ m = cc in
-      let Q : Member → Type 0 = λ x. IsMemberAfter h a x in
-      (a, subst Q same z.0, all.0, sym z.0.client ∙ eqb-true n.client c e)
+        let same : n ≡ m = cc in
+        let Q : Member → Type 0 = λ x. IsMemberAfter h a x in
+        (a, subst Q same z.0, all.0, sym z.0.client ∙ eqb-true n.client c e)
     found_admit_at false e f later = later f
 
 -- a client that is present was admitted and has not retired
 pub present_served : (es : List Entry) → AllByRecursion (λ a. (is_admitted a.by a.client es ≡ true) × (is_retired a.client es ≡ false)) (present es)
 present_served es =
     All-filtered (λ a. (is_admitted a.by a.client es ≡ true) × (is_retired a.client es ≡ false)) (λ a. not (is_retired a.client es)) (admits es)
-      (All-filtered (λ a. not (is_retired a.client es) ≡ true → (is_admitted a.by a.client es ≡ true) × (is_retired a.client es ≡ false)) (λ a. is_admit a.kind) es
-        (All-from_get (λ a. is_admit a.kind ≡ true → not (is_retired a.client es) ≡ true → (is_admitted a.by a.client es ≡ true) × (is_retired a.client es ≡ false)) es (λ k a at admit here.
-          (any_at (λ x. is_admit x.kind && ((x.client == a.client) && (x.by == a.by))) es k a at (and_from _ _ admit (and_from _ _ (eq-eqb a.client a.client refl) (eq-eqb a.by a.by refl))),
-            not-true (is_retired a.client es) here))))
+    (All-filtered (λ a. not (is_retired a.client es) ≡ true → (is_admitted a.by a.client es ≡ true) × (is_retired a.client es ≡ false)) (λ a. is_admit a.kind) es
+    (All-from_get (λ a. is_admit a.kind ≡ true → not (is_retired a.client es) ≡ true → (is_admitted a.by a.client es ≡ true) × (is_retired a.client es ≡ false)) es (λ k a at admit here. (
+      any_at (λ x. is_admit x.kind && ((x.client == a.client) && (x.by == a.by))) es k a at (and_from _ _ admit (and_from _ _ (eq-eqb a.client a.client refl) (eq-eqb a.by a.by refl))),
+      not-true (is_retired a.client es) here,
+    ))))

@@ -1,5 +1,11 @@
 -- A take takes a lane that agrees with a history to one that agrees with the longer history.
-use Rattle.std.proofs.Common.{◌≡◌, ◌<◌, ◌≤◌, ◌+◌, ◌-◌, ◌*◌, ◌==◌, ℕ, Bool, true, false, cond, not, ◌||◌, ◌&&◌, List, [], ◌∷◌, ◌++◌, length, map, take, drop, refl, sym, ◌∙◌, ap, subst, arith, filter, sum_by, count_by, length-append, length-drop, nat_eq, inl, inr, Option, Some, None, suc, add-one}
+use Rattle.std.specs.Option.{option_map}
+use Rattle.std.proofs.lemmas.Option.{slice_get-map}
+use Rattle.smx_history.proofs.FitsTake.{MayTake, takes_push, unanswered_taken, take_fit}
+use Rattle.smx_history.proofs.Following.{IsLegal-next, IsLegal-within}
+use Rattle.smx_history.proofs.Parts.{count_numbered}
+use Rattle.smx_history.proofs.Taking.{any-and}
+use Rattle.std.proofs.Common.{slice_get, zero, ◌≡◌, ◌<◌, ◌≤◌, ◌+◌, ◌-◌, ◌*◌, ◌==◌, ℕ, Bool, true, false, cond, not, ◌||◌, ◌&&◌, List, [], ◌∷◌, ◌++◌, length, map, take, drop, refl, sym, ◌∙◌, ap, subst, arith, filter, sum_by, count_by, length-append, length-drop, nat_eq, inl, inr, Option, Some, None, suc, add-one}
 use Rattle.std.specs.List.{list_any, AllByRecursion, AllZip, IsDistinct, cons_option}
 use Rattle.std.proofs.lemmas.List.{append-nil, length-map, map-append, take-map, drop-map}
 use Rattle.std.proofs.lemmas.List.Elements.{filter-append, filter_map-append, filter_agree}
@@ -44,7 +50,7 @@ next_accept h r rest q =
     let es = entries_of h in
     let n = length (takes es) in
     next_in es (drop n (accepts es)) r (map (λ x. entry_by 0 (Accept x)) rest) refl
-      (sym (drop-map unsigned n (accepts es)) ∙ ap (drop n) (sym (requests_are_accepts h)) ∙ drop-map (λ x. entry_by 0 (Accept x)) n (requests h) ∙ ap (map (λ x. entry_by 0 (Accept x))) (sym q))
+    (sym (drop-map unsigned n (accepts es)) ∙ ap (drop n) (sym (requests_are_accepts h)) ∙ drop-map (λ x. entry_by 0 (Accept x)) n (requests h) ∙ ap (map (λ x. entry_by 0 (Accept x))) (sym q))
 
 -- no accept before the next one has its name
 before_next : (es : List Entry) (r : Request) (y : Entry) (zs : List Entry) → IsNext es r y zs → IsOnce es → AllByRecursion (λ x. has_name r.client r.ordinal x ≡ false) (take (length (takes es)) (accepts es))
@@ -52,11 +58,11 @@ before_next es r y zs next once =
     let n = length (takes es) in
     let whole : accepts es ≡ take n (accepts es) ++ y ∷ zs = drop-split n (accepts es) y zs next.there in
     let rise : RiseAbove 0 (map (λ e. e.ordinal) (filter (λ e. e.client == r.client) (accepts es))) =
-      subst (λ (xs : List Entry). RiseAbove 0 (map (λ e. e.ordinal) xs)) (filter-and (λ e. is_accept e.kind) (λ e. e.client == r.client) es) (once.ordinals r.client) in
+    subst (λ (xs : List Entry). RiseAbove 0 (map (λ e. e.ordinal) xs)) (filter-and (λ e. is_accept e.kind) (λ e. e.client == r.client) es) (once.ordinals r.client) in
     let rise' : RiseAbove 0 (map (λ e. e.ordinal) (filter (λ e. e.client == r.client) (take n (accepts es) ++ y ∷ zs))) =
-      subst (λ (xs : List Entry). RiseAbove 0 (map (λ e. e.ordinal) (filter (λ e. e.client == r.client) xs))) whole rise in
+    subst (λ (xs : List Entry). RiseAbove 0 (map (λ e. e.ordinal) (filter (λ e. e.client == r.client) xs))) whole rise in
     subst (λ (m : ℕ). AllByRecursion (λ x. has_name r.client m x ≡ false) (take n (accepts es))) next.ordinal
-      (none_before 0 r.client (take n (accepts es)) y zs next.client rise')
+    (none_before 0 r.client (take n (accepts es)) y zs next.client rise')
 
 -- the name of a request: the same test on a name
 abbrev is_named : ℕ → ℕ → Name → Bool
@@ -69,16 +75,8 @@ no_take es r y zs next fifo once =
     let P : Name → Type 0 = λ x. is_named r.client r.ordinal x ≡ false in
     let names : AllByRecursion P (map name_of (take n (accepts es))) = All-to_map P name_of (take n (accepts es)) (before_next es r y zs next once) in
     let same : map name_of (take n (accepts es)) ≡ map name_of (takes es) =
-      sym (take-map name_of n (accepts es)) ∙ ap (λ k. take k (map name_of (accepts es))) (sym (length-map (takes es) name_of)) ∙ fifo.taken in
+    sym (take-map name_of n (accepts es)) ∙ ap (λ k. take k (map name_of (accepts es))) (sym (length-map (takes es) name_of)) ∙ fifo.taken in
     All-of_map P name_of (takes es) (subst (AllByRecursion P) same names)
-
--- what a legal list allows a take by
-pub record MayTake (limits : Limits) (es : List Entry) (r : Request) (u : ℕ) (y : Entry) (zs : List Entry) : Type 0 where
-  pub next : IsNext es r y zs
-  pub positive : 0 < u
-  pub within : u ≤ 2147483644
-  pub free : AllByRecursion (λ k. nat_eq k u ≡ false) (map (λ e. e.number) (unanswered es))
-  pub window : length (unanswered es) < limits.window
 
 cong_name : {a b c d : ℕ} → a ≡ b → c ≡ d → ◌≡◌ {A = Name} (record { client = a; ordinal = c }) (record { client = b; ordinal = d })
 cong_name p q = λ i. record { client = p i; ordinal = q i }
@@ -86,105 +84,23 @@ cong_name p q = λ i. record { client = p i; ordinal = q i }
 next-lt : (es : List Entry) (r : Request) (y : Entry) (zs : List Entry) → IsNext es r y zs → length (takes es) < length (accepts es)
 next-lt es r y zs next = omega (arith, ap length next.there, length-drop (length (takes es)) (accepts es))
 
-count_none : (es : List Entry) (c n : ℕ) → AllByRecursion (λ t. has_name c n t ≡ false) (takes es) → count_by (λ x. is_take x.kind && has_name c n x) es ≡ 0
-count_none es c n none =
-    sym (length-filter (λ x. is_take x.kind && has_name c n x) es)
-    ∙ ap length (filter-and (λ x. is_take x.kind) (has_name c n) es ∙ filter_none (has_name c n) (takes es) none)
-
-takes-push : (es : List Entry) (by : ℕ) (r : Request) (u : ℕ) → takes (es ++ entry_by by (Take r.client r.ordinal u) ∷ []) ≡ takes es ++ entry_by by (Take r.client r.ordinal u) ∷ []
-takes-push es by r u = filter_push (λ x. is_take x.kind) es (entry_by by (Take r.client r.ordinal u)) refl
-
-unanswered-push : (es : List Entry) (by : ℕ) (r : Request) (u : ℕ) → is_settled r.client r.ordinal es ≡ false → unanswered (es ++ entry_by by (Take r.client r.ordinal u) ∷ []) ≡ unanswered es ++ entry_by by (Take r.client r.ordinal u) ∷ []
-unanswered-push es by r u none =
-    let e = entry_by by (Take r.client r.ordinal u) in
-    ap (filter (λ x. not (is_settled x.client x.ordinal (es ++ e ∷ [])))) (takes-push es by r u)
-    ∙ filter_agree (λ x. not (is_settled x.client x.ordinal (es ++ e ∷ []))) (λ x. not (is_settled x.client x.ordinal es)) (λ x. ap not (is_settled-other x.client x.ordinal es e refl)) (takes es ++ e ∷ [])
-    ∙ filter_push (λ x. not (is_settled x.client x.ordinal es)) (takes es) e (ap not none)
-
-pub IsDistinct-push : (xs : List ℕ) (x : ℕ) → IsDistinct nat_eq xs → AllByRecursion (λ y. nat_eq y x ≡ false) xs → IsDistinct nat_eq (xs ++ x ∷ [])
-unfolding IsDistinct
-IsDistinct-push [] x h apart = (tt, tt)
-IsDistinct-push (y ∷ xs) x h apart = (All-push (λ z. nat_eq y z ≡ false) xs x h.0 apart.0, IsDistinct-push xs x h.1 apart.1)
-
-fifo-taken : (es : List Entry) (by : ℕ) (r : Request) (u : ℕ) (y : Entry) (zs : List Entry) → IsNext es r y zs → IsFifo es → IsFifo (es ++ entry_by by (Take r.client r.ordinal u) ∷ [])
-fifo-taken es by r u y zs next h =
-    let e = entry_by by (Take r.client r.ordinal u) in
-    let names = map name_of (accepts es) in
-    let old = map name_of (takes es) in
-    let there : drop (length old) names ≡ name_of y ∷ map name_of zs =
-      ap (λ k. drop k names) (length-map (takes es) name_of) ∙ drop-map name_of (length (takes es)) (accepts es) ∙ ap (map name_of) next.there in
-    let name : name_of y ≡ name_of e = cong_name next.client next.ordinal in
-    let count : length (old ++ name_of e ∷ []) ≡ suc (length old) = omega (arith, length-append old (name_of e ∷ [])) in
-    record {
-      taken = rw (takes-push es by r u, accepts-other es e refl, map-append name_of (takes es) (e ∷ []))
-        (ap (λ k. take k names) count ∙ take-next (length old) names (name_of y) (map name_of zs) there ∙ ap (λ xs. xs ++ name_of y ∷ []) h.taken ∙ ap (λ x. old ++ x ∷ []) name);
-      collected = λ c. rw (answers_of-other c es e refl, collects_of-other c es e refl) (h.collected c);
-    }
-
-once-taken : (es : List Entry) (by : ℕ) (r : Request) (u : ℕ) → AllByRecursion (λ t. has_name r.client r.ordinal t ≡ false) (takes es) → IsOnce es → IsOnce (es ++ entry_by by (Take r.client r.ordinal u) ∷ [])
-once-taken es by r u none h =
-    let e = entry_by by (Take r.client r.ordinal u) in
-    record {
-      ordinals = λ c. rw (accepts_of-other c es e refl) (h.ordinals c);
-      takes = λ c n. elim (cases_Bool (has_name c n e)) [
-          inl same ↦
-            let w = and_parts (r.client == c) (r.ordinal == n) same in
-            let zero_before : count_by (λ x. is_take x.kind && has_name c n x) es ≡ 0 =
-              subst (λ (k : ℕ). count_by (λ x. is_take x.kind && has_name k n x) es ≡ 0) (eqb-true r.client c w.0)
-                (subst (λ (k : ℕ). count_by (λ x. is_take x.kind && has_name r.client k x) es ≡ 0) (eqb-true r.ordinal n w.1) (count_none es r.client r.ordinal none)) in
-            let push : count_by (λ x. is_take x.kind && has_name c n x) (es ++ e ∷ []) ≡ count_by (λ x. is_take x.kind && has_name c n x) es + 1 =
-              count_by-push (λ x. is_take x.kind && has_name c n x) es e ∙ ap (λ b. count_by (λ x. is_take x.kind && has_name c n x) es + cond b 1 0) same in
-            omega (arith, push, zero_before)
-          | inr apart ↦
-            let push : count_by (λ x. is_take x.kind && has_name c n x) (es ++ e ∷ []) ≡ count_by (λ x. is_take x.kind && has_name c n x) es + 0 =
-              count_by-push (λ x. is_take x.kind && has_name c n x) es e ∙ ap (λ b. count_by (λ x. is_take x.kind && has_name c n x) es + cond b 1 0) apart in
-            omega (arith, push, h.takes c n)
-        ];
-      settlings = λ c n. omega (arith, count_by-push (λ x. is_settling x.kind && has_name c n x) es e, h.settlings c n);
-    }
-
-membership-taken : (es : List Entry) (by : ℕ) (r : Request) (u : ℕ) → IsMembership es → IsMembership (es ++ entry_by by (Take r.client r.ordinal u) ∷ [])
-membership-taken es by r u h =
-    let e = entry_by by (Take r.client r.ordinal u) in
-    record {
-      clients = rw (admits-other es e refl) h.clients;
-      retires = λ c. omega (arith, count_by-push (λ x. is_retire x.kind && (x.client == c)) es e, h.retires c);
-    }
+-- its name is that of the next accept
+next_name : (es : List Entry) (r : Request) (y : Entry) (zs : List Entry) → IsNext es r y zs → slice_get (map name_of (accepts es)) (length (map name_of (takes es))) ≡ Some (record { client = r.client; ordinal = r.ordinal })
+next_name es r y zs next =
+    ap (slice_get (map name_of (accepts es))) (length-map (takes es) name_of) ∙ slice_get-map name_of (accepts es) (length (takes es))
+    ∙ ap (option_map name_of) (front_of (length (takes es)) (accepts es) next.there) ∙ ap Some (cong_name next.client next.ordinal)
+  where
+    front_of : (n : ℕ) (xs : List Entry) → drop n xs ≡ y ∷ zs → slice_get xs n ≡ Some y
+    front_of zero [] h = cc
+    front_of (suc n) [] h = cc
+    front_of zero (x ∷ xs) h = cc
+    front_of (suc n) (x ∷ xs) h = front_of n xs h
 
 size-taken : (es : List Entry) (by : ℕ) (r : Request) (u : ℕ) → is_settled r.client r.ordinal es ≡ false → length (takes es) < length (accepts es) → size (es ++ entry_by by (Take r.client r.ordinal u) ∷ []) ≡ size es
 size-taken es by r u none lt =
     let e = entry_by by (Take r.client r.ordinal u) in
-    rw (unanswered-push es by r u none, waiting-other es e refl refl refl refl, present-other es e refl refl, accepts-other es e refl, takes-push es by r u)
-      (omega (arith, length-append es (e ∷ []), length-append (takes es) (e ∷ []), length-append (unanswered es) (e ∷ [])))
-
-bounds-taken : (limits : Limits) (es : List Entry) (by : ℕ) (r : Request) (u : ℕ) → is_settled r.client r.ordinal es ≡ false → length (takes es) < length (accepts es) → length (unanswered es) < limits.window → IsBounded limits es → IsBounded limits (es ++ entry_by by (Take r.client r.ordinal u) ∷ [])
-bounds-taken limits es by r u none lt room h =
-    let e = entry_by by (Take r.client r.ordinal u) in
-    record {
-      queue = rw (accepts-other es e refl, takes-push es by r u) (omega (arith, length-append (takes es) (e ∷ []), h.queue));
-      window = rw (unanswered-push es by r u none) (omega (arith, length-append (unanswered es) (e ∷ []), room));
-      client = λ c gone. rw (accepts_of-other c es e refl, collects_of-other c es e refl) (h.client c (sym (is_retired-other c es e refl) ∙ gone));
-    }
-
-pub IsLegal-taken : (limits : Limits) (es : List Entry) (by : ℕ) (r : Request) (u : ℕ) (y : Entry) (zs : List Entry) → MayTake limits es r u y zs → IsLegal limits es → IsLegal limits (es ++ entry_by by (Take r.client r.ordinal u) ∷ [])
-IsLegal-taken limits es by r u y zs may legal =
-    let e = entry_by by (Take r.client r.ordinal u) in
-    let fifo = AtEachPrefix-whole IsFifo es legal.fifo in
-    let none = no_take es r y zs may.next fifo legal.once in
-    let unsettled = not_settled r.client r.ordinal es legal.pairing none in
-    let lt : length (takes es) < length (accepts es) = next-lt es r y zs may.next in
-    record {
-      form = AtEach-push (λ before x. HasForm x.kind x) es e legal.form refl;
-      fifo = AtEachPrefix-push IsFifo es e legal.fifo (fifo-taken es by r u y zs may.next fifo);
-      once = once-taken es by r u none legal.once;
-      membership = membership-taken es by r u legal.membership;
-      standing = AtEach-push (λ before x. StandsWell x.kind before x) es e legal.standing tt;
-      pairing = AtEach-push (λ before x. IsPaired x.kind before x) es e legal.pairing (may.positive, may.within);
-      apart = AtEachPrefix-push AreApart es e legal.apart
-        (rw (unanswered-push es by r u unsettled, map-append (λ x. x.number) (unanswered es) (e ∷ [])) (IsDistinct-push (map (λ x. x.number) (unanswered es)) u (AtEachPrefix-whole AreApart es legal.apart) may.free));
-      bounds = AtEachPrefix-push (IsBounded limits) es e legal.bounds (bounds-taken limits es by r u unsettled lt may.window (AtEachPrefix-whole (IsBounded limits) es legal.bounds));
-      size = AtEachPrefix-push (IsWithin limits) es e legal.size (let was = AtEachPrefix-whole (IsWithin limits) es legal.size in omega (arith, size-taken es by r u unsettled lt, was));
-    }
+    rw (unanswered_taken es e refl none, waiting-other es e refl refl refl refl, present-other es e refl refl, accepts-other es e refl, takes_push es e refl)
+    (omega (arith, length-append es (e ∷ []), length-append (takes es) (e ∷ []), length-append (unanswered es) (e ∷ [])))
 
 -- the accept with the name of the next request is the next one
 named_next : (es : List Entry) (r : Request) (y : Entry) (zs : List Entry) → IsNext es r y zs → IsOnce es → filter (λ e. is_accept e.kind && has_name r.client r.ordinal e) es ≡ y ∷ filter (has_name r.client r.ordinal) zs
@@ -250,31 +166,34 @@ AgreesWith-taken_at h v by r rest u y zs next a front room positive within free 
     let unsettled = not_settled r.client r.ordinal es a.legal.pairing (no_take es r y zs next fifo a.legal.once) in
     let named = named_next es r y zs next a.legal.once in
     let own : own_of r.client r.ordinal (es ++ e ∷ []) ≡ r.own =
-      ap (λ xs. first_or 0 (map (λ x. x.number) xs)) (filter_other (λ x. is_accept x.kind && has_name r.client r.ordinal x) es e refl ∙ named) ∙ next.own in
+    ap (λ xs. first_or 0 (map (λ x. x.number) xs)) (filter_other (λ x. is_accept x.kind && has_name r.client r.ordinal x) es e refl ∙ named) ∙ next.own in
     let command : command_of r.client r.ordinal (es ++ e ∷ []) ≡ r.command =
-      ap (λ xs. first_or 0 (map (λ x. x.command) xs)) (filter_other (λ x. is_accept x.kind && has_name r.client r.ordinal x) es e refl ∙ named) ∙ next.command in
+    ap (λ xs. first_or 0 (map (λ x. x.command) xs)) (filter_other (λ x. is_accept x.kind && has_name r.client r.ordinal x) es e refl ∙ named) ∙ next.command in
     let place : place_of (es ++ e ∷ []) e ≡ place_for r u = cong_place own command in
     let numbers : list_any (λ k. nat_eq k u) (map (λ x. x.number) (unanswered es)) ≡ false =
-      ap (list_any (λ k. nat_eq k u)) (sym (places_numbers es (unanswered es))) ∙ any-map (λ k. nat_eq k u) (λ (p : Place). p.upstream) (window_after h)
-      ∙ any-same (λ (p : Place). p.upstream == u) (window_after h) v.window a.after.window free in
-    let may : MayTake v.limits es r u y zs = record {
-        next = next;
+    ap (list_any (λ k. nat_eq k u)) (sym (places_numbers es (unanswered es))) ∙ any-map (λ k. nat_eq k u) (λ (p : Place). p.upstream) (window_after h)
+    ∙ any-same (λ (p : Place). p.upstream == u) (window_after h) v.window a.after.window free in
+    let none = no_take es r y zs next fifo a.legal.once in
+    let may : MayTake v.limits es e = record {
+        command = refl;
         positive = positive;
         within = within;
-        free = free_numbers u (map (λ x. x.number) (unanswered es)) numbers;
+        next = next_name es r y zs next;
+        first = any-and es r.client r.ordinal none;
+        free = count_numbered u (unanswered es) (free_numbers u (map (λ x. x.number) (unanswered es)) numbers);
         window = omega (arith, length-window h v a.after, room);
       } in
     let window : map (place_of (es ++ e ∷ [])) (unanswered es ++ e ∷ []) ≡ window_after h ++ place_for r u ∷ [] =
-      map-append (place_of (es ++ e ∷ [])) (unanswered es) (e ∷ []) ∙ ap (λ xs. xs ++ place_of (es ++ e ∷ []) e ∷ []) (places-kept es (e ∷ []) fifo) ∙ ap (λ x. window_after h ++ x ∷ []) place in
+    map-append (place_of (es ++ e ∷ [])) (unanswered es) (e ∷ []) ∙ ap (λ xs. xs ++ place_of (es ++ e ∷ []) e ∷ []) (places-kept es (e ∷ []) fifo) ∙ ap (λ x. window_after h ++ x ∷ []) place in
     record {
-      legal = rw push (IsLegal-taken v.limits es by r u y zs may a.legal);
+      legal = rw push (IsLegal-next v.limits es e a.legal (take_fit v.limits es e a.legal refl may) (let was = IsLegal-within v.limits es a.legal in omega (arith, size-taken es by r u unsettled (next-lt es r y zs next), was)));
       after = record {
-      queue = rw (push, takes-push es by r u, requests-other h n refl) (queue_taken (length (takes es)) (takes es) e v.queue (requests h) r rest refl front a.after.queue);
-      window = rw (push, unanswered-push es by r u unsettled, window) (SameCounts-push (window_after h) v.window (place_for r u) a.after.window);
-      members = rw (push, present-other es e refl refl)
-        (zip-each (IsMemberAfter h) (IsMemberAfter (h ++ n ∷ [])) (λ x m is. IsMemberAfter-other h n x m refl refl refl a.legal.pairing is) (present es) v.members a.after.members);
-      greatest = rw (push, admits-other es e refl) a.after.greatest;
-      entries = rw push (ap (λ xs. xs ++ e ∷ []) a.after.entries);
+        queue = rw (push, takes_push es e refl, requests-other h n refl) (queue_taken (length (takes es)) (takes es) e v.queue (requests h) r rest refl front a.after.queue);
+        window = rw (push, unanswered_taken es e refl unsettled, window) (SameCounts-push (window_after h) v.window (place_for r u) a.after.window);
+        members = rw (push, present-other es e refl refl)
+            (zip-each (IsMemberAfter h) (IsMemberAfter (h ++ n ∷ [])) (λ x m is. IsMemberAfter-other h n x m refl refl refl a.legal.pairing is) (present es) v.members a.after.members);
+        greatest = rw (push, admits-other es e refl) a.after.greatest;
+        entries = rw push (ap (λ xs. xs ++ e ∷ []) a.after.entries);
       };
     }
 

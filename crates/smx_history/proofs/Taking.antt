@@ -62,8 +62,8 @@ none_before low c (x ∷ xs) y zs of rise = none_before_x (x.client == c) refl r
   where
     none_before_x : (b : Bool) → (x.client == c) ≡ b → RiseAbove low (map (λ e. e.ordinal) (cond b (x ∷ filter (λ e. e.client == c) (xs ++ y ∷ zs)) (filter (λ e. e.client == c) (xs ++ y ∷ zs)))) → ((l : ℕ) → RiseAbove l (map (λ e. e.ordinal) (filter (λ e. e.client == c) (xs ++ y ∷ zs))) → AllByRecursion (λ x. has_name c y.ordinal x ≡ false) xs) → AllByRecursion (λ x. has_name c y.ordinal x ≡ false) (x ∷ xs)
     none_before_x true e r later =
-      let above = rises_at x.ordinal c xs y zs of r.1 in
-      (and_right (x.client == c) (x.ordinal == y.ordinal) (ne_eqb x.ordinal y.ordinal (λ same. omega (arith, above, same))), later x.ordinal r.1)
+        let above = rises_at x.ordinal c xs y zs of r.1 in
+        (and_right (x.client == c) (x.ordinal == y.ordinal) (ne_eqb x.ordinal y.ordinal (λ same. omega (arith, above, same))), later x.ordinal r.1)
     none_before_x false e r later = (and_left (x.client == c) (x.ordinal == y.ordinal) e, later low r)
 
 pub any_none : {X : Type 0} (p : X → Bool) (xs : List X) → AllByRecursion (λ x. p x ≡ false) xs → list_any p xs ≡ false
@@ -92,7 +92,7 @@ any_weaker p q (x ∷ xs) w h = any_weaker_at (p x) refl h (any_weaker p q xs w)
     any_weaker_at true e t later = rw (w x e) refl
     any_weaker_at false e t later = or_right (q x) (list_any q xs) (later t)
 
-any-and : (es : List Entry) (c n : ℕ) → AllByRecursion (λ t. has_name c n t ≡ false) (takes es) → list_any (λ t. is_take t.kind && has_name c n t) es ≡ false
+pub any-and : (es : List Entry) (c n : ℕ) → AllByRecursion (λ t. has_name c n t ≡ false) (takes es) → list_any (λ t. is_take t.kind && has_name c n t) es ≡ false
 any-and [] c n none = refl
 any-and (e ∷ es) c n none = any-and_at (is_take e.kind) none (any-and es c n)
   where
@@ -104,17 +104,16 @@ any-and (e ∷ es) c n none = any-and_at (is_take e.kind) none (any-and es c n)
 pub not_settled : (c n : ℕ) (es : List Entry) → AtEach (λ before e. IsPaired e.kind before e) es → AllByRecursion (λ t. has_name c n t ≡ false) (takes es) → is_settled c n es ≡ false
 not_settled c n es paired none =
     any_none (λ e. is_settling e.kind && has_name c n e) es
-      (All-from_get (λ e. (is_settling e.kind && has_name c n e) ≡ false) es (λ k e at. false_from_ne_true _ (λ both.
-        let w = and_parts (is_settling e.kind) (has_name c n e) both in
-        let same = and_parts (e.client == c) (e.ordinal == n) w.1 in
-        let before = settling_taken e.kind (take k es) e (paired k e at) w.0 in
-        let named : list_any (λ t. is_take t.kind && has_name c n t) (take k es) ≡ true =
-          any_weaker (λ t. is_take t.kind && (has_name e.client e.ordinal t && (t.number == e.number))) (λ t. is_take t.kind && has_name c n t) (take k es)
-            (λ t h. let u = and_parts (is_take t.kind) (has_name e.client e.ordinal t && (t.number == e.number)) h in
-              let x = and_parts (has_name e.client e.ordinal t) (t.number == e.number) u.1 in
-              and_from _ _ u.0 (rw (← eqb-true e.client c same.0, ← eqb-true e.ordinal n same.1) x.0)) before in
-        let now : list_any (λ t. is_take t.kind && has_name c n t) (take k es ++ drop k es) ≡ true = any_kept (λ t. is_take t.kind && has_name c n t) (take k es) (drop k es) named in
-        let here : list_any (λ t. is_take t.kind && has_name c n t) es ≡ true = rw take-append-drop at now in
-        let no : list_any (λ t. is_take t.kind && has_name c n t) es ≡ false = any-and es c n none in
-        both_ways _ no here)))
-
+    (All-from_get (λ e. (is_settling e.kind && has_name c n e) ≡ false) es (λ k e at. false_from_ne_true _ (λ both.
+    let w = and_parts (is_settling e.kind) (has_name c n e) both in
+    let same = and_parts (e.client == c) (e.ordinal == n) w.1 in
+    let before = settling_taken e.kind (take k es) e (paired k e at) w.0 in
+    let named : list_any (λ t. is_take t.kind && has_name c n t) (take k es) ≡ true =
+    any_weaker (λ t. is_take t.kind && (has_name e.client e.ordinal t && (t.number == e.number))) (λ t. is_take t.kind && has_name c n t) (take k es)
+    (λ t h. let u = and_parts (is_take t.kind) (has_name e.client e.ordinal t && (t.number == e.number)) h in
+    let x = and_parts (has_name e.client e.ordinal t) (t.number == e.number) u.1 in
+    and_from _ _ u.0 (rw (← eqb-true e.client c same.0, ← eqb-true e.ordinal n same.1) x.0)) before in
+    let now : list_any (λ t. is_take t.kind && has_name c n t) (take k es ++ drop k es) ≡ true = any_kept (λ t. is_take t.kind && has_name c n t) (take k es) (drop k es) named in
+    let here : list_any (λ t. is_take t.kind && has_name c n t) es ≡ true = rw take-append-drop at now in
+    let no : list_any (λ t. is_take t.kind && has_name c n t) es ≡ false = any-and es c n none in
+    both_ways _ no here)))

@@ -14,7 +14,7 @@ use Rattle.smx_history.proofs.Reading.{All-from_get, All-each, answer_accepted}
 use Rattle.smx_history.proofs.Taking.{any_none, filter_none, any_weaker}
 
 -- numbers that rise are none above the last
-rise_last : (low : ℕ) (xs : List ℕ) → RiseAbove low xs → (low ≤ last_or low xs) × AllByRecursion (λ x. x ≤ last_or low xs) xs
+pub rise_last : (low : ℕ) (xs : List ℕ) → RiseAbove low xs → (low ≤ last_or low xs) × AllByRecursion (λ x. x ≤ last_or low xs) xs
 rise_last low [] rise = (omega arith, tt)
 rise_last low (x ∷ xs) rise = let rest = rise_last x xs rise.1 in (omega (arith, rest.0, rise.0), (rest.0, rest.1))
 
@@ -52,17 +52,17 @@ own_served kind.Late before e h own = cc
 none_own : (c : ℕ) (es : List Entry) → AtEach (λ before e. StandsWell e.kind before e) es → list_any (λ e. is_admit e.kind && (e.client == c)) es ≡ false → AllByRecursion (λ e. (is_own e.kind && (e.client == c)) ≡ false) es
 none_own c es standing none =
     All-from_get (λ e. (is_own e.kind && (e.client == c)) ≡ false) es (λ k e at. false_from_ne_true _ (λ both.
-      let w = and_parts (is_own e.kind) (e.client == c) both in
-      let served = own_served e.kind (take k es) e (standing k e at) w.0 in
-      let before : list_any (λ x. is_admit x.kind && (x.client == c)) (take k es) ≡ true =
-        any_weaker (λ x. is_admit x.kind && ((x.client == e.client) && (x.by == e.by))) (λ x. is_admit x.kind && (x.client == c)) (take k es)
-          (λ x h.
-            let u = and_parts (is_admit x.kind) ((x.client == e.client) && (x.by == e.by)) h in
-            let y = and_parts (x.client == e.client) (x.by == e.by) u.1 in
-            and_from _ _ u.0 (eq-eqb x.client c (eqb-true x.client e.client y.0 ∙ eqb-true e.client c w.1))) served.0 in
-      let now : list_any (λ x. is_admit x.kind && (x.client == c)) (take k es ++ drop k es) ≡ true = any_kept (λ x. is_admit x.kind && (x.client == c)) (take k es) (drop k es) before in
-      let here : list_any (λ x. is_admit x.kind && (x.client == c)) es ≡ true = rw take-append-drop at now in
-      both_ways _ none here))
+    let w = and_parts (is_own e.kind) (e.client == c) both in
+    let served = own_served e.kind (take k es) e (standing k e at) w.0 in
+    let before : list_any (λ x. is_admit x.kind && (x.client == c)) (take k es) ≡ true =
+    any_weaker (λ x. is_admit x.kind && ((x.client == e.client) && (x.by == e.by))) (λ x. is_admit x.kind && (x.client == c)) (take k es)
+    (λ x h.
+    let u = and_parts (is_admit x.kind) ((x.client == e.client) && (x.by == e.by)) h in
+    let y = and_parts (x.client == e.client) (x.by == e.by) u.1 in
+    and_from _ _ u.0 (eq-eqb x.client c (eqb-true x.client e.client y.0 ∙ eqb-true e.client c w.1))) served.0 in
+    let now : list_any (λ x. is_admit x.kind && (x.client == c)) (take k es ++ drop k es) ≡ true = any_kept (λ x. is_admit x.kind && (x.client == c)) (take k es) (drop k es) before in
+    let here : list_any (λ x. is_admit x.kind && (x.client == c)) es ≡ true = rw take-append-drop at now in
+    both_ways _ none here))
 
 -- what is known of a client that was not admitted
 pub record IsUnseen (c : ℕ) (es : List Entry) : Type 0 where
@@ -85,24 +85,24 @@ pub unseen : (c : ℕ) (es : List Entry) → AtEach (λ before e. StandsWell e.k
 unseen c es standing paired none =
     let own = none_own c es standing none in
     let no_accept : AllByRecursion (λ e. (is_accept e.kind && (e.client == c)) ≡ false) es =
-      All-each (λ e. (is_own e.kind && (e.client == c)) ≡ false) (λ e. (is_accept e.kind && (e.client == c)) ≡ false) (λ e h. (own_kind e.kind (e.client == c) h).0) es own in
+    All-each (λ e. (is_own e.kind && (e.client == c)) ≡ false) (λ e. (is_accept e.kind && (e.client == c)) ≡ false) (λ e h. (own_kind e.kind (e.client == c) h).0) es own in
     record {
       accepts = filter_none (λ e. is_accept e.kind && (e.client == c)) es no_accept;
       answers = filter_none (λ e. is_answer e.kind && (e.client == c)) es
-        (All-from_get (λ e. (is_answer e.kind && (e.client == c)) ≡ false) es (λ k e at. false_from_ne_true _ (λ both.
+          (All-from_get (λ e. (is_answer e.kind && (e.client == c)) ≡ false) es (λ k e at. false_from_ne_true _ (λ both.
           let w = and_parts (is_answer e.kind) (e.client == c) both in
           let before : is_accepted e.client e.ordinal (take k es) ≡ true = answer_accepted e.kind (take k es) e (paired k e at) w.0 in
           let weaker : list_any (λ x. is_accept x.kind && (x.client == c)) (take k es) ≡ true =
-            any_weaker (λ x. is_accept x.kind && has_name e.client e.ordinal x) (λ x. is_accept x.kind && (x.client == c)) (take k es)
-              (λ x h.
-                let u = and_parts (is_accept x.kind) (has_name e.client e.ordinal x) h in
-                let y = and_parts (x.client == e.client) (x.ordinal == e.ordinal) u.1 in
-                and_from _ _ u.0 (eq-eqb x.client c (eqb-true x.client e.client y.0 ∙ eqb-true e.client c w.1))) before in
+          any_weaker (λ x. is_accept x.kind && has_name e.client e.ordinal x) (λ x. is_accept x.kind && (x.client == c)) (take k es)
+          (λ x h.
+          let u = and_parts (is_accept x.kind) (has_name e.client e.ordinal x) h in
+          let y = and_parts (x.client == e.client) (x.ordinal == e.ordinal) u.1 in
+          and_from _ _ u.0 (eq-eqb x.client c (eqb-true x.client e.client y.0 ∙ eqb-true e.client c w.1))) before in
           let now : list_any (λ x. is_accept x.kind && (x.client == c)) (take k es ++ drop k es) ≡ true = any_kept (λ x. is_accept x.kind && (x.client == c)) (take k es) (drop k es) weaker in
           let here : list_any (λ x. is_accept x.kind && (x.client == c)) es ≡ true = rw take-append-drop at now in
           both_ways _ (any_none (λ x. is_accept x.kind && (x.client == c)) es no_accept) here)));
       collects = filter_none (λ e. is_collect e.kind && (e.client == c)) es
-        (All-each (λ e. (is_own e.kind && (e.client == c)) ≡ false) (λ e. (is_collect e.kind && (e.client == c)) ≡ false) (λ e h. (own_kind e.kind (e.client == c) h).1) es own);
+          (All-each (λ e. (is_own e.kind && (e.client == c)) ≡ false) (λ e. (is_collect e.kind && (e.client == c)) ≡ false) (λ e h. (own_kind e.kind (e.client == c) h).1) es own);
       retired = any_none (λ e. is_retire e.kind && (e.client == c)) es
-        (All-each (λ e. (is_own e.kind && (e.client == c)) ≡ false) (λ e. (is_retire e.kind && (e.client == c)) ≡ false) (λ e h. (own_kind e.kind (e.client == c) h).2) es own);
+          (All-each (λ e. (is_own e.kind && (e.client == c)) ≡ false) (λ e. (is_retire e.kind && (e.client == c)) ≡ false) (λ e h. (own_kind e.kind (e.client == c) h).2) es own);
     }

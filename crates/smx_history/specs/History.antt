@@ -33,7 +33,6 @@ request_in _ = None
 abbrev pub requests : List Note → List Request
 requests h = filter_map (λ note. request_in note.event) h
 
-
 abbrev pub response_in : ℕ → Event → Option Response
 response_in c (Answer d n p) = if d == c then Some (record { ordinal = n; pdu = p }) else None
 response_in c _ = None

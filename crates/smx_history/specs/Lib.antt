@@ -6,3 +6,4 @@ pub mod Contents
 pub mod Replies
 pub mod Room
 pub mod Answering
+pub mod Checks

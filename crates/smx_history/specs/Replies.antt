@@ -43,10 +43,10 @@ new_row by c = record { client = c; by = by; last = 0; pending = 0; waiting = []
 -- what an admit leaves
 abbrev pub admitted : Content → ℕ → ℕ → Content
 admitted v by c = record v {
-    members = v.members ++ new_row by c ∷ [];
-    greatest = c;
-    entries = v.entries ++ entry_by by (Admit c) ∷ [];
-  }
+  members = v.members ++ new_row by c ∷ [];
+  greatest = c;
+  entries = v.entries ++ entry_by by (Admit c) ∷ [];
+}
 
 -- the rows of the other clients
 abbrev pub without : ℕ → List Member → List Member
@@ -55,9 +55,9 @@ without c ms = filter (λ m. not (m.client == c)) ms
 -- what a retire leaves
 abbrev pub retired : Content → ℕ → ℕ → Content
 retired v by c = record v {
-    members = without c v.members;
-    entries = v.entries ++ entry_by by (Retire c) ∷ [];
-  }
+  members = without c v.members;
+  entries = v.entries ++ entry_by by (Retire c) ∷ [];
+}
 
 -- the first reason to refuse a request of a client with this row
 abbrev pub refusal_for : Content → Option Member → Option Refusal
@@ -78,10 +78,10 @@ with_row c f ms = map (λ m. if m.client == c then f m else m) ms
 -- what an accept leaves
 abbrev pub accepted : Content → ℕ → Request → Content
 accepted v by r = record v {
-    queue = v.queue ++ r ∷ [];
-    members = with_row r.client (λ m. record m { last = r.ordinal; pending = m.pending + 1 }) v.members;
-    entries = v.entries ++ entry_by by (Accept r) ∷ [];
-  }
+  queue = v.queue ++ r ∷ [];
+  members = with_row r.client (λ m. record m { last = r.ordinal; pending = m.pending + 1 }) v.members;
+  entries = v.entries ++ entry_by by (Accept r) ∷ [];
+}
 
 -- the place of a request that goes upstream as u
 abbrev pub place_for : Request → ℕ → Place
@@ -90,10 +90,10 @@ place_for r u = record { upstream = u; client = r.client; ordinal = r.ordinal; o
 -- what a take of the request leaves
 abbrev pub taken : Content → ℕ → Request → ℕ → Content
 taken v by r u = record v {
-    queue = drop 1 v.queue;
-    window = v.window ++ place_for r u ∷ [];
-    entries = v.entries ++ entry_by by (Take r.client r.ordinal u) ∷ [];
-  }
+  queue = drop 1 v.queue;
+  window = v.window ++ place_for r u ∷ [];
+  entries = v.entries ++ entry_by by (Take r.client r.ordinal u) ∷ [];
+}
 
 abbrev pub take_refusal : Content → Option TakeRefusal
 take_refusal v =
@@ -112,21 +112,21 @@ response_for q p = record { ordinal = q.ordinal; pdu = record { command = p.comm
 -- what an answer to the place at that index leaves, where its client is present
 abbrev pub answered : Content → ℕ → Pdu → Place → ℕ → Content
 answered v by p q i = record v {
-    window = remove v.window i;
-    members = with_row q.client (λ m. record m { waiting = m.waiting ++ response_for q p ∷ [] }) v.members;
-    entries = v.entries ++ entry_by by (Answer q.client q.ordinal p) ∷ [];
-  }
+  window = remove v.window i;
+  members = with_row q.client (λ m. record m { waiting = m.waiting ++ response_for q p ∷ [] }) v.members;
+  entries = v.entries ++ entry_by by (Answer q.client q.ordinal p) ∷ [];
+}
 
 -- what an answer to the place at that index leaves, where its client has retired
 abbrev pub late : Content → ℕ → Pdu → Place → ℕ → Content
 late v by p q i = record v {
-    window = remove v.window i;
-    entries = v.entries ++ entry_by by (Late q.client q.ordinal p.number p.command) ∷ [];
-  }
+  window = remove v.window i;
+  entries = v.entries ++ entry_by by (Late q.client q.ordinal p.number p.command) ∷ [];
+}
 
 -- what a collect of the client's oldest response leaves
 abbrev pub collected : Content → ℕ → ℕ → Response → Content
 collected v by c r = record v {
-    members = with_row c (λ m. record m { pending = m.pending - 1; waiting = drop 1 m.waiting }) v.members;
-    entries = v.entries ++ entry_by by (Collect c r.ordinal) ∷ [];
-  }
+  members = with_row c (λ m. record m { pending = m.pending - 1; waiting = drop 1 m.waiting }) v.members;
+  entries = v.entries ++ entry_by by (Collect c r.ordinal) ∷ [];
+}

@@ -1,0 +1,116 @@
+-- An accept fits exactly where the check says so.
+use Rattle.std.proofs.Common.{◌≡◌, ◌<◌, ◌≤◌, ◌+◌, ◌-◌, ◌==◌, ◌↔◌, ℕ, Bool, true, false, not, ◌&&◌, List, [], ◌∷◌, ◌++◌, length, map, refl, sym, ◌∙◌, ap, subst, arith, length-append, inl, inr, nat_lt}
+use Rattle.std.proofs.lemmas.List.{map-append}
+use Rattle.std.proofs.lemmas.Bool.{and_from, and_parts, eqb-true, eq-eqb, ne_eqb, ltb-true, lt-ltb, cases_eq, not-true}
+use Rattle.smx_pdu.specs.Command.{is_forwarded}
+use Rattle.smx_history.specs.declared.entry.Entry.{Entry}
+use Rattle.smx_history.specs.declared.entry.Kind.TheVariants as kind
+use Rattle.smx_history.specs.declared.limits.Limits.{Limits}
+use Rattle.smx_history.specs.declared.totals.Totals.{Totals}
+use Rattle.smx_history.specs.Prefixes.{RiseAbove, last_or}
+use Rattle.smx_history.specs.Entries.{is_admit, is_accept, is_take, is_answer, is_collect, is_retire, is_settling, name_of, accepts, takes, accepts_of, collects_of, is_retired}
+use Rattle.smx_history.specs.Legal.{IsLegal, IsFifo, AreApart, IsBounded, HasForm, StandsWell, IsServed}
+use Rattle.smx_history.specs.Checks.{Fits, Counted, accept_fits, has_reached}
+use Rattle.smx_history.proofs.Growing.{filter_push, filter_other, AtEachPrefix-whole, RiseAbove-push, StartsWith-more}
+use Rattle.smx_history.proofs.Frames.{takes-other, answers_of-other, collects_of-other, is_retired-other, unanswered-other}
+use Rattle.smx_history.proofs.Kept.{takes_kept, settlings_kept, membership_kept, apart_kept, HasForm-by, StandsWell-by, IsPaired-by}
+use Rattle.smx_history.proofs.Sizes.{takes-le-accepts}
+use Rattle.smx_history.proofs.Unseen.{rise_last}
+use Rattle.smx_history.proofs.Parts.{RiseAbove-end, last_below, below_last}
+
+pub accepted_push : (es : List Entry) (e : Entry) → e.kind ≡ kind.Accept → accepts (es ++ e ∷ []) ≡ accepts es ++ e ∷ []
+accepted_push es e k = filter_push (λ x. is_accept x.kind) es e (ap is_accept k)
+
+pub accepted_own : (c : ℕ) (es : List Entry) (e : Entry) → e.kind ≡ kind.Accept → e.client ≡ c → accepts_of c (es ++ e ∷ []) ≡ accepts_of c es ++ e ∷ []
+accepted_own c es e k same = filter_push (λ x. is_accept x.kind && (x.client == c)) es e (and_from _ _ (ap is_accept k) (eq-eqb e.client c same))
+
+pub accepted_other : (c : ℕ) (es : List Entry) (e : Entry) → e.kind ≡ kind.Accept → (e.client ≡ c → ⊥) → accepts_of c (es ++ e ∷ []) ≡ accepts_of c es
+accepted_other c es e k apart = filter_other (λ x. is_accept x.kind && (x.client == c)) es e (ap (λ b. b && (e.client == c)) (ap is_accept k) ∙ ne_eqb e.client c apart)
+
+ordinals_accepted : (c : ℕ) (es : List Entry) (e : Entry) → e.kind ≡ kind.Accept → e.client ≡ c → map (λ x. x.ordinal) (accepts_of c (es ++ e ∷ [])) ≡ map (λ x. x.ordinal) (accepts_of c es) ++ e.ordinal ∷ []
+ordinals_accepted c es e k same = ap (map (λ (x : Entry). x.ordinal)) (accepted_own c es e k same) ∙ map-append (λ x. x.ordinal) (accepts_of c es) (e ∷ [])
+
+-- what a legal list allows an accept by
+pub record MayAccept (limits : Limits) (es : List Entry) (e : Entry) : Type 0 where
+  pub forwarded : is_forwarded e.command ≡ true
+  pub served : IsServed es e
+  pub rises : last_or 0 (map (λ x. x.ordinal) (accepts_of e.client es)) < e.ordinal
+  pub queue : length (accepts es) < length (takes es) + limits.queue
+  pub client : length (accepts_of e.client es) < length (collects_of e.client es) + limits.client
+
+passes_from : (limits : Limits) (t : Totals) (es : List Entry) (e : Entry) → IsLegal limits es → Counted es t → accept_fits limits.queue limits.client t es e ≡ true → MayAccept limits es e
+passes_from limits t es e legal counted test =
+    let a = and_parts _ _ test in
+    let b = and_parts _ _ a.0 in
+    let c = and_parts _ _ b.0 in
+    let d = and_parts _ _ c.0 in
+    let f = and_parts _ _ d.0 in
+    let s = and_parts _ _ f.1 in
+    let queue : t.queued < limits.queue = ltb-true _ _ b.1 in
+    record {
+      forwarded = f.0;
+      served = (s.0, not-true _ s.1);
+      rises = last_below (λ (x : Entry). x.ordinal) (λ x. is_accept x.kind && (x.client == e.client)) 0 e.ordinal es (ltb-true _ _ d.1) (not-true _ c.1);
+      queue = omega (arith, queue, counted.queued, takes-le-accepts es (AtEachPrefix-whole IsFifo es legal.fifo));
+      client = ltb-true _ _ a.1;
+    }
+
+passes_to : (limits : Limits) (t : Totals) (es : List Entry) (e : Entry) → IsLegal limits es → Counted es t → MayAccept limits es e → accept_fits limits.queue limits.client t es e ≡ true
+passes_to limits t es e legal counted p =
+    let all = rise_last 0 (map (λ x. x.ordinal) (accepts_of e.client es)) (legal.once.ordinals e.client) in
+    let reached = below_last (λ (x : Entry). x.ordinal) (λ x. is_accept x.kind && (x.client == e.client)) e.ordinal (last_or 0 (map (λ x. x.ordinal) (accepts_of e.client es))) es p.rises all.1 in
+    let queue : t.queued < limits.queue = omega (arith, p.queue, counted.queued, takes-le-accepts es (AtEachPrefix-whole IsFifo es legal.fifo)) in
+    and_from _ _ (and_from _ _ (and_from _ _ (and_from _ _ (and_from _ _ p.forwarded (and_from _ _ p.served.0 (ap not p.served.1))) (lt-ltb _ _ (omega (arith, p.rises)))) (ap not reached)) (lt-ltb _ _ queue)) (lt-ltb _ _ p.client)
+
+pub accept_fit : (limits : Limits) (es : List Entry) (e : Entry) → IsLegal limits es → e.kind ≡ kind.Accept → MayAccept limits es e → Fits limits es e
+accept_fit limits es e legal k p =
+    let fifo = AtEachPrefix-whole IsFifo es legal.fifo in
+    let was = AtEachPrefix-whole (IsBounded limits) es legal.bounds in
+    record {
+      form = HasForm-by e kind.Accept k p.forwarded;
+      fifo = record {
+        taken = rw (accepted_push es e k, takes-other es e (ap is_take k), map-append name_of (accepts es) (e ∷ [])) (StartsWith-more (map name_of (accepts es)) (map name_of (takes es)) (name_of e ∷ []) fifo.taken);
+        collected = λ c. rw (answers_of-other c es e (ap is_answer k), collects_of-other c es e (ap is_collect k)) (fifo.collected c);
+      };
+      once = record {
+        ordinals = λ c. elim (cases_eq e.client c) [
+          | inl same ↦ rw (ordinals_accepted c es e k same) (RiseAbove-push 0 (map (λ x. x.ordinal) (accepts_of c es)) e.ordinal (legal.once.ordinals c) (rw (← same) p.rises))
+          | inr apart ↦ rw (accepted_other c es e k apart) (legal.once.ordinals c)
+        ];
+        takes = takes_kept es e (ap is_take k) legal.once;
+        settlings = settlings_kept es e (ap is_settling k) legal.once;
+      };
+      membership = membership_kept es e (ap is_admit k) (ap is_retire k) legal.membership;
+      standing = StandsWell-by es e kind.Accept k p.served;
+      pairing = IsPaired-by es e kind.Accept k tt;
+      apart = apart_kept es e (ap is_take k) (ap is_settling k) (AtEachPrefix-whole AreApart es legal.apart);
+      bounds = record {
+        queue = rw (accepted_push es e k, takes-other es e (ap is_take k)) (omega (arith, length-append (accepts es) (e ∷ []), p.queue));
+        window = rw (unanswered-other es e (ap is_take k) (ap is_settling k)) was.window;
+        client = λ c gone. elim (cases_eq e.client c) [
+          | inl same ↦ rw (accepted_own c es e k same, collects_of-other c es e (ap is_collect k)) (let m = p.client in let m' = rw same at m in omega (arith, length-append (accepts_of c es) (e ∷ []), m'))
+          | inr apart ↦ rw (accepted_other c es e k apart, collects_of-other c es e (ap is_collect k)) (was.client c (sym (is_retired-other c es e (ap is_retire k)) ∙ gone))
+        ];
+      };
+    }
+
+accept_from : (limits : Limits) (es : List Entry) (e : Entry) → e.kind ≡ kind.Accept → Fits limits es e → MayAccept limits es e
+accept_from limits es e k fits =
+    let form : HasForm kind.Accept e = rw k at fits.form in
+    let served : StandsWell kind.Accept es e = rw k at fits.standing in
+    let rise : RiseAbove 0 (map (λ x. x.ordinal) (accepts_of e.client es) ++ e.ordinal ∷ []) = subst (λ (xs : List ℕ). RiseAbove 0 xs) (ordinals_accepted e.client es e k refl) (fits.once.ordinals e.client) in
+    let above = RiseAbove-end 0 (map (λ x. x.ordinal) (accepts_of e.client es)) e.ordinal rise in
+    let queue : length (accepts es ++ e ∷ []) ≤ length (takes es) + limits.queue = rw (accepted_push es e k, takes-other es e (ap is_take k)) at fits.bounds.queue in
+    let client : length (accepts_of e.client es ++ e ∷ []) ≤ length (collects_of e.client es) + limits.client =
+    rw (accepted_own e.client es e k refl, collects_of-other e.client es e (ap is_collect k)) at (fits.bounds.client e.client (is_retired-other e.client es e (ap is_retire k) ∙ served.1)) in
+    record {
+      forwarded = form;
+      served = served;
+      rises = above;
+      queue = omega (arith, queue, length-append (accepts es) (e ∷ []));
+      client = omega (arith, client, length-append (accepts_of e.client es) (e ∷ []));
+    }
+
+pub accept_iff : (limits : Limits) (t : Totals) (es : List Entry) (e : Entry) (b : Bool) → IsLegal limits es → Counted es t → e.kind ≡ kind.Accept → b ≡ accept_fits limits.queue limits.client t es e → (b ≡ true) ↔ Fits limits es e
+accept_iff limits t es e b legal counted k is =
+    (λ h. accept_fit limits es e legal k (passes_from limits t es e legal counted (sym is ∙ h)), λ fits. is ∙ passes_to limits t es e legal counted (accept_from limits es e k fits))

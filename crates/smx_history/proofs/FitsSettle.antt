@@ -1,0 +1,162 @@
+-- An answer, in time or late, fits exactly where the check says so.
+use Rattle.std.proofs.Common.{◌≡◌, ◌<◌, ◌≤◌, ◌+◌, ◌-◌, ◌==◌, ◌↔◌, ℕ, Bool, true, false, not, ◌&&◌, ◌||◌, cond, List, [], ◌∷◌, ◌++◌, length, map, filter, refl, sym, ◌∙◌, ap, subst, arith, length-append, inl, inr, count_by}
+use Rattle.std.specs.List.{list_any}
+use Rattle.std.proofs.lemmas.List.{map-append}
+use Rattle.std.proofs.lemmas.List.Elements.{filter_agree, filter-append}
+use Rattle.std.proofs.lemmas.List.Folds.{list_any-append}
+use Rattle.std.proofs.lemmas.Bool.{and_from, and_parts, and_right, eqb-true, eq-eqb, cases_Bool, not-true}
+use Rattle.smx_pdu.specs.Command.{is_response_to}
+use Rattle.smx_history.specs.declared.entry.Entry.{Entry}
+use Rattle.smx_history.specs.declared.entry.Kind.{Kind}
+use Rattle.smx_history.specs.declared.entry.Kind.TheVariants as kind
+use Rattle.smx_history.specs.declared.limits.Limits.{Limits}
+use Rattle.smx_history.specs.Entries.{is_admit, is_accept, is_take, is_answer, is_collect, is_retire, is_settling, has_name, takes, answers_of, collects_of, is_retired, is_settled, unanswered}
+use Rattle.smx_history.specs.Legal.{IsLegal, IsFifo, IsOnce, AreApart, IsBounded, StandsWell, IsPaired, Answers}
+use Rattle.smx_history.specs.Checks.{Fits, settle_fits, answer_fits, late_fits}
+use Rattle.smx_history.proofs.Growing.{AtEachPrefix-whole, StartsWith-more}
+use Rattle.smx_history.proofs.Counts.{none_count}
+use Rattle.smx_history.proofs.Frames.{accepts-other, takes-other, accepts_of-other, collects_of-other, is_retired-other}
+use Rattle.smx_history.proofs.Kept.{takes_kept, membership_kept, HasForm-by, StandsWell-by, IsPaired-by}
+use Rattle.smx_history.proofs.Taking.{filter-and}
+use Rattle.smx_history.proofs.Counts.{eqb_sym}
+use Rattle.smx_history.proofs.Parts.{apart-filter}
+use Rattle.smx_history.proofs.Counts.{length_part}
+use Rattle.smx_history.proofs.Parts.{passes_find, count_one, count_other}
+
+-- an entry that settles is no admit, accept, take, collect or retire
+pub record Settles (k : Kind) : Type 0 where
+  pub settling : is_settling k ≡ true
+  pub admit : is_admit k ≡ false
+  pub accept : is_accept k ≡ false
+  pub take : is_take k ≡ false
+  pub collect : is_collect k ≡ false
+  pub retire : is_retire k ≡ false
+
+pub settles_answer : (k : Kind) → k ≡ kind.Answer → Settles k
+settles_answer k is = record { settling = ap is_settling is; admit = ap is_admit is; accept = ap is_accept is; take = ap is_take is; collect = ap is_collect is; retire = ap is_retire is }
+
+pub settles_late : (k : Kind) → k ≡ kind.Late → Settles k
+settles_late k is = record { settling = ap is_settling is; admit = ap is_admit is; accept = ap is_accept is; take = ap is_take is; collect = ap is_collect is; retire = ap is_retire is }
+
+-- the takes without an answer are those that were, without that of the name
+pub unanswered_settled : (es : List Entry) (e : Entry) → Settles e.kind → unanswered (es ++ e ∷ []) ≡ filter (λ t. not (has_name e.client e.ordinal t)) (unanswered es)
+unanswered_settled es e s =
+    ap (filter (λ x. not (is_settled x.client x.ordinal (es ++ e ∷ [])))) (takes-other es e s.take)
+    ∙ filter_agree (λ x. not (is_settled x.client x.ordinal (es ++ e ∷ []))) (λ x. not (is_settled x.client x.ordinal es) && not (has_name e.client e.ordinal x))
+    (λ x. ap not (list_any-append (λ y. is_settling y.kind && has_name x.client x.ordinal y) es (e ∷ []) ∙ ap (λ b. is_settled x.client x.ordinal es || b) (one x)) ∙ de_morgan (is_settled x.client x.ordinal es) (has_name e.client e.ordinal x)) (takes es)
+    ∙ filter-and (λ x. not (is_settled x.client x.ordinal es)) (λ x. not (has_name e.client e.ordinal x)) (takes es)
+  where
+    or_nothing : (b : Bool) → (b || false) ≡ b
+    or_nothing true = refl
+    or_nothing false = refl
+
+    de_morgan : (a b : Bool) → not (a || b) ≡ (not a && not b)
+    de_morgan true b = refl
+    de_morgan false b = refl
+
+    one : (x : Entry) → ((is_settling e.kind && has_name x.client x.ordinal e) || false) ≡ has_name e.client e.ordinal x
+    one x =
+        or_nothing (is_settling e.kind && has_name x.client x.ordinal e) ∙ ap (λ b. b && has_name x.client x.ordinal e) s.settling
+        ∙ ap (λ b. b && (e.ordinal == x.ordinal)) (eqb_sym e.client x.client) ∙ ap (λ b. (x.client == e.client) && b) (eqb_sym e.ordinal x.ordinal)
+
+settles_once : (es : List Entry) (e : Entry) → Settles e.kind → is_settled e.client e.ordinal es ≡ false → IsOnce es → (c n : ℕ) → count_by (λ x. is_settling x.kind && has_name c n x) (es ++ e ∷ []) ≤ 1
+settles_once es e s none h c n =
+    elim (cases_Bool (has_name c n e)) [
+      | inl same ↦
+          let w = and_parts (e.client == c) (e.ordinal == n) same in
+          let before : count_by (λ x. is_settling x.kind && has_name c n x) es ≡ 0 =
+          none_count (λ x. is_settling x.kind && has_name c n x) es
+          (sym (ap (λ i. is_settled i e.ordinal es) (eqb-true e.client c w.0) ∙ ap (λ i. is_settled c i es) (eqb-true e.ordinal n w.1)) ∙ none) in
+          omega (arith, count_one (λ x. is_settling x.kind && has_name c n x) es e (and_from _ _ s.settling same), before)
+      | inr apart ↦
+          omega (arith, count_other (λ x. is_settling x.kind && has_name c n x) es e (and_right (is_settling e.kind) (has_name c n e) apart), h.settlings c n)
+    ]
+
+settle_from : (es : List Entry) (e : Entry) → settle_fits es e ≡ true → Answers es e
+settle_from es e test =
+    let a = and_parts _ _ test in
+    let b = and_parts _ _ a.0 in
+    let r = and_parts _ _ (sym (passes_find (λ x. is_accept x.kind && has_name e.client e.ordinal x) (λ x. x.command) (λ n. is_response_to n e.command) es) ∙ a.1) in
+    record { taken = b.0; first = not-true _ b.1; accepted = r.0; command = r.1 }
+
+settle_to : (es : List Entry) (e : Entry) → Answers es e → settle_fits es e ≡ true
+settle_to es e p =
+    and_from _ _ (and_from _ _ p.taken (ap not p.first))
+    (passes_find (λ x. is_accept x.kind && has_name e.client e.ordinal x) (λ x. x.command) (λ n. is_response_to n e.command) es ∙ and_from _ _ p.accepted p.command)
+
+-- what is the same for an answer in time and for one that is late
+record FitsBut (limits : Limits) (es : List Entry) (e : Entry) : Type 0 where
+  fifo : IsFifo (es ++ e ∷ [])
+  once : IsOnce (es ++ e ∷ [])
+  apart : AreApart (es ++ e ∷ [])
+  bounds : IsBounded limits (es ++ e ∷ [])
+
+settle_but : (limits : Limits) (es : List Entry) (e : Entry) → IsLegal limits es → Settles e.kind → Answers es e → FitsBut limits es e
+settle_but limits es e legal s p =
+    let fifo = AtEachPrefix-whole IsFifo es legal.fifo in
+    let was = AtEachPrefix-whole (IsBounded limits) es legal.bounds in
+    let gone = unanswered_settled es e s in
+    record {
+      fifo = record {
+        taken = rw (accepts-other es e s.accept, takes-other es e s.take) fifo.taken;
+        collected = λ c. rw (collects_of-other c es e s.collect, filter-append (λ x. is_answer x.kind && (x.client == c)) es (e ∷ []), map-append (λ x. x.ordinal) (answers_of c es) (answers_of c (e ∷ [])))
+            (StartsWith-more (map (λ x. x.ordinal) (answers_of c es)) (map (λ x. x.ordinal) (collects_of c es)) (map (λ x. x.ordinal) (answers_of c (e ∷ []))) (fifo.collected c));
+      };
+      once = record {
+        ordinals = λ c. rw (accepts_of-other c es e s.accept) (legal.once.ordinals c);
+        takes = takes_kept es e s.take legal.once;
+        settlings = settles_once es e s p.first legal.once;
+      };
+      apart = rw gone (apart-filter (λ t. not (has_name e.client e.ordinal t)) (unanswered es) (AtEachPrefix-whole AreApart es legal.apart));
+      bounds = record {
+        queue = rw (accepts-other es e s.accept, takes-other es e s.take) was.queue;
+        window = rw gone (let l = length_part (λ (t : Entry). not (has_name e.client e.ordinal t)) (unanswered es) in omega (arith, l, was.window));
+        client = λ c stays. rw (accepts_of-other c es e s.accept, collects_of-other c es e s.collect) (was.client c (sym (is_retired-other c es e s.retire) ∙ stays));
+      };
+    }
+
+pub answer_fit : (limits : Limits) (es : List Entry) (e : Entry) → IsLegal limits es → e.kind ≡ kind.Answer → Answers es e → is_retired e.client es ≡ false → Fits limits es e
+answer_fit limits es e legal k p here =
+    let s = settles_answer e.kind k in
+    let but = settle_but limits es e legal s p in
+    record {
+      form = HasForm-by e kind.Answer k tt;
+      fifo = but.fifo;
+      once = but.once;
+      membership = membership_kept es e s.admit s.retire legal.membership;
+      standing = StandsWell-by es e kind.Answer k here;
+      pairing = IsPaired-by es e kind.Answer k p;
+      apart = but.apart;
+      bounds = but.bounds;
+    }
+
+pub late_fit : (limits : Limits) (es : List Entry) (e : Entry) → IsLegal limits es → e.kind ≡ kind.Late → Answers es e → is_retired e.client es ≡ true → Fits limits es e
+late_fit limits es e legal k p gone =
+    let s = settles_late e.kind k in
+    let but = settle_but limits es e legal s p in
+    record {
+      form = HasForm-by e kind.Late k tt;
+      fifo = but.fifo;
+      once = but.once;
+      membership = membership_kept es e s.admit s.retire legal.membership;
+      standing = StandsWell-by es e kind.Late k gone;
+      pairing = IsPaired-by es e kind.Late k p;
+      apart = but.apart;
+      bounds = but.bounds;
+    }
+
+pub answer_iff : (limits : Limits) (es : List Entry) (e : Entry) (b : Bool) → IsLegal limits es → e.kind ≡ kind.Answer → b ≡ answer_fits es e → (b ≡ true) ↔ Fits limits es e
+answer_iff limits es e b legal k is =
+    (λ h. let w = and_parts _ _ (sym is ∙ h) in answer_fit limits es e legal k (settle_from es e w.0) (not-true _ w.1),
+      λ fits.
+        let standing : StandsWell kind.Answer es e = rw k at fits.standing in
+        let paired : IsPaired kind.Answer es e = subst (λ (x : Kind). IsPaired x es e) k fits.pairing in
+        is ∙ and_from _ _ (settle_to es e paired) (ap not standing))
+
+pub late_iff : (limits : Limits) (es : List Entry) (e : Entry) (b : Bool) → IsLegal limits es → e.kind ≡ kind.Late → b ≡ late_fits es e → (b ≡ true) ↔ Fits limits es e
+late_iff limits es e b legal k is =
+    (λ h. let w = and_parts _ _ (sym is ∙ h) in late_fit limits es e legal k (settle_from es e w.0) w.1,
+      λ fits.
+        let standing : StandsWell kind.Late es e = rw k at fits.standing in
+        let paired : IsPaired kind.Late es e = subst (λ (x : Kind). IsPaired x es e) k fits.pairing in
+        is ∙ and_from _ _ (settle_to es e paired) standing)

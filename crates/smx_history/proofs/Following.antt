@@ -1,0 +1,81 @@
+-- A list with one entry more is legal where the list is, the entry fits and the size keeps to the limit.
+use Rattle.std.proofs.Common.{◌≡◌, ◌<◌, ◌≤◌, ◌+◌, ◌==◌, ℕ, Bool, true, false, cond, ◌&&◌, List, [], ◌∷◌, ◌++◌, length, map, refl, sym, ◌∙◌, ap, subst, arith, filter, count_by, append_assoc}
+use Rattle.std.proofs.lemmas.List.{append-nil, map-append}
+use Rattle.std.proofs.lemmas.List.Elements.{filter-append}
+use Rattle.smx_history.specs.declared.entry.Entry.{Entry}
+use Rattle.smx_history.specs.declared.limits.Limits.{Limits}
+use Rattle.smx_history.specs.Prefixes.{AtEachPrefix, AtEach, RiseAbove}
+use Rattle.smx_history.specs.Entries.{is_admit, is_accept, is_take, is_retire, is_settling, has_name, admits, accepts_of}
+use Rattle.smx_history.specs.Legal.{IsLegal, IsFifo, IsOnce, IsMembership, AreApart, IsBounded, IsWithin, HasForm, StandsWell, IsPaired}
+use Rattle.smx_history.specs.Checks.{Fits}
+use Rattle.smx_history.proofs.Growing.{AtEach-push, AtEach-init, AtEach-last, AtEachPrefix-push, AtEachPrefix-init, AtEachPrefix-whole}
+use Rattle.smx_history.proofs.Counts.{count_by-push}
+use Rattle.smx_history.proofs.Parts.{RiseAbove-init}
+
+IsOnce-init : (es : List Entry) (e : Entry) → IsOnce (es ++ e ∷ []) → IsOnce es
+IsOnce-init es e h = record {
+  ordinals = λ c.
+      let p : Entry → Bool = λ x. is_accept x.kind && (x.client == c) in
+      let split : map (λ x. x.ordinal) (accepts_of c (es ++ e ∷ [])) ≡ map (λ x. x.ordinal) (accepts_of c es) ++ map (λ x. x.ordinal) (accepts_of c (e ∷ [])) =
+      ap (map (λ (x : Entry). x.ordinal)) (filter-append p es (e ∷ [])) ∙ map-append (λ x. x.ordinal) (accepts_of c es) (accepts_of c (e ∷ [])) in
+      RiseAbove-init 0 (map (λ x. x.ordinal) (accepts_of c es)) (map (λ x. x.ordinal) (accepts_of c (e ∷ []))) (subst (λ (xs : List ℕ). RiseAbove 0 xs) split (h.ordinals c));
+  takes = λ c n. let few = h.takes c n in omega (arith, few, count_by-push (λ x. is_take x.kind && has_name c n x) es e);
+  settlings = λ c n. let few = h.settlings c n in omega (arith, few, count_by-push (λ x. is_settling x.kind && has_name c n x) es e);
+}
+
+IsMembership-init : (es : List Entry) (e : Entry) → IsMembership (es ++ e ∷ []) → IsMembership es
+IsMembership-init es e h = record {
+  clients =
+      let split : map (λ x. x.client) (admits (es ++ e ∷ [])) ≡ map (λ x. x.client) (admits es) ++ map (λ x. x.client) (admits (e ∷ [])) =
+      ap (map (λ (x : Entry). x.client)) (filter-append (λ x. is_admit x.kind) es (e ∷ [])) ∙ map-append (λ x. x.client) (admits es) (admits (e ∷ [])) in
+      RiseAbove-init 0 (map (λ x. x.client) (admits es)) (map (λ x. x.client) (admits (e ∷ []))) (subst (λ (xs : List ℕ). RiseAbove 0 xs) split h.clients);
+  retires = λ c. let few = h.retires c in omega (arith, few, count_by-push (λ x. is_retire x.kind && (x.client == c)) es e);
+}
+
+-- without its last entry a legal list is legal
+pub IsLegal-init : (limits : Limits) (es : List Entry) (e : Entry) → IsLegal limits (es ++ e ∷ []) → IsLegal limits es
+IsLegal-init limits es e h = record {
+  form = AtEach-init (λ before x. HasForm x.kind x) es e h.form;
+  fifo = AtEachPrefix-init IsFifo es e h.fifo;
+  once = IsOnce-init es e h.once;
+  membership = IsMembership-init es e h.membership;
+  standing = AtEach-init (λ before x. StandsWell x.kind before x) es e h.standing;
+  pairing = AtEach-init (λ before x. IsPaired x.kind before x) es e h.pairing;
+  apart = AtEachPrefix-init AreApart es e h.apart;
+  bounds = AtEachPrefix-init (IsBounded limits) es e h.bounds;
+  size = AtEachPrefix-init (IsWithin limits) es e h.size;
+}
+
+-- what a legal list begins with is legal
+pub IsLegal-start : (limits : Limits) (xs ys : List Entry) → IsLegal limits (xs ++ ys) → IsLegal limits xs
+IsLegal-start limits xs [] h = subst (λ (zs : List Entry). IsLegal limits zs) (append-nil xs) h
+IsLegal-start limits xs (y ∷ ys) h =
+    IsLegal-init limits xs y (IsLegal-start limits (xs ++ y ∷ []) ys (subst (λ (zs : List Entry). IsLegal limits zs) (sym (append_assoc xs (y ∷ []) ys)) h))
+
+pub IsLegal-fits : (limits : Limits) (es : List Entry) (e : Entry) → IsLegal limits (es ++ e ∷ []) → Fits limits es e
+IsLegal-fits limits es e h = record {
+  form = AtEach-last (λ before x. HasForm x.kind x) es e h.form;
+  fifo = AtEachPrefix-whole IsFifo (es ++ e ∷ []) h.fifo;
+  once = h.once;
+  membership = h.membership;
+  standing = AtEach-last (λ before x. StandsWell x.kind before x) es e h.standing;
+  pairing = AtEach-last (λ before x. IsPaired x.kind before x) es e h.pairing;
+  apart = AtEachPrefix-whole AreApart (es ++ e ∷ []) h.apart;
+  bounds = AtEachPrefix-whole (IsBounded limits) (es ++ e ∷ []) h.bounds;
+}
+
+pub IsLegal-within : (limits : Limits) (es : List Entry) → IsLegal limits es → IsWithin limits es
+IsLegal-within limits es h = AtEachPrefix-whole (IsWithin limits) es h.size
+
+pub IsLegal-next : (limits : Limits) (es : List Entry) (e : Entry) → IsLegal limits es → Fits limits es e → IsWithin limits (es ++ e ∷ []) → IsLegal limits (es ++ e ∷ [])
+IsLegal-next limits es e h fits within = record {
+  form = AtEach-push (λ before x. HasForm x.kind x) es e h.form fits.form;
+  fifo = AtEachPrefix-push IsFifo es e h.fifo fits.fifo;
+  once = fits.once;
+  membership = fits.membership;
+  standing = AtEach-push (λ before x. StandsWell x.kind before x) es e h.standing fits.standing;
+  pairing = AtEach-push (λ before x. IsPaired x.kind before x) es e h.pairing fits.pairing;
+  apart = AtEachPrefix-push AreApart es e h.apart fits.apart;
+  bounds = AtEachPrefix-push (IsBounded limits) es e h.bounds fits.bounds;
+  size = AtEachPrefix-push (IsWithin limits) es e h.size within;
+}

@@ -1,0 +1,129 @@
+-- An answer, in time or late, takes the place that it answers out of the window.
+use Rattle.std.proofs.Common.{◌≡◌, ◌<◌, ◌≤◌, ◌+◌, ◌-◌, ◌*◌, ◌==◌, ℕ, Bool, true, false, cond, not, ◌||◌, ◌&&◌, List, [], ◌∷◌, ◌++◌, length, map, take, drop, get_or, refl, sym, ◌∙◌, ap, subst, arith, filter, sum_by, count_by, length-append, length-drop, nat_eq, inl, inr, Option, Some, None, suc}
+use Rattle.std.specs.List.{list_any, AllByRecursion, AllZip, IsDistinct, cons_option, remove}
+use Rattle.std.proofs.lemmas.List.{append-nil, length-map, map-append, drop-append-le}
+use Rattle.std.proofs.lemmas.List.Elements.{filter-append, filter_map-append, filter_agree}
+use Rattle.std.proofs.lemmas.List.Folds.{list_any-append}
+use Rattle.std.proofs.lemmas.List.Sums.{length-filter, count_by-le-length}
+use Rattle.std.proofs.lemmas.Bool.{and_left, eq-eqb, eqb-true, eqb-false, ne_eqb, cases_eq, cases_Bool, and_parts, and_from, or_parts, not-true, not_from_true, false_from_ne_true, both_ways}
+use Rattle.smx_pdu.specs.declared.pdu.Pdu.{Pdu}
+use Rattle.smx_history.specs.declared.entry.Entry.{Entry}
+use Rattle.smx_history.specs.declared.limits.Limits.{Limits}
+use Rattle.smx_history.specs.declared.place.Place.{Place}
+use Rattle.smx_history.specs.declared.response.Response.{Response}
+use Rattle.smx_history.specs.declared.note.Note.{Note}
+use Rattle.smx_pdu.specs.Command.{is_response_to}
+use Rattle.smx_history.specs.Prefixes.{AtEachPrefix, AtEach, StartsWith, RiseAbove, SameCounts, last_or, first_or}
+use Rattle.smx_history.specs.Entries.{is_admit, is_admitted, is_accept, is_accepted, is_take, is_answer, is_collect, is_retire, is_settling, has_name, name_of, Name, admits, accepts, takes, accepts_of, answers_of, collects_of, is_retired, unanswered, own_of, command_of, is_settled, present}
+use Rattle.smx_history.specs.Legal.{IsLegal, IsFifo, IsOnce, IsMembership, IsBounded, IsWithin, AreApart, HasForm, StandsWell, IsPaired, Answers, waiting, size, queued}
+use Rattle.smx_history.specs.History.{entry_by, entry_of, note, entries_of, requests, request_in, responses, response_in}
+use Rattle.smx_history.specs.Contents.{AgreesWith, IsAfter, IsMemberAfter, Content, Member, place_of, shown, size_of, window_after}
+use Rattle.smx_history.specs.Room.{KeepsRoom}
+use Rattle.smx_history.specs.Replies.{answered, response_for, with_row, member_with}
+use Rattle.smx_history.proofs.Growing.{filter_other, filter_push, any_other, AtEach-push, AtEachPrefix-push, AtEachPrefix-whole, StartsWith-more, StartsWith-length}
+use Rattle.smx_history.proofs.Counts.{remove_only, filter-map, All-same, none_count, count_by-push, count_by-map, count_by-filter, count_and-le, count-filter-le, length-same}
+use Rattle.smx_history.proofs.Frames.{accepts-other, takes-other, accepts_of-other, collects_of-other, is_retired-other, admits-other, present-other}
+use Rattle.smx_history.proofs.Reading.{entries_of-push, shown-kept, own_of-kept, command_of-kept, map_agree, All-each, All-kept, All-from_get, All-filtered, any_at, takes_accepted, length-responses}
+use Rattle.smx_history.proofs.Sizes.{size_agrees, length-window, found_admit, present_served}
+use Rattle.smx_history.proofs.Taking.{filter-and, filter_none, any_none}
+use Rattle.smx_history.proofs.FitsSettle.{Settles, unanswered_settled}
+
+-- what is known of each place of the window
+pub record IsTaken (es : List Entry) (q : Place) : Type 0 where
+  pub taken : list_any (λ t. is_take t.kind && (has_name q.client q.ordinal t && (t.number == q.upstream))) es ≡ true
+  pub unsettled : is_settled q.client q.ordinal es ≡ false
+  pub accepted : is_accepted q.client q.ordinal es ≡ true
+  pub own : own_of q.client q.ordinal es ≡ q.own
+  pub command : command_of q.client q.ordinal es ≡ q.command
+
+-- the same as a test
+is_taken : List Entry → Place → Bool
+is_taken es q =
+    list_any (λ t. is_take t.kind && (has_name q.client q.ordinal t && (t.number == q.upstream))) es
+    && (not (is_settled q.client q.ordinal es) && (is_accepted q.client q.ordinal es && ((own_of q.client q.ordinal es == q.own) && (command_of q.client q.ordinal es == q.command))))
+
+taken_places : (es : List Entry) → IsFifo es → AllByRecursion (λ t. is_taken es (place_of es t) ≡ true) (unanswered es)
+unfolding is_taken
+taken_places es fifo =
+    let taken : AllByRecursion (λ t. list_any (λ x. is_take x.kind && (has_name t.client t.ordinal x && (x.number == t.number))) es ≡ true) (takes es) =
+    All-filtered (λ t. list_any (λ x. is_take x.kind && (has_name t.client t.ordinal x && (x.number == t.number))) es ≡ true) (λ t. is_take t.kind) es
+    (All-from_get (λ t. is_take t.kind ≡ true → list_any (λ x. is_take x.kind && (has_name t.client t.ordinal x && (x.number == t.number))) es ≡ true) es (λ k t at take.
+    any_at (λ x. is_take x.kind && (has_name t.client t.ordinal x && (x.number == t.number))) es k t at
+    (and_from _ _ take (and_from _ _ (and_from _ _ (eq-eqb t.client t.client refl) (eq-eqb t.ordinal t.ordinal refl)) (eq-eqb t.number t.number refl))))) in
+    All-filtered (λ t. is_taken es (place_of es t) ≡ true) (λ t. not (is_settled t.client t.ordinal es)) (takes es)
+    (both (takes es) taken (takes_accepted es fifo))
+  where
+    both : (us : List Entry) → AllByRecursion (λ t. list_any (λ x. is_take x.kind && (has_name t.client t.ordinal x && (x.number == t.number))) es ≡ true) us → AllByRecursion (λ t. is_accepted t.client t.ordinal es ≡ true) us → AllByRecursion (λ t. not (is_settled t.client t.ordinal es) ≡ true → is_taken es (place_of es t) ≡ true) us
+    both [] a b = tt
+    both (t ∷ us) a b =
+        ((λ n. and_from _ _ a.0 (and_from _ _ n (and_from _ _ b.0 (and_from _ _ (eq-eqb (own_of t.client t.ordinal es) _ refl) (eq-eqb (command_of t.client t.ordinal es) _ refl))))), both us a.1 b.1)
+
+taken_from : (es : List Entry) (q : Place) → is_taken es q ≡ true → IsTaken es q
+unfolding is_taken
+taken_from es q h =
+    let w = and_parts _ _ h in
+    let x = and_parts _ _ w.1 in
+    let y = and_parts _ _ x.1 in
+    let z = and_parts _ _ y.1 in
+    record { taken = w.0; unsettled = not-true _ x.0; accepted = y.0; own = eqb-true _ _ z.0; command = eqb-true _ _ z.1 }
+
+-- each place of the lane's window is a take without an answer
+pub place_taken : (h : List Note) (v : Content) (i : ℕ) (q : Place) → AgreesWith h v → i < length v.window → q ≡ get_or v.window i q → IsTaken (entries_of h) q
+place_taken h v i q a within is =
+    let es = entries_of h in
+    let fifo = AtEachPrefix-whole IsFifo es a.legal.fifo in
+    let none : list_any (λ x. not (is_taken es x)) (window_after h) ≡ false =
+    any_map_none (unanswered es) (taken_places es fifo) in
+    taken_from es q (All-same (is_taken es) (window_after h) v.window a.after.window none i q within is)
+  where
+    any_map_none : (us : List Entry) → AllByRecursion (λ t. is_taken (entries_of h) (place_of (entries_of h) t) ≡ true) us → list_any (λ x. not (is_taken (entries_of h) x)) (map (place_of (entries_of h)) us) ≡ false
+    any_map_none [] all = refl
+    any_map_none (t ∷ us) all = rw (all.0, any_map_none us all.1) refl
+
+-- the answer that a response is to a place of the window
+pub place_answers : (es : List Entry) (q : Place) (e : Entry) → IsTaken es q → q.client ≡ e.client → q.ordinal ≡ e.ordinal → q.upstream ≡ e.number → is_response_to q.command e.command ≡ true → Answers es e
+place_answers es q e place c n u fits = record {
+    taken = rw (← c, ← n, ← u) place.taken;
+    first = rw (← c, ← n) place.unsettled;
+    accepted = rw (← c, ← n) place.accepted;
+    command = rw (← c, ← n, place.command) fits;
+  }
+
+pub few_named : (h : List Note) (v : Content) (c n : ℕ) → count_by (λ (x : Place). (x.client == c) && (x.ordinal == n)) v.window ≡ count_by (λ (x : Place). (x.client == c) && (x.ordinal == n)) (window_after h) → count_by (λ x. is_take x.kind && has_name c n x) (entries_of h) ≤ 1 → count_by (λ (x : Place). (x.client == c) && (x.ordinal == n)) v.window ≤ 1
+few_named h v c n same once =
+    let es = entries_of h in
+    let a : count_by (λ (x : Place). (x.client == c) && (x.ordinal == n)) (window_after h) ≡ count_by (has_name c n) (unanswered es) =
+    count_by-map (λ (x : Place). (x.client == c) && (x.ordinal == n)) (place_of es) (unanswered es) in
+    let b : count_by (has_name c n) (unanswered es) ≤ count_by (has_name c n) (takes es) =
+    count-filter-le (has_name c n) (λ t. not (is_settled t.client t.ordinal es)) (takes es) in
+    let d : count_by (has_name c n) (takes es) ≡ count_by (λ x. is_take x.kind && has_name c n x) es =
+    sym (length-filter (has_name c n) (takes es)) ∙ ap length (sym (filter-and (λ x. is_take x.kind) (has_name c n) es)) ∙ length-filter (λ x. is_take x.kind && has_name c n x) es in
+    omega (arith, same, a, b, d, once)
+
+-- the places of what is left
+pub window-settled : (h : List Note) (v : Content) (e : Entry) (q : Place) (i : ℕ) → AgreesWith h v → Settles e.kind → q.client ≡ e.client → q.ordinal ≡ e.ordinal → i < length v.window → q ≡ get_or v.window i q → SameCounts (map (place_of (entries_of h ++ e ∷ [])) (unanswered (entries_of h ++ e ∷ []))) (remove v.window i)
+window-settled h v e q i a settles of named' within is =
+    let es = entries_of h in
+    let fifo = AtEachPrefix-whole IsFifo es a.legal.fifo in
+    let named : Place → Bool = λ x. (x.client == e.client) && (x.ordinal == e.ordinal) in
+    let left = filter (λ t. not (has_name e.client e.ordinal t)) (unanswered es) in
+    let kept : map (place_of (es ++ e ∷ [])) left ≡ map (place_of es) left =
+    map_agree (place_of (es ++ e ∷ [])) (place_of es) left
+    (All-each (λ t. is_accepted t.client t.ordinal es ≡ true) (λ t. place_of (es ++ e ∷ []) t ≡ place_of es t)
+    (λ t is. rw (own_of-kept t.client t.ordinal es (e ∷ []) is, command_of-kept t.client t.ordinal es (e ∷ []) is) refl) left
+    (All-kept (λ t. is_accepted t.client t.ordinal es ≡ true) (λ t. not (has_name e.client e.ordinal t)) (unanswered es)
+    (All-kept (λ t. is_accepted t.client t.ordinal es ≡ true) (λ t. not (is_settled t.client t.ordinal es)) (takes es) (takes_accepted es fifo)))) in
+    let places : map (place_of (es ++ e ∷ [])) (unanswered (es ++ e ∷ [])) ≡ filter (λ x. not (named x)) (window_after h) =
+    ap (map (place_of (es ++ e ∷ []))) (unanswered_settled es e settles) ∙ kept ∙ sym (filter-map (λ x. not (named x)) (place_of es) (unanswered es)) in
+    let few : count_by named v.window ≤ 1 =
+    few_named h v e.client e.ordinal (a.after.window named) (a.legal.once.takes e.client e.ordinal) in
+    λ test.
+    remove_only named v.window i q within is (and_from _ _ (eq-eqb q.client e.client of) (eq-eqb q.ordinal e.ordinal named')) few test
+    ∙ count_by-filter test (λ x. not (named x)) v.window ∙ a.after.window (λ x. test x && not (named x))
+    ∙ sym (count_by-filter test (λ x. not (named x)) (window_after h)) ∙ ap (count_by test) (sym places)
+
+-- the size after a call, from what the lane keeps room for
+pub within-after : (h : List Note) (n : Note) (v : Content) → IsAfter (h ++ n ∷ []) v → KeepsRoom v → IsWithin v.limits (entries_of h ++ entry_of n ∷ [])
+within-after h n v after room =
+    let size' : size (entries_of h ++ entry_of n ∷ []) ≡ size_of v = ap size (sym (entries_of-push h n)) ∙ size_agrees (h ++ n ∷ []) v after in
+    omega (arith, size', room.size)

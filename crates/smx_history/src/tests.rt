@@ -1,0 +1,184 @@
+use super::*;
+use crate::entry::Kind::{Accept, Admit, Answer, Collect, Late, Retire, Take};
+use std::test::*;
+
+const SUBMIT_SM: u32 = 0x0000_0004;
+
+const SUBMIT_SM_RESP: u32 = 0x8000_0004;
+
+const LIMITS: Limits = Limits {
+    queue: 10,
+    window: 10,
+    client: 10,
+    history: 1_000,
+};
+
+fn entry(kind: Kind, client: u64, ordinal: u64, number: u32, command: u32) -> Entry {
+    Entry {
+        kind,
+        by: 0,
+        client,
+        ordinal,
+        number,
+        command,
+    }
+}
+
+// One client, two requests: the first answered in time and collected, the second answered late.
+fn session() -> [Entry; 9] {
+    [
+        entry(Admit, 1, 0, 0, 0),
+        entry(Accept, 1, 1, 7, SUBMIT_SM),
+        entry(Accept, 1, 2, 7, SUBMIT_SM),
+        entry(Take, 1, 1, 1, 0),
+        entry(Take, 1, 2, 2, 0),
+        entry(Answer, 1, 1, 1, SUBMIT_SM_RESP),
+        entry(Collect, 1, 1, 0, 0),
+        entry(Retire, 1, 0, 0, 0),
+        entry(Late, 1, 2, 2, SUBMIT_SM_RESP),
+    ]
+}
+
+#[test]
+fn a_number_serves_again_after_its_answer(rt: HostRuntime) {
+    let admit = entry(Admit, 1, 0, 0, 0);
+    let first = entry(Accept, 1, 1, 1, SUBMIT_SM);
+    let second = entry(Accept, 1, 2, 1, SUBMIT_SM);
+    let take_first = entry(Take, 1, 1, 1, 0);
+    let take_second = entry(Take, 1, 2, 1, 0);
+    let answer = entry(Answer, 1, 1, 1, SUBMIT_SM_RESP);
+    let after = [admit, first, take_first, answer, second, take_second];
+    let before = [admit, first, second, take_first, take_second, answer];
+    assert!(rt; is_legal(&after, LIMITS));
+    assert!(rt; !is_legal(&before, LIMITS));
+}
+
+#[test]
+fn each_spoiling_is_found(rt: HostRuntime) {
+    assert!(rt; is_legal(&[], LIMITS));
+    assert!(rt; is_legal(&session(), LIMITS));
+    // The places of two entries that change places.
+    for (a, b) in [
+        (0, 1),
+        (1, 2),
+        (1, 3),
+        (3, 4),
+        (3, 5),
+        (5, 6),
+        (6, 7),
+        (7, 8),
+    ] {
+        let mut spoiled = session();
+        (spoiled[a], spoiled[b]) = (spoiled[b], spoiled[a]);
+        assert!(rt; !is_legal(&spoiled, LIMITS), "{a} and {b}");
+    }
+    // A place, and the entry that stands there instead.
+    let instead = [
+        (0, entry(Admit, 0, 0, 0, 0)),
+        (0, entry(Admit, 1, 1, 0, 0)),
+        (
+            0,
+            Entry {
+                by: 1,
+                ..entry(Admit, 1, 0, 0, 0)
+            },
+        ),
+        (1, entry(Accept, 1, 0, 7, SUBMIT_SM)),
+        (1, entry(Accept, 1, 1, 7, SUBMIT_SM_RESP)),
+        (3, entry(Take, 1, 1, 0, 0)),
+        (3, entry(Take, 1, 1, 0x7FFF_FFFD, 0)),
+        (4, entry(Take, 1, 1, 2, 0)),
+        (5, entry(Answer, 1, 1, 3, SUBMIT_SM_RESP)),
+        (5, entry(Answer, 1, 1, 1, 0x8000_0003)),
+        (6, entry(Collect, 1, 2, 0, 0)),
+        (7, entry(Retire, 2, 0, 0, 0)),
+        (8, entry(Answer, 1, 2, 2, SUBMIT_SM_RESP)),
+        (8, entry(Accept, 1, 3, 7, SUBMIT_SM)),
+    ];
+    for (at, entry) in instead {
+        let mut spoiled = session();
+        if let Some(place) = spoiled.get_mut(at) {
+            *place = entry;
+        }
+        assert!(rt; !is_legal(&spoiled, LIMITS), "{at}: {entry:?}");
+    }
+}
+
+#[test]
+fn limits_are_kept(rt: HostRuntime) {
+    // Two requests wait in the queue, two are open in the window, and the one client has both.
+    for (limits, legal) in [
+        (
+            Limits {
+                queue: 2,
+                window: 2,
+                client: 2,
+                history: 1_000,
+            },
+            true,
+        ),
+        (
+            Limits {
+                queue: 1,
+                window: 2,
+                client: 2,
+                history: 1_000,
+            },
+            false,
+        ),
+        (
+            Limits {
+                queue: 2,
+                window: 1,
+                client: 2,
+                history: 1_000,
+            },
+            false,
+        ),
+        (
+            Limits {
+                queue: 2,
+                window: 2,
+                client: 1,
+                history: 1_000,
+            },
+            false,
+        ),
+        // Three entries, three to come of each of two requests, and the client's retire.
+        (
+            Limits {
+                queue: 2,
+                window: 2,
+                client: 2,
+                history: 10,
+            },
+            true,
+        ),
+        (
+            Limits {
+                queue: 2,
+                window: 2,
+                client: 2,
+                history: 9,
+            },
+            false,
+        ),
+    ] {
+        assert!(rt; is_legal(&session(), limits) == legal, "{limits:?}");
+    }
+}
+
+#[test]
+fn refusals_say_why(rt: HostRuntime) -> Result<(), Fail> {
+    let why = format!(in rt.alloc();
+        "{}; {}; {}",
+        AdmitRefusal::Known,
+        Refusal::ClientFull,
+        TakeRefusal::WindowFull
+    )?;
+    assert_eq!(rt;
+        why.as_str(),
+        "the client's number is not above that of every client admitted so far; the client has as many requests as it may have; the window is full"
+    );
+    Ok(())
+}
