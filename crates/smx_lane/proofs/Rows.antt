@@ -8,7 +8,7 @@ use Rattle.std.proofs.lemmas.Option.{slice_get-get_or, slice_get_past}
 use Rattle.std.proofs.lemmas.Bool.{ne_eqb, eq-eqb, eqb-true}
 use Rattle.std.proofs.Math.ListN.{get_or-map}
 use Rattle.std.proofs.lemmas.List.{map-set, length-map}
-use Rattle.smx_lane.specs.declared.lane.Row.{Row}
+use Rattle.smx_lane.specs.declared.row.Row.{Row}
 use Rattle.smx_lane.specs.Inside.{member_in}
 use Rattle.smx_history.specs.Prefixes.{RiseAbove}
 use Rattle.smx_history.specs.Contents.{Member}

@@ -1,1 +1,4 @@
+pub mod Faults
 pub mod Inside
+pub mod Members
+pub mod Roster

@@ -1,9 +1,15 @@
 //! A lane: the request queue, the window and the response boxes of one upstream bind.
 #![tactic(auto)]
 
+mod fault;
 mod lane;
+mod roster;
+mod sent;
+mod window;
 
-pub use lane::{Lane, Sent};
+pub use fault::{AdmitFault, LaneFault, NotAdmitted};
+pub use lane::Lane;
+pub use sent::Sent;
 pub use smx_history::{
     Answered, Entry, Event, Kind, Limits, Note, Place, Refusal, Request, Response, TakeRefusal,
 };

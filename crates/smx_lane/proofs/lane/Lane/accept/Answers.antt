@@ -1,5 +1,5 @@
 use Rattle.std.proofs.Common.{rules, arith, ◌≡◌, ◌≤◌, ◌<◌, ◌+◌, ◌==◌, ℕ, List, length, refl, sym, ◌∙◌, ap, Some, None, false, position, map, vec_capacity, subst, ◌++◌, ◌∷◌, []}
-use Rattle.smx_lane.specs.declared.lane.Row.{Row}
+use Rattle.smx_lane.specs.declared.row.Row.{Row}
 use Rattle.smx_history.specs.Contents.{Member, Content, AgreesWith}
 use Rattle.smx_lane.specs.Inside.{content_of, member_in}
 use Rattle.smx_history.specs.Replies.{accepted, refusal_for, accept_refusal}

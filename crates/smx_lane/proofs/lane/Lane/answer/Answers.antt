@@ -4,7 +4,7 @@ use Rattle.std.proofs.lemmas.List.Quantifiers.{position-Some}
 use Rattle.std.proofs.lemmas.Bool.{and_parts, eqb-true}
 use Rattle.smx_history.specs.declared.place.Place.{Place}
 use Rattle.smx_history.specs.declared.note.Event.TheVariants as event
-use Rattle.smx_lane.specs.declared.lane.Row.{Row}
+use Rattle.smx_lane.specs.declared.row.Row.{Row}
 use Rattle.smx_pdu.specs.Command.{is_response_to}
 use Rattle.smx_history.specs.History.{note, entry_by}
 use Rattle.smx_history.specs.Contents.{Content, Member, AgreesWith}

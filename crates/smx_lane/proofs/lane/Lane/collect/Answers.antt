@@ -2,7 +2,7 @@ use Rattle.std.proofs.Common.{rules, arith, ◌≡◌, ◌≤◌, ◌<◌, ◌+�
 use Rattle.std.proofs.lemmas.List.Quantifiers.{position-Some}
 use Rattle.std.proofs.lemmas.Bool.{eqb-true, eqb-false}
 use Rattle.std.proofs.lemmas.Option.{slice_get-get_or}
-use Rattle.smx_lane.specs.declared.lane.Row.{Row}
+use Rattle.smx_lane.specs.declared.row.Row.{Row}
 use Rattle.smx_history.specs.Contents.{Content, Member, AgreesWith}
 use Rattle.smx_lane.specs.Inside.{content_of, member_in}
 use Rattle.smx_history.specs.Replies.{member_with, collected}

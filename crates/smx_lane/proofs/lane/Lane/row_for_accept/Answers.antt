@@ -1,6 +1,6 @@
-use Rattle.std.proofs.Common.{rules, arith, ◌≡◌, ◌≤◌, ◌<◌, ◌+◌, ◌==◌, ℕ, List, length, refl, sym, ◌∙◌, ap, Some, None, false, position}
+use Rattle.std.proofs.Common.{arith, ◌==◌, sym, ◌∙◌, ap, position}
 use Rattle.smx_lane.specs.Inside.{content_of, member_in}
-use Rattle.smx_history.specs.Replies.{refusal_for, accept_refusal, has_room}
+use Rattle.smx_history.specs.Replies.{refusal_for, has_room}
 use Rattle.smx_lane.proofs.Rows.{member_at, member_none}
 use Rattle.smx_history.proofs.Refusals.{refused_client, refused_queue, refused_history, not_refused}
 use Rattle.smx_history.proofs.Members.{position-map}

@@ -1,11 +1,7 @@
-use Rattle.std.proofs.Common.{rules, arith, ◌≡◌, ◌≤◌, ◌<◌, ◌+◌, ◌==◌, ℕ, List, ◌∷◌, [], ◌++◌, drop, length, refl, sym, ◌∙◌, ap, subst, Some, None, false, position, map}
+use Rattle.std.proofs.Common.{arith, ◌≡◌, ◌==◌, drop, sym, ◌∙◌, ap, false}
 use Rattle.std.specs.List.{list_any}
 use Rattle.smx_history.specs.declared.place.Place.{Place}
-use Rattle.smx_history.specs.declared.note.Event.TheVariants.{Take}
-use Rattle.smx_history.specs.Contents.{AgreesWith, Content}
-use Rattle.smx_history.specs.History.{note}
 use Rattle.smx_lane.specs.Inside.{content_of}
-use Rattle.smx_history.specs.Replies.{taken}
 use Rattle.smx_history.proofs.Taken.{KeepsRoom-taken, front_split, remove_first}
 use Rattle.smx_history.proofs.TakeAgrees.{AgreesWith-taken}
 use Rattle.smx_lane.proofs.lane.Lane.take.Goals as goal

@@ -1,6 +1,6 @@
-use Rattle.std.proofs.Common.{rules, arith, ◌≡◌, ◌≤◌, ◌<◌, ◌+◌, ◌==◌, ℕ, length, refl, sym, ◌∙◌, ap}
+use Rattle.std.proofs.Common.{arith, sym, ◌∙◌}
 use Rattle.smx_history.proofs.Numbers.{had-le-length, had_more}
-use Rattle.smx_lane.proofs.lane.free_number.Goals as goal
+use Rattle.smx_lane.proofs.window.free_number.Goals as goal
 
 pub loop-number-init : goal.loop-number-init
 loop-number-init c = λ k low high. absurd (omega arith)

@@ -1,0 +1,70 @@
+//! Clients that come and go.
+ghost use Rattle.std.specs.Prelude.{◌≡◌, List, [], ◌∷◌, ◌++◌, OnOk, OnErr, MatchResult, IsSome, None};
+ghost use Rattle.std.specs.List.{AllByRecursion};
+ghost use Rattle.smx_history.specs.Contents.{AgreesWith};
+ghost use Rattle.smx_history.specs.History.{note};
+ghost use Rattle.smx_history.specs.declared.note.Note.{Note};
+ghost use Rattle.smx_history.specs.Replies.{admit_refusal, member_with};
+ghost use Rattle.smx_history.specs.declared.note.Event.TheVariants.{Admit, Retire};
+ghost use Rattle.smx_lane.specs.Faults.{IsAdmitFault};
+
+use super::Lane;
+use crate::fault::{AdmitFault, NotAdmitted};
+use smx_history::{Entry, Kind};
+
+impl Lane {
+    /// Admits a client, and makes its row and its box.
+    pub fn admit(&mut self, by: u64, client: u64) -> Result<(), AdmitFault>
+        ensures reply { MatchResult result (λ _. admit_refusal self.old client ≡ None) (IsAdmitFault (admit_refusal self.old client)) }
+        ensures agrees { OnOk result ((h : List Note) → AgreesWith h self.old →
+            AgreesWith (h ++ note by (Admit client) ∷ []) self.new) }
+        ensures err { OnErr result (self.new ≡ self.old) }
+        ensures limits { self.new.limits ≡ self.old.limits }
+    {
+        if client <= self.greatest {
+            return Err(AdmitFault::Known);
+        }
+        if !self.has_room() {
+            return Err(AdmitFault::HistoryFull);
+        }
+        if self.roster.add(by, client).is_err() {
+            return Err(AdmitFault::NoMemory);
+        }
+        self.greatest = client;
+        self.entries.push_reserved(Entry {
+            kind: Kind::Admit,
+            by,
+            client,
+            ordinal: 0,
+            number: 0,
+            command: 0,
+        });
+        Ok(())
+    }
+
+    /// Retires a client: its row and the responses in its box are gone. Its requests that are queued or taken stay.
+    pub fn retire(&mut self, by: u64, client: u64) -> Result<(), NotAdmitted>
+        requires { AllByRecursion (λ m. m.client ≡ client → m.by ≡ by) self.old.members }
+        ensures reply { MatchResult result
+            (λ _. IsSome (member_with client self.old.members))
+            (λ _. member_with client self.old.members ≡ None) }
+        ensures agrees { OnOk result ((h : List Note) → AgreesWith h self.old →
+            AgreesWith (h ++ note by (Retire client) ∷ []) self.new) }
+        ensures err { OnErr result (self.new ≡ self.old) }
+        ensures limits { self.new.limits ≡ self.old.limits }
+    {
+        let Some(at) = self.roster.find(client) else {
+            return Err(NotAdmitted);
+        };
+        self.roster.remove(at);
+        self.entries.push_reserved(Entry {
+            kind: Kind::Retire,
+            by,
+            client,
+            ordinal: 0,
+            number: 0,
+            command: 0,
+        });
+        Ok(())
+    }
+}

@@ -1,0 +1,91 @@
+//! Responses on their way to the clients.
+ghost use Rattle.std.specs.Prelude.{◌≡◌};
+ghost use Rattle.std.specs.List.{AllByRecursion};
+ghost use Rattle.smx_history.specs.Answering.{IsAnswered, IsCollected};
+ghost use Rattle.smx_history.specs.Replies.{response_for};
+
+use super::Lane;
+use crate::window::place_of;
+use smx_history::{Answered, Entry, Kind, Place, Response};
+use smx_pdu::Pdu;
+
+// The entry of a response to the place.
+fn settling(kind: Kind, by: u64, place: &Place, response: &Pdu) -> Entry
+    ensures { result ≡ record { kind = kind; by = by; client = place.now.client; ordinal = place.now.ordinal; number = response.now.number; command = response.now.command } }
+{
+    Entry {
+        kind,
+        by,
+        client: place.client,
+        ordinal: place.ordinal,
+        number: response.number,
+        command: response.command,
+    }
+}
+
+// A response as the client of the place sees it.
+fn facing(place: &Place, response: Pdu) -> Response
+    ensures { result ≡ response_for place.now response }
+{
+    let Pdu {
+        command,
+        status,
+        number: _,
+        body,
+    } = response;
+    Response {
+        ordinal: place.ordinal,
+        pdu: Pdu {
+            command,
+            status,
+            number: place.own,
+            body,
+        },
+    }
+}
+
+impl Lane {
+    /// Settles the place that a response answers, and puts the response into its client's box.
+    pub fn answer(&mut self, by: u64, response: Pdu) -> Answered
+        ensures answered { IsAnswered self.old by response result self.new }
+        ensures limits { self.new.limits ≡ self.old.limits }
+    {
+        let Some(at) = place_of(self.window.as_slice(), response.number, response.command) else {
+            return Answered::Unknown(response);
+        };
+        let place = self.window[at];
+        self.window.remove(at);
+        let client = place.client;
+        let Some(row) = self.roster.find(client) else {
+            self.entries
+                .push_reserved(settling(Kind::Late, by, &place, &response));
+            return Answered::Late;
+        };
+        self.entries
+            .push_reserved(settling(Kind::Answer, by, &place, &response));
+        self.roster.put(row, facing(&place, response));
+        Answered::Queued { client }
+    }
+
+    /// Takes the client's oldest response out of its box. It bears the client's own number.
+    pub fn collect(&mut self, by: u64, client: u64) -> Option<Pdu>
+        requires { AllByRecursion (λ m. m.client ≡ client → m.by ≡ by) self.old.members }
+        ensures collected { IsCollected self.old by client result self.new }
+        ensures limits { self.new.limits ≡ self.old.limits }
+    {
+        let at = self.roster.find(client)?;
+        if self.roster.is_box_empty(at) {
+            return None;
+        }
+        let response = self.roster.get(at);
+        self.entries.push_reserved(Entry {
+            kind: Kind::Collect,
+            by,
+            client,
+            ordinal: response.ordinal,
+            number: 0,
+            command: 0,
+        });
+        Some(response.pdu)
+    }
+}
