@@ -1,5 +1,5 @@
 -- What the fields of a roster show, and what they keep.
-use Rattle.std.specs.Prelude.{◌≡◌, ℕ, List, map}
+use Rattle.std.specs.Prelude.{◌≡◌, map}
 use Rattle.std.specs.List.{AllByRecursion}
 use Rattle.smx_lane.specs.declared.roster.Row.{Row}
 use Rattle.smx_lane.specs.declared.roster.Roster.TheInside.{Inside}
