@@ -1,5 +1,5 @@
 -- Rows by their index, as the members show them.
-use Rattle.std.proofs.Common.{◌≡◌, ◌<◌, ◌≤◌, ◌+◌, ℕ, Bool, true, false, cond, not, List, [], ◌∷◌, length, map, filter, drop, get_or, set, refl, sym, ◌∙◌, ap, subst, arith, Option, Some, None, slice_get, ◌==◌, zero, suc, sum_by}
+use Rattle.std.proofs.Common.{◌≡◌, ◌<◌, ◌≤◌, ◌+◌, ℕ, true, false, not, List, [], ◌∷◌, length, map, drop, get_or, set, refl, sym, ◌∙◌, ap, arith, Some, slice_get, ◌==◌, zero, suc, sum_by}
 use Rattle.std.specs.List.{AllByRecursion, remove}
 use Rattle.std.proofs.lemmas.Option.{slice_get_within, get_or_from_slice_get, slice_get-get_or}
 use Rattle.std.proofs.lemmas.Bool.{ne_eqb, eq-eqb}
@@ -57,7 +57,7 @@ KeepsRows-changed a b f i row new m keeps same is at change places same_places i
     let s = sum_by-set (λ (r : Row). length r.waiting.items) rows i new row within in
     let e : length row.waiting.items ≡ length (get_or rows i row).waiting.items = ap (λ (r : Row). length r.waiting.items) is in
     let sums : waiting_of (map member_in (set rows i new)) + length row.waiting.items ≡ waiting_of (map member_in rows) + length new.waiting.items =
-      omega (arith, s, e, waiting_rows rows, waiting_rows (set rows i new)) in
+    omega (arith, s, e, waiting_rows rows, waiting_rows (set rows i new)) in
     let ms = changed_row f rows i row new m is at keeps.clients change in
     record {
       boxes = rw (items, same_places) (All-set_row (box a.places) rows i new (places ∙ old) keeps.boxes);

@@ -1,6 +1,5 @@
 -- What a search by the client's number finds among the rows.
-use Rattle.std.proofs.Common.{◌≡◌, ℕ, ◌+◌, ◌-◌, ◌<◌, ◌≤◌, ◌==◌, List, [], ◌∷◌, length, map, get_or, slice_get, Option, Some, None, Result, Ok, Err, MatchOption, MatchResult, refl, sym, ap, ◌∙◌, subst, arith, false, true, suc, zero, inl, inr}
-use Rattle.std.specs.List.{find}
+use Rattle.std.proofs.Common.{◌≡◌, ℕ, ◌<◌, ◌≤◌, ◌==◌, List, [], ◌∷◌, length, map, get_or, slice_get, Some, None, Result, Ok, Err, MatchOption, refl, sym, ap, ◌∙◌, subst, arith, false, true, suc, zero, inl, inr}
 use Rattle.std.specs.Result.{result_ok}
 use Rattle.std.specs.List.Sorted.{IsSearchInRange, IsBinarySearchResult, IsNonDecreasingBy}
 use Rattle.std.specs.Ordering.{nat_cmp, ordering_index}
@@ -74,19 +73,21 @@ module _ (rows : List Row) (rise : RiseAbove 0 (map (λ m. m.client) (map member
       let row = here.0 in
       let there : get_or rows i row ≡ row = get_or_from_slice_get rows i row row here.1 in
       let at : slice_get (map member_in rows) i ≡ Some (member_in row) =
-        slice_get-get_or (map member_in rows) i (member_in row) (omega (arith, length-map rows member_in, in_range)) ∙ ap Some (get_or-map member_in rows i row ∙ ap member_in there) in
+      slice_get-get_or (map member_in rows) i (member_in row) (omega (arith, length-map rows member_in, in_range)) ∙ ap Some (get_or-map member_in rows i row ∙ ap member_in there) in
       let is : (get_or rows i row).client ≡ k = ranked _ k _ (sym (equal row)) in
-      let is' : row.client ≡ k = sym (ap (λ (r : Row). r.client) there) ∙ is in
-      (member_in row, record {
-        at = at;
-        found = subst (λ (n : ℕ). member_with n (map member_in rows) ≡ Some (member_in row)) is' (found_there (map member_in rows) 0 i (member_in row) rise at);
-        client_is = is';
-      })
+      let is' : row.client ≡ k = sym (ap (λ (r : Row). r.client) there) ∙ is in (
+        member_in row,
+        record {
+          at = at;
+          found = subst (λ (n : ℕ). member_with n (map member_in rows) ≡ Some (member_in row)) is' (found_there (map member_in rows) 0 i (member_in row) rise at);
+          client_is = is';
+        },
+      )
   searched (Err i) in_range parted = not_found (map member_in rows) k (λ j m at is.
       let within : j < length rows = omega (arith, slice_get_within (map member_in rows) j m at, length-map rows member_in) in
       let d = (element rows j within).0 in
       let same = row_within j m at d in
       elim (cases_lt j i) [
-        inl before ↦ let below : (get_or rows j d).client < k = ranked _ k _ (sym ((parted comparisons_rise).0 j d (omega arith) before)) in omega (arith, below, same, is)
+        | inl before ↦ let below : (get_or rows j d).client < k = ranked _ k _ (sym ((parted comparisons_rise).0 j d (omega arith) before)) in omega (arith, below, same, is)
         | inr after ↦ let above : k < (get_or rows j d).client = ranked _ k _ (sym ((parted comparisons_rise).1 j d after within)) in omega (arith, above, same, is)
       ])

@@ -6,13 +6,13 @@ use Rattle.smx_history.specs.Room.{KeepsRoom}
 
 abbrev pub content_of : Inside → Content
 content_of a = record {
-    limits = a.limits;
-    queue = a.queue.items;
-    window = a.window.items;
-    members = a.roster.members;
-    greatest = a.greatest;
-    entries = a.entries.items;
-  }
+  limits = a.limits;
+  queue = a.queue.items;
+  window = a.window.items;
+  members = a.roster.members;
+  greatest = a.greatest;
+  entries = a.entries.items;
+}
 
 pub record Holds (a : Inside) : Type 0 where
   pub room : KeepsRoom (content_of a)

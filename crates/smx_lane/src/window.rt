@@ -16,9 +16,7 @@ fn fits(request: u32, command: u32) -> bool
 pub(crate) fn place_of(window: &[Place], number: u32, command: u32) -> Option<usize>
     ensures { result ≡ position (λ q. (q.upstream == number) && is_response_to q.command command) window.now }
 {
-    window
-        .iter()
-        .position(|place| place.upstream == number && fits(place.command, command))
+    window.iter().position(|place| place.upstream == number && fits(place.command, command))
 }
 
 // Whether a place has the number.

@@ -11,6 +11,7 @@ ghost use Rattle.smx_lane.specs.Faults.{IsAdmitFault};
 use super::Lane;
 use crate::fault::{AdmitFault, NotAdmitted};
 use smx_history::{Entry, Kind};
+use std::alloc::AllocError;
 
 impl Lane {
     /// Admits a client, and makes its row and its box.
@@ -27,8 +28,9 @@ impl Lane {
         if !self.has_room() {
             return Err(AdmitFault::HistoryFull);
         }
-        if self.roster.add(by, client).is_err() {
-            return Err(AdmitFault::NoMemory);
+        match self.roster.add(by, client) {
+            Ok(()) => {}
+            Err(AllocError) => return Err(AdmitFault::NoMemory),
         }
         self.greatest = client;
         self.entries.push_reserved(Entry {

@@ -1,7 +1,6 @@
-use Rattle.std.proofs.Common.{◌≡◌, ℕ, List, Option, Some, None, Result, Ok, Err, MatchOption, length, map, refl, sym, ap, ◌∙◌, arith, rules}
+use Rattle.std.proofs.Common.{rules}
 use Rattle.std.proofs.lemmas.List.Sorted.{answers_always}
 use Rattle.smx_lane.specs.declared.roster.Row.{Row}
-use Rattle.smx_lane.specs.Roster.{member_in}
 use Rattle.smx_lane.proofs.Searching.{searched}
 use Rattle.smx_lane.proofs.roster.Roster.find.Goals as goal
 

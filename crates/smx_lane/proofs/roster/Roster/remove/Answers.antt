@@ -1,8 +1,6 @@
-use Rattle.std.proofs.Common.{◌≡◌, ◌<◌, ◌≤◌, ◌+◌, ◌-◌, ◌==◌, ℕ, List, [], ◌∷◌, ◌++◌, length, map, drop, get_or, refl, sym, ◌∙◌, ap, subst, arith, Option, Some, None, slice_get}
-use Rattle.smx_history.specs.Contents.{Member}
-use Rattle.smx_lane.specs.declared.roster.Row.{Row}
+use Rattle.std.proofs.Common.{◌<◌, length, refl, arith}
 use Rattle.smx_lane.specs.Roster.{member_in}
-use Rattle.smx_lane.proofs.Rows.{row_shows, changed_row, row_waits, waiting_rows, KeepsRows-changed, KeepsRows-removed, removed_row, front_is}
+use Rattle.smx_lane.proofs.Rows.{row_waits, KeepsRows-removed, removed_row}
 use Rattle.std.proofs.lemmas.List.{length-map}
 use Rattle.smx_lane.proofs.roster.Roster.remove.Goals as goal
 
