@@ -8,15 +8,23 @@ use drive::Driver;
 
 const CALLS: u32 = 10_000;
 
+#[derive(Clone, Copy, Debug, thiserror::Error)]
+enum Difference {
+    #[error("call {0} differs")]
+    Call(u32),
+    #[error("the history is not legal")]
+    Legal,
+}
+
 fn main(rt: HostRuntime) -> anyhow::Result<()> {
     let mut driver = Driver::new(rt.alloc())?;
     for call in 0..CALLS {
         if !driver.step()? {
-            anyhow::bail!(in rt.alloc(); "call {call} differs");
+            return Err(Difference::Call(call).into());
         }
     }
     if !driver.is_legal() {
-        anyhow::bail!(in rt.alloc(); "the history is not legal");
+        return Err(Difference::Legal.into());
     }
     println!(rt; "{CALLS} calls agree")?;
     Ok(())
