@@ -3,6 +3,8 @@
 #![tactic(auto)]
 
 mod figures;
+mod frame;
+mod lane;
 mod lock;
 
 use std::env;
@@ -10,12 +12,16 @@ use std::env;
 const USAGE: &str = "usage: smx_bench WORD
 
 lock    the ticket lock, alone and among threads, beside the toolchain's Mutex
+lane    rounds of accept, take, answer and collect on one lane
+frame   PDUs from a stream in pieces of four sizes
 ";
 
 fn main(rt: HostRuntime) -> anyhow::Result<()> {
     let word = env::args(&rt)?.nth(1);
     match word.as_deref() {
         Some("lock") => lock::run(&rt),
+        Some("lane") => lane::run(&rt),
+        Some("frame") => frame::run(&rt),
         _ => Ok(print!(rt; "{USAGE}")?),
     }
 }

@@ -5,6 +5,8 @@ mod fault;
 mod lane;
 mod roster;
 mod sent;
+#[cfg(test)]
+mod tests;
 mod window;
 
 pub use fault::{AdmitFault, LaneFault, NotAdmitted};

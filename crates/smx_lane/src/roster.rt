@@ -88,6 +88,22 @@ impl Roster {
         self.rows[at].pending
     }
 
+    // Who admitted the client at the index.
+    pub(crate) fn by(&self, at: usize) -> u64
+        requires { at < length self.now.members }
+        ensures { (m : Member) → slice_get self.now.members at ≡ Some m → result ≡ m.by }
+    {
+        self.rows[at].by
+    }
+
+    // The ordinal of the last accept of the client at the index, or 0.
+    pub(crate) fn last(&self, at: usize) -> u64
+        requires { at < length self.now.members }
+        ensures { (m : Member) → slice_get self.now.members at ≡ Some m → result ≡ m.last }
+    {
+        self.rows[at].last
+    }
+
     // Whether the box of the client at the index is empty.
     pub(crate) fn is_box_empty(&self, at: usize) -> bool
         requires { at < length self.now.members }

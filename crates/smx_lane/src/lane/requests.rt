@@ -1,10 +1,10 @@
 //! Requests on their way upstream.
-ghost use Rattle.std.specs.Prelude.{◌≡◌, ◌<◌, List, [], ◌∷◌, ◌++◌, slice_get, IfOk, IfErr, OnOk, OnErr, MatchResult, Some, None};
-ghost use Rattle.std.specs.List.{AllByRecursion};
+ghost use Rattle.std.specs.Prelude.{◌≡◌, List, [], ◌∷◌, ◌++◌, slice_get, IfOk, IfErr, OnOk, OnErr, MatchResult, Some, None};
 ghost use Rattle.smx_history.specs.Contents.{AgreesWith, Member};
 ghost use Rattle.smx_history.specs.History.{note};
 ghost use Rattle.smx_history.specs.declared.note.Note.{Note};
 ghost use Rattle.smx_history.specs.Replies.{accept_refusal, take_refusal};
+ghost use Rattle.smx_lane.specs.Conditions.{IsNext};
 ghost use Rattle.smx_lane.specs.Members.{IsRowOf};
 ghost use Rattle.smx_history.specs.declared.note.Event.TheVariants.{Accept, Take};
 
@@ -37,7 +37,7 @@ impl Lane {
 
     /// Accepts a request into the queue, or hands it back.
     pub fn accept(&mut self, by: u64, request: Request) -> Result<(), (Request, Refusal)>
-        requires { AllByRecursion (λ m. m.client ≡ request.client → (m.last < request.ordinal) × (m.by ≡ by)) self.old.members }
+        requires { IsNext self.old by request.client request.ordinal }
         ensures reply { MatchResult result
             (λ _. accept_refusal self.old request.client ≡ None)
             (λ e. (e.0 ≡ request) × (accept_refusal self.old request.client ≡ Some e.1)) }

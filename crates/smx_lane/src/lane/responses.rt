@@ -1,6 +1,6 @@
 //! Responses on their way to the clients.
 ghost use Rattle.std.specs.Prelude.{◌≡◌};
-ghost use Rattle.std.specs.List.{AllByRecursion};
+ghost use Rattle.smx_lane.specs.Conditions.{IsOwn};
 ghost use Rattle.smx_history.specs.Answering.{IsAnswered, IsCollected};
 ghost use Rattle.smx_history.specs.Replies.{response_for};
 
@@ -69,7 +69,7 @@ impl Lane {
 
     /// Takes the client's oldest response out of its box. It bears the client's own number.
     pub fn collect(&mut self, by: u64, client: u64) -> Option<Pdu>
-        requires { AllByRecursion (λ m. m.client ≡ client → m.by ≡ by) self.old.members }
+        requires { IsOwn self.old by client }
         ensures collected { IsCollected self.old by client result self.new }
         ensures limits { self.new.limits ≡ self.old.limits }
     {

@@ -1,0 +1,136 @@
+ghost use Rattle.std.specs.Prelude.{◌≡◌};
+
+use super::*;
+use smx_pdu::{Body, Pdu};
+use std::alloc::Global;
+use std::test::Fail;
+
+const ROOMY: Limits = Limits {
+    queue: 10,
+    window: 10,
+    client: 10,
+    history: 1_000,
+};
+
+// A submit_sm that its client calls 7.
+fn submit(alloc: Global, client: u64, ordinal: u64) -> Request
+    ensures client { result.client ≡ client }
+    ensures ordinal { result.ordinal ≡ ordinal }
+{
+    Request {
+        client,
+        ordinal,
+        own: 7,
+        command: 0x0000_0004,
+        body: Body::empty(alloc),
+    }
+}
+
+// The submit_sm_resp to what went upstream under the number.
+fn submitted(alloc: Global, number: u32) -> Pdu {
+    Pdu {
+        command: 0x8000_0004,
+        status: 0,
+        number,
+        body: Body::empty(alloc),
+    }
+}
+
+#[test]
+fn limits_have_ranges(rt: HostRuntime) -> Result<(), Fail> {
+    let wide = Limits {
+        window: 1_025,
+        ..ROOMY
+    };
+    assert_eq!(rt;
+        Lane::new(rt.alloc(), wide).err(),
+        Some(LaneFault::BadLimits)
+    );
+    assert_eq!(rt; Lane::new(rt.alloc(), ROOMY)?.limits(), ROOMY);
+    Ok(())
+}
+
+#[test]
+fn client_is_full_before_the_queue(rt: HostRuntime) -> Result<(), Fail> {
+    let tight = Limits {
+        queue: 1,
+        window: 1,
+        client: 1,
+        history: 1_000,
+    };
+    let mut lane = Lane::new(rt.alloc(), tight)?;
+    lane.admit(0, 1)?;
+    assert!(rt; lane.is_next(0, 1, 1));
+    assert!(rt; lane.accept(0, submit(rt.alloc(), 1, 1)).is_ok());
+    assert!(rt; lane.is_next(0, 1, 2));
+    let refused = lane.accept(0, submit(rt.alloc(), 1, 2));
+    assert!(rt; matches!(refused, Err((_, Refusal::ClientFull))));
+    Ok(())
+}
+
+#[test]
+fn rounds_fill_the_history(rt: HostRuntime) -> Result<(), Fail> {
+    let mut lane = Lane::new(rt.alloc(), ROOMY)?;
+    lane.admit(0, 1)?;
+    for ordinal in 1..=249 {
+        assert!(rt; lane.is_next(0, 1, ordinal));
+        assert!(rt; lane.accept(0, submit(rt.alloc(), 1, ordinal)).is_ok());
+        let Ok(sent) = lane.take(0) else {
+            return Ok(assert!(rt; false, "nothing to take at {ordinal}"));
+        };
+        let answered = lane.answer(0, submitted(rt.alloc(), sent.upstream));
+        assert!(rt; matches!(answered, Answered::Queued { client: 1 }));
+        assert!(rt; lane.is_own(0, 1));
+        assert_eq!(rt; lane.collect(0, 1).map(|pdu| pdu.number), Some(7));
+    }
+    assert!(rt; lane.is_next(0, 1, 250));
+    let refused = lane.accept(0, submit(rt.alloc(), 1, 250));
+    assert!(rt; matches!(refused, Err((_, Refusal::HistoryFull))));
+    assert!(rt; lane.is_own(0, 1));
+    assert_eq!(rt; lane.retire(0, 1), Ok(()));
+    assert_eq!(rt; lane.entries().len(), 998);
+    assert_eq!(rt;
+        lane.last_entry().map(|entry| entry.kind),
+        Some(Kind::Retire)
+    );
+    Ok(())
+}
+
+#[test]
+fn clients_fill_the_history(rt: HostRuntime) -> Result<(), Fail> {
+    let mut lane = Lane::new(rt.alloc(), ROOMY)?;
+    for client in 1..=499 {
+        assert_eq!(rt; lane.admit(0, client), Ok(()));
+    }
+    assert_eq!(rt; lane.admit(0, 500), Err(AdmitFault::HistoryFull));
+    Ok(())
+}
+
+#[test]
+fn numbers_rise(rt: HostRuntime) -> Result<(), Fail> {
+    let mut lane = Lane::new(rt.alloc(), ROOMY)?;
+    assert_eq!(rt; lane.admit(0, 5), Ok(()));
+    assert_eq!(rt; lane.admit(0, 5), Err(AdmitFault::Known));
+    assert_eq!(rt; lane.admit(0, 4), Err(AdmitFault::Known));
+    assert_eq!(rt; lane.entries().len(), 1);
+    Ok(())
+}
+
+#[test]
+fn retired_clients_get_nothing(rt: HostRuntime) -> Result<(), Fail> {
+    let mut lane = Lane::new(rt.alloc(), ROOMY)?;
+    lane.admit(0, 1)?;
+    assert!(rt; lane.is_next(0, 1, 1));
+    assert!(rt; lane.accept(0, submit(rt.alloc(), 1, 1)).is_ok());
+    assert!(rt; lane.is_own(0, 1));
+    assert_eq!(rt; lane.retire(0, 1), Ok(()));
+    assert!(rt; lane.is_own(0, 1));
+    assert_eq!(rt; lane.retire(0, 1), Err(NotAdmitted));
+    assert!(rt; matches!(lane.take(0), Ok(Sent { upstream: 1, .. })));
+    let stray = lane.answer(0, submitted(rt.alloc(), 2));
+    assert!(rt; matches!(stray, Answered::Unknown(_)));
+    assert!(rt; matches!(lane.answer(0, submitted(rt.alloc(), 1)), Answered::Late));
+    assert!(rt; lane.is_own(0, 1));
+    assert!(rt; lane.collect(0, 1).is_none());
+    Ok(())
+}

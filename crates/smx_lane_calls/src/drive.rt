@@ -1,0 +1,239 @@
+//! Calls drawn by chance, made on a lane and on the model.
+
+use crate::model::Model;
+use rand_core::utils::NextWord;
+use rand_pcg::Pcg32;
+use smx_lane::{Answered, Entry, Kind, Lane, LaneFault, Limits, Request};
+use smx_pdu::{Body, Pdu};
+use std::alloc::{AllocError, Global};
+
+const LIMITS: Limits = Limits {
+    queue: 6,
+    window: 4,
+    client: 3,
+    history: 1_000,
+};
+
+/// A lane and the model beside it.
+#[derive(Drop)]
+pub struct Driver {
+    alloc: Global,
+    chance: Pcg32,
+    lane: Lane,
+    model: Model,
+}
+
+// One octet that tells requests and responses apart.
+fn octet(number: u64) -> u8 {
+    (number % 251) as u8
+}
+
+fn body(alloc: Global, number: u64) -> Result<Body, AllocError> {
+    let mut octets = Vec::with_capacity(alloc, 1)?;
+    octets.push(octet(number))?;
+    Body::new(octets).map_err(|_| AllocError)
+}
+
+// Whether the body is the one octet of the number.
+fn tells(body: &Body, number: u64) -> bool {
+    body.as_slice() == [octet(number)].as_slice()
+}
+
+fn entry(kind: Kind, by: u64, client: u64, ordinal: u64) -> Entry {
+    Entry {
+        kind,
+        by,
+        client,
+        ordinal,
+        number: 0,
+        command: 0,
+    }
+}
+
+impl Driver {
+    pub fn new(alloc: Global) -> Result<Driver, LaneFault> {
+        Ok(Driver {
+            alloc,
+            chance: Pcg32::new(42, 54),
+            lane: Lane::new(alloc, LIMITS)?,
+            model: Model::new(alloc, LIMITS),
+        })
+    }
+
+    // A number below `end`.
+    fn below(&mut self, end: u32) -> u32 {
+        self.chance.next_word().checked_rem(end).unwrap_or(0)
+    }
+
+    // A client that may be there, and who admitted it.
+    fn client(&mut self) -> (u64, u64) {
+        let back = u64::from(self.below(4));
+        let client = self.model.greatest().saturating_sub(back);
+        (client % 3, client)
+    }
+
+    /// Makes one call, and says whether lane and model agree.
+    pub fn step(&mut self) -> Result<bool, AllocError> {
+        let (by, client) = self.client();
+        let same = match self.below(40) {
+            0..=1 => self.admit()?,
+            2..=13 => self.accept(by, client)?,
+            14..=22 => self.take(by)?,
+            23..=30 => self.answer(by)?,
+            31..=38 => self.collect(by, client)?,
+            _ => self.retire(by, client)?,
+        };
+        Ok(same && self.lane.entries() == self.model.entries())
+    }
+
+    /// Whether the check of a finished history finds this one legal.
+    pub fn is_legal(&self) -> bool {
+        smx_history::is_legal(self.lane.entries(), LIMITS)
+    }
+
+    // Begins anew where the history is full, and says whether the old one was legal.
+    fn begin(&mut self) -> Result<bool, AllocError> {
+        let legal = self.is_legal();
+        self.lane = Lane::new(self.alloc, LIMITS).map_err(|_| AllocError)?;
+        self.model = Model::new(self.alloc, LIMITS);
+        Ok(legal)
+    }
+
+    fn admit(&mut self) -> Result<bool, AllocError> {
+        let client = self.model.greatest().saturating_add(u64::from(self.below(3)));
+        let by = client % 3;
+        let refusal = self.model.admit_refusal(client);
+        let answer = self.lane.admit(by, client);
+        if answer.is_ok() {
+            self.model.note(entry(Kind::Admit, by, client, 0))?;
+        }
+        Ok(answer.err() == refusal)
+    }
+
+    fn accept(&mut self, by: u64, client: u64) -> Result<bool, AllocError> {
+        let skipped = u64::from(self.below(2));
+        let ordinal = self.model.last(client).saturating_add(1).saturating_add(skipped);
+        let own = self.below(100);
+        let command = if self.below(2) == 0 { 0x0000_0004 } else { 0x0000_0103 };
+        let refusal = self.model.accept_refusal(client);
+        let request = Request {
+            client,
+            ordinal,
+            own,
+            command,
+            body: body(self.alloc, ordinal)?,
+        };
+        if !self.lane.is_next(by, client, ordinal) {
+            return Ok(false);
+        }
+        let full = match self.lane.accept(by, request) {
+            Ok(()) => {
+                self.model.note(Entry {
+                    number: own,
+                    command,
+                    ..entry(Kind::Accept, by, client, ordinal)
+                })?;
+                return Ok(refusal.is_none());
+            }
+            Err((request, fault)) => {
+                if refusal != Some(fault) || !tells(&request.body, ordinal) {
+                    return Ok(false);
+                }
+                fault == smx_lane::Refusal::HistoryFull
+            }
+        };
+        if full && self.below(8) == 0 {
+            return self.begin();
+        }
+        Ok(true)
+    }
+
+    fn take(&mut self, by: u64) -> Result<bool, AllocError> {
+        match (self.lane.take(by), self.model.next_taken()) {
+            (Ok(sent), Ok(accept)) => {
+                let request = &sent.request;
+                let same = request.client == accept.client
+                    && request.ordinal == accept.ordinal
+                    && request.own == accept.number
+                    && request.command == accept.command
+                    && tells(&request.body, accept.ordinal);
+                let is_free = self.model.answered(sent.upstream, 0x8000_0000).is_none();
+                self.model.note(Entry {
+                    number: sent.upstream,
+                    ..entry(Kind::Take, by, accept.client, accept.ordinal)
+                })?;
+                Ok(same && is_free)
+            }
+            (Err(fault), Err(refusal)) => Ok(fault == refusal),
+            _ => Ok(false),
+        }
+    }
+
+    fn answer(&mut self, by: u64) -> Result<bool, AllocError> {
+        let number = self.below(6);
+        let command = match self.below(5) {
+            0 => 0x8000_0000,
+            1 | 2 => 0x8000_0103,
+            _ => 0x8000_0004,
+        };
+        let accept = self.model.answered(number, command);
+        let told = accept.map_or(0, |accept| accept.ordinal);
+        let response = Pdu {
+            command,
+            status: self.below(2),
+            number,
+            body: body(self.alloc, told)?,
+        };
+        let answered = self.lane.answer(by, response);
+        let Some(accept) = accept else {
+            return Ok(match answered {
+                Answered::Unknown(back) => back.number == number && tells(&back.body, told),
+                _ => false,
+            });
+        };
+        let (kind, same) = match answered {
+            Answered::Queued { client } => (
+                Kind::Answer,
+                client == accept.client && self.model.is_present(client),
+            ),
+            Answered::Late => (Kind::Late, !self.model.is_present(accept.client)),
+            Answered::Unknown(_) => return Ok(false),
+        };
+        self.model.note(Entry {
+            number,
+            command,
+            ..entry(kind, by, accept.client, accept.ordinal)
+        })?;
+        Ok(same)
+    }
+
+    fn collect(&mut self, by: u64, client: u64) -> Result<bool, AllocError> {
+        if !self.lane.is_own(by, client) {
+            return Ok(false);
+        }
+        match (self.lane.collect(by, client), self.model.oldest_answer(client)) {
+            (Some(pdu), Some(answer)) => {
+                let same = pdu.command == answer.command
+                    && pdu.number == self.model.own(client, answer.ordinal)
+                    && tells(&pdu.body, answer.ordinal);
+                self.model
+                    .note(entry(Kind::Collect, by, client, answer.ordinal))?;
+                Ok(same)
+            }
+            (None, None) => Ok(true),
+            _ => Ok(false),
+        }
+    }
+
+    fn retire(&mut self, by: u64, client: u64) -> Result<bool, AllocError> {
+        if !self.lane.is_own(by, client) {
+            return Ok(false);
+        }
+        let is_present = self.model.is_present(client);
+        let retired = self.lane.retire(by, client).is_ok();
+        if retired {
+            self.model.note(entry(Kind::Retire, by, client, 0))?;
+        }
+        Ok(retired == is_present)
+    }
+}

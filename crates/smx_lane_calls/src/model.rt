@@ -1,0 +1,201 @@
+//! The slow model: a list of entries, read anew at each call.
+
+use smx_lane::{AdmitFault, Entry, Kind, Limits, Refusal, TakeRefusal};
+use std::alloc::{AllocError, Global};
+
+/// What a lane stores after its calls, and nothing else.
+#[derive(Drop)]
+pub struct Model {
+    limits: Limits,
+    entries: Vec<Entry>,
+}
+
+// How many entries are of the kind.
+fn of_kind(entries: &[Entry], kind: Kind) -> usize {
+    entries.iter().filter(|entry| entry.kind == kind).count()
+}
+
+// How many entries of the client are of the kind.
+fn of_client(entries: &[Entry], kind: Kind, client: u64) -> usize {
+    entries
+        .iter()
+        .filter(|entry| entry.kind == kind && entry.client == client)
+        .count()
+}
+
+// The accept of the request with that name.
+fn accept_of(entries: &[Entry], client: u64, ordinal: u64) -> Option<&Entry> {
+    entries.iter().find(|entry| {
+        entry.kind == Kind::Accept && entry.client == client && entry.ordinal == ordinal
+    })
+}
+
+// Whether an answer to the request came, in time or late.
+fn is_settled(entries: &[Entry], client: u64, ordinal: u64) -> bool {
+    entries.iter().any(|entry| {
+        (entry.kind == Kind::Answer || entry.kind == Kind::Late)
+            && entry.client == client
+            && entry.ordinal == ordinal
+    })
+}
+
+// How many takes have no answer.
+fn open(entries: &[Entry]) -> usize {
+    entries
+        .iter()
+        .filter(|entry| {
+            entry.kind == Kind::Take && !is_settled(entries, entry.client, entry.ordinal)
+        })
+        .count()
+}
+
+// How many responses wait for the client.
+fn waiting(entries: &[Entry], client: u64) -> usize {
+    of_client(entries, Kind::Answer, client)
+        .saturating_sub(of_client(entries, Kind::Collect, client))
+}
+
+impl Model {
+    pub fn new(alloc: Global, limits: Limits) -> Model {
+        Model {
+            limits,
+            entries: Vec::new(alloc),
+        }
+    }
+
+    pub fn entries(&self) -> &[Entry] {
+        self.entries.as_slice()
+    }
+
+    /// Stores what happened.
+    pub fn note(&mut self, entry: Entry) -> Result<(), AllocError> {
+        Ok(self.entries.push(entry)?)
+    }
+
+    /// The greatest number of a client that was admitted.
+    pub fn greatest(&self) -> u64 {
+        self.entries
+            .iter()
+            .filter(|entry| entry.kind == Kind::Admit)
+            .last()
+            .map_or(0, |entry| entry.client)
+    }
+
+    /// Whether the client was admitted and has not retired.
+    pub fn is_present(&self, client: u64) -> bool {
+        of_client(self.entries(), Kind::Admit, client) == 1
+            && of_client(self.entries(), Kind::Retire, client) == 0
+    }
+
+    /// The ordinal of the client's last accept.
+    pub fn last(&self, client: u64) -> u64 {
+        self.entries
+            .iter()
+            .filter(|entry| entry.kind == Kind::Accept && entry.client == client)
+            .last()
+            .map_or(0, |entry| entry.ordinal)
+    }
+
+    // How many responses wait for clients that are present, and how many of these there are.
+    fn present(&self) -> (usize, usize) {
+        let mut all = (0_usize, 0_usize);
+        for entry in self.entries.iter() {
+            if entry.kind == Kind::Admit && self.is_present(entry.client) {
+                all.0 = all.0.saturating_add(waiting(self.entries(), entry.client));
+                all.1 = all.1.saturating_add(1);
+            }
+        }
+        all
+    }
+
+    // Whether one more accept or admit fits.
+    fn has_room(&self) -> bool {
+        let queued =
+            of_kind(self.entries(), Kind::Accept).saturating_sub(of_kind(self.entries(), Kind::Take));
+        let (waiting, present) = self.present();
+        let used = self
+            .entries
+            .len()
+            .saturating_add(queued.saturating_mul(3))
+            .saturating_add(open(self.entries()).saturating_mul(2))
+            .saturating_add(waiting)
+            .saturating_add(present);
+        used.saturating_add(4) <= self.limits.history as usize
+    }
+
+    /// Why the client is not admitted.
+    pub fn admit_refusal(&self, client: u64) -> Option<AdmitFault> {
+        if client <= self.greatest() {
+            Some(AdmitFault::Known)
+        } else if !self.has_room() {
+            Some(AdmitFault::HistoryFull)
+        } else {
+            None
+        }
+    }
+
+    /// Why a request of the client is not accepted.
+    pub fn accept_refusal(&self, client: u64) -> Option<Refusal> {
+        let pending = of_client(self.entries(), Kind::Accept, client)
+            .saturating_sub(of_client(self.entries(), Kind::Collect, client));
+        let queued =
+            of_kind(self.entries(), Kind::Accept).saturating_sub(of_kind(self.entries(), Kind::Take));
+        if !self.is_present(client) {
+            Some(Refusal::NotAdmitted)
+        } else if pending >= self.limits.client as usize {
+            Some(Refusal::ClientFull)
+        } else if queued >= self.limits.queue as usize {
+            Some(Refusal::QueueFull)
+        } else if !self.has_room() {
+            Some(Refusal::HistoryFull)
+        } else {
+            None
+        }
+    }
+
+    /// The accept of the request that is to be taken next.
+    pub fn next_taken(&self) -> Result<Entry, TakeRefusal> {
+        let taken = of_kind(self.entries(), Kind::Take);
+        let mut accepts = self
+            .entries
+            .iter()
+            .filter(|entry| entry.kind == Kind::Accept);
+        let Some(next) = accepts.nth(taken) else {
+            return Err(TakeRefusal::QueueEmpty);
+        };
+        if open(self.entries()) >= self.limits.window as usize {
+            return Err(TakeRefusal::WindowFull);
+        }
+        Ok(*next)
+    }
+
+    /// The accept of the request that a response with the number and the command answers.
+    pub fn answered(&self, number: u32, command: u32) -> Option<Entry> {
+        let take = self.entries.iter().find(|entry| {
+            entry.kind == Kind::Take
+                && entry.number == number
+                && !is_settled(self.entries(), entry.client, entry.ordinal)
+        })?;
+        let accept = accept_of(self.entries(), take.client, take.ordinal)?;
+        let fits = command == accept.command | 0x8000_0000 || command == 0x8000_0000;
+        fits.then_some(*accept)
+    }
+
+    /// The client's oldest answer that it has not collected.
+    pub fn oldest_answer(&self, client: u64) -> Option<Entry> {
+        if !self.is_present(client) {
+            return None;
+        }
+        let collected = of_client(self.entries(), Kind::Collect, client);
+        let mut answers = self
+            .entries
+            .iter()
+            .filter(|entry| entry.kind == Kind::Answer && entry.client == client);
+        answers.nth(collected).copied()
+    }
+
+    /// What the client called the request.
+    pub fn own(&self, client: u64, ordinal: u64) -> u32 {
+        accept_of(self.entries(), client, ordinal).map_or(0, |accept| accept.number)
+    }
+}
