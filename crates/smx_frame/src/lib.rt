@@ -1,0 +1,11 @@
+//! PDUs from a stream that comes in pieces (SMPP 3.4, sections 3.2 and 4).
+#![tactic(auto)]
+
+mod buffer;
+mod fault;
+mod framer;
+mod front;
+mod whole;
+
+pub use fault::FrameFault;
+pub use framer::Framer;
