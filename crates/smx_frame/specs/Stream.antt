@@ -42,8 +42,12 @@ TakesFirst max old p new = IsFrame max p (spelling p) × (old ≡ spelling p ++ 
 abbrev pub BeginsFrame : ℕ → List ℕ → Type 0
 BeginsFrame max rest = (p : Pdu) × ((more : List ℕ) × TakesFirst max rest p more)
 
--- the octets are these PDUs and then this rest, which no PDU begins
-pub record Cuts (max : ℕ) (octets : List ℕ) (ps : List Pdu) (rest : List ℕ) : Type 0 where
+-- the octets are these PDUs, each in its one spelling, and then this rest
+pub record Begins (max : ℕ) (octets : List ℕ) (ps : List Pdu) (rest : List ℕ) : Type 0 where
   pub whole : octets ≡ flat_map spelling ps ++ rest
   pub each : AllByRecursion (λ p. IsFrame max p (spelling p)) ps
+
+-- the same, and no PDU begins the rest
+pub record Cuts (max : ℕ) (octets : List ℕ) (ps : List Pdu) (rest : List ℕ) : Type 0 where
+  pub begins : Begins max octets ps rest
   pub none : HasNone max rest

@@ -5,7 +5,9 @@ mod buffer;
 mod fault;
 mod framer;
 mod front;
+mod law;
 mod whole;
 
 pub use fault::FrameFault;
 pub use framer::Framer;
+pub use law::stream_law;
