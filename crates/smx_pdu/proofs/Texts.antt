@@ -8,8 +8,8 @@ use Rattle.std.proofs.lemmas.Bool.{eqb-true, ne_eqb, ltb-false, le-ltb, lt-ltb, 
 use Rattle.std.proofs.lemmas.List.{take-append-drop, length-take, length-append, get_or-take, take_at, drop_at}
 use Rattle.std.proofs.lemmas.List.Sums.{position_or_len_is, fails_before_first}
 use Rattle.std.proofs.lemmas.List.Quantifiers.{position-Some}
-use Rattle.smx_pdu.specs.declared.bodies.BodyFault.{BodyFault}
-use Rattle.smx_pdu.specs.declared.bodies.BodyFault.TheVariants.{Truncated, FieldTooLong}
+use Rattle.smx_pdu.specs.declared.body_fault.BodyFault.{BodyFault}
+use Rattle.smx_pdu.specs.declared.body_fault.BodyFault.TheVariants.{Truncated, FieldTooLong}
 use Rattle.smx_pdu.specs.Fields.{IsText, IsAtFault}
 use Rattle.smx_pdu.specs.Fields.Field.{text}
 use Rattle.smx_pdu.specs.Reading.{text_at, text_until}
@@ -59,8 +59,8 @@ no_end_found limit value o b short at e =
     elim (is_none_cases o b e) [
       | inl none ↦ (λ _. record { short = short; plain = none_there value (sym at ∙ none.1) }, λ _. none.0)
       | inr found ↦
-        let p = position-Some ends value found.1.0 0 (sym at ∙ found.1.1) in
-        (λ yes. absurd (let no = found.0 in cc), λ h. absurd (h.plain (found.1.0, p.0, ends_is _ p.1)))
+          let p = position-Some ends value found.1.0 0 (sym at ∙ found.1.1) in
+          (λ yes. absurd (let no = found.0 in cc), λ h. absurd (h.plain (found.1.0, p.0, ends_is _ p.1)))
     ]
 
 -- ---- a text
@@ -76,13 +76,13 @@ found_at limit octets i e =
     let short : length (take i octets) < limit = omega (arith, length-take i octets) in
     let zero_here : get_or octets i 0 ≡ 0 = sym (get_or-take limit octets i 0 (omega arith)) ∙ ends_is _ at.1 in
     let no_zero : Contains (take i octets) 0 → ⊥ = λ has.
-        let k = has.0 in
-        let below = has.1 in
-        let before : k < i = omega (arith, length-take i octets) in
-        let zero_there : get_or (take limit octets) k 0 ≡ 0 = get_or-take limit octets k 0 (omega arith) ∙ sym (get_or-take i octets k 0 before) ∙ has.2 in
-        let passes : ends (get_or (take limit octets) k 0) ≡ true = ap ends zero_there in
-        let fails = at.2 k before in
-        absurd cc
+    let k = has.0 in
+    let below = has.1 in
+    let before : k < i = omega (arith, length-take i octets) in
+    let zero_there : get_or (take limit octets) k 0 ≡ 0 = get_or-take limit octets k 0 (omega arith) ∙ sym (get_or-take i octets k 0 before) ∙ has.2 in
+    let passes : ends (get_or (take limit octets) k 0) ≡ true = ap ends zero_there in
+    let fails = at.2 k before in
+    absurd cc
     in
     let next : suc i ≡ i + 1 = omega arith in
     let back : drop i octets ≡ 0 ∷ drop (i + 1) octets = drop-cons octets i 0 (omega arith) ∙ ap (λ (n : ℕ). n ∷ drop (suc i) octets) zero_here ∙ ap (λ (j : ℕ). 0 ∷ drop j octets) next in
@@ -118,7 +118,7 @@ text_again limit value rest h =
     let here : length value < length (take limit octets) = omega (arith, length-take limit octets) in
     let zero_here : get_or (take limit octets) (length value) 0 ≡ 0 = get_or-take limit octets (length value) 0 (omega arith) ∙ ap (λ (xs : List ℕ). get_or xs (length value) 0) parts ∙ get_or-append_seam value 0 rest 0 in
     let before : (k : ℕ) → k < length value → get_or (take limit octets) k 0 ≡ 0 → ⊥ = λ k lt e.
-        h.plain (k, lt, sym (get_or-append value (0 ∷ rest) 0 k lt) ∙ ap (λ (xs : List ℕ). get_or xs k 0) (sym parts) ∙ sym (get_or-take limit octets k 0 (omega arith)) ∙ e)
+    h.plain (k, lt, sym (get_or-append value (0 ∷ rest) 0 k lt) ∙ ap (λ (xs : List ℕ). get_or xs k 0) (sym parts) ∙ sym (get_or-take limit octets k 0 (omega arith)) ∙ e)
     in
     let at = place (take limit octets) (length value) here zero_here before in
     let front : take (length value) octets ≡ value = ap (take (length value)) parts ∙ take_at value (0 ∷ rest) (length value) refl in
@@ -129,11 +129,13 @@ text_again limit value rest h =
 
 fault_by : (limit : ℕ) (octets : List ℕ) (e : BodyFault) (b : Bool) → ltb (length octets) limit ≡ b → (Contains (take limit octets) 0 → ⊥) → cond b (fails Truncated) (fails FieldTooLong) ≡ fails e → IsAtFault (text limit) e octets
 fault_by limit octets Truncated true l none t =
-    let short : length octets < limit = ltb-true _ _ l in
-    (short, λ has.
-        let k = has.0 in
-        let below = has.1 in
-        none (k, omega (arith, length-take limit octets), get_or-take limit octets k 0 (omega arith) ∙ has.2))
+    let short : length octets < limit = ltb-true _ _ l in (
+      short,
+      λ has.
+          let k = has.0 in
+          let below = has.1 in
+          none (k, omega (arith, length-take limit octets), get_or-take limit octets k 0 (omega arith) ∙ has.2),
+    )
 fault_by limit octets FieldTooLong true l none t = absurd cc
 fault_by limit octets Truncated false l none t = absurd cc
 fault_by limit octets FieldTooLong false l none t = (ltb-false _ _ l, none)
@@ -151,9 +153,9 @@ unfolding text_at
 text_fault_again limit octets Truncated h =
     let short = h.0 in
     let none : Contains (take limit octets) 0 → ⊥ = λ has.
-        let k = has.0 in
-        let below = has.1 in
-        h.1 (k, omega (arith, length-take limit octets), sym (get_or-take limit octets k 0 (omega (arith, length-take limit octets))) ∙ has.2)
+    let k = has.0 in
+    let below = has.1 in
+    h.1 (k, omega (arith, length-take limit octets), sym (get_or-take limit octets k 0 (omega (arith, length-take limit octets))) ∙ has.2)
     in
     ap (text_until limit octets) (nowhere (take limit octets) none) ∙ ap (λ (b : Bool). cond b (fails Truncated) (fails FieldTooLong)) (lt-ltb _ _ short)
 text_fault_again limit octets FieldTooLong h =

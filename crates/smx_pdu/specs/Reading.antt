@@ -1,9 +1,9 @@
 -- Reading a body's fields from left to right, with the first fault that is met.
 use Rattle.std.specs.Prelude.{◌≡◌, ℕ, ◌+◌, List, [], ◌∷◌, length, take, drop, position, Option, Some, None, Result, Ok, Err, nat_lt, ◌==◌, if◌then◌else◌}
-use Rattle.smx_pdu.specs.declared.bodies.BodyFault.{BodyFault}
-use Rattle.smx_pdu.specs.declared.bodies.BodyFault.TheVariants.{Truncated, FieldTooLong}
+use Rattle.smx_pdu.specs.declared.body_fault.BodyFault.{BodyFault}
+use Rattle.smx_pdu.specs.declared.body_fault.BodyFault.TheVariants.{Truncated, FieldTooLong}
 use Rattle.smx_pdu.specs.declared.bind.Bind.{Bind}
-use Rattle.smx_pdu.specs.Fields.{Field, Said, AllSaid, bind_fields, message_fields}
+use Rattle.smx_pdu.specs.Fields.{Field, Said, AllSaid, AllFit, bind_fields, message_fields}
 use Rattle.smx_pdu.specs.Fields.Field.{text, octet}
 
 infixl 10 ◌>>=◌
@@ -64,6 +64,10 @@ by_name said = record {
   addr_npi = said.1.1.1.1.1.0;
   address_range = said.1.1.1.1.1.1.0;
 }
+
+-- what can be written as a bind
+abbrev pub BindFits : BindFields → Type 0
+BindFits b = AllFit bind_fields (in_order b)
 
 -- a bind without where its texts lie
 abbrev pub said_by : Bind → BindFields
