@@ -24,7 +24,7 @@ kept_from max old (given p ∷ calls) rest goes =
     let on = kept_from max goes.0 calls rest goes.1.1 in
     record {
       whole = ap (λ (x : List ℕ). x ++ octets_fed calls) goes.1.0.1 ∙ append_assoc (spelling p) goes.0 (octets_fed calls)
-        ∙ ap (λ (x : List ℕ). spelling p ++ x) on.whole ∙ sym (append_assoc (spelling p) (flat_map spelling (pdus_given calls)) rest);
+          ∙ ap (λ (x : List ℕ). spelling p ++ x) on.whole ∙ sym (append_assoc (spelling p) (flat_map spelling (pdus_given calls)) rest);
       each = (goes.1.0.0, on.each);
     }
 

@@ -33,6 +33,6 @@ pub record StreamLaw : Type 0 where
   pub one_reading : (max : ℕ) (octets : List ℕ) (ps qs : List Pdu) (r s : List ℕ) → Cuts max octets ps r → Cuts max octets qs s → (ps ≡ qs) × (r ≡ s)
   -- so the pieces don't matter, once next_pdu has no more to hand out
   pub any_pieces : (max : ℕ) (calls others : List Call) (r s : List ℕ) → octets_fed calls ≡ octets_fed others
-    → Goes max [] calls r → HasNone max r → Goes max [] others s → HasNone max s → (pdus_given calls ≡ pdus_given others) × (r ≡ s)
+      → Goes max [] calls r → HasNone max r → Goes max [] others s → HasNone max s → (pdus_given calls ≡ pdus_given others) × (r ≡ s)
   -- at a bad length the stream ends: no PDU begins there, however the octets go on
   pub bad_length : (max : ℕ) (rest more : List ℕ) (e : FrameFault) → fault_at max rest ≡ Some e → HasNone max (rest ++ more) × (fault_at max (rest ++ more) ≡ Some e)

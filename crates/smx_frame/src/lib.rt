@@ -11,3 +11,6 @@ mod whole;
 pub use fault::FrameFault;
 pub use framer::Framer;
 pub use law::stream_law;
+
+#[cfg(test)]
+mod tests;

@@ -98,7 +98,6 @@ returns-in_default-clause-faults c = λ f h.
     let none = fault_front _ _ (Whole c.in-Whole.length) (at (sym c.in-Whole.is ∙ c.front_of.ensures) (ap (λ (s : Framing). s.stream.max) c.self.view_is) c.rest.ensures) in
     absurd cc
 
-
 pub returns-in_default-clause-memory : goal.returns-in_default-clause-memory
 returns-in_default-clause-memory c = λ _.
     let e : Whole c.in-Whole.length ≡ front_of c.args.self.now.stream.max c.args.self.now.stream.rest = at (sym c.in-Whole.is ∙ c.front_of.ensures) (ap (λ (s : Framing). s.stream.max) c.self.view_is) c.rest.ensures in
