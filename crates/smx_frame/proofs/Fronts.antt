@@ -1,12 +1,12 @@
 -- What octets begin with, and what follows from it.
 use Rattle.std.specs.Prelude.{Result, Ok, Err, OnErr}
-use Rattle.std.proofs.Common.{◌≡◌, ℕ, ◌+◌, ◌-◌, ◌<◌, ◌≤◌, Bool, true, false, cond, ltb, List, [], ◌∷◌, ◌++◌, length, take, drop, Option, Some, None, refl, sym, ap, subst, ◌∙◌, arith, inl, inr}
+use Rattle.std.proofs.Common.{◌≡◌, ℕ, ◌+◌, ◌≤◌, Bool, true, false, cond, ltb, List, ◌++◌, length, take, drop, Option, Some, None, refl, sym, ap, subst, ◌∙◌, arith}
 use Rattle.std.specs.Int.{w32, from_be_bytes}
 use Rattle.std.proofs.lemmas.Bool.{ltb-false, le-ltb}
-use Rattle.std.proofs.lemmas.List.{take-take, take-append-drop, drop-drop, length-append, length-take}
+use Rattle.std.proofs.lemmas.List.{take-take, take-append-drop, length-append, length-take}
 use Rattle.smx_pdu.specs.declared.pdu.Pdu.{Pdu}
 use Rattle.smx_pdu.specs.Pdu.{spelling, Spells, length_field, number_at}
-use Rattle.smx_pdu.proofs.Spelling.{Spells-length, Spells-field, IsBytes, IsBytes-take, spelled, field_of_first}
+use Rattle.smx_pdu.proofs.Spelling.{Spells-length, Spells-field, IsBytes, spelled, field_of_first}
 use Rattle.smx_frame.specs.declared.fault.FrameFault.{FrameFault}
 use Rattle.smx_frame.specs.declared.fault.FrameFault.TheVariants.{Below16, AboveMax, NoMemory}
 use Rattle.smx_frame.specs.declared.front.Front.{Front}

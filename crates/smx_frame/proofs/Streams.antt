@@ -1,5 +1,5 @@
 -- Streams are read in one way.
-use Rattle.std.proofs.Common.{◌≡◌, ℕ, ◌+◌, ◌<◌, ◌≤◌, Bool, true, false, cond, ltb, List, [], ◌∷◌, ◌++◌, length, take, drop, Option, Some, None, refl, sym, ap, subst, ◌∙◌, arith, append_assoc}
+use Rattle.std.proofs.Common.{◌≡◌, ℕ, ◌≤◌, Bool, true, false, cond, ltb, List, [], ◌∷◌, ◌++◌, length, take, drop, Some, None, refl, sym, ap, subst, ◌∙◌, arith, append_assoc}
 use Rattle.std.specs.List.{flat_map, AllByRecursion}
 use Rattle.std.specs.Int.{w32, from_be_bytes}
 use Rattle.std.proofs.lemmas.Bool.{ltb-false, le-ltb}
@@ -9,7 +9,7 @@ use Rattle.smx_pdu.specs.Pdu.{spelling, Spells, length_field}
 use Rattle.smx_pdu.proofs.Spelling.{Spells-length, Spells-field, one_pdu}
 use Rattle.smx_frame.specs.declared.fault.FrameFault.{FrameFault}
 use Rattle.smx_frame.specs.declared.fault.FrameFault.TheVariants.{Below16, AboveMax}
-use Rattle.smx_frame.specs.Stream.{IsFrame, HasNone, TakesFirst, Begins, Cuts, fault_at}
+use Rattle.smx_frame.specs.Stream.{IsFrame, HasNone, Begins, Cuts, fault_at}
 use Rattle.smx_frame.specs.Calls.{Call, octets_fed, pdus_given, Goes, StreamLaw}
 use Rattle.smx_frame.specs.Calls.Call.{fed, given}
 

@@ -1,5 +1,5 @@
 -- Calls of a framer, one after another.
-use Rattle.std.specs.Prelude.{◌≡◌, ℕ, List, [], ◌∷◌, ◌++◌, Option, Some}
+use Rattle.std.specs.Prelude.{◌≡◌, ℕ, List, [], ◌∷◌, ◌++◌, Some}
 use Rattle.smx_pdu.specs.declared.pdu.Pdu.{Pdu}
 use Rattle.smx_frame.specs.declared.fault.FrameFault.{FrameFault}
 use Rattle.smx_frame.specs.Stream.{HasNone, TakesFirst, Begins, Cuts, fault_at}

@@ -1,5 +1,5 @@
 -- What a framer keeps of its fields.
-use Rattle.std.specs.Prelude.{◌≡◌, ℕ, ◌≤◌, length, drop, Some}
+use Rattle.std.specs.Prelude.{◌≡◌, ◌≤◌, length, drop, Some}
 use Rattle.smx_frame.specs.declared.framer.Framer.TheInside.{Inside}
 use Rattle.smx_frame.specs.declared.fault.FrameFault.{FrameFault}
 use Rattle.smx_frame.specs.Stream.{fault_at}

@@ -40,14 +40,14 @@ fn many(rt: HostRuntime) -> Result<(), Fail> {
     stream.extend_from_slice(&SUBMIT[..33])?;
     for size in [1, 50, 4_000] {
         let mut framer = Framer::new(rt.alloc(), 34);
-        let mut found = 0;
+        let mut found: u32 = 0;
         for piece in stream.chunks(size) {
             framer.reserve(piece.len())?;
             framer.feed(piece)?;
             for _ in 0..200 {
                 if let Some(pdu) = framer.next_pdu()? {
                     assert!(rt; is_submit(&pdu));
-                    found += 1;
+                    found = found.saturating_add(1);
                 }
             }
         }

@@ -1,14 +1,12 @@
-use Rattle.std.proofs.Common.{◌≡◌, ℕ, ◌+◌, ◌≤◌, List, length, drop, take, Option, Some, None, Err, refl, sym, ap, subst, ◌∙◌, arith, rules, inl, inr}
+use Rattle.std.proofs.Common.{◌≡◌, ℕ, ◌+◌, List, length, drop, take, Option, Some, Err, refl, sym, ap, subst, ◌∙◌, arith, inr}
 use Rattle.std.proofs.lemmas.List.{length-drop, drop-drop}
 use Rattle.smx_frame.specs.declared.fault.FrameFault.{FrameFault}
 use Rattle.smx_frame.specs.declared.front.Front.TheVariants.{Part, Bad, Whole}
 use Rattle.smx_pdu.specs.declared.pdu.Pdu.{Pdu}
 use Rattle.smx_pdu.specs.Pdu.{Spells, length_field}
-use Rattle.smx_pdu.proofs.Spelling.{IsBytes}
-use Rattle.smx_frame.specs.declared.fault.FrameFault.TheVariants.{NoMemory}
-use Rattle.smx_frame.specs.Stream.{Framing, Stream, fault_at}
+use Rattle.smx_frame.specs.Stream.{Framing, Stream}
 use Rattle.smx_frame.specs.Front.{front_of}
-use Rattle.smx_frame.proofs.Fronts.{fault_front, IsWhole, whole_front, part_has_none, not_failed, taken, at, same_fault, not_memory, whole_field, begins}
+use Rattle.smx_frame.proofs.Fronts.{fault_front, whole_front, part_has_none, not_failed, taken, at, same_fault, not_memory, whole_field, begins}
 use Rattle.smx_frame.proofs.framer.Framer.next_pdu.Goals as goal
 
 abbrev made : ℕ → List ℕ → Option FrameFault → Stream
