@@ -59,7 +59,7 @@ pub fn decode(alloc: Global, octets: &[u8]) -> Result<Pdu, PduFault>
 }
 
 // Writes octets at the end, where there is room.
-fn append_within(out: &mut Vec<u8>, octets: &[u8])
+pub fn append_within(out: &mut Vec<u8>, octets: &[u8])
     requires { vec_len out.old + length octets.now ≤ vec_capacity out.old }
     ensures items { out.new.items ≡ out.old.items ++ octets.now }
     ensures len { vec_len out.new ≡ vec_len out.old + length octets.now }

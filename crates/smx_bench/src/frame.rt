@@ -1,0 +1,57 @@
+//! PDUs from a stream that comes in pieces.
+
+use crate::figures::Hundredths;
+use smx_frame::Framer;
+use std::rt::Clock;
+use std::time::{Duration, Instant};
+
+/// The stream's PDUs, each a submit_sm of 100 octets.
+const PDUS: u64 = 1_000_000;
+
+const BODY: [u8; 84] = [0x61; 84];
+
+const HEADER: [u8; 16] = [0, 0, 0, 100, 0, 0, 0, 4, 0, 0, 0, 0, 0, 0, 0, 7];
+
+/// The sizes of pieces: an octet, few octets, an Ethernet segment's payload, and a large read.
+const SIZES: [usize; 4] = [1, 7, 1_460, 65_536];
+
+/// Frames a stream of 100 MB in pieces of each size, and prints the time in nanoseconds for each
+/// octet. A PDU's body is copied out and freed.
+pub fn run<R: Print + Clock + AllocGlobal>(rt: &R) -> anyhow::Result<()> {
+    let mut stream = Vec::new(rt.alloc());
+    for _ in 0..PDUS {
+        stream.extend_from_slice(&HEADER)?;
+        stream.extend_from_slice(&BODY)?;
+    }
+    for size in SIZES {
+        let took = frame_in_pieces(rt, &stream, size)?;
+        println!(rt;
+            "pieces of {size}: {} ns an octet",
+            Hundredths::nanos_each(took, PDUS * 100)
+        )?;
+    }
+    Ok(())
+}
+
+fn frame_in_pieces<R: Clock + AllocGlobal>(
+    rt: &R,
+    stream: &[u8],
+    size: usize,
+) -> anyhow::Result<Duration> {
+    let mut framer = Framer::new(rt.alloc(), 65_536);
+    let mut found: u64 = 0;
+    let start = Instant::now(rt)?;
+    for piece in stream.chunks(size.max(1)) {
+        framer.feed(piece)?;
+        // No more PDUs than headers fit.
+        for _ in 0..=framer.rest().len() / 16 {
+            if framer.next_pdu()?.is_none() {
+                break;
+            }
+            found = found.saturating_add(1);
+        }
+    }
+    let took = start.elapsed(rt)?;
+    anyhow::ensure!(found == PDUS, "{found} PDUs");
+    Ok(took)
+}

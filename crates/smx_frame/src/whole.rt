@@ -1,0 +1,18 @@
+//! Octets that are a whole PDU.
+ghost use Rattle.std.specs.Prelude.{◌≡◌, ◌≤◌, IfOk, OnErr, length};
+ghost use Rattle.smx_pdu.specs.Pdu.{Spells, length_field};
+ghost use Rattle.smx_pdu.specs.declared.pdu.Pdu.{Pdu};
+
+use smx_pdu::{Pdu, decode};
+use std::alloc::{AllocError, Global};
+
+// Reads octets that are a whole PDU by their length field: only memory can be wanting.
+pub fn decode_whole(alloc: Global, octets: &[u8]) -> Result<Pdu, AllocError>
+    requires least { 16 ≤ length octets.now }
+    requires most { length octets.now ≤ 65536 }
+    requires field { length_field octets.now ≡ length octets.now }
+    ensures ok { IfOk result (λ p. Spells p octets.now) }
+    ensures err { OnErr result ((p : Pdu) × Spells p octets.now) }
+{
+    decode(alloc, octets).map_err(|_| AllocError)
+}
