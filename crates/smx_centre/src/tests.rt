@@ -29,38 +29,48 @@ fn assert_fields(rt: &impl Abort, pdus: &[Pdu], wanted: &[Fields]) {
 
 // The answers to submit_sm 1, data_sm 2 and query_sm 3, which a centre doesn't know.
 fn assert_mode(
-    rt: &(impl Abort + Alloc),
+    rt: &impl Abort,
+    alloc: Global,
     mode: Mode,
     first: &[Fields],
     second: &[Fields],
     third: &[Fields],
 ) -> Result<(), AllocError> {
-    let mut centre = Centre::new(rt.alloc(), mode);
-    assert_fields(rt, &centre.on_pdu(&request(rt.alloc(), 4, 1))?, first);
-    assert_fields(rt, &centre.on_pdu(&request(rt.alloc(), 0x103, 2))?, second);
-    assert_fields(rt, &centre.on_pdu(&request(rt.alloc(), 3, 3))?, third);
+    let mut centre = Centre::new(alloc, mode);
+    assert_fields(rt, &centre.on_pdu(&request(alloc, 4, 1))?, first);
+    assert_fields(rt, &centre.on_pdu(&request(alloc, 0x103, 2))?, second);
+    assert_fields(rt, &centre.on_pdu(&request(alloc, 3, 3))?, third);
     Ok(())
 }
 
 #[test]
 fn modes(rt: HostRuntime) -> Result<(), Fail> {
+    let alloc = rt.alloc();
     let submit = (0x8000_0004, 0, 1, b"1\0".as_slice());
     let data = (0x8000_0103, 0, 2, b"2\0".as_slice());
     let query = (0x8000_0003, 8, 3, b"".as_slice());
     let submit_copy = (0x8000_0004, 0, 0x7000_0000, b"1\0".as_slice());
     let data_copy = (0x8000_0103, 0, 0x7000_0000, b"2\0".as_slice());
     let query_copy = (0x8000_0003, 8, 0x7000_0000, b"".as_slice());
-    assert_mode(&rt, Mode::Plain, &[submit], &[data], &[query])?;
-    assert_mode(&rt, Mode::Reversed, &[], &[data, submit], &[])?;
-    assert_mode(&rt, Mode::Twice, &[submit, submit], &[data, data], &[query, query])?;
+    assert_mode(&rt, alloc, Mode::Plain, &[submit], &[data], &[query])?;
+    assert_mode(&rt, alloc, Mode::Reversed, &[], &[data, submit], &[])?;
     assert_mode(
         &rt,
+        alloc,
+        Mode::Twice,
+        &[submit, submit],
+        &[data, data],
+        &[query, query],
+    )?;
+    assert_mode(
+        &rt,
+        alloc,
         Mode::Stranger,
         &[submit, submit_copy],
         &[data, data_copy],
         &[query, query_copy],
     )?;
-    assert_mode(&rt, Mode::Silent, &[], &[], &[])?;
+    assert_mode(&rt, alloc, Mode::Silent, &[], &[], &[])?;
     Ok(())
 }
 

@@ -8,7 +8,7 @@ use crate::act::Act;
 use crate::answer::{header_response, response, undecoded, unknown};
 use crate::bind_check::{Checked, bind_answer, check_bind};
 use crate::client_row::{ClientRow, client_row};
-use crate::client_state::ClientState;
+use crate::client_state::ClientState::{self, BoundRx, BoundTrx, BoundTx, Ended, Opened};
 use crate::kind::Kind;
 use smx_pdu::Pdu;
 use smx_pdu::status::{ESME_RALYBND, ESME_RINVBNDSTS, ESME_ROK};
@@ -78,43 +78,25 @@ impl ClientSession {
     {
         let alloc = self.alloc;
         let act = match (client_row(pdu.command), self.state) {
-            (ClientRow::Bind(kind), ClientState::Opened) => {
-                return self.on_bind(kind, pdu, accounts);
+            (ClientRow::Bind(kind), Opened) => return self.on_bind(kind, pdu, accounts),
+            (ClientRow::Bind(_), BoundTx | BoundRx | BoundTrx) => {
+                Act::Answer(header_response(alloc, pdu, ESME_RALYBND))
             }
-            (
-                ClientRow::Bind(_),
-                ClientState::BoundTx | ClientState::BoundRx | ClientState::BoundTrx,
-            ) => Act::Answer(header_response(alloc, pdu, ESME_RALYBND)),
-            (ClientRow::Forwarded, ClientState::BoundTx | ClientState::BoundTrx) => Act::Forward,
-            (ClientRow::MessageAnswer, ClientState::BoundRx | ClientState::BoundTrx) => {
-                Act::MoAnswer { number: pdu.number }
+            (ClientRow::Forwarded, BoundTx | BoundTrx) => Act::Forward,
+            (ClientRow::MessageAnswer, BoundRx | BoundTrx) => Act::MoAnswer { number: pdu.number },
+            (ClientRow::EnquireLink, Opened | BoundTx | BoundRx | BoundTrx) => {
+                Act::Answer(header_response(alloc, pdu, ESME_ROK))
             }
-            (
-                ClientRow::EnquireLink,
-                ClientState::Opened
-                | ClientState::BoundTx
-                | ClientState::BoundRx
-                | ClientState::BoundTrx,
-            ) => Act::Answer(header_response(alloc, pdu, ESME_ROK)),
-            (
-                ClientRow::Unbind,
-                ClientState::BoundTx | ClientState::BoundRx | ClientState::BoundTrx,
-            ) => {
-                self.state = ClientState::Ended;
+            (ClientRow::Unbind, BoundTx | BoundRx | BoundTrx) => {
+                self.state = Ended;
                 Act::Leave(header_response(alloc, pdu, ESME_ROK))
             }
-            (
-                ClientRow::Bind(_)
-                | ClientRow::Forwarded
-                | ClientRow::DeliverSm
-                | ClientRow::EnquireLink
-                | ClientRow::Unbind,
-                _,
-            ) => Act::Answer(header_response(alloc, pdu, ESME_RINVBNDSTS)),
             (ClientRow::Unknown, _) => Act::Answer(unknown(alloc, pdu)),
             (ClientRow::MessageAnswer | ClientRow::OtherResponse | ClientRow::Unanswered, _) => {
                 Act::Ignore
             }
+            // Each other request isn't allowed in its state.
+            _ => Act::Answer(header_response(alloc, pdu, ESME_RINVBNDSTS)),
         };
         Ok(act)
     }

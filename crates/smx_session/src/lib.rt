@@ -25,3 +25,8 @@ pub use kind::Kind;
 pub use up_act::UpAct;
 pub use upstream::UpstreamSession;
 pub use upstream_state::UpstreamState;
+
+#[cfg(test)]
+mod table_tests;
+#[cfg(test)]
+mod tests;

@@ -4,7 +4,7 @@ ghost use Rattle.std.specs.Prelude.{◌≡◌, IfOk, None};
 use crate::answer::{header_response, request, short, unknown};
 use crate::up_act::UpAct;
 use crate::upstream_row::{BIND_NUMBER, ENQUIRY_NUMBER, UNBIND_NUMBER, UpstreamRow, upstream_row};
-use crate::upstream_state::UpstreamState;
+use crate::upstream_state::UpstreamState::{self, Binding, Bound, Ended, Unbinding};
 use smx_pdu::command::{BIND_TRANSCEIVER, ENQUIRE_LINK, UNBIND};
 use smx_pdu::status::{ESME_RINVBNDSTS, ESME_ROK};
 use smx_pdu::{Bind, Pdu, write_bind};
@@ -65,7 +65,7 @@ impl UpstreamSession {
             system_id,
             password,
             silence,
-            state: UpstreamState::Binding,
+            state: Binding,
             latest: now,
             heard: now,
             enquired: None,
@@ -119,37 +119,33 @@ impl UpstreamSession {
         self.heard = self.hand_in(now);
         let alloc = self.alloc;
         match (upstream_row(pdu.command, pdu.number), self.state) {
-            (UpstreamRow::BindAnswer, UpstreamState::Binding) if pdu.status == ESME_ROK => {
-                self.state = UpstreamState::Bound;
+            (UpstreamRow::BindAnswer, Binding) if pdu.status == ESME_ROK => {
+                self.state = Bound;
                 UpAct::Up
             }
-            (UpstreamRow::BindAnswer | UpstreamRow::BindNack, UpstreamState::Binding) => {
-                self.state = UpstreamState::Ended;
+            (UpstreamRow::BindAnswer | UpstreamRow::BindNack, Binding) => {
+                self.state = Ended;
                 UpAct::Failed(pdu.status)
             }
-            (UpstreamRow::EnquiryAnswer, UpstreamState::Bound) => {
+            (UpstreamRow::EnquiryAnswer, Bound) => {
                 self.enquired = None;
                 UpAct::Ignore
             }
-            (UpstreamRow::UnbindAnswer, UpstreamState::Unbinding) => {
-                self.state = UpstreamState::Ended;
+            (UpstreamRow::UnbindAnswer, Unbinding) => {
+                self.state = Ended;
                 UpAct::Closed
             }
-            (UpstreamRow::OtherResponse, UpstreamState::Bound | UpstreamState::Unbinding) => {
-                UpAct::ToLane
+            (UpstreamRow::OtherResponse, Bound | Unbinding) => UpAct::ToLane,
+            (UpstreamRow::Message, Bound) => UpAct::Mo,
+            (UpstreamRow::EnquireLink, Binding | Bound | Unbinding) => {
+                UpAct::Answer(header_response(alloc, pdu, ESME_ROK))
             }
-            (UpstreamRow::Message, UpstreamState::Bound) => UpAct::Mo,
-            (
-                UpstreamRow::EnquireLink,
-                UpstreamState::Binding | UpstreamState::Bound | UpstreamState::Unbinding,
-            ) => { UpAct::Answer(header_response(alloc, pdu, ESME_ROK)) }
-            (
-                UpstreamRow::Unbind,
-                UpstreamState::Binding | UpstreamState::Bound | UpstreamState::Unbinding,
-            ) => {
-                self.state = UpstreamState::Ended;
+            (UpstreamRow::Unbind, Binding | Bound | Unbinding) => {
+                self.state = Ended;
                 UpAct::Leave(header_response(alloc, pdu, ESME_ROK))
             }
+            (UpstreamRow::Unknown, _) => UpAct::Answer(unknown(alloc, pdu)),
+            // Each other request isn't allowed in its state.
             (
                 UpstreamRow::Message
                 | UpstreamRow::EnquireLink
@@ -157,17 +153,7 @@ impl UpstreamSession {
                 | UpstreamRow::OtherRequest,
                 _,
             ) => UpAct::Answer(header_response(alloc, pdu, ESME_RINVBNDSTS)),
-            (UpstreamRow::Unknown, _) => UpAct::Answer(unknown(alloc, pdu)),
-            (
-                UpstreamRow::BindAnswer
-                | UpstreamRow::BindNack
-                | UpstreamRow::EnquiryAnswer
-                | UpstreamRow::UnbindAnswer
-                | UpstreamRow::OtherBindAnswer
-                | UpstreamRow::OtherResponse
-                | UpstreamRow::Unanswered,
-                _,
-            ) => UpAct::Ignore,
+            _ => UpAct::Ignore,
         }
     }
 
@@ -178,7 +164,7 @@ impl UpstreamSession {
         ensures session { self.new ≡ after_moment self.old now }
     {
         let now = self.hand_in(now);
-        let is_due = self.state == UpstreamState::Bound
+        let is_due = self.state == Bound
             && self.enquired.is_none()
             && now.saturating_sub(self.heard) >= self.silence;
         if !is_due {
@@ -205,10 +191,10 @@ impl UpstreamSession {
         ensures unbind { result ≡ farewell self.old.state }
         ensures session { self.new ≡ record self.old { state = stopped self.old.state } }
     {
-        if self.state != UpstreamState::Bound {
+        if self.state != Bound {
             return None;
         }
-        self.state = UpstreamState::Unbinding;
+        self.state = Unbinding;
         Some(request(self.alloc, UNBIND, UNBIND_NUMBER))
     }
 }
