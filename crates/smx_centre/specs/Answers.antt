@@ -1,0 +1,92 @@
+-- What a centre answers, by the class of a command and by the centre's mode (SMPP 3.4, section 4).
+use Rattle.std.specs.Prelude.{ℕ, ◌+◌, Bool, List, [], ◌∷◌, ◌++◌, codes, replicate, nat_lt, ◌==◌, Option, Some, None, if◌then◌else◌}
+use Rattle.std.specs.List.{list_any}
+use Rattle.std.specs.Fmt.{decimal}
+use Rattle.smx_pdu.specs.declared.pdu.Pdu.{Pdu}
+use Rattle.smx_pdu.specs.declared.command.TheConstants.{BIND_RECEIVER, BIND_TRANSMITTER, BIND_TRANSCEIVER, ENQUIRE_LINK, UNBIND, SUBMIT_SM, DATA_SM, SUBMIT_MULTI, QUERY_SM, CANCEL_SM, REPLACE_SM, DELIVER_SM, GENERIC_NACK, RESPONSE}
+use Rattle.smx_pdu.specs.declared.status.TheConstants.{ESME_ROK, ESME_RSYSERR, ESME_RINVCMDID}
+use Rattle.smx_centre.specs.declared.class.Class.{Class}
+use Rattle.smx_centre.specs.declared.class.Class.TheVariants.{Bind, Session, Message, Forwarded, OtherRequest, Response}
+use Rattle.smx_centre.specs.declared.mode.Mode.{Mode}
+use Rattle.smx_centre.specs.declared.mode.Mode.TheVariants.{Plain, Reversed, Twice, Stranger, Silent}
+
+-- the greatest message id and sequence_number
+abbrev pub last : ℕ
+last = 0x7FFF_FFFF
+
+-- what comes after a number: after the greatest one it begins again at 1
+abbrev pub next : ℕ → ℕ
+next n = if n == last then 1 else n + 1
+
+-- what a centre keeps: the last message id and the last number of its own that it gave, each 0 at
+-- first, and the response that waits for the second of two
+pub record Centring : Type 0 where
+  pub mode : Mode
+  pub messages : ℕ
+  pub deliveries : ℕ
+  pub held : Option Pdu
+
+abbrev pub is_among : List ℕ → ℕ → Bool
+is_among commands command = list_any (λ id. id == command) commands
+
+abbrev pub class_of : ℕ → Class
+class_of command =
+    if is_among (BIND_RECEIVER ∷ BIND_TRANSMITTER ∷ BIND_TRANSCEIVER ∷ []) command then Bind
+    else if is_among (ENQUIRE_LINK ∷ UNBIND ∷ []) command then Session
+    else if is_among (SUBMIT_SM ∷ DATA_SM ∷ []) command then Message
+    else if is_among (SUBMIT_MULTI ∷ QUERY_SM ∷ CANCEL_SM ∷ REPLACE_SM ∷ []) command then Forwarded
+    else if nat_lt command RESPONSE then OtherRequest
+    else Response
+
+-- the response to a request
+abbrev pub response : Pdu → ℕ → List ℕ → Pdu
+response request status body = record { command = RESPONSE + request.command; status = status; number = request.number; body = body }
+
+-- the response to a message with its message_id in decimal (4.4.2), and to another forwarded
+-- command, which fails
+abbrev pub forwarded_response : Option ℕ → Pdu → Pdu
+forwarded_response (Some id) request = response request ESME_ROK (decimal id ++ 0 ∷ [])
+forwarded_response None request = response request ESME_RSYSERR []
+
+abbrev pub stranger : Pdu → Pdu
+stranger r = record r { number = 0x7000_0000 }
+
+-- the PDUs that a response to a forwarded command makes, by the mode and the response that waits
+abbrev pub sent : Mode → Option Pdu → Pdu → List Pdu
+sent Plain held r = r ∷ []
+sent Reversed None r = []
+sent Reversed (Some first) r = r ∷ first ∷ []
+sent Twice held r = r ∷ r ∷ []
+sent Stranger held r = r ∷ stranger r ∷ []
+sent Silent held r = []
+
+-- the response that waits then
+abbrev pub kept : Mode → Option Pdu → Pdu → Option Pdu
+kept Plain held r = held
+kept Reversed None r = Some r
+kept Reversed (Some first) r = None
+kept Twice held r = held
+kept Stranger held r = held
+kept Silent held r = held
+
+-- the answers to a PDU
+abbrev pub answers : Class → Centring → Pdu → List Pdu
+answers Bind c p = response p ESME_ROK (codes "centre" ++ 0 ∷ []) ∷ []
+answers Session c p = response p ESME_ROK [] ∷ []
+answers Message c p = sent c.mode c.held (forwarded_response (Some (next c.messages)) p)
+answers Forwarded c p = sent c.mode c.held (forwarded_response None p)
+answers OtherRequest c p = record { command = GENERIC_NACK; status = ESME_RINVCMDID; number = p.number; body = [] } ∷ []
+answers Response c p = []
+
+-- and what the centre keeps after it
+abbrev pub after : Class → Centring → Pdu → Centring
+after Bind c p = c
+after Session c p = c
+after Message c p = record c { messages = next c.messages; held = kept c.mode c.held (forwarded_response (Some (next c.messages)) p) }
+after Forwarded c p = record c { held = kept c.mode c.held (forwarded_response None p) }
+after OtherRequest c p = c
+after Response c p = c
+
+-- a message to a destination, all else in it empty (4.6.1)
+abbrev pub delivery : ℕ → List ℕ → Pdu
+delivery number destination = record { command = DELIVER_SM; status = ESME_ROK; number = number; body = replicate 6 0 ++ destination ++ replicate 11 0 }

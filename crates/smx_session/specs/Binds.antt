@@ -1,0 +1,48 @@
+-- Binds: the checks of a client's, its answer, and the proxy's own (SMPP 3.4, section 4.1).
+use Rattle.std.specs.Prelude.{ℕ, List, [], ◌∷◌, ◌++◌, codes, position, nat_le, slice_get, Option, Some, None, Result, Ok, Err, if◌then◌else◌}
+use Rattle.std.specs.Str.{bytes_eq}
+use Rattle.smx_pdu.specs.declared.body_fault.BodyFault.{BodyFault}
+use Rattle.smx_pdu.specs.declared.status.TheConstants.{ESME_RINVCMDLEN, ESME_RINVSYSID, ESME_RINVPASWD}
+use Rattle.smx_pdu.specs.Reading.{BindFields, bind_at}
+use Rattle.smx_session.specs.declared.account.Account.{Account}
+use Rattle.smx_session.specs.declared.bind_check.Checked.{Checked}
+use Rattle.smx_session.specs.declared.bind_check.Checked.TheVariants.{Refused, Granted}
+
+-- the first account with exactly this system_id
+abbrev pub account_of : List Account → List ℕ → Option ℕ
+account_of accounts system_id = position (λ a. bytes_eq a.system_id.items system_id) accounts
+
+-- third, the account's password is exactly the bind's (ESME_RINVPASWD, 5.1.3)
+abbrev pub check_password : Option Account → ℕ → BindFields → Checked
+check_password None i b = Refused ESME_RINVSYSID
+check_password (Some a) i b = if bytes_eq a.password.items b.password then Granted i b.interface_version else Refused ESME_RINVPASWD
+
+-- second, there is an account (ESME_RINVSYSID)
+abbrev pub check_account : List Account → BindFields → Option ℕ → Checked
+check_account accounts b None = Refused ESME_RINVSYSID
+check_account accounts b (Some i) = check_password (slice_get accounts i) i b
+
+-- first, the body is read (ESME_RINVCMDLEN)
+abbrev pub check_fields : List Account → Result BindFields BodyFault → Checked
+check_fields accounts (Err e) = Refused ESME_RINVCMDLEN
+check_fields accounts (Ok b) = check_account accounts b (account_of accounts b.system_id)
+
+abbrev pub check_bind : List Account → List ℕ → Checked
+check_bind accounts body = check_fields accounts (bind_at body)
+
+-- the body of a bind's response: the system_id, and to a client of SMPP 3.4 or later the optional
+-- parameter sc_interface_version (4.1.2 and 5.3.2.25): its tag, its length 1 and 0x34
+abbrev pub bind_answer : ℕ → List ℕ
+bind_answer version = codes "smx" ++ 0 ∷ (if nat_le 0x34 version then 0x02 ∷ 0x10 ∷ 0x00 ∷ 0x01 ∷ 0x34 ∷ [] else [])
+
+-- the proxy's own bind
+abbrev pub own_bind : List ℕ → List ℕ → BindFields
+own_bind system_id password = record {
+  system_id = system_id;
+  password = password;
+  system_type = [];
+  interface_version = 0x34;
+  addr_ton = 0;
+  addr_npi = 0;
+  address_range = [];
+}

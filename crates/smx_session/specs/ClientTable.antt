@@ -1,0 +1,147 @@
+-- What a client's session does with each PDU in each state (SMPP 3.4, sections 2.2, 2.3 and 4).
+use Rattle.std.specs.Prelude.{ℕ, ◌+◌, Bool, List, [], ◌∷◌, nat_le, ◌==◌, if◌then◌else◌}
+use Rattle.std.specs.List.{list_any}
+use Rattle.smx_pdu.specs.declared.pdu.Pdu.{Pdu}
+use Rattle.smx_pdu.specs.declared.command.TheConstants.{BIND_RECEIVER, BIND_TRANSMITTER, BIND_TRANSCEIVER, QUERY_SM, SUBMIT_SM, DELIVER_SM, UNBIND, REPLACE_SM, CANCEL_SM, OUTBIND, ENQUIRE_LINK, SUBMIT_MULTI, ALERT_NOTIFICATION, DATA_SM, GENERIC_NACK, RESPONSE}
+use Rattle.smx_pdu.specs.declared.status.TheConstants.{ESME_ROK, ESME_RINVBNDSTS, ESME_RALYBND}
+use Rattle.smx_session.specs.declared.account.Account.{Account}
+use Rattle.smx_session.specs.declared.kind.Kind.{Kind}
+use Rattle.smx_session.specs.declared.kind.Kind.TheVariants as kind
+use Rattle.smx_session.specs.declared.client_state.ClientState.{ClientState}
+use Rattle.smx_session.specs.declared.client_state.ClientState.TheVariants.{Opened, BoundTx, BoundRx, BoundTrx, Ended}
+use Rattle.smx_session.specs.declared.client_row.ClientRow.{ClientRow}
+use Rattle.smx_session.specs.declared.client_row.ClientRow.TheVariants as row
+use Rattle.smx_session.specs.declared.act.Act.{Act}
+use Rattle.smx_session.specs.declared.act.Act.TheVariants as act
+use Rattle.smx_session.specs.Pdus.{response, unknown, undecoded}
+use Rattle.smx_session.specs.declared.bind_check.Checked.{Checked}
+use Rattle.smx_session.specs.declared.bind_check.Checked.TheVariants.{Refused, Granted}
+use Rattle.smx_session.specs.Binds.{check_bind, bind_answer}
+
+abbrev pub is_among : List ℕ → ℕ → Bool
+is_among commands command = list_any (λ id. id == command) commands
+
+-- the rows of the table
+abbrev pub client_row : ℕ → ClientRow
+client_row command =
+    if command == BIND_TRANSMITTER then row.Bind kind.Tx
+    else if command == BIND_RECEIVER then row.Bind kind.Rx
+    else if command == BIND_TRANSCEIVER then row.Bind kind.Trx
+    else if is_among (SUBMIT_SM ∷ SUBMIT_MULTI ∷ QUERY_SM ∷ CANCEL_SM ∷ REPLACE_SM ∷ DATA_SM ∷ []) command then row.Forwarded
+    else if command == DELIVER_SM then row.DeliverSm
+    else if command == ENQUIRE_LINK then row.EnquireLink
+    else if command == UNBIND then row.Unbind
+    else if is_among ((RESPONSE + DELIVER_SM) ∷ (RESPONSE + DATA_SM) ∷ GENERIC_NACK ∷ []) command then row.MessageAnswer
+    else if nat_le RESPONSE command then row.OtherResponse
+    else if is_among (OUTBIND ∷ ALERT_NOTIFICATION ∷ []) command then row.Unanswered
+    else row.Unknown
+
+-- what a cell of the table says
+pub data ClientCell : Type 0 where
+  -- the checks of a bind of this kind
+  checks : Kind → ClientCell
+  -- a response with a header alone
+  answer : ℕ → ClientCell
+  -- generic_nack of an unknown command
+  nack : ClientCell
+  forward : ClientCell
+  message_answer : ClientCell
+  -- the response to unbind, and then Ended
+  leave : ClientCell
+  ignore : ClientCell
+
+-- the table, a row after another, each by its states
+abbrev pub client_cell : ClientRow → ClientState → ClientCell
+-- binds (4.1): one at most for a session
+client_cell (row.Bind k) Opened = checks k
+client_cell (row.Bind k) BoundTx = answer ESME_RALYBND
+client_cell (row.Bind k) BoundRx = answer ESME_RALYBND
+client_cell (row.Bind k) BoundTrx = answer ESME_RALYBND
+client_cell (row.Bind k) Ended = answer ESME_RINVBNDSTS
+-- messages to the centre, and about them (4.4, 4.5, 4.7 to 4.10; table 2-1): from a transmitter or
+-- a transceiver. This project's choice: data_sm and replace_sm exactly where submit_sm
+client_cell row.Forwarded Opened = answer ESME_RINVBNDSTS
+client_cell row.Forwarded BoundTx = forward
+client_cell row.Forwarded BoundRx = answer ESME_RINVBNDSTS
+client_cell row.Forwarded BoundTrx = forward
+client_cell row.Forwarded Ended = answer ESME_RINVBNDSTS
+-- deliver_sm (4.6) comes from a centre only
+client_cell row.DeliverSm Opened = answer ESME_RINVBNDSTS
+client_cell row.DeliverSm BoundTx = answer ESME_RINVBNDSTS
+client_cell row.DeliverSm BoundRx = answer ESME_RINVBNDSTS
+client_cell row.DeliverSm BoundTrx = answer ESME_RINVBNDSTS
+client_cell row.DeliverSm Ended = answer ESME_RINVBNDSTS
+-- enquire_link (4.11). This project's choice: before a bind too
+client_cell row.EnquireLink Opened = answer ESME_ROK
+client_cell row.EnquireLink BoundTx = answer ESME_ROK
+client_cell row.EnquireLink BoundRx = answer ESME_ROK
+client_cell row.EnquireLink BoundTrx = answer ESME_ROK
+client_cell row.EnquireLink Ended = answer ESME_RINVBNDSTS
+-- unbind (4.2)
+client_cell row.Unbind Opened = answer ESME_RINVBNDSTS
+client_cell row.Unbind BoundTx = leave
+client_cell row.Unbind BoundRx = leave
+client_cell row.Unbind BoundTrx = leave
+client_cell row.Unbind Ended = answer ESME_RINVBNDSTS
+-- what answers a message (4.3, 4.6.2, 4.7.2): from a receiver or a transceiver
+client_cell row.MessageAnswer Opened = ignore
+client_cell row.MessageAnswer BoundTx = ignore
+client_cell row.MessageAnswer BoundRx = message_answer
+client_cell row.MessageAnswer BoundTrx = message_answer
+client_cell row.MessageAnswer Ended = ignore
+-- any other response: no response is answered (2.6)
+client_cell row.OtherResponse Opened = ignore
+client_cell row.OtherResponse BoundTx = ignore
+client_cell row.OtherResponse BoundRx = ignore
+client_cell row.OtherResponse BoundTrx = ignore
+client_cell row.OtherResponse Ended = ignore
+-- outbind and alert_notification (4.1.7, 4.12) have no response
+client_cell row.Unanswered Opened = ignore
+client_cell row.Unanswered BoundTx = ignore
+client_cell row.Unanswered BoundRx = ignore
+client_cell row.Unanswered BoundTrx = ignore
+client_cell row.Unanswered Ended = ignore
+-- any other command (4.3)
+client_cell row.Unknown Opened = nack
+client_cell row.Unknown BoundTx = nack
+client_cell row.Unknown BoundRx = nack
+client_cell row.Unknown BoundTrx = nack
+client_cell row.Unknown Ended = nack
+
+-- the state of a session that is bound so
+abbrev pub bound_state : Kind → ClientState
+bound_state kind.Tx = BoundTx
+bound_state kind.Rx = BoundRx
+bound_state kind.Trx = BoundTrx
+
+-- an act, and the state after it
+abbrev pub bind_decision : Kind → Checked → ClientState → Pdu → Act × ClientState
+bind_decision k (Refused status) s p = (act.Answer (response p status []), s)
+bind_decision k (Granted i version) s p = (act.Bind k i (response p ESME_ROK (bind_answer version)), bound_state k)
+
+abbrev pub client_decision : ClientCell → List Account → ClientState → Pdu → Act × ClientState
+client_decision (checks k) accounts s p = bind_decision k (check_bind accounts p.body) s p
+client_decision (answer status) accounts s p = (act.Answer (response p status []), s)
+client_decision nack accounts s p = (act.Answer (unknown p), s)
+client_decision forward accounts s p = (act.Forward, s)
+client_decision message_answer accounts s p = (act.MoAnswer p.number, s)
+client_decision leave accounts s p = (act.Leave (response p ESME_ROK []), Ended)
+client_decision ignore accounts s p = (act.Ignore, s)
+
+-- what a session in a state does with a PDU
+abbrev pub client_decides : List Account → ClientState → Pdu → Act × ClientState
+client_decides accounts s p = client_decision (client_cell (client_row p.command) s) accounts s p
+
+-- a bind that succeeds, whose answer is all that takes memory
+abbrev pub IsGranted : Checked → Type 0
+IsGranted (Refused status) = ⊥
+IsGranted (Granted i version) = Unit {0}
+
+abbrev pub Binds : ClientCell → List Account → List ℕ → Type 0
+Binds (checks k) accounts body = IsGranted (check_bind accounts body)
+Binds (answer status) accounts body = ⊥
+Binds nack accounts body = ⊥
+Binds forward accounts body = ⊥
+Binds message_answer accounts body = ⊥
+Binds leave accounts body = ⊥
+Binds ignore accounts body = ⊥

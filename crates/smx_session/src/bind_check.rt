@@ -1,0 +1,92 @@
+//! The checks of a client's bind (SMPP 3.4, section 4.1).
+ghost use Rattle.std.specs.Prelude.{◌≡◌, ◌∷◌, ◌++◌, [], codes, position, IfOk};
+ghost use Rattle.std.specs.Str.{bytes_eq};
+ghost use Rattle.smx_pdu.specs.Reading.{said_by, bind_at, Gives};
+ghost use Rattle.smx_session.specs.Binds.{account_of, bind_answer, check_bind, check_fields};
+
+use crate::account::Account;
+use crate::answer::short;
+use smx_pdu::status::{ESME_RINVCMDLEN, ESME_RINVPASWD, ESME_RINVSYSID};
+use smx_pdu::{Bind, Body, BodyFault, read_bind};
+use std::alloc::{AllocError, Global};
+
+/// The version of SMPP that the proxy speaks.
+const VERSION: u8 = 0x34;
+
+/// What the checks of a bind say.
+#[derive(Clone, Copy, Debug, PartialEq, Eq)]
+pub enum Checked {
+    /// The bind is refused with this status.
+    Refused(u32),
+    Granted {
+        /// The account's index.
+        account: usize,
+        /// The interface_version that the client speaks.
+        version: u8,
+    },
+}
+
+// The first account with exactly this system_id.
+fn account_of(accounts: &[Account], system_id: &[u8]) -> Option<usize>
+    ensures { result ≡ account_of accounts.now system_id.now }
+{
+    accounts
+        .iter()
+        .position(|account| account.system_id.as_slice() == system_id)
+}
+
+// Whether the account has exactly this password.
+fn has_password(account: &Account, password: &[u8]) -> bool
+    ensures { result ≡ bytes_eq account.now.password.items password.now }
+{
+    account.password.as_slice() == password
+}
+
+// Checks what a bind says against the accounts.
+fn check_fields(accounts: &[Account], bind: &Bind<'_>) -> Checked
+    ensures { result ≡ check_fields accounts.now (Ok (said_by bind.now)) }
+{
+    match account_of(accounts, bind.system_id) {
+        None => Checked::Refused(ESME_RINVSYSID),
+        Some(account) => {
+            if has_password(&accounts[account], bind.password) {
+                Checked::Granted {
+                    account,
+                    version: bind.interface_version,
+                }
+            } else {
+                Checked::Refused(ESME_RINVPASWD)
+            }
+        }
+    }
+}
+
+// The bind that a body begins with.
+fn bind_of(body: &[u8]) -> Result<Bind<'_>, BodyFault>
+    ensures { Gives said_by result (bind_at body.now) }
+{
+    read_bind(body)
+}
+
+// Checks a bind's body against the accounts.
+pub fn check_bind(accounts: &[Account], body: &[u8]) -> Checked
+    ensures { result ≡ check_bind accounts.now body.now }
+{
+    match bind_of(body) {
+        Ok(bind) => check_fields(accounts, &bind),
+        Err(_) => Checked::Refused(ESME_RINVCMDLEN),
+    }
+}
+
+// The body of the answer to a bind that succeeds: the system_id `smx`, and sc_interface_version for
+// a client that speaks SMPP 3.4 or later.
+pub fn bind_answer(alloc: Global, version: u8) -> Result<Body, AllocError>
+    ensures { IfOk result (λ b. b ≡ bind_answer version) }
+{
+    let octets = if version >= VERSION {
+        Vec::from_slice(alloc, b"smx\0\x02\x10\0\x01\x34")?
+    } else {
+        Vec::from_slice(alloc, b"smx\0")?
+    };
+    Ok(short(octets))
+}

@@ -1,0 +1,200 @@
+//! The session with a centre.
+ghost use Rattle.std.specs.Prelude.{◌≡◌, IfOk, None};
+
+use crate::answer::{header_response, request, short, unknown};
+use crate::up_act::UpAct;
+use crate::upstream_row::{BIND_NUMBER, ENQUIRY_NUMBER, UNBIND_NUMBER, UpstreamRow, upstream_row};
+use crate::upstream_state::UpstreamState::{self, Binding, Bound, Ended, Unbinding};
+use smx_pdu::command::{BIND_TRANSCEIVER, ENQUIRE_LINK, UNBIND};
+use smx_pdu::status::{ESME_RINVBNDSTS, ESME_ROK};
+use smx_pdu::{Bind, Pdu, write_bind};
+use std::alloc::{AllocError, Global};
+use std::marker::Model;
+
+/// The session with a message centre, in which the proxy is an ESME that binds as transceiver.
+/// Moments are in milliseconds from any origin; one below the last one handed in counts as the
+/// last one. Contracts see a session as its bind's texts, its state and its moments.
+#[derive(Drop)]
+pub struct UpstreamSession {
+    alloc: Global,
+    system_id: Vec<u8>,
+    password: Vec<u8>,
+    silence: u64,
+    state: UpstreamState,
+    // The last moment that was handed in.
+    latest: u64,
+    // That of the last PDU, at first that of the start.
+    heard: u64,
+    // Since when an enquiry is unanswered.
+    enquired: Option<u64>,
+}
+
+impl Model for UpstreamSession {
+    ghost use Rattle.smx_pdu.specs.Fields.{IsText};
+    ghost use Rattle.smx_session.specs.Moments.{Upstream};
+
+    ghost Value = { Upstream };
+
+    ghost view = { λ s. record { system_id = s.system_id.items; password = s.password.items; silence = s.silence; state = s.state; latest = s.latest; heard = s.heard; enquired = s.enquired } };
+
+    ghost invariant = { λ s. IsText 16 s.system_id.items × IsText 9 s.password.items };
+}
+
+impl UpstreamSession {
+    ghost use Rattle.smx_pdu.specs.Fields.{IsText, all_octets, bind_fields};
+    ghost use Rattle.smx_pdu.specs.Reading.{in_order};
+    ghost use Rattle.smx_session.specs.Binds.{own_bind};
+    ghost use Rattle.smx_session.specs.UpstreamTable.{bind_number};
+    ghost use Rattle.smx_session.specs.Moments.{at, act_on, after_pdu, enquiry, after_moment, is_silent, farewell, stopped};
+
+    /// A session that isn't bound yet, with the texts of its bind, without their ending 0, the
+    /// silence after which it enquires, in milliseconds, and the moment now. It takes no memory.
+    pub fn new(
+        alloc: Global,
+        system_id: Vec<u8>,
+        password: Vec<u8>,
+        silence: u64,
+        now: u64,
+    ) -> UpstreamSession
+        requires system_id { IsText 16 system_id.items }
+        requires password { IsText 9 password.items }
+        ensures { result ≡ record { system_id = system_id.items; password = password.items; silence = silence; state = UpstreamState.Binding; latest = now; heard = now; enquired = None } }
+    {
+        UpstreamSession {
+            alloc,
+            system_id,
+            password,
+            silence,
+            state: Binding,
+            latest: now,
+            heard: now,
+            enquired: None,
+        }
+    }
+
+    pub fn state(&self) -> UpstreamState
+        ensures { result ≡ self.now.state }
+    {
+        self.state
+    }
+
+    /// The proxy's bind_transceiver (SMPP 3.4, section 4.1.5), which is sent first. It takes memory
+    /// for its body.
+    pub fn start(&self) -> Result<Pdu, AllocError>
+        ensures { IfOk result (λ p. p ≡ record { command = BIND_TRANSCEIVER; status = ESME_ROK; number = bind_number; body = all_octets bind_fields (in_order (own_bind self.now.system_id self.now.password)) }) }
+    {
+        let mut octets = Vec::new(self.alloc);
+        let bind = Bind {
+            system_id: &self.system_id,
+            password: &self.password,
+            system_type: &[],
+            interface_version: 0x34,
+            addr_ton: 0,
+            addr_npi: 0,
+            address_range: &[],
+        };
+        write_bind(&bind, &mut octets)?;
+        Ok(Pdu {
+            command: BIND_TRANSCEIVER,
+            status: ESME_ROK,
+            number: BIND_NUMBER,
+            body: short(octets),
+        })
+    }
+
+    // Hands in a moment.
+    fn hand_in(&mut self, now: u64) -> u64
+        ensures value { result ≡ (at self.old now).latest }
+        ensures latest { self.new ≡ at self.old now }
+    {
+        self.latest = self.latest.max(now);
+        self.latest
+    }
+
+    /// Decides a PDU of the centre. It takes no memory.
+    pub fn on_pdu(&mut self, pdu: &Pdu, now: u64) -> UpAct
+        ensures act { result ≡ act_on self.old pdu.now }
+        ensures session { self.new ≡ after_pdu self.old pdu.now now }
+    {
+        self.heard = self.hand_in(now);
+        let alloc = self.alloc;
+        match (upstream_row(pdu.command, pdu.number), self.state) {
+            (UpstreamRow::BindAnswer, Binding) if pdu.status == ESME_ROK => {
+                self.state = Bound;
+                UpAct::Up
+            }
+            (UpstreamRow::BindAnswer | UpstreamRow::BindNack, Binding) => {
+                self.state = Ended;
+                UpAct::Failed(pdu.status)
+            }
+            (UpstreamRow::EnquiryAnswer, Bound) => {
+                self.enquired = None;
+                UpAct::Ignore
+            }
+            (UpstreamRow::UnbindAnswer, Unbinding) => {
+                self.state = Ended;
+                UpAct::Closed
+            }
+            (UpstreamRow::OtherResponse, Bound | Unbinding) => UpAct::ToLane,
+            (UpstreamRow::Message, Bound) => UpAct::Mo,
+            (UpstreamRow::EnquireLink, Binding | Bound | Unbinding) => {
+                UpAct::Answer(header_response(alloc, pdu, ESME_ROK))
+            }
+            (UpstreamRow::Unbind, Binding | Bound | Unbinding) => {
+                self.state = Ended;
+                UpAct::Leave(header_response(alloc, pdu, ESME_ROK))
+            }
+            (UpstreamRow::Unknown, _) => UpAct::Answer(unknown(alloc, pdu)),
+            // Each other request isn't allowed in its state.
+            (
+                UpstreamRow::Message
+                | UpstreamRow::EnquireLink
+                | UpstreamRow::Unbind
+                | UpstreamRow::OtherRequest,
+                _,
+            ) => UpAct::Answer(header_response(alloc, pdu, ESME_RINVBNDSTS)),
+            _ => UpAct::Ignore,
+        }
+    }
+
+    /// The enquire_link that is due at this moment (SMPP 3.4, section 4.11): nothing was heard for
+    /// the silence. It takes no memory.
+    pub fn on_moment(&mut self, now: u64) -> Option<Pdu>
+        ensures enquiry { result ≡ enquiry self.old now }
+        ensures session { self.new ≡ after_moment self.old now }
+    {
+        let now = self.hand_in(now);
+        let is_due = self.state == Bound
+            && self.enquired.is_none()
+            && now.saturating_sub(self.heard) >= self.silence;
+        if !is_due {
+            return None;
+        }
+        self.enquired = Some(now);
+        Some(request(self.alloc, ENQUIRE_LINK, ENQUIRY_NUMBER))
+    }
+
+    /// Whether an enquiry is unanswered for the silence at this moment. It takes no memory.
+    pub fn is_silent(&mut self, now: u64) -> bool
+        ensures silent { result ≡ is_silent self.old now }
+        ensures session { self.new ≡ at self.old now }
+    {
+        let now = self.hand_in(now);
+        match self.enquired {
+            Some(since) => now.saturating_sub(since) >= self.silence,
+            None => false,
+        }
+    }
+
+    /// The proxy's unbind (SMPP 3.4, section 4.2), once, where it is bound. It takes no memory.
+    pub fn stop(&mut self) -> Option<Pdu>
+        ensures unbind { result ≡ farewell self.old.state }
+        ensures session { self.new ≡ record self.old { state = stopped self.old.state } }
+    {
+        if self.state != Bound {
+            return None;
+        }
+        self.state = Unbinding;
+        Some(request(self.alloc, UNBIND, UNBIND_NUMBER))
+    }
+}
