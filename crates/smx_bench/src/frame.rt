@@ -1,9 +1,9 @@
 //! PDUs from a stream that comes in pieces.
 
-use crate::figures::Hundredths;
+use crate::figures::{Hundredths, nanos_since};
 use smx_frame::Framer;
 use std::rt::Clock;
-use std::time::{Duration, Instant};
+use std::time::Instant;
 
 /// The stream's PDUs, each a submit_sm of 100 octets.
 const PDUS: u64 = 1_000_000;
@@ -17,27 +17,28 @@ const SIZES: [usize; 4] = [1, 7, 1_460, 65_536];
 
 /// Frames a stream of 100 MB in pieces of each size, and prints the time in nanoseconds for each
 /// octet. A PDU's body is copied out and freed.
-pub fn run<R: Print + Clock + AllocGlobal>(rt: &R) -> anyhow::Result<()> {
+pub(crate) fn run<R: Print + Clock + AllocGlobal>(rt: &R) -> anyhow::Result<()> {
     let mut stream = Vec::new(rt.alloc());
     for _ in 0..PDUS {
         stream.extend_from_slice(&HEADER)?;
         stream.extend_from_slice(&BODY)?;
     }
     for size in SIZES {
-        let took = frame_in_pieces(rt, &stream, size)?;
+        let nanos = frame_in_pieces(rt, &stream, size)?;
         println!(rt;
             "pieces of {size}: {} ns an octet",
-            Hundredths::nanos_each(took, PDUS * 100)
+            Hundredths::quotient(u128::from(nanos), u128::from(PDUS * 100))
         )?;
     }
     Ok(())
 }
 
+// The nanoseconds that the stream takes in pieces of this size.
 fn frame_in_pieces<R: Clock + AllocGlobal>(
     rt: &R,
     stream: &[u8],
     size: usize,
-) -> anyhow::Result<Duration> {
+) -> anyhow::Result<u64> {
     let mut framer = Framer::new(rt.alloc(), 65_536);
     let mut found: u64 = 0;
     let start = Instant::now(rt)?;
@@ -51,7 +52,7 @@ fn frame_in_pieces<R: Clock + AllocGlobal>(
             found = found.saturating_add(1);
         }
     }
-    let took = start.elapsed(rt)?;
+    let nanos = nanos_since(rt, start)?;
     anyhow::ensure!(found == PDUS, "{found} PDUs");
-    Ok(took)
+    Ok(nanos)
 }

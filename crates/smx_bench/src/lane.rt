@@ -22,7 +22,7 @@ const ROUNDS: u64 = 20_000;
 struct Refused;
 
 /// Prints the nanoseconds of a round with 1 and with 256 clients, from 1,000 and from 900,000 stored entries on.
-pub fn run<R: Print + Clock + AllocGlobal>(rt: &R) -> anyhow::Result<()> {
+pub(crate) fn run<R: Print + Clock + AllocGlobal>(rt: &R) -> anyhow::Result<()> {
     for clients in [1, 256] {
         for stored in [1_000, 900_000] {
             let mut lane = Lane::new(rt.alloc(), LIMITS)?;
