@@ -1,10 +1,10 @@
 -- What the readers of bodies return.
 use Rattle.std.specs.Prelude.{IfOk, IfErr}
 use Rattle.std.specs.Borrow.{Bor}
-use Rattle.std.proofs.Common.{◌≡◌, ℕ, List, [], ◌∷◌, ◌++◌, Result, Ok, Err, refl, sym, ap, subst, ◌∙◌, inl, inr}
+use Rattle.std.proofs.Common.{◌≡◌, ℕ, List, ◌++◌, Result, Ok, Err, refl, sym, ap, subst, ◌∙◌, inl, inr}
 use Rattle.smx_pdu.specs.declared.body_fault.BodyFault.{BodyFault}
 use Rattle.smx_pdu.specs.declared.bind.Bind.{Bind}
-use Rattle.smx_pdu.specs.Fields.{Field, AllSaid, AllFit, all_octets, FirstFault, Holds, bind_fields, message_fields}
+use Rattle.smx_pdu.specs.Fields.{Field, AllSaid, all_octets, FirstFault, Holds, bind_fields, message_fields}
 use Rattle.smx_pdu.specs.Reading.{◌>>=◌, fields_at, Gives, BindFields, BindFits, said_by, in_order, by_name, bind_at, destination_in, destination_at}
 use Rattle.smx_pdu.proofs.FieldLaws.{good, bad, bind_ok, bind_bad, good_is, fields_found, fields_again, fields_fault, fields_fault_again}
 

@@ -1,4 +1,4 @@
-use Rattle.std.proofs.Common.{◌≡◌, ℕ, List, ◌++◌, drop, length, Ok, refl, sym, ap, ◌∙◌, rules}
+use Rattle.std.proofs.Common.{◌≡◌, ℕ, List, ◌++◌, drop, length, refl, ap, ◌∙◌, rules}
 use Rattle.std.proofs.lemmas.List.{drop_at}
 use Rattle.smx_pdu.specs.Fields.{bind_fields, all_octets}
 use Rattle.smx_pdu.specs.Reading.{bind_at, said_by, in_order}

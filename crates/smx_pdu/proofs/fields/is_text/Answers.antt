@@ -1,4 +1,3 @@
-use Rattle.std.proofs.Common.{rules}
 use Rattle.smx_pdu.proofs.Texts.{no_end_found}
 use Rattle.smx_pdu.proofs.fields.is_text.Goals as goal
 

@@ -1,4 +1,3 @@
-use Rattle.std.proofs.Common.{rules, ◌≡◌, true}
 use Rattle.smx_pdu.specs.Fields.{IsText}
 use Rattle.smx_pdu.proofs.bind.Bind.fits.Goals as goal
 use Rattle.smx_pdu.proofs.bind.Bind.fits.Goals.{then-is_text, else-is_text, then-is_text-2, else-is_text-2}
