@@ -1,28 +1,26 @@
 -- An accept takes a lane that agrees with a history to one that agrees with the longer history.
 use Rattle.smx_history.proofs.FitsAccept.{MayAccept, accepted_push, accepted_own, accepted_other, accept_fit}
 use Rattle.smx_history.proofs.Following.{IsLegal-next}
-use Rattle.std.proofs.Common.{◌≡◌, ◌<◌, ◌≤◌, ◌+◌, ◌-◌, ◌*◌, ◌==◌, ℕ, Bool, true, false, cond, not, ◌||◌, ◌&&◌, List, [], ◌∷◌, ◌++◌, length, map, take, drop, refl, sym, ◌∙◌, ap, subst, arith, filter, sum_by, count_by, length-append, inl, inr, Option, Some, None}
-use Rattle.std.specs.List.{list_any, AllByRecursion, IsDistinct, AllZip}
-use Rattle.std.proofs.lemmas.List.{append-nil, length-map, map-append, drop-append-le}
-use Rattle.std.proofs.lemmas.Bool.{and_left, eq-eqb, eqb-true, eqb-false, cases_eq, ne_eqb, cond_both}
+use Rattle.std.proofs.Common.{◌≡◌, ◌<◌, ◌≤◌, ◌+◌, ◌==◌, ℕ, true, false, cond, List, [], ◌∷◌, ◌++◌, length, map, refl, sym, ◌∙◌, ap, arith, length-append, Some}
+use Rattle.std.specs.List.{AllZip}
+use Rattle.std.proofs.lemmas.List.{map-append, drop-append-le}
+use Rattle.std.proofs.lemmas.Bool.{eqb-true, eqb-false, cond_both}
 use Rattle.std.proofs.lemmas.List.Elements.{filter_map-append}
 use Rattle.smx_history.specs.declared.note.Event.TheVariants.{Accept}
 use Rattle.smx_history.specs.declared.entry.Entry.{Entry}
-use Rattle.smx_history.specs.declared.limits.Limits.{Limits}
 use Rattle.smx_history.specs.declared.request.Request.{Request}
 use Rattle.smx_history.specs.declared.note.Note.{Note}
-use Rattle.smx_history.specs.Prefixes.{AtEachPrefix, AtEach, StartsWith, RiseAbove, last_or, first_or}
-use Rattle.smx_history.specs.Entries.{is_admit, is_accept, is_take, is_answer, is_collect, is_retire, is_settling, has_name, name_of, admits, accepts, takes, accepts_of, answers_of, collects_of, is_accepted, is_admitted, is_retired, unanswered, own_of, command_of, is_settled, present}
-use Rattle.smx_history.specs.Legal.{IsLegal, IsFifo, IsOnce, IsMembership, IsServed, IsBounded, IsWithin, AreApart, HasForm, StandsWell, IsPaired, waiting, size, queued}
-use Rattle.smx_history.specs.History.{entry_by, note, entries_of, requests, request_in, responses}
-use Rattle.smx_history.specs.Contents.{AgreesWith, IsMemberAfter, Content, Member, place_of, shown}
+use Rattle.smx_history.specs.Prefixes.{AtEach}
+use Rattle.smx_history.specs.Entries.{accepts, takes, accepts_of, is_admitted, is_retired, present}
+use Rattle.smx_history.specs.Legal.{IsFifo, IsPaired, size}
+use Rattle.smx_history.specs.History.{entry_by, note, entries_of, requests, request_in}
+use Rattle.smx_history.specs.Contents.{AgreesWith, IsMemberAfter, Content, Member}
 use Rattle.smx_history.specs.Replies.{with_row, accepted, member_with}
 use Rattle.smx_history.proofs.Refusals.{IsAllowed}
 use Rattle.smx_history.proofs.Reading.{entries_of-push, shown-kept, places-kept, length-requests, responses-other}
 use Rattle.smx_history.proofs.Sizes.{length-queue, takes-le-accepts, size_agrees, found_admit, present_served}
-use Rattle.smx_history.proofs.Growing.{filter_other, filter_push, any_other, AtEach-push, AtEachPrefix-push, AtEachPrefix-whole, StartsWith-more, StartsWith-length, RiseAbove-push, last_or-push}
-use Rattle.smx_history.proofs.Frames.{accepts_of-other, answers_of-other, collects_of-other, is_retired-other, is_settled-other, admits-other, takes-other, unanswered-other, present-other, waiting-other}
-use Rattle.smx_history.proofs.Keeping.{count_by-push}
+use Rattle.smx_history.proofs.Growing.{AtEachPrefix-whole, last_or-push}
+use Rattle.smx_history.proofs.Frames.{collects_of-other, admits-other, takes-other, unanswered-other, present-other, waiting-other}
 
 -- a size grows by one entry, and by three for a request that is queued
 size-accepted : (es : List Entry) (by : ℕ) (r : Request) → length (takes es) ≤ length (accepts es) → size (es ++ entry_by by (Accept r) ∷ []) ≡ size es + 4

@@ -3,29 +3,24 @@ use Rattle.smx_history.proofs.FitsAdmit.{admit_fit}
 use Rattle.smx_history.proofs.Presence.{present_admitted}
 use Rattle.smx_history.proofs.Following.{IsLegal-next}
 use Rattle.smx_history.proofs.SettleAgrees.{within-after}
-use Rattle.std.proofs.Common.{◌≡◌, ◌<◌, ◌≤◌, ◌+◌, ◌-◌, ◌*◌, ◌==◌, ℕ, Bool, true, false, cond, not, ◌||◌, ◌&&◌, List, [], ◌∷◌, ◌++◌, length, map, take, drop, refl, sym, ◌∙◌, ap, subst, arith, filter, sum_by, count_by, length-append, inl, inr, Option, Some, None, nat_le}
-use Rattle.std.specs.List.{list_any, AllByRecursion, AllZip}
+use Rattle.std.proofs.Common.{◌≡◌, ◌<◌, ◌≤◌, ◌+◌, ℕ, true, false, List, [], ◌∷◌, ◌++◌, length, map, refl, sym, ◌∙◌, ap, arith, sum_by, length-append, inl, inr, Some, None}
+use Rattle.std.specs.List.{AllByRecursion, AllZip}
 use Rattle.std.proofs.lemmas.List.{map-append}
-use Rattle.std.proofs.lemmas.List.Elements.{filter_agree}
 use Rattle.std.proofs.lemmas.List.Sums.{sum_by-append}
-use Rattle.std.proofs.lemmas.Bool.{ne_eqb, le-leb, lt-leb, leb-true, cases_lt, cases_Bool}
+use Rattle.std.proofs.lemmas.Bool.{le-leb, lt-leb, leb-true, cases_lt, cases_Bool}
 use Rattle.smx_history.specs.declared.note.Event.TheVariants.{Admit}
-use Rattle.smx_history.specs.declared.entry.Entry.{Entry}
-use Rattle.smx_history.specs.declared.limits.Limits.{Limits}
 use Rattle.smx_history.specs.declared.note.Note.{Note}
 use Rattle.smx_history.specs.declared.reply.AdmitRefusal.TheVariants.{Known, HistoryFull}
-use Rattle.smx_history.specs.Prefixes.{AtEachPrefix, AtEach, RiseAbove, last_or}
-use Rattle.smx_history.specs.Entries.{is_admit, is_take, is_retire, is_settling, has_name, admits, accepts_of, answers_of, collects_of, is_retired, unanswered, present}
-use Rattle.smx_history.specs.Legal.{IsLegal, IsFifo, IsOnce, IsMembership, IsBounded, IsWithin, AreApart, HasForm, StandsWell, IsPaired, size}
+use Rattle.smx_history.specs.Prefixes.{last_or}
+use Rattle.smx_history.specs.Entries.{is_admit, admits, present}
+use Rattle.smx_history.specs.Legal.{IsFifo}
 use Rattle.smx_history.specs.History.{entry_by, note, entries_of, responses}
-use Rattle.smx_history.specs.Contents.{AgreesWith, IsAfter, IsMemberAfter, Content, Member, shown, size_of}
+use Rattle.smx_history.specs.Contents.{AgreesWith, IsAfter, IsMemberAfter, Content, Member, size_of}
 use Rattle.smx_history.specs.Room.{KeepsRoom, FitsBox}
 use Rattle.smx_history.specs.Replies.{admitted, new_row, admit_refusal, has_room}
-use Rattle.smx_history.proofs.Reading.{entries_of-push, length-responses, responses-other, places-kept, shown-kept, All-each}
-use Rattle.smx_history.proofs.Sizes.{size_agrees}
-use Rattle.smx_history.proofs.Growing.{filter_push, AtEach-push, AtEachPrefix-push, AtEachPrefix-whole, RiseAbove-push, last_or-push, All-push}
-use Rattle.smx_history.proofs.Frames.{accepts-other, takes-other, accepts_of-other, answers_of-other, collects_of-other, is_retired-other, unanswered-other}
-use Rattle.smx_history.proofs.Keeping.{count_by-push}
+use Rattle.smx_history.proofs.Reading.{entries_of-push, length-responses, responses-other, places-kept, All-each}
+use Rattle.smx_history.proofs.Growing.{filter_push, AtEachPrefix-whole, RiseAbove-push, last_or-push, All-push}
+use Rattle.smx_history.proofs.Frames.{takes-other, accepts_of-other, collects_of-other, unanswered-other}
 use Rattle.smx_history.proofs.TakeAgrees.{IsMemberAfter-other, zip-each, requests-other}
 use Rattle.smx_history.proofs.Unseen.{none_admitted, unseen, IsUnseen}
 

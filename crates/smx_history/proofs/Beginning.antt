@@ -1,8 +1,7 @@
 -- A new lane agrees with the empty history.
-use Rattle.std.proofs.Common.{◌≡◌, ℕ, List, [], refl, arith, Some, None, slice_get, take, zero, suc, subst, sym}
+use Rattle.std.proofs.Common.{List, [], refl, arith, zero, suc}
 use Rattle.std.specs.List.{IsDistinct}
 use Rattle.smx_history.specs.declared.limits.Limits.{Limits}
-use Rattle.smx_history.specs.declared.entry.Entry.{Entry}
 use Rattle.smx_history.specs.Prefixes.{AtEachPrefix, AtEach}
 use Rattle.smx_history.specs.Legal.{IsLegal, IsFifo, AreApart, IsBounded, IsWithin, HasForm, StandsWell, IsPaired}
 use Rattle.smx_history.specs.Contents.{AgreesWith}

@@ -1,33 +1,27 @@
 -- The totals after an admit, an accept, a take, a collect or a retire.
 use Rattle.smx_history.proofs.Presence.{present_admitted, present_retired}
-use Rattle.std.proofs.Common.{◌≡◌, ◌<◌, ◌≤◌, ◌+◌, ◌-◌, ◌*◌, ◌==◌, ℕ, Bool, true, false, not, ◌&&◌, ◌||◌, cond, List, [], ◌∷◌, ◌++◌, length, map, filter, refl, sym, ◌∙◌, ap, subst, arith, length-append, inl, inr, count_by, sum_by}
-use Rattle.std.specs.List.{list_any}
-use Rattle.std.proofs.lemmas.List.{map-append}
-use Rattle.std.proofs.lemmas.List.Elements.{filter_agree}
-use Rattle.std.proofs.lemmas.List.Folds.{list_any-append}
+use Rattle.std.proofs.Common.{◌≡◌, ◌≤◌, ◌+◌, ◌-◌, ◌==◌, ℕ, Bool, false, not, ◌&&◌, cond, List, [], ◌∷◌, ◌++◌, length, map, filter, refl, sym, ◌∙◌, ap, subst, arith, length-append, inl, inr, count_by, sum_by}
 use Rattle.std.proofs.lemmas.List.Sums.{sum_by-append, sum_by-cons, length-filter}
-use Rattle.std.proofs.lemmas.Bool.{and_from, and_left, eqb-true, eq-eqb, ne_eqb, cases_eq}
+use Rattle.std.proofs.lemmas.Bool.{eqb-true, eq-eqb, ne_eqb, cases_eq}
 use Rattle.smx_history.specs.declared.entry.Entry.{Entry}
 use Rattle.smx_history.specs.declared.entry.Kind.TheVariants as kind
 use Rattle.smx_history.specs.declared.limits.Limits.{Limits}
 use Rattle.smx_history.specs.declared.totals.Totals.{Totals}
-use Rattle.smx_history.specs.Prefixes.{last_or, RiseAbove}
-use Rattle.smx_history.specs.Entries.{is_admit, is_accept, is_take, is_answer, is_collect, is_retire, is_settling, admits, accepts, takes, answers_of, collects_of, is_retired, unanswered, present}
-use Rattle.smx_history.specs.Legal.{IsLegal, IsFifo, StandsWell, waiting, queued}
-use Rattle.smx_history.specs.Checks.{Fits, Counted, takes_as, settlings_as}
-use Rattle.smx_history.proofs.Growing.{filter_push, last_or-push, AtEachPrefix-whole}
+use Rattle.smx_history.specs.Prefixes.{RiseAbove}
+use Rattle.smx_history.specs.Entries.{is_admit, is_accept, is_take, is_answer, is_collect, is_retire, is_settling, admits, accepts, takes, answers_of, collects_of, unanswered, present}
+use Rattle.smx_history.specs.Legal.{IsLegal, IsFifo, StandsWell, waiting}
+use Rattle.smx_history.specs.Checks.{Fits, Counted, takes_as}
+use Rattle.smx_history.proofs.Growing.{last_or-push, AtEachPrefix-whole}
 use Rattle.smx_history.proofs.Counts.{count_by-push}
-use Rattle.smx_history.proofs.Frames.{accepts-other, takes-other, admits-other, answers_of-other, collects_of-other, is_retired-other, unanswered-other, present-other, waiting-other, sum_by-agree}
+use Rattle.smx_history.proofs.Frames.{accepts-other, takes-other, admits-other, answers_of-other, collects_of-other, unanswered-other, present-other, waiting-other, sum_by-agree}
 use Rattle.smx_history.proofs.Sizes.{takes-le-accepts}
-use Rattle.smx_history.proofs.Taking.{filter-and}
-use Rattle.smx_history.proofs.Counts.{eqb_sym}
 use Rattle.smx_history.proofs.Unseen.{none_admitted, unseen}
 use Rattle.smx_history.proofs.Parts.{RiseAbove-end}
 use Rattle.smx_history.proofs.FitsAccept.{accepted_push}
 use Rattle.smx_history.proofs.FitsTake.{takes_push, unanswered_taken, untaken_unsettled, taken_first}
 use Rattle.smx_history.proofs.FitsAdmit.{clients_admitted}
 use Rattle.smx_history.proofs.FitsCollect.{collected_own, collected_other}
-use Rattle.smx_history.proofs.Counting.{sum_more, length_without, sum_without, present_once, admitted_any, collected_le, takes_as-other, settlings_as-other, numbers_kept}
+use Rattle.smx_history.proofs.Counting.{sum_more, length_without, sum_without, present_once, admitted_any, collected_le, settlings_as-other, numbers_kept}
 
 -- responses that wait for one client
 waits : List Entry → Entry → ℕ

@@ -1,15 +1,15 @@
 -- What an entry changes in the totals of a list.
-use Rattle.std.proofs.Common.{◌≡◌, ◌<◌, ◌≤◌, ◌+◌, ◌-◌, ◌*◌, ◌==◌, ℕ, Bool, true, false, not, ◌&&◌, ◌||◌, cond, List, [], ◌∷◌, ◌++◌, length, map, filter, refl, sym, ◌∙◌, ap, subst, arith, length-append, inl, inr, count_by, sum_by, suc, zero}
+use Rattle.std.proofs.Common.{◌≡◌, ◌≤◌, ◌+◌, ◌*◌, ◌==◌, ℕ, Bool, true, false, not, ◌&&◌, cond, List, [], ◌∷◌, ◌++◌, length, map, filter, refl, ◌∙◌, ap, arith, inl, inr, count_by, sum_by, suc}
 use Rattle.std.specs.List.{list_any, AllByRecursion}
-use Rattle.std.proofs.lemmas.List.Sums.{sum_by-cons, sum_by-append, length-filter}
+use Rattle.std.proofs.lemmas.List.Sums.{sum_by-cons, length-filter}
 use Rattle.std.proofs.lemmas.List.Filters.{sum_by-filter_both}
-use Rattle.std.proofs.lemmas.Bool.{and_from, and_parts, and_left, eqb-true, eq-eqb, ne_eqb, cases_eq, cases_Bool, false_from_ne_true, both_ways}
+use Rattle.std.proofs.lemmas.Bool.{and_from, and_parts, and_left, eqb-true, eq-eqb, ne_eqb, cases_eq}
 use Rattle.smx_history.specs.declared.entry.Entry.{Entry}
 use Rattle.smx_history.specs.declared.limits.Limits.{Limits}
 use Rattle.smx_history.specs.declared.totals.Totals.{Totals}
 use Rattle.smx_history.specs.Prefixes.{RiseAbove}
-use Rattle.smx_history.specs.Entries.{is_admit, is_accept, is_take, is_answer, is_collect, is_retire, is_settling, has_name, admits, accepts, takes, accepts_of, answers_of, collects_of, is_retired, is_admitted, unanswered, present}
-use Rattle.smx_history.specs.Legal.{IsLegal, IsFifo, IsMembership, size}
+use Rattle.smx_history.specs.Entries.{is_admit, is_take, is_settling, admits, answers_of, collects_of, is_retired, is_admitted, unanswered, present}
+use Rattle.smx_history.specs.Legal.{IsLegal, IsFifo, IsMembership}
 use Rattle.smx_history.specs.Checks.{Counted, takes_as, settlings_as}
 use Rattle.smx_history.proofs.Growing.{filter_other, StartsWith-length}
 use Rattle.smx_history.proofs.Counts.{count_by-filter, count-filter-le, any_count}

@@ -1,17 +1,16 @@
 -- A collect or a retire fits exactly where the check says so.
 use Rattle.std.proofs.Common.{drop, zero, suc}
-use Rattle.std.proofs.Common.{◌≡◌, ◌<◌, ◌≤◌, ◌+◌, ◌-◌, ◌==◌, ◌↔◌, ℕ, Bool, true, false, not, ◌&&◌, List, [], ◌∷◌, ◌++◌, length, map, refl, sym, ◌∙◌, ap, subst, arith, length-append, inl, inr, count_by, Some, slice_get}
+use Rattle.std.proofs.Common.{◌≡◌, ◌≤◌, ◌==◌, ◌↔◌, ℕ, Bool, true, false, not, ◌&&◌, List, [], ◌∷◌, ◌++◌, length, map, refl, sym, ◌∙◌, ap, subst, arith, length-append, inl, inr, count_by, Some, slice_get}
 use Rattle.std.specs.Option.{option_map}
 use Rattle.std.proofs.lemmas.List.{map-append, length-map}
 use Rattle.std.proofs.lemmas.List.Elements.{filter-append}
 use Rattle.std.proofs.lemmas.Option.{slice_get-map}
 use Rattle.std.proofs.lemmas.Bool.{and_from, and_parts, eqb-true, eq-eqb, ne_eqb, cases_eq, not-true}
 use Rattle.smx_history.specs.declared.entry.Entry.{Entry}
-use Rattle.smx_history.specs.declared.entry.Kind.{Kind}
 use Rattle.smx_history.specs.declared.entry.Kind.TheVariants as kind
 use Rattle.smx_history.specs.declared.limits.Limits.{Limits}
 use Rattle.smx_history.specs.Prefixes.{StartsWith}
-use Rattle.smx_history.specs.Entries.{is_admit, is_accept, is_take, is_answer, is_collect, is_retire, is_settling, accepts_of, answers_of, collects_of, is_retired, admits}
+use Rattle.smx_history.specs.Entries.{is_admit, is_accept, is_take, is_answer, is_collect, is_retire, is_settling, answers_of, collects_of, is_retired}
 use Rattle.smx_history.specs.Legal.{IsLegal, IsFifo, IsMembership, IsServed, AreApart, IsBounded, HasForm, StandsWell}
 use Rattle.smx_history.specs.Checks.{Fits, collect_fits, retire_fits, is_oldest}
 use Rattle.smx_history.proofs.Growing.{filter_push, filter_other, AtEachPrefix-whole}
@@ -96,25 +95,26 @@ collect_fit limits es e legal k form served oldest =
         queue = rw (accepts-other es e (ap is_accept k), takes-other es e (ap is_take k)) was.queue;
         window = rw (unanswered-other es e (ap is_take k) (ap is_settling k)) was.window;
         client = λ d stays.
-          let old = was.client d (sym (is_retired-other d es e (ap is_retire k)) ∙ stays) in
-          let more : length (collects_of d es) ≤ length (collects_of d (es ++ e ∷ [])) =
+            let old = was.client d (sym (is_retired-other d es e (ap is_retire k)) ∙ stays) in
+            let more : length (collects_of d es) ≤ length (collects_of d (es ++ e ∷ [])) =
             omega (arith, ap length (filter-append (λ x. is_collect x.kind && (x.client == d)) es (e ∷ [])), length-append (collects_of d es) (collects_of d (e ∷ []))) in
-          rw (accepts_of-other d es e (ap is_accept k)) (omega (arith, old, more));
+            rw (accepts_of-other d es e (ap is_accept k)) (omega (arith, old, more));
       };
     }
 
 pub collect_iff : (limits : Limits) (es : List Entry) (e : Entry) (b : Bool) → IsLegal limits es → e.kind ≡ kind.Collect → b ≡ collect_fits es e → (b ≡ true) ↔ Fits limits es e
-collect_iff limits es e b legal k is =
-    (λ h.
+collect_iff limits es e b legal k is = (
+  λ h.
       let a = and_parts _ _ (sym is ∙ h) in
       let c = and_parts _ _ a.0 in
       let bare = and_parts _ _ c.0 in
       let served = and_parts _ _ c.1 in
       collect_fit limits es e legal k (eqb-true _ _ bare.0, eqb-true _ _ bare.1) (served.0, not-true _ served.1) (oldest_test es e a.1),
-      λ fits.
-        let form : HasForm kind.Collect e = rw k at fits.form in
-        let served : StandsWell kind.Collect es e = rw k at fits.standing in
-        is ∙ and_from _ _ (and_from _ _ (and_from _ _ (eq-eqb e.number 0 form.0) (eq-eqb e.command 0 form.1)) (and_from _ _ served.0 (ap not served.1))) (test_oldest es e (oldest_from es e k fits.fifo)))
+  λ fits.
+      let form : HasForm kind.Collect e = rw k at fits.form in
+      let served : StandsWell kind.Collect es e = rw k at fits.standing in
+      is ∙ and_from _ _ (and_from _ _ (and_from _ _ (eq-eqb e.number 0 form.0) (eq-eqb e.command 0 form.1)) (and_from _ _ served.0 (ap not served.1))) (test_oldest es e (oldest_from es e k fits.fifo)),
+)
 
 retires_more : (es : List Entry) (e : Entry) → e.kind ≡ kind.Retire → is_retired e.client es ≡ false → IsMembership es → (d : ℕ) → count_by (λ x. is_retire x.kind && (x.client == d)) (es ++ e ∷ []) ≤ 1
 retires_more es e k none h d =
@@ -148,14 +148,15 @@ retire_fit limits es e legal k form served =
     }
 
 pub retire_iff : (limits : Limits) (es : List Entry) (e : Entry) (b : Bool) → IsLegal limits es → e.kind ≡ kind.Retire → b ≡ retire_fits es e → (b ≡ true) ↔ Fits limits es e
-retire_iff limits es e b legal k is =
-    (λ h.
+retire_iff limits es e b legal k is = (
+  λ h.
       let a = and_parts _ _ (sym is ∙ h) in
       let c = and_parts _ _ a.0 in
       let bare = and_parts _ _ c.1 in
       let served = and_parts _ _ a.1 in
       retire_fit limits es e legal k (eqb-true _ _ c.0, eqb-true _ _ bare.0, eqb-true _ _ bare.1) (served.0, not-true _ served.1),
-      λ fits.
-        let form : HasForm kind.Retire e = rw k at fits.form in
-        let served : StandsWell kind.Retire es e = rw k at fits.standing in
-        is ∙ and_from _ _ (and_from _ _ (eq-eqb e.ordinal 0 form.0) (and_from _ _ (eq-eqb e.number 0 form.1) (eq-eqb e.command 0 form.2))) (and_from _ _ served.0 (ap not served.1)))
+  λ fits.
+      let form : HasForm kind.Retire e = rw k at fits.form in
+      let served : StandsWell kind.Retire es e = rw k at fits.standing in
+      is ∙ and_from _ _ (and_from _ _ (eq-eqb e.ordinal 0 form.0) (and_from _ _ (eq-eqb e.number 0 form.1) (eq-eqb e.command 0 form.2))) (and_from _ _ served.0 (ap not served.1)),
+)

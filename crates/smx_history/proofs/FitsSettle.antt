@@ -1,10 +1,9 @@
 -- An answer, in time or late, fits exactly where the check says so.
-use Rattle.std.proofs.Common.{◌≡◌, ◌<◌, ◌≤◌, ◌+◌, ◌-◌, ◌==◌, ◌↔◌, ℕ, Bool, true, false, not, ◌&&◌, ◌||◌, cond, List, [], ◌∷◌, ◌++◌, length, map, filter, refl, sym, ◌∙◌, ap, subst, arith, length-append, inl, inr, count_by}
-use Rattle.std.specs.List.{list_any}
+use Rattle.std.proofs.Common.{◌≡◌, ◌≤◌, ◌==◌, ◌↔◌, ℕ, Bool, true, false, not, ◌&&◌, ◌||◌, List, [], ◌∷◌, ◌++◌, map, filter, refl, sym, ◌∙◌, ap, subst, arith, inl, inr, count_by}
 use Rattle.std.proofs.lemmas.List.{map-append}
 use Rattle.std.proofs.lemmas.List.Elements.{filter_agree, filter-append}
 use Rattle.std.proofs.lemmas.List.Folds.{list_any-append}
-use Rattle.std.proofs.lemmas.Bool.{and_from, and_parts, and_right, eqb-true, eq-eqb, cases_Bool, not-true}
+use Rattle.std.proofs.lemmas.Bool.{and_from, and_parts, and_right, eqb-true, cases_Bool, not-true}
 use Rattle.smx_pdu.specs.Command.{is_response_to}
 use Rattle.smx_history.specs.declared.entry.Entry.{Entry}
 use Rattle.smx_history.specs.declared.entry.Kind.{Kind}
@@ -146,17 +145,19 @@ late_fit limits es e legal k p gone =
     }
 
 pub answer_iff : (limits : Limits) (es : List Entry) (e : Entry) (b : Bool) → IsLegal limits es → e.kind ≡ kind.Answer → b ≡ answer_fits es e → (b ≡ true) ↔ Fits limits es e
-answer_iff limits es e b legal k is =
-    (λ h. let w = and_parts _ _ (sym is ∙ h) in answer_fit limits es e legal k (settle_from es e w.0) (not-true _ w.1),
-      λ fits.
-        let standing : StandsWell kind.Answer es e = rw k at fits.standing in
-        let paired : IsPaired kind.Answer es e = subst (λ (x : Kind). IsPaired x es e) k fits.pairing in
-        is ∙ and_from _ _ (settle_to es e paired) (ap not standing))
+answer_iff limits es e b legal k is = (
+  λ h. let w = and_parts _ _ (sym is ∙ h) in answer_fit limits es e legal k (settle_from es e w.0) (not-true _ w.1),
+  λ fits.
+      let standing : StandsWell kind.Answer es e = rw k at fits.standing in
+      let paired : IsPaired kind.Answer es e = subst (λ (x : Kind). IsPaired x es e) k fits.pairing in
+      is ∙ and_from _ _ (settle_to es e paired) (ap not standing),
+)
 
 pub late_iff : (limits : Limits) (es : List Entry) (e : Entry) (b : Bool) → IsLegal limits es → e.kind ≡ kind.Late → b ≡ late_fits es e → (b ≡ true) ↔ Fits limits es e
-late_iff limits es e b legal k is =
-    (λ h. let w = and_parts _ _ (sym is ∙ h) in late_fit limits es e legal k (settle_from es e w.0) w.1,
-      λ fits.
-        let standing : StandsWell kind.Late es e = rw k at fits.standing in
-        let paired : IsPaired kind.Late es e = subst (λ (x : Kind). IsPaired x es e) k fits.pairing in
-        is ∙ and_from _ _ (settle_to es e paired) standing)
+late_iff limits es e b legal k is = (
+  λ h. let w = and_parts _ _ (sym is ∙ h) in late_fit limits es e legal k (settle_from es e w.0) w.1,
+  λ fits.
+      let standing : StandsWell kind.Late es e = rw k at fits.standing in
+      let paired : IsPaired kind.Late es e = subst (λ (x : Kind). IsPaired x es e) k fits.pairing in
+      is ∙ and_from _ _ (settle_to es e paired) standing,
+)

@@ -1,5 +1,5 @@
 -- A take fits exactly where the check says so.
-use Rattle.std.proofs.Common.{◌≡◌, ◌<◌, ◌≤◌, ◌+◌, ◌-◌, ◌==◌, ◌↔◌, ℕ, Bool, true, false, not, ◌&&◌, ◌||◌, cond, List, [], ◌∷◌, ◌++◌, length, map, filter, refl, sym, ◌∙◌, ap, subst, arith, length-append, inl, inr, count_by, Some, slice_get, nat_eq}
+use Rattle.std.proofs.Common.{◌≡◌, ◌<◌, ◌≤◌, ◌==◌, ◌↔◌, ℕ, Bool, true, false, not, ◌&&◌, ◌||◌, cond, List, [], ◌∷◌, ◌++◌, length, map, filter, refl, sym, ◌∙◌, ap, subst, arith, length-append, inl, inr, count_by, Some, slice_get, nat_eq}
 use Rattle.std.specs.List.{list_any, AllByRecursion, IsDistinct}
 use Rattle.std.specs.Option.{option_map}
 use Rattle.std.proofs.lemmas.List.{map-append, length-map}
@@ -11,14 +11,13 @@ use Rattle.smx_history.specs.declared.entry.Kind.TheVariants as kind
 use Rattle.smx_history.specs.declared.limits.Limits.{Limits}
 use Rattle.smx_history.specs.declared.totals.Totals.{Totals}
 use Rattle.smx_history.specs.Prefixes.{AtEach, StartsWith}
-use Rattle.smx_history.specs.Entries.{is_admit, is_accept, is_take, is_answer, is_collect, is_retire, is_settling, name_of, has_name, accepts, takes, is_retired, is_settled, unanswered}
+use Rattle.smx_history.specs.Entries.{is_admit, is_accept, is_take, is_answer, is_collect, is_retire, is_settling, name_of, has_name, accepts, takes, is_settled, unanswered}
 use Rattle.smx_history.specs.Legal.{IsLegal, IsFifo, AreApart, IsBounded, HasForm, IsPaired}
-use Rattle.smx_history.specs.Checks.{Fits, Counted, take_fits, is_next, is_taken, takes_as, settlings_as}
+use Rattle.smx_history.specs.Checks.{Fits, Counted, take_fits, is_taken, takes_as, settlings_as}
 use Rattle.smx_history.proofs.Growing.{filter_push, AtEachPrefix-whole}
 use Rattle.smx_history.proofs.Counts.{none_count, count_none_any}
 use Rattle.smx_history.proofs.Frames.{accepts-other, accepts_of-other, answers_of-other, collects_of-other, is_retired-other, is_settled-other}
 use Rattle.smx_history.proofs.Kept.{settlings_kept, membership_kept, HasForm-by, StandsWell-by, IsPaired-by}
-use Rattle.smx_history.proofs.Sizes.{takes-le-accepts}
 use Rattle.smx_history.proofs.Taking.{not_settled}
 use Rattle.smx_history.proofs.Parts.{IsDistinct-push}
 use Rattle.smx_history.proofs.Parts.{StartsWith-next, StartsWith-end, IsDistinct-end, named_some, some_named, none_numbered, count_numbered, count_one, count_other}

@@ -1,10 +1,10 @@
 -- A list with one entry more is legal where the list is, the entry fits and the size keeps to the limit.
-use Rattle.std.proofs.Common.{◌≡◌, ◌<◌, ◌≤◌, ◌+◌, ◌==◌, ℕ, Bool, true, false, cond, ◌&&◌, List, [], ◌∷◌, ◌++◌, length, map, refl, sym, ◌∙◌, ap, subst, arith, filter, count_by, append_assoc}
+use Rattle.std.proofs.Common.{◌≡◌, ◌==◌, ℕ, Bool, ◌&&◌, List, [], ◌∷◌, ◌++◌, map, sym, ◌∙◌, ap, subst, arith, append_assoc}
 use Rattle.std.proofs.lemmas.List.{append-nil, map-append}
 use Rattle.std.proofs.lemmas.List.Elements.{filter-append}
 use Rattle.smx_history.specs.declared.entry.Entry.{Entry}
 use Rattle.smx_history.specs.declared.limits.Limits.{Limits}
-use Rattle.smx_history.specs.Prefixes.{AtEachPrefix, AtEach, RiseAbove}
+use Rattle.smx_history.specs.Prefixes.{RiseAbove}
 use Rattle.smx_history.specs.Entries.{is_admit, is_accept, is_take, is_retire, is_settling, has_name, admits, accepts_of}
 use Rattle.smx_history.specs.Legal.{IsLegal, IsFifo, IsOnce, IsMembership, AreApart, IsBounded, IsWithin, HasForm, StandsWell, IsPaired}
 use Rattle.smx_history.specs.Checks.{Fits}

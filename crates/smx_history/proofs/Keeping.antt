@@ -1,16 +1,16 @@
 -- What each call keeps of the room.
-use Rattle.std.proofs.Common.{◌≡◌, ◌<◌, ◌≤◌, ◌+◌, ◌*◌, ◌==◌, ℕ, Bool, true, false, cond, if◌then◌else◌, List, [], ◌∷◌, ◌++◌, length, map, get_or, refl, sym, ◌∙◌, ap, arith, sum, sum_by, Option, Some, None, length-append, count_by, inl, inr, subst, set, zero, suc}
-use Rattle.std.specs.List.{AllByRecursion, find}
+use Rattle.std.proofs.Common.{◌≡◌, ◌<◌, ◌≤◌, ◌+◌, ◌==◌, ℕ, Bool, true, false, cond, if◌then◌else◌, List, [], ◌∷◌, ◌++◌, length, map, get_or, refl, sym, ◌∙◌, ap, arith, sum, sum_by, Some, length-append, count_by, inl, inr, subst, set, zero, suc}
+use Rattle.std.specs.List.{AllByRecursion}
 use Rattle.std.proofs.lemmas.List.{length-map}
-use Rattle.std.proofs.lemmas.List.Sums.{sum_by-cons, sum_by-append, sum-map}
-use Rattle.std.proofs.lemmas.Bool.{ne_eqb, eq-eqb, eqb-true, eqb-false, cases_Bool, cases_eq, cond_both}
+use Rattle.std.proofs.lemmas.List.Sums.{sum_by-append, sum-map}
+use Rattle.std.proofs.lemmas.Bool.{ne_eqb, eq-eqb, eqb-true, eqb-false, cases_eq, cond_both}
 use Rattle.smx_history.specs.declared.request.Request.{Request}
 use Rattle.smx_history.specs.declared.note.Event.TheVariants.{Accept}
 use Rattle.smx_history.specs.History.{entry_by}
 use Rattle.smx_history.specs.Prefixes.{RiseAbove}
-use Rattle.smx_history.specs.Contents.{Content, Member, size_of}
+use Rattle.smx_history.specs.Contents.{Content, Member}
 use Rattle.smx_history.specs.Room.{KeepsRoom, FitsBox}
-use Rattle.smx_history.specs.Replies.{with_row, accepted, member_with, refusal_for}
+use Rattle.smx_history.specs.Replies.{with_row, accepted, member_with}
 use Rattle.smx_history.proofs.Refusals.{IsAllowed}
 
 -- what a change of a row leaves as it is, it leaves so in all rows

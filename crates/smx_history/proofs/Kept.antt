@@ -1,12 +1,11 @@
 -- What an entry of another kind keeps.
-use Rattle.std.proofs.Common.{◌≡◌, ◌<◌, ◌≤◌, ◌+◌, ◌==◌, ℕ, Bool, true, false, ◌&&◌, List, [], ◌∷◌, ◌++◌, length, map, refl, sym, ◌∙◌, ap, subst, arith, count_by}
+use Rattle.std.proofs.Common.{◌≡◌, ◌≤◌, ◌==◌, ℕ, false, ◌&&◌, List, [], ◌∷◌, ◌++◌, sym, subst, arith, count_by}
 use Rattle.std.proofs.lemmas.Bool.{and_left}
 use Rattle.smx_history.specs.declared.entry.Entry.{Entry}
 use Rattle.smx_history.specs.declared.entry.Kind.{Kind}
-use Rattle.smx_history.specs.declared.limits.Limits.{Limits}
-use Rattle.smx_history.specs.Entries.{is_admit, is_accept, is_take, is_answer, is_collect, is_retire, is_settling, has_name, unanswered}
-use Rattle.smx_history.specs.Legal.{IsFifo, IsOnce, IsMembership, AreApart, IsBounded, HasForm, StandsWell, IsPaired}
-use Rattle.smx_history.proofs.Frames.{accepts-other, takes-other, admits-other, accepts_of-other, answers_of-other, collects_of-other, is_retired-other, unanswered-other}
+use Rattle.smx_history.specs.Entries.{is_admit, is_accept, is_take, is_answer, is_collect, is_retire, is_settling, has_name}
+use Rattle.smx_history.specs.Legal.{IsFifo, IsOnce, IsMembership, AreApart, HasForm, StandsWell, IsPaired}
+use Rattle.smx_history.proofs.Frames.{accepts-other, takes-other, admits-other, accepts_of-other, answers_of-other, collects_of-other, unanswered-other}
 use Rattle.smx_history.proofs.Parts.{count_other}
 
 pub fifo_kept : (es : List Entry) (e : Entry) → is_accept e.kind ≡ false → is_take e.kind ≡ false → is_answer e.kind ≡ false → is_collect e.kind ≡ false → IsFifo es → IsFifo (es ++ e ∷ [])

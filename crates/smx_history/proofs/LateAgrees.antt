@@ -1,44 +1,29 @@
 -- A late answer takes a lane that agrees with a history to one that agrees with the longer history.
-use Rattle.std.proofs.Common.{◌≡◌, ◌<◌, ◌≤◌, ◌+◌, ◌-◌, ◌*◌, ◌==◌, ℕ, Bool, true, false, cond, not, ◌||◌, ◌&&◌, List, [], ◌∷◌, ◌++◌, length, map, take, drop, get_or, refl, sym, ◌∙◌, ap, subst, arith, filter, sum_by, count_by, length-append, length-drop, nat_eq, slice_get, inl, inr, Option, Some, None, suc}
-use Rattle.std.specs.List.{list_any, AllByRecursion, AllZip, IsDistinct, cons_option, remove}
-use Rattle.std.proofs.lemmas.List.{append-nil, length-map, map-append, drop-append-le}
-use Rattle.std.proofs.lemmas.List.Elements.{filter-append, filter_map-append, filter_agree}
-use Rattle.std.proofs.lemmas.List.Folds.{list_any-append}
-use Rattle.std.proofs.lemmas.List.Sums.{length-filter, count_by-le-length}
-use Rattle.std.proofs.lemmas.Bool.{and_left, eq-eqb, eqb-true, eqb-false, ne_eqb, cases_eq, cases_Bool, and_parts, and_from, or_parts, not-true, not_from_true, false_from_ne_true, both_ways}
+use Rattle.std.proofs.Common.{◌≡◌, ◌<◌, ◌==◌, ℕ, Bool, true, false, cond, List, [], ◌∷◌, ◌++◌, length, get_or, refl, sym, ◌∙◌, ap, arith, inl, inr, Some, None}
+use Rattle.std.specs.List.{AllByRecursion, AllZip}
+use Rattle.std.proofs.lemmas.Bool.{cases_Bool}
 use Rattle.smx_pdu.specs.declared.pdu.Pdu.{Pdu}
 use Rattle.smx_history.specs.declared.note.Event.TheVariants.{Late}
-use Rattle.smx_history.specs.declared.entry.Kind.{Kind}
-use Rattle.smx_history.specs.declared.entry.Kind.TheVariants as kind
 use Rattle.smx_history.specs.declared.entry.Entry.{Entry}
-use Rattle.smx_history.specs.declared.limits.Limits.{Limits}
 use Rattle.smx_history.specs.declared.place.Place.{Place}
-use Rattle.smx_history.specs.declared.response.Response.{Response}
 use Rattle.smx_history.specs.declared.note.Note.{Note}
 use Rattle.smx_pdu.specs.Command.{is_response_to}
-use Rattle.smx_history.specs.Prefixes.{AtEachPrefix, AtEach, StartsWith, RiseAbove, SameCounts, last_or, first_or}
-use Rattle.smx_history.specs.Entries.{is_admit, is_admitted, is_accept, is_accepted, is_take, is_answer, is_collect, is_retire, is_settling, has_name, name_of, Name, admits, accepts, takes, accepts_of, answers_of, collects_of, is_retired, unanswered, own_of, command_of, is_settled, present}
-use Rattle.smx_history.specs.Legal.{IsLegal, IsFifo, IsOnce, IsMembership, IsBounded, IsWithin, AreApart, HasForm, StandsWell, IsPaired, Answers, waiting, size, queued}
-use Rattle.smx_history.specs.History.{entry_by, entry_of, note, entries_of, requests, request_in, responses, response_in}
-use Rattle.smx_history.specs.Contents.{AgreesWith, IsAfter, IsMemberAfter, Content, Member, place_of, shown, size_of, window_after}
+use Rattle.smx_history.specs.Entries.{is_accepted, is_retired, present}
+use Rattle.smx_history.specs.History.{entry_by, note, entries_of}
+use Rattle.smx_history.specs.Contents.{AgreesWith, IsAfter, IsMemberAfter, Content, Member}
 use Rattle.smx_history.specs.Room.{KeepsRoom}
 use Rattle.smx_history.specs.Replies.{member_with, late}
-use Rattle.smx_history.proofs.Growing.{filter_other, filter_push, any_other, any_kept, AtEach-push, AtEachPrefix-push, AtEachPrefix-whole, StartsWith-more, StartsWith-length}
-use Rattle.smx_history.proofs.Counts.{remove_only, filter-map, All-same, none_count, count_by-push, count_by-map, count_by-filter, count_and-le, count-filter-le, length-same}
-use Rattle.smx_history.proofs.Frames.{accepts-other, takes-other, accepts_of-other, answers_of-other, collects_of-other, is_retired-other, admits-other, present-other}
-use Rattle.smx_history.proofs.Reading.{entries_of-push, shown-kept, own_of-kept, command_of-kept, map_agree, All-each, All-kept, All-from_get, All-filtered, any_at, takes_accepted, length-responses}
-use Rattle.smx_history.proofs.Sizes.{size_agrees, length-window, found_admit, present_served}
-use Rattle.smx_history.proofs.Taking.{filter-and, filter_none, any_none}
-use Rattle.smx_history.proofs.AcceptAgrees.{zip-with_row}
+use Rattle.smx_history.proofs.Counts.{none_count}
+use Rattle.smx_history.proofs.Frames.{takes-other, admits-other, present-other}
+use Rattle.smx_history.proofs.Reading.{entries_of-push}
+use Rattle.smx_history.proofs.Taking.{any_none}
 use Rattle.smx_history.proofs.SettleAgrees.{place_taken, place_answers, window-settled, within-after}
 use Rattle.smx_history.proofs.FitsSettle.{settles_late, late_fit}
 use Rattle.smx_history.proofs.Following.{IsLegal-next}
 use Rattle.smx_history.proofs.Counting.{present_once}
 use Rattle.smx_history.proofs.CountedSettle.{accepted_admitted}
-use Rattle.smx_history.proofs.Keeping.{All-get_row}
-use Rattle.std.proofs.lemmas.Option.{slice_get_within, get_or_from_slice_get}
-use Rattle.std.proofs.lemmas.List.{take-append-drop}
 use Rattle.smx_history.proofs.TakeAgrees.{IsMemberAfter-other, requests-other, zip-each}
+
 -- with no row of the client, no admit of it is present
 no_present : (h : List Note) (c : ℕ) (us : List Entry) (ms : List Member) → AllZip (IsMemberAfter h) us ms → member_with c ms ≡ None → AllByRecursion (λ a. (a.client == c) ≡ false) us
 no_present h c [] [] z none = tt
@@ -55,11 +40,11 @@ pub retired_if_gone : (h : List Note) (v : Content) (c n : ℕ) → AgreesWith h
 retired_if_gone h v c n a accepted none =
     let es = entries_of h in
     elim (cases_Bool (is_retired c es)) [
-      inl gone ↦ gone
+      | inl gone ↦ gone
       | inr here ↦
-        let once = present_once es c a.legal.membership (accepted_admitted v.limits es c n a.legal accepted) here in
-        let nobody = any_none (λ x. x.client == c) (present es) (no_present h c (present es) v.members a.after.members none) in
-        absurd (omega (arith, once, none_count (λ (x : Entry). x.client == c) (present es) nobody))
+          let once = present_once es c a.legal.membership (accepted_admitted v.limits es c n a.legal accepted) here in
+          let nobody = any_none (λ x. x.client == c) (present es) (no_present h c (present es) v.members a.after.members none) in
+          absurd (omega (arith, once, none_count (λ (x : Entry). x.client == c) (present es) nobody))
     ]
 
 -- what the lane holds after a late answer

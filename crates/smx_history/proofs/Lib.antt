@@ -34,3 +34,4 @@ pub mod Presence
 pub mod CountedEntries
 pub mod CountedSettle
 pub mod Steps
+pub mod Finding

@@ -1,8 +1,8 @@
 -- Among the first numbers one is free.
-use Rattle.std.proofs.Common.{◌≡◌, ◌<◌, ◌≤◌, ◌+◌, ◌==◌, ℕ, Bool, true, false, cond, not, ◌||◌, ◌&&◌, List, [], ◌∷◌, length, map, refl, sym, ◌∙◌, ap, arith, sum_by, count_by, zero, suc, nat_le, inl, inr, add-one}
+use Rattle.std.proofs.Common.{◌≡◌, ◌<◌, ◌≤◌, ◌+◌, ◌==◌, ℕ, Bool, true, false, cond, ◌||◌, List, [], ◌∷◌, length, refl, ap, arith, count_by, zero, suc, nat_le, inl, inr, add-one}
 use Rattle.std.specs.List.{list_any}
 use Rattle.std.proofs.lemmas.List.Sums.{count_by-le-length, sum_by-cons}
-use Rattle.std.proofs.lemmas.Bool.{eqb-true, le-leb, lt-leb, cases_lt, eq-eqb, ne_eqb, cases_order}
+use Rattle.std.proofs.lemmas.Bool.{le-leb, lt-leb, cases_lt, eq-eqb, ne_eqb, cases_order}
 use Rattle.smx_history.specs.declared.place.Place.{Place}
 
 count_any : (p : Place → Bool) (ps : List Place) → list_any p ps ≡ true → 1 ≤ count_by p ps

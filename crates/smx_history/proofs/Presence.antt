@@ -1,13 +1,12 @@
 -- The clients that are present after an admit or a retire.
-use Rattle.std.proofs.Common.{◌≡◌, ◌<◌, ◌≤◌, ◌+◌, ◌-◌, ◌*◌, ◌==◌, ℕ, Bool, true, false, not, ◌&&◌, ◌||◌, cond, List, [], ◌∷◌, ◌++◌, length, map, filter, refl, sym, ◌∙◌, ap, subst, arith, length-append, inl, inr, count_by, sum_by}
+use Rattle.std.proofs.Common.{◌≡◌, ◌==◌, Bool, true, false, not, ◌&&◌, ◌||◌, List, [], ◌∷◌, ◌++◌, filter, refl, ◌∙◌, ap}
 use Rattle.std.proofs.lemmas.List.Elements.{filter_agree}
 use Rattle.std.proofs.lemmas.List.Folds.{list_any-append}
-use Rattle.std.proofs.lemmas.Bool.{and_from, and_left, eqb-true, eq-eqb, ne_eqb, cases_eq}
 use Rattle.smx_history.specs.declared.entry.Entry.{Entry}
 use Rattle.smx_history.specs.declared.entry.Kind.TheVariants as kind
-use Rattle.smx_history.specs.Entries.{is_admit, is_accept, is_take, is_answer, is_collect, is_retire, is_settling, admits, accepts, takes, answers_of, collects_of, is_retired, unanswered, present}
-use Rattle.smx_history.proofs.Growing.{filter_push, last_or-push, AtEachPrefix-whole}
-use Rattle.smx_history.proofs.Frames.{accepts-other, takes-other, admits-other, answers_of-other, collects_of-other, is_retired-other, unanswered-other, present-other, waiting-other, sum_by-agree}
+use Rattle.smx_history.specs.Entries.{is_admit, is_retire, admits, is_retired, present}
+use Rattle.smx_history.proofs.Growing.{filter_push}
+use Rattle.smx_history.proofs.Frames.{admits-other, is_retired-other}
 use Rattle.smx_history.proofs.Taking.{filter-and}
 use Rattle.smx_history.proofs.Counts.{eqb_sym}
 

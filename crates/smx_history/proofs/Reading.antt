@@ -1,8 +1,8 @@
 -- Notes and their entries; which requests the names in a legal history have.
-use Rattle.std.proofs.Common.{◌≡◌, ◌<◌, ◌≤◌, ◌+◌, ◌-◌, ◌==◌, ℕ, Bool, true, false, cond, not, ◌||◌, ◌&&◌, List, [], ◌∷◌, ◌++◌, length, map, take, drop, get_or, refl, sym, ◌∙◌, ap, subst, arith, Option, Some, None, slice_get, filter, filter_map, length-append, append_assoc, inl, inr, zero, suc}
+use Rattle.std.proofs.Common.{◌≡◌, ◌==◌, ℕ, Bool, true, false, cond, not, ◌||◌, ◌&&◌, List, [], ◌∷◌, ◌++◌, length, map, take, drop, refl, sym, ◌∙◌, ap, subst, Some, None, slice_get, filter, zero, suc}
 use Rattle.std.specs.List.{list_any, AllByRecursion, cons_option}
-use Rattle.std.proofs.lemmas.List.{append-nil, take-append-le, length-map, take-append-drop, map-append}
-use Rattle.std.proofs.lemmas.List.Elements.{filter-append, filter_map-append}
+use Rattle.std.proofs.lemmas.List.{append-nil, length-map, take-append-drop, map-append}
+use Rattle.std.proofs.lemmas.List.Elements.{filter_map-append}
 use Rattle.std.proofs.lemmas.Bool.{eq-eqb, eqb-true, and_from, and_parts}
 use Rattle.std.proofs.lemmas.List.Folds.{list_any_at}
 use Rattle.std.proofs.lemmas.Option.{slice_get_within, get_or_from_slice_get}
@@ -11,15 +11,14 @@ use Rattle.smx_history.specs.declared.entry.Kind.TheVariants as kind
 use Rattle.smx_history.specs.declared.note.Event.{Event}
 use Rattle.smx_history.specs.declared.note.Event.TheVariants.{Admit, Accept, Take, Answer, Late, Collect, Retire}
 use Rattle.smx_history.specs.declared.entry.Entry.{Entry}
-use Rattle.smx_history.specs.declared.limits.Limits.{Limits}
 use Rattle.smx_history.specs.declared.note.Note.{Note}
 use Rattle.smx_history.specs.declared.response.Response.{Response}
-use Rattle.smx_history.specs.Prefixes.{AtEachPrefix, AtEach, StartsWith, RiseAbove, last_or, first_or}
-use Rattle.smx_history.specs.Entries.{is_accept, is_take, is_answer, Name, name_of, has_name, accepts, takes, answers_of, is_accepted, unanswered, own_of, command_of, is_settled}
-use Rattle.smx_history.specs.Legal.{IsFifo, IsPaired, Answers, IsLegal}
+use Rattle.smx_history.specs.Prefixes.{AtEach, first_or}
+use Rattle.smx_history.specs.Entries.{is_accept, is_answer, Name, name_of, has_name, accepts, takes, answers_of, is_accepted, unanswered, own_of, command_of, is_settled}
+use Rattle.smx_history.specs.Legal.{IsFifo, IsPaired}
 use Rattle.smx_history.specs.History.{entry_by, entry_of, entries_of, requests, request_in, responses, response_in}
 use Rattle.smx_history.specs.Contents.{place_of, shown}
-use Rattle.smx_history.proofs.Growing.{any_kept, AtEachPrefix-whole}
+use Rattle.smx_history.proofs.Growing.{any_kept}
 
 -- an accept without the one who made it
 abbrev pub unsigned : Entry → Entry

@@ -1,11 +1,9 @@
 -- Which refusal `accept_refusal` is, from what the code tests.
-use Rattle.std.proofs.Common.{◌≡◌, ◌<◌, ◌≤◌, ◌+◌, ℕ, Bool, true, false, cond, not, List, [], ◌∷◌, length, map, get_or, refl, sym, ◌∙◌, ap, arith, Option, Some, None, nat_le, ◌==◌, inl, inr}
-use Rattle.std.specs.List.{find, position}
+use Rattle.std.proofs.Common.{◌≡◌, ◌<◌, ◌≤◌, ◌+◌, Bool, true, false, length, refl, sym, ◌∙◌, Some, None, inl, inr}
 use Rattle.std.proofs.lemmas.Bool.{le-leb, lt-leb, leb-true, cases_lt}
-use Rattle.std.proofs.Math.ListN.{get_or-map}
-use Rattle.smx_history.specs.declared.reply.Refusal.TheVariants.{NotAdmitted, ClientFull, QueueFull, HistoryFull}
+use Rattle.smx_history.specs.declared.reply.Refusal.TheVariants.{ClientFull, QueueFull, HistoryFull}
 use Rattle.smx_history.specs.Contents.{Content, Member, size_of}
-use Rattle.smx_history.specs.Replies.{accept_refusal, has_room, member_with, refusal_for}
+use Rattle.smx_history.specs.Replies.{has_room, refusal_for}
 
 pub refused_client : (v : Content) (m : Member) → v.limits.client ≤ m.pending → refusal_for v (Some m) ≡ Some ClientFull
 refused_client v m h = rw (le-leb v.limits.client m.pending h) refl

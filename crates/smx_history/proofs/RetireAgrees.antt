@@ -4,32 +4,24 @@ use Rattle.smx_history.proofs.Presence.{present_retired}
 use Rattle.smx_history.proofs.Following.{IsLegal-next}
 use Rattle.smx_history.proofs.SettleAgrees.{within-after}
 use Rattle.smx_history.proofs.Counts.{length_part}
-use Rattle.std.proofs.Common.{◌≡◌, ◌<◌, ◌≤◌, ◌+◌, ◌-◌, ◌*◌, ◌==◌, ℕ, Bool, true, false, cond, not, ◌||◌, ◌&&◌, List, [], ◌∷◌, ◌++◌, length, map, refl, sym, ◌∙◌, ap, subst, arith, filter, sum_by, count_by, length-append, inl, inr, Option, Some, None}
-use Rattle.std.specs.List.{list_any, AllByRecursion, AllZip}
-use Rattle.std.proofs.lemmas.List.Elements.{filter_agree}
-use Rattle.std.proofs.lemmas.List.Folds.{list_any-append}
+use Rattle.std.proofs.Common.{◌≡◌, ◌<◌, ◌≤◌, ◌+◌, ◌==◌, ℕ, Bool, true, false, cond, not, List, [], ◌∷◌, ◌++◌, length, map, refl, sym, ◌∙◌, ap, arith, filter, sum_by, length-append, Some}
+use Rattle.std.specs.List.{AllZip}
 use Rattle.std.proofs.lemmas.List.Sums.{sum_by-cons}
-use Rattle.std.proofs.lemmas.Bool.{eq-eqb, ne_eqb, eqb-true, cases_eq, cases_Bool, false_from_ne_true, both_ways}
 use Rattle.smx_history.specs.declared.note.Event.TheVariants.{Retire}
 use Rattle.smx_history.specs.declared.entry.Entry.{Entry}
-use Rattle.smx_history.specs.declared.limits.Limits.{Limits}
 use Rattle.smx_history.specs.declared.note.Note.{Note}
-use Rattle.smx_history.specs.Prefixes.{AtEachPrefix, AtEach, RiseAbove}
-use Rattle.smx_history.specs.Entries.{is_admit, is_take, is_retire, is_settling, has_name, admits, accepts_of, answers_of, collects_of, is_retired, is_admitted, unanswered, present}
-use Rattle.smx_history.specs.Legal.{IsLegal, IsFifo, IsOnce, IsMembership, IsServed, IsBounded, IsWithin, AreApart, HasForm, StandsWell, IsPaired, size}
+use Rattle.smx_history.specs.Prefixes.{RiseAbove}
+use Rattle.smx_history.specs.Entries.{is_retired, is_admitted, present}
+use Rattle.smx_history.specs.Legal.{IsFifo, IsServed}
 use Rattle.smx_history.specs.History.{entry_by, note, entries_of}
-use Rattle.smx_history.specs.Contents.{AgreesWith, IsAfter, IsMemberAfter, Content, Member, size_of}
+use Rattle.smx_history.specs.Contents.{AgreesWith, IsAfter, IsMemberAfter, Content, Member}
 use Rattle.smx_history.specs.Room.{KeepsRoom, FitsBox}
 use Rattle.smx_history.specs.Replies.{retired, without, member_with}
 use Rattle.smx_history.proofs.Reading.{entries_of-push, places-kept, All-kept}
-use Rattle.smx_history.proofs.Sizes.{size_agrees, found_admit, present_served}
-use Rattle.smx_history.proofs.Growing.{filter_other, any_kept, AtEach-push, AtEachPrefix-push, AtEachPrefix-whole}
-use Rattle.smx_history.proofs.Counts.{none_count}
-use Rattle.smx_history.proofs.Frames.{accepts-other, takes-other, admits-other, accepts_of-other, answers_of-other, collects_of-other, unanswered-other}
-use Rattle.smx_history.proofs.Keeping.{count_by-push}
-use Rattle.smx_history.proofs.Taking.{filter-and}
+use Rattle.smx_history.proofs.Sizes.{found_admit, present_served}
+use Rattle.smx_history.proofs.Growing.{AtEachPrefix-whole}
+use Rattle.smx_history.proofs.Frames.{takes-other, admits-other, unanswered-other}
 use Rattle.smx_history.proofs.TakeAgrees.{IsMemberAfter-other, zip-each, requests-other}
-use Rattle.smx_history.proofs.Counts.{eqb_sym}
 
 -- part of what rises rises
 rise_lower : (low x : ℕ) (xs : List ℕ) → low < x → RiseAbove x xs → RiseAbove low xs

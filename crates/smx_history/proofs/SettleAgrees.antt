@@ -1,31 +1,23 @@
 -- An answer, in time or late, takes the place that it answers out of the window.
-use Rattle.std.proofs.Common.{◌≡◌, ◌<◌, ◌≤◌, ◌+◌, ◌-◌, ◌*◌, ◌==◌, ℕ, Bool, true, false, cond, not, ◌||◌, ◌&&◌, List, [], ◌∷◌, ◌++◌, length, map, take, drop, get_or, refl, sym, ◌∙◌, ap, subst, arith, filter, sum_by, count_by, length-append, length-drop, nat_eq, inl, inr, Option, Some, None, suc}
-use Rattle.std.specs.List.{list_any, AllByRecursion, AllZip, IsDistinct, cons_option, remove}
-use Rattle.std.proofs.lemmas.List.{append-nil, length-map, map-append, drop-append-le}
-use Rattle.std.proofs.lemmas.List.Elements.{filter-append, filter_map-append, filter_agree}
-use Rattle.std.proofs.lemmas.List.Folds.{list_any-append}
-use Rattle.std.proofs.lemmas.List.Sums.{length-filter, count_by-le-length}
-use Rattle.std.proofs.lemmas.Bool.{and_left, eq-eqb, eqb-true, eqb-false, ne_eqb, cases_eq, cases_Bool, and_parts, and_from, or_parts, not-true, not_from_true, false_from_ne_true, both_ways}
-use Rattle.smx_pdu.specs.declared.pdu.Pdu.{Pdu}
+use Rattle.std.proofs.Common.{◌≡◌, ◌<◌, ◌≤◌, ◌==◌, ℕ, Bool, true, false, not, ◌&&◌, List, [], ◌∷◌, ◌++◌, length, map, get_or, refl, sym, ◌∙◌, ap, arith, filter, count_by}
+use Rattle.std.specs.List.{list_any, AllByRecursion, remove}
+use Rattle.std.proofs.lemmas.List.Sums.{length-filter}
+use Rattle.std.proofs.lemmas.Bool.{eq-eqb, eqb-true, and_parts, and_from, not-true}
 use Rattle.smx_history.specs.declared.entry.Entry.{Entry}
-use Rattle.smx_history.specs.declared.limits.Limits.{Limits}
 use Rattle.smx_history.specs.declared.place.Place.{Place}
-use Rattle.smx_history.specs.declared.response.Response.{Response}
 use Rattle.smx_history.specs.declared.note.Note.{Note}
 use Rattle.smx_pdu.specs.Command.{is_response_to}
-use Rattle.smx_history.specs.Prefixes.{AtEachPrefix, AtEach, StartsWith, RiseAbove, SameCounts, last_or, first_or}
-use Rattle.smx_history.specs.Entries.{is_admit, is_admitted, is_accept, is_accepted, is_take, is_answer, is_collect, is_retire, is_settling, has_name, name_of, Name, admits, accepts, takes, accepts_of, answers_of, collects_of, is_retired, unanswered, own_of, command_of, is_settled, present}
-use Rattle.smx_history.specs.Legal.{IsLegal, IsFifo, IsOnce, IsMembership, IsBounded, IsWithin, AreApart, HasForm, StandsWell, IsPaired, Answers, waiting, size, queued}
-use Rattle.smx_history.specs.History.{entry_by, entry_of, note, entries_of, requests, request_in, responses, response_in}
-use Rattle.smx_history.specs.Contents.{AgreesWith, IsAfter, IsMemberAfter, Content, Member, place_of, shown, size_of, window_after}
+use Rattle.smx_history.specs.Prefixes.{SameCounts}
+use Rattle.smx_history.specs.Entries.{is_accepted, is_take, has_name, takes, unanswered, own_of, command_of, is_settled}
+use Rattle.smx_history.specs.Legal.{IsFifo, IsWithin, Answers, size}
+use Rattle.smx_history.specs.History.{entry_of, entries_of}
+use Rattle.smx_history.specs.Contents.{AgreesWith, IsAfter, Content, place_of, size_of, window_after}
 use Rattle.smx_history.specs.Room.{KeepsRoom}
-use Rattle.smx_history.specs.Replies.{answered, response_for, with_row, member_with}
-use Rattle.smx_history.proofs.Growing.{filter_other, filter_push, any_other, AtEach-push, AtEachPrefix-push, AtEachPrefix-whole, StartsWith-more, StartsWith-length}
-use Rattle.smx_history.proofs.Counts.{remove_only, filter-map, All-same, none_count, count_by-push, count_by-map, count_by-filter, count_and-le, count-filter-le, length-same}
-use Rattle.smx_history.proofs.Frames.{accepts-other, takes-other, accepts_of-other, collects_of-other, is_retired-other, admits-other, present-other}
-use Rattle.smx_history.proofs.Reading.{entries_of-push, shown-kept, own_of-kept, command_of-kept, map_agree, All-each, All-kept, All-from_get, All-filtered, any_at, takes_accepted, length-responses}
-use Rattle.smx_history.proofs.Sizes.{size_agrees, length-window, found_admit, present_served}
-use Rattle.smx_history.proofs.Taking.{filter-and, filter_none, any_none}
+use Rattle.smx_history.proofs.Growing.{AtEachPrefix-whole}
+use Rattle.smx_history.proofs.Counts.{remove_only, filter-map, All-same, count_by-map, count_by-filter, count-filter-le}
+use Rattle.smx_history.proofs.Reading.{entries_of-push, own_of-kept, command_of-kept, map_agree, All-each, All-kept, All-from_get, All-filtered, any_at, takes_accepted}
+use Rattle.smx_history.proofs.Sizes.{size_agrees}
+use Rattle.smx_history.proofs.Taking.{filter-and}
 use Rattle.smx_history.proofs.FitsSettle.{Settles, unanswered_settled}
 
 -- what is known of each place of the window
@@ -83,11 +75,11 @@ place_taken h v i q a within is =
 -- the answer that a response is to a place of the window
 pub place_answers : (es : List Entry) (q : Place) (e : Entry) → IsTaken es q → q.client ≡ e.client → q.ordinal ≡ e.ordinal → q.upstream ≡ e.number → is_response_to q.command e.command ≡ true → Answers es e
 place_answers es q e place c n u fits = record {
-    taken = rw (← c, ← n, ← u) place.taken;
-    first = rw (← c, ← n) place.unsettled;
-    accepted = rw (← c, ← n) place.accepted;
-    command = rw (← c, ← n, place.command) fits;
-  }
+  taken = rw (← c, ← n, ← u) place.taken;
+  first = rw (← c, ← n) place.unsettled;
+  accepted = rw (← c, ← n) place.accepted;
+  command = rw (← c, ← n, place.command) fits;
+}
 
 pub few_named : (h : List Note) (v : Content) (c n : ℕ) → count_by (λ (x : Place). (x.client == c) && (x.ordinal == n)) v.window ≡ count_by (λ (x : Place). (x.client == c) && (x.ordinal == n)) (window_after h) → count_by (λ x. is_take x.kind && has_name c n x) (entries_of h) ≤ 1 → count_by (λ (x : Place). (x.client == c) && (x.ordinal == n)) v.window ≤ 1
 few_named h v c n same once =

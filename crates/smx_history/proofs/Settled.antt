@@ -1,9 +1,9 @@
 -- An answer keeps the room.
-use Rattle.std.proofs.Common.{◌≡◌, ◌<◌, ◌≤◌, ◌+◌, ◌-◌, ◌*◌, ◌==◌, ℕ, Bool, true, false, cond, if◌then◌else◌, List, [], ◌∷◌, ◌++◌, length, map, take, drop, get_or, refl, sym, ◌∙◌, ap, arith, sum_by, count_by, length-append, length-drop, Option, Some, None, slice_get, suc, zero, subst, inl, inr}
-use Rattle.std.specs.List.{AllByRecursion, remove, find}
+use Rattle.std.proofs.Common.{◌≡◌, ◌<◌, ◌≤◌, ◌+◌, ◌-◌, ◌==◌, ℕ, true, false, cond, List, [], ◌∷◌, ◌++◌, length, map, drop, get_or, refl, sym, ap, arith, sum_by, length-append, length-drop, Some, suc, subst, inl, inr}
+use Rattle.std.specs.List.{remove}
 use Rattle.std.proofs.lemmas.List.Sums.{sum_by-cons}
 use Rattle.std.proofs.lemmas.List.Edits.{length-remove}
-use Rattle.std.proofs.lemmas.Bool.{eq-eqb, ne_eqb, eqb-true, cases_eq}
+use Rattle.std.proofs.lemmas.Bool.{eq-eqb, ne_eqb, cases_eq}
 use Rattle.smx_pdu.specs.declared.pdu.Pdu.{Pdu}
 use Rattle.smx_history.specs.declared.place.Place.{Place}
 use Rattle.smx_history.specs.declared.entry.Entry.{Entry}
@@ -11,7 +11,7 @@ use Rattle.smx_history.specs.declared.note.Event.TheVariants.{Answer, Collect}
 use Rattle.smx_history.specs.declared.response.Response.{Response}
 use Rattle.smx_history.specs.Prefixes.{RiseAbove}
 use Rattle.smx_history.specs.History.{entry_by}
-use Rattle.smx_history.specs.Contents.{Content, Member, size_of}
+use Rattle.smx_history.specs.Contents.{Content, Member}
 use Rattle.smx_history.specs.Room.{KeepsRoom, FitsBox}
 use Rattle.smx_history.specs.Replies.{answered, collected, response_for, with_row, member_with}
 use Rattle.smx_history.proofs.Members.{with_row-above}

@@ -1,18 +1,18 @@
 -- What a lane that agrees with a history has in its lists.
-use Rattle.std.proofs.Common.{◌≡◌, ◌<◌, ◌≤◌, ◌+◌, ◌-◌, ◌*◌, ◌==◌, ℕ, Bool, true, false, cond, not, ◌||◌, ◌&&◌, List, [], ◌∷◌, ◌++◌, length, map, take, drop, refl, sym, ◌∙◌, ap, subst, arith, filter, sum_by, length-append, length-drop, inl, inr, Option, Some, None, suc}
-use Rattle.std.specs.List.{list_any, AllByRecursion, AllZip, find}
-use Rattle.std.proofs.lemmas.List.{append-nil, length-map, map-append}
+use Rattle.std.proofs.Common.{◌≡◌, ◌≤◌, ◌+◌, ◌-◌, ◌==◌, ℕ, Bool, true, false, cond, not, ◌&&◌, List, [], ◌∷◌, length, map, refl, sym, ◌∙◌, ap, subst, arith, sum_by, length-drop, Some, suc}
+use Rattle.std.specs.List.{AllByRecursion, AllZip}
+use Rattle.std.proofs.lemmas.List.{length-map}
 use Rattle.std.proofs.lemmas.List.Sums.{sum_by-cons}
 use Rattle.smx_history.proofs.Counts.{length-same}
-use Rattle.std.proofs.lemmas.Bool.{and_from, eq-eqb, eqb-true, not-true, cases_Bool}
+use Rattle.std.proofs.lemmas.Bool.{and_from, eq-eqb, eqb-true, not-true}
 use Rattle.smx_history.specs.declared.entry.Entry.{Entry}
 use Rattle.smx_history.specs.declared.note.Note.{Note}
-use Rattle.smx_history.specs.Entries.{is_admit, admits, accepts, takes, accepts_of, answers_of, collects_of, is_admitted, is_retired, unanswered, present, name_of}
-use Rattle.smx_history.specs.Legal.{IsLegal, IsFifo, waiting, size, queued}
+use Rattle.smx_history.specs.Entries.{is_admit, admits, accepts, takes, answers_of, collects_of, is_admitted, is_retired, unanswered, present, name_of}
+use Rattle.smx_history.specs.Legal.{IsFifo, size}
 use Rattle.smx_history.specs.History.{entries_of, requests, responses}
-use Rattle.smx_history.specs.Contents.{IsAfter, IsMemberAfter, Content, Member, size_of, shown, place_of, queue_after, window_after}
+use Rattle.smx_history.specs.Contents.{IsAfter, IsMemberAfter, Content, Member, size_of, shown, place_of, window_after}
 use Rattle.smx_history.specs.Replies.{member_with}
-use Rattle.smx_history.proofs.Growing.{AtEachPrefix-whole, StartsWith-length}
+use Rattle.smx_history.proofs.Growing.{StartsWith-length}
 use Rattle.smx_history.proofs.Reading.{length-requests, length-responses, All-filtered, All-from_get, any_at}
 
 pub length-queue : (h : List Note) (v : Content) → IsAfter h v → length v.queue ≡ length (accepts (entries_of h)) - length (takes (entries_of h))

@@ -1,5 +1,5 @@
 -- One step of the check: from the entries before one to those up to it.
-use Rattle.std.proofs.Common.{◌≡◌, ◌<◌, ◌≤◌, ◌+◌, ◌-◌, ◌*◌, ℕ, Bool, true, false, List, [], ◌∷◌, ◌++◌, length, take, drop, get_or, refl, sym, ◌∙◌, ap, subst, arith, suc, add-one, length-take, length-append, min}
+use Rattle.std.proofs.Common.{◌≡◌, ◌<◌, ◌≤◌, ◌+◌, ◌*◌, ℕ, List, [], ◌∷◌, ◌++◌, length, take, drop, get_or, sym, ◌∙◌, ap, subst, arith, add-one, length-take, length-append}
 use Rattle.std.proofs.lemmas.List.{take-append-drop}
 use Rattle.std.proofs.Math.Seq.{take-suc, take-length}
 use Rattle.smx_history.specs.declared.entry.Entry.{Entry}
@@ -7,7 +7,7 @@ use Rattle.smx_history.specs.declared.limits.Limits.{Limits}
 use Rattle.smx_history.specs.declared.totals.Totals.{Totals}
 use Rattle.smx_history.specs.Legal.{IsLegal, IsWithin}
 use Rattle.smx_history.specs.Checks.{Fits, Counted}
-use Rattle.smx_history.proofs.Following.{IsLegal-next, IsLegal-start, IsLegal-fits, IsLegal-within}
+use Rattle.smx_history.proofs.Following.{IsLegal-next, IsLegal-start, IsLegal-within}
 use Rattle.smx_history.proofs.Counting.{totals_within}
 
 up_to : (es : List Entry) (i : ℕ) (d : Entry) → i < length es → take (i + 1) es ≡ take i es ++ get_or es i d ∷ []

@@ -5,31 +5,28 @@ use Rattle.smx_history.proofs.FitsTake.{MayTake, takes_push, unanswered_taken, t
 use Rattle.smx_history.proofs.Following.{IsLegal-next, IsLegal-within}
 use Rattle.smx_history.proofs.Parts.{count_numbered}
 use Rattle.smx_history.proofs.Taking.{any-and}
-use Rattle.std.proofs.Common.{slice_get, zero, ◌≡◌, ◌<◌, ◌≤◌, ◌+◌, ◌-◌, ◌*◌, ◌==◌, ℕ, Bool, true, false, cond, not, ◌||◌, ◌&&◌, List, [], ◌∷◌, ◌++◌, length, map, take, drop, refl, sym, ◌∙◌, ap, subst, arith, filter, sum_by, count_by, length-append, length-drop, nat_eq, inl, inr, Option, Some, None, suc, add-one}
-use Rattle.std.specs.List.{list_any, AllByRecursion, AllZip, IsDistinct, cons_option}
+use Rattle.std.proofs.Common.{slice_get, zero, ◌≡◌, ◌<◌, ◌≤◌, ◌+◌, ◌==◌, ℕ, Bool, true, false, cond, ◌||◌, ◌&&◌, List, [], ◌∷◌, ◌++◌, length, map, take, drop, refl, sym, ◌∙◌, ap, subst, arith, filter, length-append, length-drop, nat_eq, Some, None, suc}
+use Rattle.std.specs.List.{list_any, AllByRecursion, AllZip, cons_option}
 use Rattle.std.proofs.lemmas.List.{append-nil, length-map, map-append, take-map, drop-map}
-use Rattle.std.proofs.lemmas.List.Elements.{filter-append, filter_map-append, filter_agree}
-use Rattle.std.proofs.lemmas.List.Sums.{length-filter}
+use Rattle.std.proofs.lemmas.List.Elements.{filter-append, filter_map-append}
 use Rattle.smx_history.proofs.Counts.{SameCounts-push, any-same}
-use Rattle.std.proofs.lemmas.Bool.{and_left, eq-eqb, eqb-true, eqb-false, cases_eq, cases_Bool, and_parts, and_from, or_parts}
+use Rattle.std.proofs.lemmas.Bool.{eq-eqb, and_from, or_parts}
 use Rattle.smx_history.specs.declared.note.Event.TheVariants.{Accept, Take}
 use Rattle.smx_history.specs.declared.entry.Entry.{Entry}
-use Rattle.smx_history.specs.declared.limits.Limits.{Limits}
 use Rattle.smx_history.specs.declared.request.Request.{Request}
 use Rattle.smx_history.specs.declared.place.Place.{Place}
 use Rattle.smx_history.specs.declared.note.Note.{Note}
-use Rattle.smx_history.specs.Prefixes.{AtEachPrefix, AtEach, StartsWith, RiseAbove, last_or, first_or}
-use Rattle.smx_history.specs.Entries.{is_admit, is_accept, is_take, is_answer, is_collect, is_retire, is_settling, has_name, name_of, Name, admits, accepts, takes, accepts_of, answers_of, collects_of, is_retired, unanswered, own_of, command_of, is_settled, present}
-use Rattle.smx_history.specs.Legal.{IsLegal, IsFifo, IsOnce, IsMembership, IsBounded, IsWithin, AreApart, HasForm, StandsWell, IsPaired, waiting, size, queued}
-use Rattle.smx_history.specs.History.{entry_by, entry_of, note, entries_of, requests, request_in, responses, response_in}
-use Rattle.smx_history.specs.Contents.{AgreesWith, IsMemberAfter, Content, Member, place_of, shown, size_of, window_after}
+use Rattle.smx_history.specs.Prefixes.{AtEach, RiseAbove, first_or}
+use Rattle.smx_history.specs.Entries.{is_accept, is_collect, has_name, name_of, Name, accepts, takes, unanswered, own_of, command_of, is_settled, present}
+use Rattle.smx_history.specs.Legal.{IsFifo, IsOnce, IsPaired, size}
+use Rattle.smx_history.specs.History.{entry_by, entry_of, note, entries_of, requests, request_in, response_in}
+use Rattle.smx_history.specs.Contents.{AgreesWith, IsMemberAfter, Content, Member, place_of, window_after}
 use Rattle.smx_history.specs.Replies.{taken, place_for}
-use Rattle.smx_history.proofs.Growing.{filter_other, filter_push, All-push, AtEach-push, AtEachPrefix-push, AtEachPrefix-whole}
-use Rattle.smx_history.proofs.Frames.{accepts-other, accepts_of-other, answers_of-other, collects_of-other, is_retired-other, is_settled-other, admits-other, present-other, waiting-other}
-use Rattle.smx_history.proofs.Keeping.{count_by-push}
-use Rattle.smx_history.proofs.Reading.{requests_are_accepts, unsigned, entries_of-push, places-kept, shown-kept, responses-other, All-to_map, All-of_map, own_of-kept, command_of-kept}
-use Rattle.smx_history.proofs.Sizes.{takes-le-accepts, length-queue, length-window}
-use Rattle.smx_history.proofs.Taking.{drop-split, drop-next, take-next, filter-and, none_before, filter_none, not_settled}
+use Rattle.smx_history.proofs.Growing.{filter_other, AtEachPrefix-whole}
+use Rattle.smx_history.proofs.Frames.{accepts-other, accepts_of-other, collects_of-other, admits-other, present-other, waiting-other}
+use Rattle.smx_history.proofs.Reading.{requests_are_accepts, unsigned, entries_of-push, places-kept, shown-kept, responses-other, All-to_map, All-of_map}
+use Rattle.smx_history.proofs.Sizes.{length-window}
+use Rattle.smx_history.proofs.Taking.{drop-split, drop-next, filter-and, none_before, filter_none, not_settled}
 
 -- the entry of the accept that is next to be taken
 pub record IsNext (es : List Entry) (r : Request) (y : Entry) (zs : List Entry) : Type 0 where
@@ -175,14 +172,14 @@ AgreesWith-taken_at h v by r rest u y zs next a front room positive within free 
     ∙ any-same (λ (p : Place). p.upstream == u) (window_after h) v.window a.after.window free in
     let none = no_take es r y zs next fifo a.legal.once in
     let may : MayTake v.limits es e = record {
-        command = refl;
-        positive = positive;
-        within = within;
-        next = next_name es r y zs next;
-        first = any-and es r.client r.ordinal none;
-        free = count_numbered u (unanswered es) (free_numbers u (map (λ x. x.number) (unanswered es)) numbers);
-        window = omega (arith, length-window h v a.after, room);
-      } in
+      command = refl;
+      positive = positive;
+      within = within;
+      next = next_name es r y zs next;
+      first = any-and es r.client r.ordinal none;
+      free = count_numbered u (unanswered es) (free_numbers u (map (λ x. x.number) (unanswered es)) numbers);
+      window = omega (arith, length-window h v a.after, room);
+    } in
     let window : map (place_of (es ++ e ∷ [])) (unanswered es ++ e ∷ []) ≡ window_after h ++ place_for r u ∷ [] =
     map-append (place_of (es ++ e ∷ [])) (unanswered es) (e ∷ []) ∙ ap (λ xs. xs ++ place_of (es ++ e ∷ []) e ∷ []) (places-kept es (e ∷ []) fifo) ∙ ap (λ x. window_after h ++ x ∷ []) place in
     record {

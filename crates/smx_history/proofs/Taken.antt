@@ -1,12 +1,11 @@
 -- A take keeps the room.
-use Rattle.std.proofs.Common.{◌≡◌, ◌<◌, ◌≤◌, ◌+◌, ◌*◌, ◌==◌, ℕ, Bool, true, false, cond, List, [], ◌∷◌, ◌++◌, length, map, take, drop, get_or, refl, sym, ◌∙◌, ap, arith, sum_by, count_by, length-append, Some, slice_get, suc, zero}
-use Rattle.std.specs.List.{AllByRecursion, remove}
+use Rattle.std.proofs.Common.{◌≡◌, ◌<◌, ◌+◌, ◌==◌, ℕ, cond, List, [], ◌∷◌, ◌++◌, length, drop, get_or, sym, ◌∙◌, ap, arith, count_by, length-append, suc}
+use Rattle.std.specs.List.{remove}
 use Rattle.std.proofs.lemmas.List.Sums.{sum_by-cons}
 use Rattle.smx_history.specs.declared.request.Request.{Request}
-use Rattle.smx_history.specs.declared.place.Place.{Place}
 use Rattle.smx_history.specs.declared.note.Event.TheVariants.{Take}
 use Rattle.smx_history.specs.History.{entry_by}
-use Rattle.smx_history.specs.Contents.{Content, Member, size_of}
+use Rattle.smx_history.specs.Contents.{Content, Member}
 use Rattle.smx_history.specs.Room.{KeepsRoom, FitsBox}
 use Rattle.smx_history.specs.Replies.{taken, place_for}
 use Rattle.smx_history.proofs.Keeping.{count_by-push, All-each}

@@ -1,22 +1,15 @@
 -- The next request to be taken: none before it has its name.
-use Rattle.std.proofs.Common.{◌≡◌, ◌<◌, ◌≤◌, ◌+◌, ◌-◌, ◌*◌, ◌==◌, ℕ, Bool, true, false, cond, not, ◌||◌, ◌&&◌, List, [], ◌∷◌, ◌++◌, length, map, take, drop, refl, sym, ◌∙◌, ap, subst, arith, filter, sum_by, count_by, length-append, inl, inr, Option, Some, None, zero, suc, add-one}
-use Rattle.std.specs.List.{list_any, AllByRecursion, AllZip, find, IsDistinct}
-use Rattle.std.proofs.lemmas.List.{append-nil, length-map, map-append, take-append-drop}
-use Rattle.std.proofs.lemmas.List.Elements.{filter-append}
-use Rattle.std.proofs.lemmas.List.Folds.{list_any_none, list_any-append}
-use Rattle.std.proofs.lemmas.Bool.{and_from, and_parts, and_left, and_right, eq-eqb, eqb-true, ne_eqb, cases_Bool, cases_eq, false_from_ne_true, or_right, both_ways}
-use Rattle.std.proofs.lemmas.Option.{slice_get_within, get_or_from_slice_get}
+use Rattle.std.proofs.Common.{◌≡◌, ◌<◌, ◌+◌, ◌==◌, ℕ, Bool, true, false, cond, ◌||◌, ◌&&◌, List, [], ◌∷◌, ◌++◌, map, take, drop, refl, sym, ◌∙◌, ap, arith, filter, zero, suc, add-one}
+use Rattle.std.specs.List.{list_any, AllByRecursion}
+use Rattle.std.proofs.lemmas.List.{take-append-drop}
+use Rattle.std.proofs.lemmas.Bool.{and_from, and_parts, and_left, and_right, eq-eqb, eqb-true, ne_eqb, false_from_ne_true, or_right, both_ways}
 use Rattle.smx_history.specs.declared.entry.Entry.{Entry}
 use Rattle.smx_history.specs.declared.entry.Kind.{Kind}
 use Rattle.smx_history.specs.declared.entry.Kind.TheVariants as kind
-use Rattle.smx_history.specs.declared.note.Note.{Note}
-use Rattle.smx_history.specs.declared.request.Request.{Request}
-use Rattle.smx_history.specs.declared.note.Event.TheVariants.{Accept}
-use Rattle.smx_history.specs.Prefixes.{AtEachPrefix, AtEach, StartsWith, RiseAbove, last_or, first_or}
-use Rattle.smx_history.specs.Entries.{is_accept, is_take, is_settling, accepts, takes, accepts_of, has_name, name_of, Name, is_settled, is_accepted}
-use Rattle.smx_history.specs.Legal.{IsLegal, IsFifo, IsPaired}
-use Rattle.smx_history.specs.History.{entries_of, requests, entry_by}
-use Rattle.smx_history.proofs.Reading.{requests_are_accepts, unsigned, All-from_get, any_at, All-to_map, All-of_map, All-each}
+use Rattle.smx_history.specs.Prefixes.{AtEach, RiseAbove}
+use Rattle.smx_history.specs.Entries.{is_take, is_settling, takes, has_name, is_settled}
+use Rattle.smx_history.specs.Legal.{IsPaired}
+use Rattle.smx_history.proofs.Reading.{All-from_get}
 use Rattle.smx_history.proofs.Growing.{any_kept}
 
 -- a list is what stands before an element, the element and the rest

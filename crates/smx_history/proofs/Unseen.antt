@@ -1,5 +1,5 @@
 -- A client that was not admitted has no entry.
-use Rattle.std.proofs.Common.{◌≡◌, ◌<◌, ◌≤◌, ◌==◌, ℕ, Bool, true, false, cond, not, ◌||◌, ◌&&◌, List, [], ◌∷◌, ◌++◌, length, map, take, drop, refl, sym, ◌∙◌, ap, subst, arith, filter, Option, Some, None, slice_get}
+use Rattle.std.proofs.Common.{◌≡◌, ◌<◌, ◌≤◌, ◌==◌, ℕ, Bool, true, false, cond, ◌||◌, ◌&&◌, List, [], ◌∷◌, ◌++◌, map, take, drop, refl, ◌∙◌, arith, filter}
 use Rattle.std.specs.List.{list_any, AllByRecursion}
 use Rattle.std.proofs.lemmas.List.{take-append-drop}
 use Rattle.std.proofs.lemmas.Bool.{and_from, and_parts, eqb-true, eq-eqb, ne_eqb, false_from_ne_true, both_ways}
@@ -7,7 +7,7 @@ use Rattle.smx_history.specs.declared.entry.Kind.{Kind}
 use Rattle.smx_history.specs.declared.entry.Kind.TheVariants as kind
 use Rattle.smx_history.specs.declared.entry.Entry.{Entry}
 use Rattle.smx_history.specs.Prefixes.{AtEach, RiseAbove, last_or}
-use Rattle.smx_history.specs.Entries.{is_admit, is_accept, is_answer, is_collect, is_retire, has_name, admits, accepts_of, answers_of, collects_of, is_retired, is_admitted, is_accepted}
+use Rattle.smx_history.specs.Entries.{is_admit, is_accept, is_answer, is_collect, is_retire, has_name, admits, accepts_of, answers_of, collects_of, is_retired, is_accepted}
 use Rattle.smx_history.specs.Legal.{StandsWell, IsPaired, IsServed}
 use Rattle.smx_history.proofs.Growing.{any_kept}
 use Rattle.smx_history.proofs.Reading.{All-from_get, All-each, answer_accepted}

@@ -34,10 +34,11 @@ pub record Content : Type 0 where
   pub greatest : ℕ
   pub entries : List Entry
 
--- as a client sees a response: with its own number
+-- as a client sees a response: with its own number (SMPP 3.4, section 5.1.4)
 abbrev pub shown : List Entry → ℕ → Response → Response
 shown es c r = record { ordinal = r.ordinal; pdu = record { command = r.pdu.command; status = r.pdu.status; number = own_of c r.ordinal es; body = r.pdu.body } }
 
+-- the place of a take in the window
 abbrev pub place_of : List Entry → Entry → Place
 place_of es t = record { upstream = t.number; client = t.client; ordinal = t.ordinal; own = own_of t.client t.ordinal es; command = command_of t.client t.ordinal es }
 

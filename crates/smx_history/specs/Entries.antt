@@ -1,11 +1,12 @@
 -- What a list of entries says: the lists of its accepts, takes, answers and collects.
-use Rattle.std.specs.Prelude.{◌≡◌, ◌+◌, ◌-◌, ◌==◌, ◌&&◌, ◌||◌, ℕ, Bool, true, false, not, List, [], ◌∷◌, length, map, filter, sum_by}
+use Rattle.std.specs.Prelude.{◌==◌, ◌&&◌, ℕ, Bool, true, false, not, List, map, filter}
 use Rattle.std.specs.List.{list_any}
 use Rattle.smx_history.specs.declared.entry.Kind.{Kind}
 use Rattle.smx_history.specs.declared.entry.Kind.TheVariants.{Admit, Accept, Take, Answer, Late, Collect, Retire}
 use Rattle.smx_history.specs.declared.entry.Entry.{Entry}
-use Rattle.smx_history.specs.Prefixes.{first_or, last_or}
+use Rattle.smx_history.specs.Prefixes.{first_or}
 
+-- the kinds, as tests
 abbrev pub is_admit : Kind → Bool
 is_admit Admit = true
 is_admit _ = false
@@ -41,9 +42,11 @@ pub record Name : Type 0 where
   pub client : ℕ
   pub ordinal : ℕ
 
+-- the name of the request that an entry speaks of
 abbrev pub name_of : Entry → Name
 name_of e = record { client = e.client; ordinal = e.ordinal }
 
+-- the entry speaks of the request of that name
 abbrev pub has_name : ℕ → ℕ → Entry → Bool
 has_name c n e = (e.client == c) && (e.ordinal == n)
 
@@ -67,6 +70,7 @@ answers_of c es = filter (λ e. is_answer e.kind && (e.client == c)) es
 abbrev pub collects_of : ℕ → List Entry → List Entry
 collects_of c es = filter (λ e. is_collect e.kind && (e.client == c)) es
 
+-- the client has retired
 abbrev pub is_retired : ℕ → List Entry → Bool
 is_retired c es = list_any (λ e. is_retire e.kind && (e.client == c)) es
 

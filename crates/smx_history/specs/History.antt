@@ -1,5 +1,5 @@
 -- A lane's history: notes with bodies and statuses.
-use Rattle.std.specs.Prelude.{◌≡◌, ◌==◌, ℕ, List, [], ◌∷◌, map, filter_map, Option, Some, None, if◌then◌else◌}
+use Rattle.std.specs.Prelude.{◌==◌, ℕ, List, map, filter_map, Option, Some, None, if◌then◌else◌}
 use Rattle.smx_history.specs.declared.entry.Kind.TheVariants as kind
 use Rattle.smx_history.specs.declared.note.Event.{Event}
 use Rattle.smx_history.specs.declared.note.Event.TheVariants.{Admit, Accept, Take, Answer, Late, Collect, Retire}
@@ -18,9 +18,11 @@ entry_by by (Late c n u k) = record { kind = kind.Late; by = by; client = c; ord
 entry_by by (Collect c n) = record { kind = kind.Collect; by = by; client = c; ordinal = n; number = 0; command = 0 }
 entry_by by (Retire c) = record { kind = kind.Retire; by = by; client = c; ordinal = 0; number = 0; command = 0 }
 
+-- a note without bodies and statuses
 abbrev pub entry_of : Note → Entry
 entry_of note = entry_by note.by note.event
 
+-- what a lane stores of a history
 abbrev pub entries_of : List Note → List Entry
 entries_of h = map entry_of h
 
@@ -33,6 +35,7 @@ request_in _ = None
 abbrev pub requests : List Note → List Request
 requests h = filter_map (λ note. request_in note.event) h
 
+-- the response to a request of the client that an event brings in time
 abbrev pub response_in : ℕ → Event → Option Response
 response_in c (Answer d n p) = if d == c then Some (record { ordinal = n; pdu = p }) else None
 response_in c _ = None
@@ -41,5 +44,6 @@ response_in c _ = None
 abbrev pub responses : ℕ → List Note → List Response
 responses c h = filter_map (λ note. response_in c note.event) h
 
+-- an event of that caller
 abbrev pub note : ℕ → Event → Note
 note by event = record { by = by; event = event }

@@ -1,5 +1,5 @@
 -- Which lists of entries a lane may have.
-use Rattle.std.specs.Prelude.{◌≡◌, ◌≢◌, ◌+◌, ◌-◌, ◌*◌, ◌≤◌, ◌<◌, ◌==◌, ◌&&◌, ◌||◌, ℕ, Bool, true, false, not, List, [], ◌∷◌, length, map, filter, sum_by, count_by, nat_eq}
+use Rattle.std.specs.Prelude.{◌≡◌, ◌+◌, ◌-◌, ◌*◌, ◌≤◌, ◌<◌, ◌==◌, ◌&&◌, ℕ, true, false, List, length, map, sum_by, count_by, nat_eq}
 use Rattle.std.specs.List.{list_any, IsDistinct}
 use Rattle.smx_history.specs.declared.entry.Kind.{Kind}
 use Rattle.smx_history.specs.declared.entry.Kind.TheVariants.{Admit, Accept, Take, Answer, Late, Collect, Retire}
@@ -7,17 +7,16 @@ use Rattle.smx_history.specs.declared.entry.Entry.{Entry}
 use Rattle.smx_history.specs.declared.limits.Limits.{Limits}
 use Rattle.smx_pdu.specs.Command.{is_forwarded, is_response_to}
 use Rattle.smx_history.specs.Prefixes.{AtEachPrefix, AtEach, StartsWith, RiseAbove}
-use Rattle.smx_history.specs.Entries.{is_admit, is_accept, is_take, is_settling, is_retire, name_of, has_name, admits, accepts, takes, accepts_of, answers_of, collects_of, is_retired, is_admitted, is_accepted, is_settled, unanswered, command_of, present}
+use Rattle.smx_history.specs.Entries.{is_take, is_settling, is_retire, name_of, has_name, admits, accepts, takes, accepts_of, answers_of, collects_of, is_retired, is_admitted, is_accepted, is_settled, unanswered, command_of, present}
 
--- some note has this entry
+-- the entry is that of some note: what a kind lacks is 0, and a request that was accepted is one that is passed on
 abbrev pub HasForm : Kind → Entry → Type 0
 HasForm Admit e = (e.ordinal ≡ 0) × (e.number ≡ 0) × (e.command ≡ 0)
 HasForm Accept e = is_forwarded e.command ≡ true
 HasForm Take e = e.command ≡ 0
-HasForm Answer e = Unit {0}
-HasForm Late e = Unit {0}
 HasForm Collect e = (e.number ≡ 0) × (e.command ≡ 0)
 HasForm Retire e = (e.ordinal ≡ 0) × (e.number ≡ 0) × (e.command ≡ 0)
+HasForm _ e = Unit {0}
 
 -- requests are taken in the order in which they were accepted, and a client's responses collected in the order in which they came
 pub record IsFifo (es : List Entry) : Type 0 where
@@ -39,31 +38,29 @@ pub record IsMembership (es : List Entry) : Type 0 where
 abbrev pub IsServed : List Entry → Entry → Type 0
 IsServed before e = (is_admitted e.by e.client before ≡ true) × (is_retired e.client before ≡ false)
 
--- what stands before an entry allows it
+-- a client's accepts, collects and retire stand while it is served, an answer before its retire and a late one after it
 abbrev pub StandsWell : Kind → List Entry → Entry → Type 0
-StandsWell Admit before e = Unit {0}
 StandsWell Accept before e = IsServed before e
-StandsWell Take before e = Unit {0}
 StandsWell Answer before e = is_retired e.client before ≡ false
 StandsWell Late before e = is_retired e.client before ≡ true
 StandsWell Collect before e = IsServed before e
 StandsWell Retire before e = IsServed before e
+StandsWell _ before e = Unit {0}
 
--- an answer follows the take with its name and number, which has none before it, and fits the request's command
+-- an answer follows the take with its name and number, is the first to do so, and has a command that answers the request's
+-- (a response keeps its request's sequence number, SMPP 3.4, section 5.1.4; its id has the top bit, 5.1.2.1, or is generic_nack, 4.3)
 pub record Answers (before : List Entry) (e : Entry) : Type 0 where
   pub taken : list_any (λ t. is_take t.kind && (has_name e.client e.ordinal t && (t.number == e.number))) before ≡ true
   pub first : is_settled e.client e.ordinal before ≡ false
   pub accepted : is_accepted e.client e.ordinal before ≡ true
   pub command : is_response_to (command_of e.client e.ordinal before) e.command ≡ true
 
+-- an answer, in time or late, is paired with a take, and a take bears a number that a request may bear (5.1.4), the last three left out
 abbrev pub IsPaired : Kind → List Entry → Entry → Type 0
-IsPaired Admit before e = Unit {0}
-IsPaired Accept before e = Unit {0}
 IsPaired Take before e = (0 < e.number) × (e.number ≤ 2147483644)
 IsPaired Answer before e = Answers before e
 IsPaired Late before e = Answers before e
-IsPaired Collect before e = Unit {0}
-IsPaired Retire before e = Unit {0}
+IsPaired _ before e = Unit {0}
 
 -- the numbers of takes without an answer are pairwise different
 abbrev pub AreApart : List Entry → Type 0

@@ -7,3 +7,4 @@ pub mod Replies
 pub mod Room
 pub mod Answering
 pub mod Checks
+pub mod Finding

@@ -1,5 +1,5 @@
 -- What the calls answer, and what they leave.
-use Rattle.std.specs.Prelude.{◌≡◌, ◌+◌, ◌*◌, ◌-◌, ◌==◌, ◌&&◌, nat_le, ℕ, Bool, not, List, [], ◌∷◌, ◌++◌, map, drop, length, filter, sum_by, Option, Some, None, if◌then◌else◌}
+use Rattle.std.specs.Prelude.{◌+◌, ◌-◌, ◌==◌, ◌&&◌, nat_le, ℕ, Bool, not, List, [], ◌∷◌, ◌++◌, map, drop, length, filter, Option, Some, None, if◌then◌else◌}
 use Rattle.std.specs.List.{find, remove}
 use Rattle.smx_history.specs.declared.limits.Limits.{Limits}
 use Rattle.smx_history.specs.declared.request.Request.{Request}
@@ -68,6 +68,7 @@ refusal_for v (Some m) =
     else if not (has_room v) then Some HistoryFull
     else None
 
+-- the first reason to refuse a request of that client
 abbrev pub accept_refusal : Content → ℕ → Option Refusal
 accept_refusal v c = refusal_for v (member_with c v.members)
 
@@ -95,13 +96,14 @@ taken v by r u = record v {
   entries = v.entries ++ entry_by by (Take r.client r.ordinal u) ∷ [];
 }
 
+-- the first reason to take nothing
 abbrev pub take_refusal : Content → Option TakeRefusal
 take_refusal v =
     if length v.queue == 0 then Some QueueEmpty
     else if nat_le v.limits.window (length v.window) then Some WindowFull
     else None
 
--- the place that a response answers
+-- the place that a response answers: it has its number, and its command answers the request's (SMPP 3.4, section 5.1.4)
 abbrev pub answers_place : Pdu → Place → Bool
 answers_place p q = (q.upstream == p.number) && is_response_to q.command p.command
 

@@ -1,10 +1,11 @@
 -- That what a lane may still have to store fits.
-use Rattle.std.specs.Prelude.{◌≡◌, ◌+◌, ◌≤◌, ◌<◌, ◌==◌, ℕ, List, length, map, count_by}
+use Rattle.std.specs.Prelude.{◌≡◌, ◌+◌, ◌≤◌, ◌<◌, ◌==◌, ℕ, length, map, count_by}
 use Rattle.std.specs.List.{AllByRecursion}
 use Rattle.smx_history.specs.declared.limits.Limits.{Limits}
 use Rattle.smx_history.specs.Prefixes.{RiseAbove}
 use Rattle.smx_history.specs.Contents.{Content, Member, size_of}
 
+-- the limits that a lane is made with
 pub record AreLimits (limits : Limits) : Type 0 where
   pub queue : (1 ≤ limits.queue) × (limits.queue ≤ 65535)
   pub window : (1 ≤ limits.window) × (limits.window ≤ 1024)
@@ -15,6 +16,7 @@ pub record AreLimits (limits : Limits) : Type 0 where
 abbrev pub FitsBox : Content → Member → Type 0
 FitsBox v m = (count_by (λ r. r.client == m.client) v.queue + count_by (λ p. p.client == m.client) v.window + length m.waiting ≤ m.pending) × (m.pending ≤ v.limits.client)
 
+-- what a lane keeps true of its content, so that no call but `new` and `admit` takes memory
 pub record KeepsRoom (v : Content) : Type 0 where
   pub limits : AreLimits v.limits
   pub queue : length v.queue ≤ v.limits.queue

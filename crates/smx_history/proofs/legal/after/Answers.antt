@@ -1,9 +1,8 @@
-use Rattle.std.proofs.Common.{arith, ◌≡◌, sym, ◌∙◌}
-use Rattle.std.proofs.Common.{◌≤◌, ◌<◌, ◌+◌, ◌-◌, ◌*◌}
+use Rattle.std.proofs.Common.{arith}
 use Rattle.smx_history.specs.Legal.{IsFifo}
 use Rattle.smx_history.proofs.Growing.{AtEachPrefix-whole}
 use Rattle.smx_history.proofs.Counting.{totals_within, collected_le}
-use Rattle.smx_history.proofs.CountedEntries.{counted_admit, counted_accept, counted_take, counted_collect, counted_retire, collect_waiting, leaves, queued_before}
+use Rattle.smx_history.proofs.CountedEntries.{counted_admit, counted_accept, counted_take, counted_collect, counted_retire, collect_waiting, leaves}
 use Rattle.smx_history.proofs.CountedSettle.{counted_answer, counted_late, closes, answers_by}
 use Rattle.smx_history.proofs.FitsSettle.{settles_answer, settles_late}
 use Rattle.smx_history.proofs.legal.after.Goals as goal

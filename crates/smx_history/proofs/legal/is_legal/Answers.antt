@@ -1,4 +1,4 @@
-use Rattle.std.proofs.Common.{rules, ◌≡◌, ◌≤◌, ◌+◌, ◌*◌, ◌<◌, ◌∙◌, sym, true, false, arith, refl, get_or, take, ap, not}
+use Rattle.std.proofs.Common.{◌∙◌, sym, arith, refl, take}
 use Rattle.std.proofs.lemmas.Bool.{false≢true}
 use Rattle.smx_history.proofs.Beginning.{IsLegal-empty}
 use Rattle.smx_history.proofs.Following.{IsLegal-fits}

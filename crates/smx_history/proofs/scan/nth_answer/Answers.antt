@@ -1,4 +1,4 @@
-use Rattle.std.proofs.Common.{◌≡◌, ◌==◌, ◌&&◌, ◌∙◌, sym, refl, arith}
+use Rattle.std.proofs.Common.{◌==◌, ◌&&◌, ◌∙◌, sym, arith}
 use Rattle.smx_history.specs.Entries.{is_answer}
 use Rattle.smx_history.proofs.Nth.{nth_here, nth_over, nth_other, nth_none}
 use Rattle.smx_history.proofs.scan.nth_answer.Goals.{then-is_answer_of+else-left-eq0, else-is_answer_of}

@@ -1,0 +1,52 @@
+//! The program: the command line, and the status that it ends with.
+#![tactic(auto)]
+
+mod options;
+
+use options::Asked;
+use smx_relay::RunEnd;
+use std::io::{BufWriter, Write};
+use std::process::ExitCode;
+use std::rt::Env;
+use std::{env, io};
+
+/// The status where the command line is wrong.
+const USAGE: u8 = 2;
+
+fn words_of(rt: &(impl Env + AllocGlobal)) -> io::Result<Vec<String>> {
+    Ok(env::args(rt)?.collect(rt.alloc())?)
+}
+
+// Runs a script from standard input. What it prints is flushed in any case.
+fn run_relay<R: Input + Print + Eprint + AllocGlobal>(rt: &R) -> ExitCode {
+    let Ok(mut writer) = BufWriter::new(rt.alloc(), io::writer(rt)) else {
+        let _ = eprintln!(rt; "{}", RunEnd::NoMemory);
+        return ExitCode::FAILURE;
+    };
+    let end = smx_relay::run(rt.alloc(), &mut rt.reader(), &mut writer);
+    let flushed = writer.flush();
+    if end != RunEnd::Clean {
+        let _ = eprintln!(rt; "{end}");
+        return ExitCode::FAILURE;
+    }
+    if flushed.is_err() {
+        let _ = eprintln!(rt; "{}", RunEnd::WriteFault);
+        return ExitCode::FAILURE;
+    }
+    ExitCode::SUCCESS
+}
+
+fn main(rt: HostRuntime) -> ExitCode {
+    let Ok(words) = words_of(&rt) else {
+        let _ = eprintln!(rt; "the command line can't be read");
+        return ExitCode::from(USAGE);
+    };
+    match options::read(rt.alloc(), words.as_slice()) {
+        Ok(Asked::Relay) => run_relay(&rt),
+        Ok(Asked::Nothing) => ExitCode::FAILURE,
+        Err(error) => {
+            let _ = rt.eprint(&error);
+            ExitCode::from(USAGE)
+        }
+    }
+}

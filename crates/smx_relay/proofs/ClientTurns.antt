@@ -1,0 +1,129 @@
+-- The turns of clients, from what the loops over the lanes say.
+use Rattle.std.proofs.Common.{◌≡◌, ◌≢◌, ◌<◌, ◌≤◌, ◌+◌, ℕ, Bool, true, false, cond, List, [], ◌∷◌, ◌++◌, length, map, take, drop, refl, sym, ◌∙◌, ap, subst, arith, Option, Some, None, codes, zero, suc}
+use Rattle.std.specs.Global.{Vec}
+use Rattle.std.specs.Prelude.{is_none}
+use Rattle.std.specs.List.{AllZip, position, flat_map}
+use Rattle.std.specs.Fmt.{decimal}
+use Rattle.std.proofs.lemmas.List.{length-take-le}
+use Rattle.std.proofs.lemmas.List.Quantifiers.{position-Some}
+use Rattle.smx_history.specs.declared.limits.Limits.{Limits}
+use Rattle.smx_history.specs.declared.note.Note.{Note}
+use Rattle.smx_history.specs.Contents.{Content}
+use Rattle.smx_relay.specs.declared.state.State.{State}
+use Rattle.smx_relay.specs.Texts.{text_line}
+use Rattle.smx_relay.specs.Relay.{Relay, last_of, entered, entered_and_left, client_turn, client_turn_at, collect_text, collected, collect_turn, or_none}
+use Rattle.smx_relay.specs.OnLane.{OnLane}
+use Rattle.smx_relay.specs.Agrees.{Agrees, Turned, Prints, AreOn, Enters, HaveEntered, AreReached}
+use Rattle.smx_relay.proofs.Lanes.{zip-weaker}
+use Rattle.smx_relay.proofs.Entering.{refuses}
+use Rattle.smx_relay.proofs.OwnNotes.{own_grows, grows_push}
+
+-- the settings stay
+pub record KeepsSettings (old new : State) : Type 0 where
+  pub limits : new.limits ≡ old.limits
+  pub count : new.count ≡ old.count
+  pub started : new.started ≡ old.started
+
+grown_lanes : (limits : Limits) (clients : List (Option ℕ)) (o : Option ℕ) (hs : List (List Note)) (lanes : List Content) → AreOn limits clients hs lanes → AreOn limits (clients ++ o ∷ []) hs lanes
+grown_lanes limits clients o hs lanes on =
+    zip-weaker (OnLane limits clients) (OnLane limits (clients ++ o ∷ [])) (λ h v x. record { agrees = x.agrees; limits_are = x.limits_are; own = own_grows clients (clients ++ o ∷ []) h (grows_push clients o) x.own }) hs lanes on
+
+place_within : (limits : Limits) (c i : ℕ) (hs : List (List Note)) → position (refuses limits c) hs ≡ Some i → i < length hs
+place_within limits c i hs e = let w = position-Some (refuses limits c) hs i [] e in w.0
+
+pub entered_all : (old new : State) (s : Relay) (c : ℕ) (text : List ℕ) → Agrees old s → c ≡ length old.clients.items → Enters s.limits s.clients s.histories c None new.lanes.items → KeepsSettings old new → new.clients.items ≡ old.clients.items ++ Some 0 ∷ []
+    → text ≡ text_line (codes "client " ++ decimal c) → Turned (client_turn s) new text
+entered_all old new s c text a is enters keeps clients e =
+    let c_is : c ≡ length s.clients = is ∙ ap length a.clients in
+    let here : Enters s.limits s.clients s.histories (length s.clients) None new.lanes.items = subst (λ n. Enters s.limits s.clients s.histories n None new.lanes.items) c_is enters in
+    rw here.0 (record {
+      text = e ∙ ap (λ n. text_line (codes "client " ++ decimal n)) c_is;
+      left = record {
+        limits = keeps.limits ∙ a.limits;
+        count = keeps.count ∙ a.count;
+        started = keeps.started ∙ a.started;
+        clients = clients ∙ ap (λ cs. cs ++ Some 0 ∷ []) a.clients;
+        lanes = grown_lanes s.limits s.clients (Some 0) (map (entered (length s.clients)) s.histories) new.lanes.items here.1;
+        none_yet = λ off. ap (map (entered (length s.clients))) (a.none_yet off);
+      };
+    })
+
+pub have_entered : (old : State) (s : Relay) (c i : ℕ) (lanes : List Content) → Agrees old s → Enters s.limits s.clients s.histories c (Some i) lanes → HaveEntered c i lanes
+have_entered old s c i lanes a enters =
+    let within = place_within s.limits c i s.histories enters.0 in
+    (s.limits, s.clients, take i s.histories, drop i s.histories, length-take-le i s.histories (omega arith), enters.1)
+
+none_parted : (c i : ℕ) (hs : List (List Note)) → hs ≡ [] → map (entered_and_left c) (take i hs) ++ drop i hs ≡ []
+none_parted c i hs e = ap (λ xs. map (entered_and_left c) (take i xs) ++ drop i xs) e ∙ none_left i
+  where
+    none_left : (i : ℕ) → map (entered_and_left c) (take {A = List Note} i []) ++ drop i [] ≡ []
+    none_left zero = refl
+    none_left (suc i) = refl
+
+pub entered_none : (old : State) (mid : List Content) (new : State) (s : Relay) (c i : ℕ) (text : List ℕ) → Agrees old s → c ≡ length old.clients.items → Enters s.limits s.clients s.histories c (Some i) mid
+    → ((limits : Limits) (clients : List (Option ℕ)) (some : List (List Note)) (others : List (List Note)) → length some ≡ i → AreOn limits clients (map (entered c) some ++ others) mid → AreOn limits clients (map (entered_and_left c) some ++ others) new.lanes.items)
+    → KeepsSettings old new → new.clients.items ≡ old.clients.items ++ None ∷ [] → text ≡ text_line (codes "refused") → Turned (client_turn s) new text
+entered_none old mid new s c i text a is enters leaves keeps clients e =
+    let c_is : c ≡ length s.clients = is ∙ ap length a.clients in
+    let within = place_within s.limits c i s.histories enters.0 in
+    let place : position (refuses s.limits (length s.clients)) s.histories ≡ Some i = subst (λ n. position (refuses s.limits n) s.histories ≡ Some i) c_is enters.0 in
+    let on = leaves s.limits s.clients (take i s.histories) (drop i s.histories) (length-take-le i s.histories (omega arith)) enters.1 in
+    let on' : AreOn s.limits s.clients (map (entered_and_left (length s.clients)) (take i s.histories) ++ drop i s.histories) new.lanes.items = subst (λ n. AreOn s.limits s.clients (map (entered_and_left n) (take i s.histories) ++ drop i s.histories) new.lanes.items) c_is on in
+    rw place (record {
+      text = e;
+      left = record {
+        limits = keeps.limits ∙ a.limits;
+        count = keeps.count ∙ a.count;
+        started = keeps.started ∙ a.started;
+        clients = clients ∙ ap (λ cs. cs ++ None ∷ []) a.clients;
+        lanes = grown_lanes s.limits s.clients None (map (entered_and_left (length s.clients)) (take i s.histories) ++ drop i s.histories) new.lanes.items on';
+        none_yet = λ off. none_parted (length s.clients) i s.histories (a.none_yet off);
+      };
+    })
+
+or_none-some : (c : ℕ) (text : List ℕ) → text ≢ [] → or_none c text ≡ text
+or_none-some c [] some = absurd (some refl)
+or_none-some c (x ∷ xs) some = refl
+
+collect_left : (old new : State) (s : Relay) (c : ℕ) → Agrees old s → AreOn s.limits s.clients (map (collected c) s.histories) new.lanes.items → KeepsSettings old new → new.clients.items ≡ old.clients.items → Agrees new (record s { histories = map (collected c) s.histories })
+collect_left old new s c a on keeps clients = record {
+    limits = keeps.limits ∙ a.limits;
+    count = keeps.count ∙ a.count;
+    started = keeps.started ∙ a.started;
+    clients = clients ∙ a.clients;
+    lanes = on;
+    none_yet = λ off. ap (map (collected c)) (a.none_yet off);
+  }
+
+-- the client collected this on all lanes
+pub record IsCollectedOn (s : Relay) (c : ℕ) (text : List ℕ) (lanes : List Content) : Type 0 where
+  pub text_is : text ≡ flat_map (collect_text c) s.histories
+  pub lanes_are : AreOn s.limits s.clients (map (collected c) s.histories) lanes
+
+pub collected_some : (old new : State) (s : Relay) (c n : ℕ) (text : Vec ℕ) → Agrees old s → last_of s.clients c ≡ Some n → IsCollectedOn s c text.items new.lanes.items → text.items ≢ [] → KeepsSettings old new → new.clients.items ≡ old.clients.items
+    → Prints (collect_turn s c (last_of s.clients c)) new (Some text)
+collected_some old new s c n text a known is some keeps clients =
+    rw known (record { text = sym (or_none-some c text.items some) ∙ ap (or_none c) is.text_is; left = collect_left old new s c a is.lanes_are keeps clients })
+
+pub collected_none : (old new : State) (s : Relay) (c n : ℕ) (none : List ℕ) (text : Vec ℕ) → Agrees old s → last_of s.clients c ≡ Some n → IsCollectedOn s c none new.lanes.items → none ≡ [] → KeepsSettings old new → new.clients.items ≡ old.clients.items
+    → text.items ≡ text_line (codes "none " ++ decimal c) → Prints (collect_turn s c (last_of s.clients c)) new (Some text)
+collected_none old new s c n none text a known is empty keeps clients e =
+    rw known (record { text = e ∙ ap (or_none c) (sym empty ∙ is.text_is); left = collect_left old new s c a is.lanes_are keeps clients })
+
+-- a client that is known, or not
+pub known_last : (old : State) (s : Relay) (c : ℕ) (o : Option ℕ) → Agrees old s → o ≡ last_of old.clients.items c → last_of s.clients c ≡ o
+known_last old s c o a is = sym (is ∙ ap (λ cs. last_of cs c) a.clients)
+
+some_last : (o : Option ℕ) → is_none o ≡ false → (n : ℕ) × (o ≡ Some n)
+some_last None e = absurd (let z : true ≡ false = e in cc)
+some_last (Some n) e = (n, refl)
+
+pub known_client : (old : State) (s : Relay) (c : ℕ) (o : Option ℕ) → Agrees old s → o ≡ last_of old.clients.items c → is_none o ≡ false → (n : ℕ) × (last_of s.clients c ≡ Some n)
+known_client old s c o a is some = let w = some_last o some in (w.0, known_last old s c o a is ∙ w.1)
+
+none_last : (o : Option ℕ) → is_none o ≡ true → o ≡ None
+none_last None e = refl
+none_last (Some n) e = absurd (let z : false ≡ true = e in cc)
+
+pub collect_unknown : (old new : State) (s : Relay) (c : ℕ) (o : Option ℕ) → Agrees old s → o ≡ last_of old.clients.items c → is_none o ≡ true → Prints (collect_turn s c (last_of s.clients c)) new None
+collect_unknown old new s c o a is none = rw (known_last old s c o a is ∙ none_last o none) tt

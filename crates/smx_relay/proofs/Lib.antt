@@ -1,0 +1,16 @@
+pub mod Offers
+pub mod LaneTurns
+pub mod Lanes
+pub mod Beginning
+pub mod Ring
+pub mod Rows
+pub mod Collecting
+pub mod Passing
+pub mod OwnNotes
+pub mod Offering
+pub mod Entering
+pub mod ClientTurns
+pub mod Running
+pub mod Standing
+pub mod StateTurns
+pub mod Acts

@@ -1,0 +1,112 @@
+-- What the lines add to the histories is the one caller's.
+use Rattle.std.proofs.Common.{◌≡◌, ◌⊎◌, ◌<◌, ◌≤◌, ◌+◌, ◌==◌, ℕ, Bool, true, false, cond, List, [], ◌∷◌, ◌++◌, length, map, set, refl, sym, ◌∙◌, ap, subst, arith, Option, Some, None, slice_get, inl, inr, zero, suc, codes}
+use Rattle.std.specs.Prelude.{unwrap_or}
+use Rattle.std.specs.List.{AllByRecursion}
+use Rattle.std.specs.Fmt.{decimal}
+use Rattle.smx_history.specs.declared.note.Event.TheVariants as event
+use Rattle.smx_relay.specs.Texts.{text_line}
+use Rattle.std.proofs.lemmas.List.{map-append}
+use Rattle.smx_pdu.specs.declared.pdu.Pdu.{Pdu}
+use Rattle.smx_history.specs.declared.entry.Entry.{Entry}
+use Rattle.smx_history.specs.declared.limits.Limits.{Limits}
+use Rattle.smx_history.specs.declared.request.Request.{Request}
+use Rattle.smx_history.specs.declared.response.Response.{Response}
+use Rattle.smx_history.specs.declared.note.Note.{Note}
+use Rattle.smx_history.specs.declared.place.Place.{Place}
+use Rattle.smx_history.specs.Entries.{is_accept}
+use Rattle.smx_history.specs.History.{entry_of, entries_of, note}
+use Rattle.smx_history.specs.Contents.{queue_after, window_after}
+use Rattle.smx_history.specs.Finding.{is_present, place_answered, waiting_after}
+use Rattle.smx_history.proofs.Growing.{All-push}
+use Rattle.smx_history.proofs.Reading.{entries_of-push, All-each}
+use Rattle.smx_relay.specs.Relay.{last_of, last_in, take_with, take_on, back_to, back_on, collected, entered, entered_and_left}
+use Rattle.smx_relay.specs.OnLane.{IsOwn, AreOwn}
+use Rattle.smx_relay.proofs.Collecting.{collects}
+
+pub own_push : (clients : List (Option ℕ)) (h : List Note) (n : Note) → AreOwn clients h → IsOwn clients (entry_of n) → AreOwn clients (h ++ n ∷ [])
+own_push clients h n own is = subst (AllByRecursion (IsOwn clients)) (sym (entries_of-push h n)) (All-push (IsOwn clients) (entries_of h) (entry_of n) own is)
+
+-- an entry of the one caller that is no accept
+own_other : (clients : List (Option ℕ)) (e : Entry) → e.by ≡ 0 → is_accept e.kind ≡ false → IsOwn clients e
+own_other clients e by other = record { by = by; known = λ accept. absurd (let z : true ≡ false = sym accept ∙ other in cc) }
+
+own_take_with : (clients : List (Option ℕ)) (u i : ℕ) (h : List Note) (queue : List Request) (room : Bool) → AreOwn clients h → AreOwn clients (take_with u i h queue room).1
+own_take_with clients u i h [] room own = own
+own_take_with clients u i h (r ∷ rs) true own = own_push clients h _ own (own_other clients _ refl refl)
+own_take_with clients u i h (r ∷ rs) false own = own
+
+pub own_take : (clients : List (Option ℕ)) (limits : Limits) (u i : ℕ) (h : List Note) → AreOwn clients h → AreOwn clients (take_on limits u i h).1
+unfolding take_on
+own_take clients limits u i h own = own_take_with clients u i h (queue_after h) _ own
+
+own_back_to : (clients : List (Option ℕ)) (p : Pdu) (h : List Note) (o : Option Place) → AreOwn clients h → AreOwn clients (back_to p h o).1
+own_back_to clients p h None own = own
+own_back_to clients p h (Some q) own = at (is_present q.client h)
+  where
+    at : (b : Bool) → AreOwn clients (cond {A = List ℕ × List Note} b (text_line (codes "queued " ++ decimal q.client), h ++ note 0 (event.Answer q.client q.ordinal p) ∷ []) (text_line (codes "late"), h ++ note 0 (event.Late q.client q.ordinal p.number p.command) ∷ [])).1
+    at true = own_push clients h _ own (own_other clients _ refl refl)
+    at false = own_push clients h _ own (own_other clients _ refl refl)
+
+pub own_back : (clients : List (Option ℕ)) (p : Pdu) (h : List Note) → AreOwn clients h → AreOwn clients (back_on p h).1
+unfolding back_on
+own_back clients p h own = own_back_to clients p h (place_answered h p) own
+
+All-append : {X : Type 0} (P : X → Type 0) (xs ys : List X) → AllByRecursion P xs → AllByRecursion P ys → AllByRecursion P (xs ++ ys)
+All-append P [] ys a b = b
+All-append P (x ∷ xs) ys a b = (a.0, All-append P xs ys a.1 b)
+
+own_collects : (clients : List (Option ℕ)) (c : ℕ) (rs : List Response) → AreOwn clients (collects c rs)
+unfolding collects
+own_collects clients c [] = tt
+own_collects clients c (r ∷ rs) = (own_other clients _ refl refl, own_collects clients c rs)
+
+pub own_collected : (clients : List (Option ℕ)) (c : ℕ) (h : List Note) → AreOwn clients h → AreOwn clients (collected c h)
+unfolding collects
+own_collected clients c h own =
+    subst (AllByRecursion (IsOwn clients)) (sym (map-append entry_of h (collects c (waiting_after h c)))) (All-append (IsOwn clients) (entries_of h) (entries_of (collects c (waiting_after h c))) own (own_collects clients c (waiting_after h c)))
+
+pub own_entered : (clients : List (Option ℕ)) (c : ℕ) (h : List Note) → AreOwn clients h → AreOwn clients (entered c h)
+own_entered clients c h own = own_push clients h _ own (own_other clients _ refl refl)
+
+pub own_left : (clients : List (Option ℕ)) (c : ℕ) (h : List Note) → AreOwn clients (entered c h) → AreOwn clients (entered_and_left c h)
+own_left clients c h own = own_push clients (entered c h) _ own (own_other clients _ refl refl)
+
+-- where last ordinals only grow, what was own is own
+pub record Grows (old new : List (Option ℕ)) : Type 0 where
+  pub each : (c : ℕ) → unwrap_or (last_of old c) 0 ≤ unwrap_or (last_of new c) 0
+
+pub own_grows : (old new : List (Option ℕ)) (h : List Note) → Grows old new → AreOwn old h → AreOwn new h
+own_grows old new h grows own =
+    All-each (IsOwn old) (IsOwn new) (λ e is. record { by = is.by; known = λ accept. omega (arith, is.known accept, grows.each e.client) }) (entries_of h) own
+
+slice_get-push : {X : Type 0} (xs : List X) (x : X) (i : ℕ) → (slice_get (xs ++ x ∷ []) i ≡ slice_get xs i) ⊎ (slice_get xs i ≡ None)
+slice_get-push [] x i = inr refl
+slice_get-push (y ∷ xs) x zero = inl refl
+slice_get-push (y ∷ xs) x (suc i) = slice_get-push xs x i
+
+pub grows_push : (clients : List (Option ℕ)) (o : Option ℕ) → Grows clients (clients ++ o ∷ [])
+grows_push clients o = record { each = λ c. elim (slice_get-push clients o c) [
+    inl same ↦ omega (arith, ap (λ x. unwrap_or (last_in x) 0) same)
+    | inr none ↦ omega (arith, ap (λ x. unwrap_or (last_in x) 0) none)
+  ] }
+
+set-grows : (clients : List (Option ℕ)) (c n d : ℕ) → last_of clients c ≡ Some n → unwrap_or (last_of clients d) 0 ≤ unwrap_or (last_of (set clients c (Some (n + 1))) d) 0
+set-grows [] c n d known = omega arith
+set-grows (o ∷ clients) zero n zero known = omega (arith, ap (λ x. unwrap_or x 0) known)
+set-grows (o ∷ clients) zero n (suc d) known = omega arith
+set-grows (o ∷ clients) (suc c) n zero known = omega arith
+set-grows (o ∷ clients) (suc c) n (suc d) known = set-grows clients c n d known
+
+pub grows_set : (clients : List (Option ℕ)) (c n : ℕ) → last_of clients c ≡ Some n → Grows clients (set clients c (Some (n + 1)))
+grows_set clients c n known = record { each = λ d. set-grows clients c n d known }
+
+-- the client's last ordinal is then the new one
+pub last_set : (clients : List (Option ℕ)) (c n m : ℕ) → last_of clients c ≡ Some n → last_of (set clients c (Some m)) c ≡ Some m
+last_set [] c n m known = cc
+last_set (o ∷ clients) zero n m known = refl
+last_set (o ∷ clients) (suc c) n m known = last_set clients c n m known
+
+pub known_within : (clients : List (Option ℕ)) (c n : ℕ) → last_of clients c ≡ Some n → c < length clients
+known_within [] c n known = absurd (let z : None ≡ Some n = known in cc)
+known_within (o ∷ clients) zero n known = omega arith
+known_within (o ∷ clients) (suc c) n known = let w = known_within clients c n known in omega (arith, w)

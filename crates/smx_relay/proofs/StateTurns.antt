@@ -1,0 +1,110 @@
+-- Turns of one lane, as turns of the whole state.
+use Rattle.std.proofs.Common.{◌≡◌, ◌<◌, ◌≤◌, ◌==◌, ℕ, Bool, true, false, cond, List, [], ◌∷◌, ◌++◌, length, set, get_or, refl, sym, ◌∙◌, ap, subst, arith, Option, Some, None, slice_get, inl, inr}
+use Rattle.std.specs.Global.{Vec}
+use Rattle.std.specs.List.{AllZip}
+use Rattle.std.proofs.lemmas.Bool.{cases_Bool, eq-eqb, eqb-true}
+use Rattle.std.proofs.lemmas.Option.{slice_get_past}
+use Rattle.smx_pdu.specs.declared.pdu.Pdu.{Pdu}
+use Rattle.smx_history.specs.declared.limits.Limits.{Limits}
+use Rattle.smx_history.specs.declared.note.Note.{Note}
+use Rattle.smx_history.specs.Contents.{AgreesWith, Content}
+use Rattle.smx_history.specs.Finding.{IsFree}
+use Rattle.smx_relay.specs.declared.state.State.{State}
+use Rattle.smx_relay.specs.Relay.{Relay, on_lane, on_found, take_on, back_on, history_on, AreFree}
+use Rattle.smx_relay.specs.OnLane.{OnLane, AreOwn, TurnsLane}
+use Rattle.smx_relay.specs.Agrees.{Agrees, Turned, Prints}
+use Rattle.smx_relay.proofs.Lanes.{zip-length, zip-get, zip-set, at_index}
+use Rattle.smx_relay.proofs.OwnNotes.{own_take, own_back}
+use Rattle.smx_relay.proofs.ClientTurns.{KeepsSettings}
+use Rattle.smx_relay.proofs.Running.{some_numbers}
+
+-- there is no such lane
+pub no_lane : (old new : State) (s : Relay) (i : ℕ) (f : List Note → List ℕ × List Note) → Agrees old s → length old.lanes.items ≤ i → Prints (on_lane s i f) new None
+no_lane old new s i f a past =
+    rw (slice_get_past s.histories i (omega (arith, zip-length (OnLane s.limits s.clients) s.histories old.lanes.items a.lanes))) tt
+
+-- the lane at the index went on
+pub record IsTurned (old new : State) (i : ℕ) (lane after : Content) : Type 0 where
+  pub within : i < length old.lanes.items
+  pub here : lane ≡ get_or old.lanes.items i lane
+  pub lanes : new.lanes.items ≡ set old.lanes.items i after
+  pub clients : new.clients.items ≡ old.clients.items
+  pub keeps : KeepsSettings old new
+
+-- the history of the lane at the index
+pub history_at : (old : State) (s : Relay) (i : ℕ) (lane : Content) → Agrees old s → i < length old.lanes.items → lane ≡ get_or old.lanes.items i lane → (h : List Note) × (slice_get s.histories i ≡ Some h) × OnLane s.limits s.clients h lane
+history_at old s i lane a within here =
+    let w = zip-get (OnLane s.limits s.clients) s.histories old.lanes.items i lane a.lanes within in
+    (w.0, w.1, subst (OnLane s.limits s.clients w.0) (sym here) w.2)
+
+pub lane_turned : (old new : State) (s : Relay) (i : ℕ) (f : List Note → List ℕ × List Note) (h : List Note) (lane after : Content) (text : Vec ℕ) → Agrees old s → IsTurned old new i lane after → slice_get s.histories i ≡ Some h → OnLane s.limits s.clients h lane
+    → TurnsLane (f h) lane after text.items → AreOwn s.clients (f h).1 → Prints (on_lane s i f) new (Some text)
+lane_turned old new s i f h lane after text a is at on turns own =
+    let R = OnLane s.limits s.clients in
+    let on' : R (f h).1 after = record { agrees = turns.agrees; limits_are = turns.limits_are ∙ on.limits_are; own = own } in
+    let lanes : AllZip R (set s.histories i (f h).1) new.lanes.items = subst (λ ls. AllZip R (set s.histories i (f h).1) ls) (sym is.lanes) (zip-set R s.histories old.lanes.items i (f h).1 after a.lanes on') in
+    rw at (record {
+      text = turns.text;
+      left = record {
+        limits = is.keeps.limits ∙ a.limits;
+        count = is.keeps.count ∙ a.count;
+        started = is.keeps.started ∙ a.started;
+        clients = is.clients ∙ a.clients;
+        lanes = lanes;
+        none_yet = λ off. ap (λ hs. set hs i (f h).1) (a.none_yet off);
+      };
+    })
+
+-- the number on one lane, and some on each other
+one_number : ℕ → ℕ → (ℕ → ℕ) → ℕ → ℕ
+one_number i n u j = cond (j == i) n (u j)
+
+one_number-here : (i n : ℕ) (u : ℕ → ℕ) → one_number i n u i ≡ n
+unfolding one_number
+one_number-here i n u = rw (eq-eqb i i refl) refl
+
+one_free : (s : Relay) (i n : ℕ) (h : List Note) (u : ℕ → ℕ) → slice_get s.histories i ≡ Some h → IsFree h n → AreFree u s → AreFree (one_number i n u) s
+unfolding one_number
+one_free s i n h u at free others = λ j g there. elim (cases_Bool (j == i)) [
+    inl same ↦
+      let e : h ≡ g = let x : Some h ≡ Some g = sym at ∙ ap (slice_get s.histories) (sym (eqb-true j i same)) ∙ there in cc in
+      rw same (subst (λ k. IsFree k n) e free)
+    | inr other ↦ rw other (others j g there)
+  ]
+
+abbrev pub Takes : Relay → ℕ → State → Option (Vec ℕ) → Type 0
+Takes s i new text = (u : ℕ → ℕ) × AreFree u s × Prints (on_lane s i (take_on s.limits (u i) i)) new text
+
+pub takes_none : (old new : State) (s : Relay) (i : ℕ) → Agrees old s → length old.lanes.items ≤ i → Takes s i new None
+takes_none old new s i a past =
+    let u = some_numbers s in
+    (u.0, u.1, no_lane old new s i (take_on s.limits (u.0 i) i) a past)
+
+-- the lane gave some free number
+pub takes_some : (old new : State) (s : Relay) (i : ℕ) (lane after : Content) (text : Vec ℕ) → Agrees old s → IsTurned old new i lane after
+    → ((h : List Note) → AgreesWith h lane → (n : ℕ) × IsFree h n × TurnsLane (take_on lane.limits n i h) lane after text.items) → Takes s i new (Some text)
+takes_some old new s i lane after text a is goes =
+    let x = history_at old s i lane a is.within is.here in
+    let h = x.0 in
+    let t = goes h x.2.agrees in
+    let others = some_numbers s in
+    let u = one_number i t.0 others.0 in
+    let turns : TurnsLane (take_on s.limits (u i) i h) lane after text.items =
+      subst (λ n. TurnsLane (take_on s.limits n i h) lane after text.items) (sym (one_number-here i t.0 others.0)) (subst (λ l. TurnsLane (take_on l t.0 i h) lane after text.items) x.2.limits_are t.2) in
+    (u, one_free s i t.0 h others.0 x.1 t.1 others.1, lane_turned old new s i (take_on s.limits (u i) i) h lane after text a is x.1 x.2 turns (own_take s.clients s.limits (u i) i h x.2.own))
+
+pub backs_some : (old new : State) (s : Relay) (i : ℕ) (p : Pdu) (lane after : Content) (text : Vec ℕ) → Agrees old s → IsTurned old new i lane after
+    → ((h : List Note) → AgreesWith h lane → TurnsLane (back_on p h) lane after text.items) → Prints (on_lane s i (back_on p)) new (Some text)
+backs_some old new s i p lane after text a is goes =
+    let x = history_at old s i lane a is.within is.here in
+    lane_turned old new s i (back_on p) x.0 lane after text a is x.1 x.2 (goes x.0 x.2.agrees) (own_back s.clients p x.0 x.2.own)
+
+history_own : (clients : List (Option ℕ)) (h : List Note) → AreOwn clients h → AreOwn clients (history_on h).1
+unfolding history_on
+history_own clients h own = own
+
+pub history_some : (old new : State) (s : Relay) (i : ℕ) (lane after : Content) (text : Vec ℕ) → Agrees old s → IsTurned old new i lane after
+    → ((h : List Note) → AgreesWith h lane → TurnsLane (history_on h) lane after text.items) → Prints (on_lane s i history_on) new (Some text)
+history_some old new s i lane after text a is goes =
+    let x = history_at old s i lane a is.within is.here in
+    lane_turned old new s i history_on x.0 lane after text a is x.1 x.2 (goes x.0 x.2.agrees) (history_own s.clients x.0 x.2.own)

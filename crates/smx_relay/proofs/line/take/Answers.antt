@@ -1,0 +1,10 @@
+use Rattle.std.proofs.Common.{◌≡◌, ◌≤◌, rules, arith, refl, length}
+use Rattle.smx_relay.proofs.StateTurns.{takes_none, takes_some}
+use Rattle.smx_relay.proofs.line.take.Goals as goal
+
+pub returns-then-at-len : goal.returns-then-at-len
+returns-then-at-len c = λ s a. takes_none c.args.state.now _ s c.args.lane a (omega arith)
+
+pub returns : goal.returns
+returns c = λ s a. takes_some c.args.state.now _ s c.args.lane c.index_mut.result.now c.take_on.new.lane c.in_ok-take_on.field-0 a
+    (record { within = omega arith; here = c.index_mut.ensures.value; lanes = refl; clients = refl; keeps = record { limits = refl; count = refl; started = refl } }) c.in_ok-take_on.ensures

@@ -1,0 +1,34 @@
+-- A lane of the engine, and the history that it stands for.
+use Rattle.std.specs.Prelude.{◌≡◌, ◌≤◌, ℕ, List, Bool, true, Option, Some, None, unwrap_or}
+use Rattle.std.specs.List.{AllByRecursion}
+use Rattle.smx_history.specs.declared.limits.Limits.{Limits}
+use Rattle.smx_history.specs.declared.entry.Entry.{Entry}
+use Rattle.smx_history.specs.declared.note.Note.{Note}
+use Rattle.smx_history.specs.Entries.{is_accept}
+use Rattle.smx_history.specs.History.{entries_of}
+use Rattle.smx_history.specs.Contents.{Content, AgreesWith}
+use Rattle.smx_relay.specs.Relay.{last_of}
+
+-- the one caller has the number 0, and no accept is above the client's last ordinal
+pub record IsOwn (clients : List (Option ℕ)) (e : Entry) : Type 0 where
+  pub by : e.by ≡ 0
+  pub known : is_accept e.kind ≡ true → e.ordinal ≤ unwrap_or (last_of clients e.client) 0
+
+abbrev pub AreOwn : List (Option ℕ) → List Note → Type 0
+AreOwn clients h = AllByRecursion (IsOwn clients) (entries_of h)
+
+-- the lane is what the history leaves, under these limits
+pub record OnLane (limits : Limits) (clients : List (Option ℕ)) (h : List Note) (lane : Content) : Type 0 where
+  pub agrees : AgreesWith h lane
+  pub limits_are : lane.limits ≡ limits
+  pub own : AreOwn clients h
+
+-- a turn on a lane printed the text, and took the lane to what the longer history leaves
+pub record TurnsLane (x : List ℕ × List Note) (old new : Content) (written : List ℕ) : Type 0 where
+  pub text : written ≡ x.0
+  pub agrees : AgreesWith x.1 new
+  pub limits_are : new.limits ≡ old.limits
+
+-- each entry is the one caller's
+abbrev pub AreOurs : List Note → Type 0
+AreOurs h = AllByRecursion (λ e. e.by ≡ 0) (entries_of h)

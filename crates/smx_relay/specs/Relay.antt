@@ -1,0 +1,164 @@
+-- What each line of a script does and prints, over the histories of the lanes.
+use Rattle.std.specs.Prelude.{◌≡◌, ℕ, ◌+◌, ◌%◌, ◌==◌, Bool, true, false, List, [], ◌∷◌, ◌++◌, length, map, take, drop, set, replicate, position, codes, Option, Some, None, is_none, is_some, option_and_then, nat_lt, slice_get, if◌then◌else◌}
+use Rattle.std.specs.List.{flat_map, find, range_with_len}
+use Rattle.std.specs.Fmt.{decimal}
+use Rattle.smx_pdu.specs.declared.pdu.Pdu.{Pdu}
+use Rattle.smx_history.specs.declared.limits.Limits.{Limits}
+use Rattle.smx_history.specs.declared.request.Request.{Request}
+use Rattle.smx_history.specs.declared.place.Place.{Place}
+use Rattle.smx_history.specs.declared.note.Note.{Note}
+use Rattle.smx_history.specs.declared.note.Event.TheVariants as event
+use Rattle.smx_history.specs.History.{note, entries_of}
+use Rattle.smx_history.specs.Contents.{queue_after, window_after}
+use Rattle.smx_history.specs.Finding.{is_present, admit_refusal_after, refusal_after, place_answered, waiting_after, IsFree}
+use Rattle.smx_relay.specs.declared.offer.Offer.{Offer}
+use Rattle.smx_relay.specs.declared.command.Command.{Command}
+use Rattle.smx_relay.specs.declared.command.Command.TheVariants.{Skip, Set, Run}
+use Rattle.smx_relay.specs.declared.command.Setting.{Setting}
+use Rattle.smx_relay.specs.declared.command.Setting.TheVariants.{Sizes, Lanes}
+use Rattle.smx_relay.specs.declared.command.Action.{Action}
+use Rattle.smx_relay.specs.declared.command.Action.TheVariants.{Client, In, Take, Back, Collect, History}
+use Rattle.smx_relay.specs.Texts.{text_line, pdu_line, to_client, up_lane, refusal_of, upstream_of, entry_line}
+
+pub record Relay : Type 0 where
+  -- the sizes of each lane, and how many lanes there are to be
+  pub limits : Limits
+  pub count : ℕ
+  -- a line other than a setting was run
+  pub started : Bool
+  -- what happened on each lane since
+  pub histories : List (List Note)
+  -- the last ordinal of each client, by its number; none of a number that no client has, as 0 and those that were refused
+  pub clients : List (Option ℕ)
+
+abbrev pub start : Relay
+start = record { limits = record { queue = 100; window = 10; client = 20; history = 10000 }; count = 1; started = false; histories = []; clients = None ∷ [] }
+
+-- settings count up to the first other line
+abbrev pub set_turn : Relay → Setting → Option (List ℕ × Relay)
+set_turn s (Sizes limits) = if s.started then None else Some ([], record s { limits = limits })
+set_turn s (Lanes count) = if s.started then None else Some ([], record s { count = count })
+
+-- the lanes begin with the first line that is no setting
+abbrev pub begun : Relay → Relay
+begun s = if s.started then s else record s { started = true; histories = replicate s.count [] }
+
+abbrev pub last_in : Option (Option ℕ) → Option ℕ
+last_in None = None
+last_in (Some last) = last
+
+-- the last ordinal of a client that is known
+abbrev pub last_of : List (Option ℕ) → ℕ → Option ℕ
+last_of clients c = last_in (slice_get clients c)
+
+abbrev pub on_found : Relay → ℕ → (List Note → List ℕ × List Note) → Option (List Note) → Option (List ℕ × Relay)
+on_found s i f None = None
+on_found s i f (Some h) = Some ((f h).0, record s { histories = set s.histories i (f h).1 })
+
+-- on a lane that there is, f prints and goes on
+abbrev pub on_lane : Relay → ℕ → (List Note → List ℕ × List Note) → Option (List ℕ × Relay)
+on_lane s i f = on_found s i f (slice_get s.histories i)
+
+-- a client enters on each lane
+abbrev pub entered : ℕ → List Note → List Note
+entered c h = h ++ note 0 (event.Admit c) ∷ []
+
+-- or on none: where a lane refuses it, it leaves those before again
+abbrev pub entered_and_left : ℕ → List Note → List Note
+entered_and_left c h = (h ++ note 0 (event.Admit c) ∷ []) ++ note 0 (event.Retire c) ∷ []
+
+abbrev pub client_turn_at : Relay → ℕ → Option ℕ → List ℕ × Relay
+client_turn_at s c None =
+    (text_line (codes "client " ++ decimal c), record s { histories = map (entered c) s.histories; clients = s.clients ++ Some 0 ∷ [] })
+client_turn_at s c (Some i) =
+    (text_line (codes "refused"), record s { histories = map (entered_and_left c) (take i s.histories) ++ drop i s.histories; clients = s.clients ++ None ∷ [] })
+
+-- the next number is used up either way
+abbrev pub client_turn : Relay → List ℕ × Relay
+client_turn s = client_turn_at s (length s.clients) (position (λ h. is_some (admit_refusal_after s.limits h (length s.clients))) s.histories)
+
+abbrev pub request_of : ℕ → ℕ → Offer → Request
+request_of c n o = record { client = c; ordinal = n; own = o.own; command = o.command; body = o.body; forwarded = o.forwarded }
+
+-- all lanes, from one on
+abbrev pub ring : ℕ → ℕ → List ℕ
+ring first count = map (λ k. (first + k) % count) (range_with_len 0 count)
+
+abbrev pub accepts_on : Limits → ℕ → Option (List Note) → Bool
+accepts_on limits c None = false
+accepts_on limits c (Some h) = is_none (refusal_after limits h c)
+
+-- the first lane that accepts a client's next request, from the one that its ordinal names on
+unfoldable pub lane_for : Relay → ℕ → ℕ → Option ℕ
+lane_for s c last = find (λ i. accepts_on s.limits c (slice_get s.histories i)) (ring (last % length s.histories) (length s.histories))
+
+abbrev pub accepted : Relay → ℕ → ℕ → Offer → ℕ → Option (List Note) → Relay
+accepted s c last o i None = s
+accepted s c last o i (Some h) =
+    record s { histories = set s.histories i (h ++ note 0 (event.Accept (request_of c (last + 1) o)) ∷ []); clients = set s.clients c (Some (last + 1)) }
+
+-- the ordinal is used where a lane accepts
+abbrev pub in_turn_at : Relay → ℕ → ℕ → Offer → Option ℕ → List ℕ × Relay
+in_turn_at s c last o None = (pdu_line (to_client c) (refusal_of o), s)
+in_turn_at s c last o (Some i) =
+    (text_line (codes "accepted " ++ (decimal c ++ (codes " " ++ decimal i))), accepted s c last o i (slice_get s.histories i))
+
+abbrev pub in_turn : Relay → ℕ → Offer → Option ℕ → Option (List ℕ × Relay)
+in_turn s c o None = None
+in_turn s c o (Some last) = Some (in_turn_at s c last o (lane_for s c last))
+
+abbrev pub take_with : ℕ → ℕ → List Note → List Request → Bool → List ℕ × List Note
+take_with u i h [] room = (text_line (codes "take " ++ (decimal i ++ codes " empty")), h)
+take_with u i h (r ∷ rs) true = (pdu_line (up_lane i) (upstream_of r u), h ++ note 0 (event.Take r.client r.ordinal u) ∷ [])
+take_with u i h (r ∷ rs) false = (text_line (codes "take " ++ (decimal i ++ codes " full")), h)
+
+-- the oldest request goes upstream as u
+unfoldable pub take_on : Limits → ℕ → ℕ → List Note → List ℕ × List Note
+take_on limits u i h = take_with u i h (queue_after h) (nat_lt (length (window_after h)) limits.window)
+
+abbrev pub back_to : Pdu → List Note → Option Place → List ℕ × List Note
+back_to p h None = (text_line (codes "unknown"), h)
+back_to p h (Some q) =
+    if is_present q.client h
+    then (text_line (codes "queued " ++ decimal q.client), h ++ note 0 (event.Answer q.client q.ordinal p) ∷ [])
+    else (text_line (codes "late"), h ++ note 0 (event.Late q.client q.ordinal p.number p.command) ∷ [])
+
+-- a response comes back
+unfoldable pub back_on : Pdu → List Note → List ℕ × List Note
+back_on p h = back_to p h (place_answered h p)
+
+abbrev pub collect_text : ℕ → List Note → List ℕ
+collect_text c h = flat_map (λ r. pdu_line (to_client c) r.pdu) (waiting_after h c)
+
+-- the client collects each response that waits
+abbrev pub collected : ℕ → List Note → List Note
+collected c h = h ++ map (λ r. note 0 (event.Collect c r.ordinal)) (waiting_after h c)
+
+abbrev pub or_none : ℕ → List ℕ → List ℕ
+or_none c [] = text_line (codes "none " ++ decimal c)
+or_none c (octet ∷ octets) = octet ∷ octets
+
+abbrev pub collect_turn : Relay → ℕ → Option ℕ → Option (List ℕ × Relay)
+collect_turn s c None = None
+collect_turn s c (Some last) = Some (or_none c (flat_map (collect_text c) s.histories), record s { histories = map (collected c) s.histories })
+
+unfoldable pub history_on : List Note → List ℕ × List Note
+history_on h = (flat_map entry_line (entries_of h), h)
+
+-- what an action prints and leaves, where u has the number that a request would be given on each lane; none at a bad line
+unfoldable pub act : (ℕ → ℕ) → Relay → Action → Option (List ℕ × Relay)
+act u s Client = Some (client_turn s)
+act u s (In c o) = in_turn s c o (last_of s.clients c)
+act u s (Take i) = on_lane s i (take_on s.limits (u i) i)
+act u s (Back i p) = on_lane s i (back_on p)
+act u s (Collect c) = collect_turn s c (last_of s.clients c)
+act u s (History i) = on_lane s i history_on
+
+unfoldable pub turn : (ℕ → ℕ) → Relay → Command → Option (List ℕ × Relay)
+turn u s Skip = Some ([], s)
+turn u s (Set setting) = set_turn s setting
+turn u s (Run action) = act u (begun s) action
+
+-- the numbers are free, each on its lane
+abbrev pub AreFree : (ℕ → ℕ) → Relay → Type 0
+AreFree u s = (i : ℕ) (h : List Note) → slice_get s.histories i ≡ Some h → IsFree h (u i)

@@ -1,0 +1,51 @@
+-- The lines that a run prints.
+use Rattle.std.specs.Prelude.{◌≡◌, ℕ, ◌+◌, Bool, true, false, List, [], ◌∷◌, ◌++◌, codes, Option, Some, None, unwrap_or}
+use Rattle.std.specs.Fmt.{decimal}
+use Rattle.hex.specs.Hex.{encode_lower}
+use Rattle.smx_pdu.specs.declared.pdu.Pdu.{Pdu}
+use Rattle.smx_pdu.specs.declared.command.TheConstants.{GENERIC_NACK}
+use Rattle.smx_pdu.specs.Pdu.{spelling}
+use Rattle.smx_pdu.specs.Command.{response_of}
+use Rattle.smx_history.specs.declared.entry.Kind.{Kind}
+use Rattle.smx_history.specs.declared.entry.Kind.TheVariants.{Admit, Accept, Take, Answer, Late, Collect, Retire}
+use Rattle.smx_history.specs.declared.entry.Entry.{Entry}
+use Rattle.smx_history.specs.declared.request.Request.{Request}
+use Rattle.smx_relay.specs.declared.offer.Offer.{Offer}
+
+-- each line ends with a line feed
+abbrev pub text_line : List ℕ → List ℕ
+text_line text = text ++ 10 ∷ []
+
+-- a PDU in hexadecimal digits, in lower case, behind what is said of it
+abbrev pub pdu_line : List ℕ → Pdu → List ℕ
+pdu_line head p = head ++ (encode_lower (spelling p) ++ 10 ∷ [])
+
+abbrev pub to_client : ℕ → List ℕ
+to_client c = codes "to " ++ (decimal c ++ codes " ")
+
+abbrev pub up_lane : ℕ → List ℕ
+up_lane lane = codes "up " ++ (decimal lane ++ codes " ")
+
+unfoldable pub bad_line : ℕ → List ℕ
+bad_line n = text_line (codes "bad line " ++ decimal n)
+
+-- the answer to a request that each lane refuses: a header with status 0x14, the queue is full
+abbrev pub refusal_of : Offer → Pdu
+refusal_of o = record { command = unwrap_or (response_of o.command) GENERIC_NACK; status = 20; number = o.own; body = [] }
+
+-- a request as it goes upstream
+abbrev pub upstream_of : Request → ℕ → Pdu
+upstream_of r u = record { command = r.command; status = 0; number = u; body = r.body }
+
+abbrev pub kind_name : Kind → List ℕ
+kind_name Admit = codes "admit"
+kind_name Accept = codes "accept"
+kind_name Take = codes "take"
+kind_name Answer = codes "answer"
+kind_name Late = codes "late"
+kind_name Collect = codes "collect"
+kind_name Retire = codes "retire"
+
+-- an entry's kind, client, ordinal and number
+abbrev pub entry_line : Entry → List ℕ
+entry_line e = text_line (kind_name e.kind ++ (codes " " ++ (decimal e.client ++ (codes " " ++ (decimal e.ordinal ++ (codes " " ++ decimal e.number))))))

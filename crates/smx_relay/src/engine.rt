@@ -1,0 +1,61 @@
+//! A whole run: the script is read, and then run line by line.
+ghost use Rattle.std.specs.Prelude.{◌≡◌, ℕ, List, IfSome};
+ghost use Rattle.std.specs.Io.KnownBytes.{Appends};
+ghost use Rattle.smx_relay.specs.Ends.{Ends};
+
+use crate::end::RunEnd;
+use crate::line::run_line;
+use crate::settings::new_state;
+use crate::texts::bad_line;
+use crate::transfer::{ReadFault, read_script, write_text};
+use crate::words::parts_of;
+use std::alloc::Global;
+use std::io::{Read, Write};
+
+// Runs a script that was read.
+fn relay<W: Write>(alloc: Global, script: &[u8], writer: &mut W) -> RunEnd
+    ensures { (out : List ℕ) × Appends (W.contents writer.old) (W.contents writer.new) out × Ends result script.now out }
+{
+    let Ok(start) = new_state(alloc) else {
+        return RunEnd::NoMemory;
+    };
+    let mut state = start;
+    let Ok(lines) = parts_of(alloc, script, b'\n') else {
+        return RunEnd::NoMemory;
+    };
+    let lines = lines.as_slice();
+    for (i, line) in lines.iter().enumerate() {
+        match run_line(alloc, &mut state, line) {
+            Ok(Some(text)) => match write_text(writer, &text) {
+                Ok(()) => {}
+                Err(_) => return RunEnd::WriteFault,
+            },
+            Ok(None) => {
+                let number = i as u64 + 1;
+                let Ok(text) = bad_line(alloc, number) else {
+                    return RunEnd::NoMemory;
+                };
+                match write_text(writer, text.as_bytes()) {
+                    Ok(()) => return RunEnd::BadLine(number),
+                    Err(_) => return RunEnd::WriteFault,
+                }
+            }
+            Err(_) => return RunEnd::NoMemory,
+        }
+    }
+    RunEnd::Clean
+}
+
+/// Reads a script whole, and then writes what its lines print, up to and with the first bad line.
+/// Where writing fails or memory runs out, a front of that was written. The writer isn't flushed.
+pub fn run<R: Read, W: Write>(alloc: Global, reader: &mut R, writer: &mut W) -> RunEnd
+    ensures { IfSome (R.remaining reader.old) (λ script. (out : List ℕ)
+        × Appends (W.contents writer.old) (W.contents writer.new) out × Ends result script out) }
+{
+    match read_script(alloc, reader) {
+        Ok(script) => relay(alloc, &script, writer),
+        Err(ReadFault::TooLong) => RunEnd::TooLong,
+        Err(ReadFault::Failed) => RunEnd::ReadFault,
+        Err(ReadFault::NoMemory) => RunEnd::NoMemory,
+    }
+}

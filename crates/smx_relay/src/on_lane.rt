@@ -1,0 +1,87 @@
+//! What a line does on one lane.
+ghost use Rattle.std.specs.Prelude.{◌≡◌, ℕ, List, IfOk};
+ghost use Rattle.smx_history.specs.declared.note.Note.{Note};
+ghost use Rattle.smx_history.specs.Contents.{AgreesWith};
+ghost use Rattle.smx_history.specs.Finding.{IsFree};
+ghost use Rattle.smx_relay.specs.Relay.{take_on, back_on, history_on};
+ghost use Rattle.smx_relay.specs.OnLane.{TurnsLane};
+
+use crate::texts::{empty_line, full_line, push_entry, push_to_client, queued_line, up_line};
+use smx_history::{Answered, Request, TakeRefusal};
+use smx_lane::{Lane, Sent};
+use smx_pdu::Pdu;
+use std::alloc::{AllocError, Global};
+
+/// The number of the one caller of all lanes.
+pub const CALLER: u64 = 0;
+
+/// Takes the oldest request.
+#[tactic(auto, unfolding(crate::specs::Relay::take_on))]
+pub fn take_on(alloc: Global, lane: &mut Lane, at: u64) -> Result<Vec<u8>, AllocError>
+    ensures { (h : List Note) → AgreesWith h lane.old → IfOk result (λ text. (u : ℕ) × IsFree h u
+        × TurnsLane (take_on lane.old.limits u at h) lane.old lane.new text.items) }
+{
+    match lane.take(CALLER) {
+        Ok(sent) => {
+            let Sent { request, upstream } = sent;
+            let Request {
+                client: _,
+                ordinal: _,
+                own: _,
+                command,
+                body,
+            } = request;
+            let pdu = Pdu {
+                command,
+                status: 0,
+                number: upstream,
+                body,
+            };
+            up_line(alloc, at, &pdu)
+        }
+        Err(TakeRefusal::QueueEmpty) => empty_line(alloc, at),
+        Err(TakeRefusal::WindowFull) => full_line(alloc, at),
+    }
+}
+
+/// Hands in a response.
+#[tactic(auto, unfolding(crate::specs::Relay::back_on))]
+pub fn back_on(alloc: Global, lane: &mut Lane, response: Pdu) -> Result<Vec<u8>, AllocError>
+    ensures { (h : List Note) → AgreesWith h lane.old → IfOk result (λ text.
+        TurnsLane (back_on response h) lane.old lane.new text.items) }
+{
+    match lane.answer(CALLER, response) {
+        Answered::Queued { client } => queued_line(alloc, client),
+        Answered::Late => Vec::from_slice(alloc, b"late\n"),
+        Answered::Unknown(_response) => Vec::from_slice(alloc, b"unknown\n"),
+    }
+}
+
+/// Lists the entries.
+#[tactic(auto, unfolding(crate::specs::Relay::history_on))]
+pub fn history_on(alloc: Global, lane: &Lane) -> Result<Vec<u8>, AllocError>
+    ensures { (h : List Note) → AgreesWith h lane.now → IfOk result (λ text.
+        TurnsLane (history_on h) lane.now lane.now text.items) }
+{
+    let mut text = Vec::new(alloc);
+    for entry in lane.entries() {
+        push_entry(alloc, &mut text, entry)?;
+    }
+    Ok(text)
+}
+
+ghost use Rattle.smx_relay.specs.Relay.{collect_text, collected};
+ghost use Rattle.smx_relay.specs.OnLane.{AreOurs};
+
+/// Collects each response that waits for the client.
+pub fn collect_on(alloc: Global, lane: &mut Lane, client: u64) -> Result<Vec<u8>, AllocError>
+    requires { (h : List Note) × AgreesWith h lane.old × AreOurs h }
+    ensures { (h : List Note) → AgreesWith h lane.old → IfOk result (λ text.
+        TurnsLane (collect_text client h, collected client h) lane.old lane.new text.items) }
+{
+    let mut text = Vec::new(alloc);
+    while let Some(response) = lane.collect(CALLER, client) {
+        push_to_client(alloc, &mut text, client, &response)?;
+    }
+    Ok(text)
+}

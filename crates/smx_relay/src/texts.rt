@@ -1,0 +1,127 @@
+//! The lines that a run prints.
+ghost use Rattle.std.specs.Prelude.{◌≡◌, ◌++◌, IfOk, OnOk, string_bytes, codes};
+ghost use Rattle.smx_relay.specs.Texts.{bad_line, entry_line, kind_name, pdu_line, text_line, to_client, up_lane};
+ghost use Rattle.std.specs.Fmt.{decimal};
+
+use smx_history::{Entry, Kind};
+use smx_pdu::{Pdu, encode};
+use std::alloc::{AllocError, Global};
+
+// Writes a line with a PDU at the end.
+fn push_pdu(alloc: Global, out: &mut Vec<u8>, head: &[u8], pdu: &Pdu) -> Result<(), AllocError>
+    ensures { OnOk result (out.new.items ≡ out.old.items ++ pdu_line head.now pdu.now) }
+{
+    let mut octets = Vec::new(alloc);
+    encode(pdu, &mut octets)?;
+    let digits = hex::encode(alloc, &octets)?;
+    out.extend_from_slice(head)?;
+    out.extend_from_slice(digits.as_bytes())?;
+    out.push(b'\n')?;
+    Ok(())
+}
+
+/// Writes at the end what a client gets.
+pub fn push_to_client(
+    alloc: Global,
+    out: &mut Vec<u8>,
+    client: u64,
+    pdu: &Pdu,
+) -> Result<(), AllocError>
+    ensures { OnOk result (out.new.items ≡ out.old.items ++ pdu_line (to_client client) pdu.now) }
+{
+    let head = format!(in alloc; "to {client} ")?;
+    push_pdu(alloc, out, head.as_bytes(), pdu)
+}
+
+/// What a client gets.
+pub fn to_line(alloc: Global, client: u64, pdu: &Pdu) -> Result<Vec<u8>, AllocError>
+    ensures { IfOk result (λ line. line.items ≡ pdu_line (to_client client) pdu.now) }
+{
+    let mut line = Vec::new(alloc);
+    push_to_client(alloc, &mut line, client, pdu)?;
+    Ok(line)
+}
+
+/// What goes upstream from a lane.
+pub fn up_line(alloc: Global, lane: u64, pdu: &Pdu) -> Result<Vec<u8>, AllocError>
+    ensures { IfOk result (λ line. line.items ≡ pdu_line (up_lane lane) pdu.now) }
+{
+    let head = format!(in alloc; "up {lane} ")?;
+    let mut line = Vec::new(alloc);
+    push_pdu(alloc, &mut line, head.as_bytes(), pdu)?;
+    Ok(line)
+}
+
+/// What is printed of a bad line.
+#[tactic(auto, unfolding(crate::specs::Texts::bad_line))]
+pub fn bad_line(alloc: Global, number: u64) -> Result<String, AllocError>
+    ensures { IfOk result (λ text. string_bytes text ≡ bad_line number) }
+{
+    format!(in alloc; "bad line {number}\n")
+}
+
+/// What is printed of a lane that has nothing to take.
+pub fn empty_line(alloc: Global, lane: u64) -> Result<Vec<u8>, AllocError>
+    ensures { IfOk result (λ line. line.items ≡ text_line (codes "take " ++ (decimal lane ++ codes " empty"))) }
+{
+    Ok(format!(in alloc; "take {lane} empty\n")?.into_bytes())
+}
+
+/// What is printed of a lane whose window is full.
+pub fn full_line(alloc: Global, lane: u64) -> Result<Vec<u8>, AllocError>
+    ensures { IfOk result (λ line. line.items ≡ text_line (codes "take " ++ (decimal lane ++ codes " full"))) }
+{
+    Ok(format!(in alloc; "take {lane} full\n")?.into_bytes())
+}
+
+/// What is printed of a response that waits for a client.
+pub fn queued_line(alloc: Global, client: u64) -> Result<Vec<u8>, AllocError>
+    ensures { IfOk result (λ line. line.items ≡ text_line (codes "queued " ++ decimal client)) }
+{
+    Ok(format!(in alloc; "queued {client}\n")?.into_bytes())
+}
+
+/// What is printed of a client that enters.
+pub fn client_line(alloc: Global, client: u64) -> Result<Vec<u8>, AllocError>
+    ensures { IfOk result (λ line. line.items ≡ text_line (codes "client " ++ decimal client)) }
+{
+    Ok(format!(in alloc; "client {client}\n")?.into_bytes())
+}
+
+/// What is printed of a request that a lane accepts.
+pub fn accepted_line(alloc: Global, client: u64, lane: u64) -> Result<Vec<u8>, AllocError>
+    ensures { IfOk result (λ line. line.items ≡ text_line (codes "accepted " ++ (decimal client ++ (codes " " ++ decimal lane)))) }
+{
+    Ok(format!(in alloc; "accepted {client} {lane}\n")?.into_bytes())
+}
+
+/// What is printed where nothing waits for a client.
+pub fn none_line(alloc: Global, client: u64) -> Result<Vec<u8>, AllocError>
+    ensures { IfOk result (λ line. line.items ≡ text_line (codes "none " ++ decimal client)) }
+{
+    Ok(format!(in alloc; "none {client}\n")?.into_bytes())
+}
+
+// The name of a kind of entry.
+fn kind_name(kind: Kind) -> &'static str
+    ensures { result.now ≡ kind_name kind }
+{
+    match kind {
+        Kind::Admit => "admit",
+        Kind::Accept => "accept",
+        Kind::Take => "take",
+        Kind::Answer => "answer",
+        Kind::Late => "late",
+        Kind::Collect => "collect",
+        Kind::Retire => "retire",
+    }
+}
+
+/// Writes an entry's kind, client, ordinal and number at the end.
+pub fn push_entry(alloc: Global, out: &mut Vec<u8>, entry: &Entry) -> Result<(), AllocError>
+    ensures { OnOk result (out.new.items ≡ out.old.items ++ entry_line entry.now) }
+{
+    let kind = kind_name(entry.kind);
+    let line = format!(in alloc; "{kind} {} {} {}\n", entry.client, entry.ordinal, entry.number)?;
+    out.extend_from_slice(line.as_bytes())
+}
