@@ -149,8 +149,8 @@ leaves limits es e legal fits k =
       present = let l = length_without (λ (a : Entry). a.client == e.client) (present es) in omega (arith, l, once, ap length push);
     }
 
-pub counted_retire : (limits : Limits) (t : Totals) (es : List Entry) (e : Entry) (answers collects : ℕ) → IsLegal limits es → Counted es t → Fits limits es e → e.kind ≡ kind.Retire → answers ≡ length (answers_of e.client es) → collects ≡ length (collects_of e.client es) → Counted (es ++ e ∷ []) (record t { waiting = t.waiting - (answers - collects); present = t.present - 1 })
-counted_retire limits t es e answers collects legal counted fits k a c =
+pub counted_retire : (limits : Limits) (t : Totals) (es : List Entry) (e : Entry) (n : ℕ) → IsLegal limits es → Counted es t → Fits limits es e → e.kind ≡ kind.Retire → n ≡ length (answers_of e.client es) - length (collects_of e.client es) → Counted (es ++ e ∷ []) (record t { waiting = t.waiting - n; present = t.present - 1 })
+counted_retire limits t es e n legal counted fits k is =
     let gone = leaves limits es e legal fits k in
     record {
       numbers = numbers_kept es e (ap is_take k) (ap is_settling k) counted.numbers;
@@ -158,6 +158,6 @@ counted_retire limits t es e answers collects legal counted fits k a c =
       taken = rw (takes-other es e (ap is_take k)) counted.taken;
       queued = rw (accepts-other es e (ap is_accept k), takes-other es e (ap is_take k)) counted.queued;
       unanswered = rw (unanswered-other es e (ap is_take k) (ap is_settling k)) counted.unanswered;
-      waiting = omega (arith, gone.waiting, counted.waiting, a, c);
+      waiting = omega (arith, gone.waiting, counted.waiting, is);
       present = omega (arith, gone.present, counted.present);
     }

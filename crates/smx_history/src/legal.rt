@@ -1,7 +1,7 @@
 //! The plain check of a finished history.
 ghost use Rattle.std.specs.Prelude.{◌≡◌, ◌≤◌, ◌+◌, ◌-◌, ◌*◌, ◌<◌, ◌^◌, ◌↔◌, [], ◌∷◌, ◌++◌, ◌&&◌, IsTrue, not, length};
-ghost use Rattle.smx_history.specs.Entries.{is_retired};
-ghost use Rattle.smx_history.specs.Legal.{IsLegal, size};
+ghost use Rattle.smx_history.specs.Entries.{is_retired, answers_of, collects_of};
+ghost use Rattle.smx_history.specs.Legal.{IsFifo, IsLegal, size};
 ghost use Rattle.smx_history.specs.Checks.{Counted, Fits, is_bare, is_served, is_next, is_response, is_oldest, admit_fits, accept_fits, take_fits, settle_fits, answer_fits, late_fits, collect_fits, retire_fits};
 
 use crate::entry::{Entry, Kind};
@@ -137,6 +137,14 @@ fn fits(limits: Limits, totals: Totals, before: &[Entry], entry: Entry) -> bool
     }
 }
 
+// How many responses wait for the client.
+fn waiting_of(before: &[Entry], client: u64) -> usize
+    requires { IsFifo before.now }
+    ensures { result ≡ length (answers_of client before.now) - length (collects_of client before.now) }
+{
+    scan::answers_of(before, client) - scan::collects_of(before, client)
+}
+
 // The totals with one entry more.
 fn after(limits: Limits, totals: Totals, before: &[Entry], entry: Entry) -> Totals
     requires small { limits.history < 2 ^ 32 }
@@ -176,15 +184,11 @@ fn after(limits: Limits, totals: Totals, before: &[Entry], entry: Entry) -> Tota
             waiting: totals.waiting - 1,
             ..totals
         },
-        Kind::Retire => {
-            let answers = scan::answers_of(before, entry.client);
-            let collects = scan::collects_of(before, entry.client);
-            Totals {
-                waiting: totals.waiting - (answers - collects),
-                present: totals.present - 1,
-                ..totals
-            }
-        }
+        Kind::Retire => Totals {
+            waiting: totals.waiting - waiting_of(before, entry.client),
+            present: totals.present - 1,
+            ..totals
+        },
     }
 }
 

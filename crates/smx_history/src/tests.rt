@@ -54,11 +54,8 @@ fn a_number_serves_again_after_its_answer(rt: HostRuntime) {
 }
 
 #[test]
-fn each_spoiling_is_found(rt: HostRuntime) {
-    assert!(rt; is_legal(&[], LIMITS));
-    assert!(rt; is_legal(&session(), LIMITS));
-    // The places of two entries that change places.
-    for (a, b) in [
+fn swapped_entries_are_found(rt: HostRuntime) {
+    let places = [
         (0, 1),
         (1, 2),
         (1, 3),
@@ -67,22 +64,23 @@ fn each_spoiling_is_found(rt: HostRuntime) {
         (5, 6),
         (6, 7),
         (7, 8),
-    ] {
+    ];
+    for (a, b) in places {
         let mut spoiled = session();
         (spoiled[a], spoiled[b]) = (spoiled[b], spoiled[a]);
         assert!(rt; !is_legal(&spoiled, LIMITS), "{a} and {b}");
     }
+}
+
+#[test]
+fn wrong_entries_are_found(rt: HostRuntime) {
+    let mut by_another = entry(Admit, 1, 0, 0, 0);
+    by_another.by = 1;
     // A place, and the entry that stands there instead.
     let instead = [
+        (0, by_another),
         (0, entry(Admit, 0, 0, 0, 0)),
         (0, entry(Admit, 1, 1, 0, 0)),
-        (
-            0,
-            Entry {
-                by: 1,
-                ..entry(Admit, 1, 0, 0, 0)
-            },
-        ),
         (1, entry(Accept, 1, 0, 7, SUBMIT_SM)),
         (1, entry(Accept, 1, 1, 7, SUBMIT_SM_RESP)),
         (3, entry(Take, 1, 1, 0, 0)),
@@ -106,64 +104,23 @@ fn each_spoiling_is_found(rt: HostRuntime) {
 
 #[test]
 fn limits_are_kept(rt: HostRuntime) {
-    // Two requests wait in the queue, two are open in the window, and the one client has both.
-    for (limits, legal) in [
-        (
-            Limits {
-                queue: 2,
-                window: 2,
-                client: 2,
-                history: 1_000,
-            },
-            true,
-        ),
-        (
-            Limits {
-                queue: 1,
-                window: 2,
-                client: 2,
-                history: 1_000,
-            },
-            false,
-        ),
-        (
-            Limits {
-                queue: 2,
-                window: 1,
-                client: 2,
-                history: 1_000,
-            },
-            false,
-        ),
-        (
-            Limits {
-                queue: 2,
-                window: 2,
-                client: 1,
-                history: 1_000,
-            },
-            false,
-        ),
-        // Three entries, three to come of each of two requests, and the client's retire.
-        (
-            Limits {
-                queue: 2,
-                window: 2,
-                client: 2,
-                history: 10,
-            },
-            true,
-        ),
-        (
-            Limits {
-                queue: 2,
-                window: 2,
-                client: 2,
-                history: 9,
-            },
-            false,
-        ),
+    assert!(rt; is_legal(&[], LIMITS));
+    assert!(rt; is_legal(&session(), LIMITS));
+    // Two requests wait in the queue, two are open in the window, and the one client has both. The
+    // size is three entries, three to come of each of two requests, and the client's retire.
+    for (queue, window, client, history, legal) in [
+        (2, 2, 2, 10, true),
+        (1, 2, 2, 10, false),
+        (2, 1, 2, 10, false),
+        (2, 2, 1, 10, false),
+        (2, 2, 2, 9, false),
     ] {
+        let limits = Limits {
+            queue,
+            window,
+            client,
+            history,
+        };
         assert!(rt; is_legal(&session(), limits) == legal, "{limits:?}");
     }
 }

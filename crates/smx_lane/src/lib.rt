@@ -1,6 +1,7 @@
 //! A lane: the request queue, the window and the response boxes of one upstream bind.
 #![tactic(auto)]
 
+mod call;
 mod fault;
 mod lane;
 mod roster;
@@ -9,6 +10,7 @@ mod sent;
 mod tests;
 mod window;
 
+pub use call::{Call, Reply, run, run_all};
 pub use fault::{AdmitFault, LaneFault, NotAdmitted};
 pub use lane::Lane;
 pub use sent::Sent;

@@ -100,7 +100,10 @@ impl Driver {
     }
 
     fn admit(&mut self) -> Result<bool, AllocError> {
-        let client = self.model.greatest().saturating_add(u64::from(self.below(3)));
+        let client = self
+            .model
+            .greatest()
+            .saturating_add(u64::from(self.below(3)));
         let by = client % 3;
         let refusal = self.model.admit_refusal(client);
         let answer = self.lane.admit(by, client);
@@ -112,9 +115,17 @@ impl Driver {
 
     fn accept(&mut self, by: u64, client: u64) -> Result<bool, AllocError> {
         let skipped = u64::from(self.below(2));
-        let ordinal = self.model.last(client).saturating_add(1).saturating_add(skipped);
+        let ordinal = self
+            .model
+            .last(client)
+            .saturating_add(1)
+            .saturating_add(skipped);
         let own = self.below(100);
-        let command = if self.below(2) == 0 { 0x0000_0004 } else { 0x0000_0103 };
+        let command = if self.below(2) == 0 {
+            0x0000_0004
+        } else {
+            0x0000_0103
+        };
         let refusal = self.model.accept_refusal(client);
         let request = Request {
             client,
@@ -211,7 +222,10 @@ impl Driver {
         if !self.lane.is_own(by, client) {
             return Ok(false);
         }
-        match (self.lane.collect(by, client), self.model.oldest_answer(client)) {
+        match (
+            self.lane.collect(by, client),
+            self.model.oldest_answer(client),
+        ) {
             (Some(pdu), Some(answer)) => {
                 let same = pdu.command == answer.command
                     && pdu.number == self.model.own(client, answer.ordinal)

@@ -51,8 +51,11 @@ fn open(entries: &[Entry]) -> usize {
 
 // How many responses wait for the client.
 fn waiting(entries: &[Entry], client: u64) -> usize {
-    of_client(entries, Kind::Answer, client)
-        .saturating_sub(of_client(entries, Kind::Collect, client))
+    of_client(entries, Kind::Answer, client).saturating_sub(of_client(
+        entries,
+        Kind::Collect,
+        client,
+    ))
 }
 
 impl Model {
@@ -110,8 +113,10 @@ impl Model {
 
     // Whether one more accept or admit fits.
     fn has_room(&self) -> bool {
-        let queued =
-            of_kind(self.entries(), Kind::Accept).saturating_sub(of_kind(self.entries(), Kind::Take));
+        let queued = of_kind(self.entries(), Kind::Accept).saturating_sub(of_kind(
+            self.entries(),
+            Kind::Take,
+        ));
         let (waiting, present) = self.present();
         let used = self
             .entries
@@ -136,10 +141,15 @@ impl Model {
 
     /// Why a request of the client is not accepted.
     pub fn accept_refusal(&self, client: u64) -> Option<Refusal> {
-        let pending = of_client(self.entries(), Kind::Accept, client)
-            .saturating_sub(of_client(self.entries(), Kind::Collect, client));
-        let queued =
-            of_kind(self.entries(), Kind::Accept).saturating_sub(of_kind(self.entries(), Kind::Take));
+        let pending = of_client(self.entries(), Kind::Accept, client).saturating_sub(of_client(
+            self.entries(),
+            Kind::Collect,
+            client,
+        ));
+        let queued = of_kind(self.entries(), Kind::Accept).saturating_sub(of_kind(
+            self.entries(),
+            Kind::Take,
+        ));
         if !self.is_present(client) {
             Some(Refusal::NotAdmitted)
         } else if pending >= self.limits.client as usize {
@@ -187,10 +197,8 @@ impl Model {
             return None;
         }
         let collected = of_client(self.entries(), Kind::Collect, client);
-        let mut answers = self
-            .entries
-            .iter()
-            .filter(|entry| entry.kind == Kind::Answer && entry.client == client);
+        let mut answers = self.entries.iter().filter(|entry| entry.kind == Kind::Answer
+            && entry.client == client);
         answers.nth(collected).copied()
     }
 

@@ -17,3 +17,8 @@ mod words;
 
 pub use end::RunEnd;
 pub use engine::run;
+
+#[cfg(test)]
+mod fakes;
+#[cfg(test)]
+mod tests;

@@ -1,7 +1,7 @@
 use Rattle.std.proofs.Common.{arith}
 use Rattle.smx_history.specs.Legal.{IsFifo}
 use Rattle.smx_history.proofs.Growing.{AtEachPrefix-whole}
-use Rattle.smx_history.proofs.Counting.{totals_within, collected_le}
+use Rattle.smx_history.proofs.Counting.{totals_within}
 use Rattle.smx_history.proofs.CountedEntries.{counted_admit, counted_accept, counted_take, counted_collect, counted_retire, collect_waiting, leaves}
 use Rattle.smx_history.proofs.CountedSettle.{counted_answer, counted_late, closes, answers_by}
 use Rattle.smx_history.proofs.FitsSettle.{settles_answer, settles_late}
@@ -36,18 +36,16 @@ overflow_sub-result-in-Collect c =
     let less = collect_waiting c.args.limits c.args.before.now c.args.entry c.requires.legal c.requires.fits c.in-Collect.is in
     omega (arith, less, c.requires.counted.waiting)
 
+pub waiting_of-requires : goal.waiting_of-requires
+waiting_of-requires c = AtEachPrefix-whole IsFifo c.args.before.now c.requires.legal.fifo
+
 pub overflow_sub-result-in-Retire : goal.overflow_sub-result-in-Retire
 overflow_sub-result-in-Retire c =
-    let le = collected_le c.args.before.now c.args.entry.client (AtEachPrefix-whole IsFifo c.args.before.now c.requires.legal.fifo) in
-    omega (arith, le, c.answers_of-answers.ensures, c.collects_of-collects.ensures)
+    let gone = leaves c.args.limits c.args.before.now c.args.entry c.requires.legal c.requires.fits c.in-Retire.is in
+    omega (arith, gone.waiting, c.requires.counted.waiting, c.waiting_of.ensures)
 
 pub overflow_sub-result-in-Retire-2 : goal.overflow_sub-result-in-Retire-2
 overflow_sub-result-in-Retire-2 c =
-    let gone = leaves c.args.limits c.args.before.now c.args.entry c.requires.legal c.requires.fits c.in-Retire.is in
-    omega (arith, gone.waiting, c.requires.counted.waiting, c.answers_of-answers.ensures, c.collects_of-collects.ensures)
-
-pub overflow_sub-result-in-Retire-3 : goal.overflow_sub-result-in-Retire-3
-overflow_sub-result-in-Retire-3 c =
     let gone = leaves c.args.limits c.args.before.now c.args.entry c.requires.legal c.requires.fits c.in-Retire.is in
     omega (arith, gone.present, c.requires.counted.present)
 
@@ -70,7 +68,7 @@ pub returns-in-Collect-clause-counted : goal.returns-in-Collect-clause-counted
 returns-in-Collect-clause-counted c = counted_collect c.args.limits c.args.totals c.args.before.now c.args.entry c.requires.legal c.requires.counted c.requires.fits c.in-Collect.is
 
 pub returns-in-Retire-clause-counted : goal.returns-in-Retire-clause-counted
-returns-in-Retire-clause-counted c = counted_retire c.args.limits c.args.totals c.args.before.now c.args.entry c.answers_of-answers.result c.collects_of-collects.result c.requires.legal c.requires.counted c.requires.fits c.in-Retire.is c.answers_of-answers.ensures c.collects_of-collects.ensures
+returns-in-Retire-clause-counted c = counted_retire c.args.limits c.args.totals c.args.before.now c.args.entry c.waiting_of.result c.requires.legal c.requires.counted c.requires.fits c.in-Retire.is c.waiting_of.ensures
 
 pub overflow_add-result-in-Accept : goal.overflow_add-result-in-Accept
 overflow_add-result-in-Accept c = let w = totals_within c.args.limits c.args.before.now c.args.totals c.requires.legal c.requires.counted in omega (arith, w.1, c.requires.small)

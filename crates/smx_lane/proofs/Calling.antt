@@ -1,0 +1,84 @@
+-- What each call says of its reply, and what a list of calls leaves.
+use Rattle.std.proofs.Common.{◌≡◌, ◌<◌, ◌++◌, ◌∷◌, [], ℕ, List, Bool, true, false, Option, Some, None, Result, Ok, Err, IsTrue, IsSome, IfOk, OnOk, OnErr, MatchResult, ◌↔◌, refl, sym, ap, ◌∙◌, subst, append_assoc, slice_get}
+use Rattle.std.proofs.lemmas.List.{append-nil}
+use Rattle.smx_pdu.specs.declared.pdu.Pdu.{Pdu}
+use Rattle.smx_history.specs.declared.note.Note.{Note}
+use Rattle.smx_history.specs.declared.note.Event.TheVariants as event
+use Rattle.smx_history.specs.declared.request.Request.{Request}
+use Rattle.smx_history.specs.declared.reply.Answered.{Answered}
+use Rattle.smx_history.specs.declared.reply.Answered.TheVariants as answered
+use Rattle.smx_history.specs.declared.reply.Refusal.{Refusal}
+use Rattle.smx_history.specs.declared.reply.TakeRefusal.{TakeRefusal}
+use Rattle.smx_history.specs.History.{note}
+use Rattle.smx_history.specs.Contents.{Content, AgreesWith}
+use Rattle.smx_history.specs.Replies.{admit_refusal, accept_refusal, take_refusal, member_with}
+use Rattle.smx_history.specs.Answering.{IsAnswered, IsCollected}
+use Rattle.smx_lane.specs.declared.fault.AdmitFault.{AdmitFault}
+use Rattle.smx_lane.specs.declared.fault.NotAdmitted.{NotAdmitted}
+use Rattle.smx_lane.specs.declared.sent.Sent.{Sent}
+use Rattle.smx_lane.specs.declared.call.Call.{Call}
+use Rattle.smx_lane.specs.declared.call.Call.TheVariants as call
+use Rattle.smx_lane.specs.declared.call.Reply.{Reply}
+use Rattle.smx_lane.specs.declared.call.Reply.TheVariants as reply
+use Rattle.smx_lane.specs.Faults.{IsAdmitFault}
+use Rattle.smx_lane.specs.Calls.{GoesOn, Keeps, IsReply, Ran}
+
+-- a call with its reply and its notes
+abbrev pub IsMade : Content → Call → Reply → Content → Type 0
+IsMade old made came new = (own : List Note) × IsReply old made came own new × GoesOn old own new
+
+pub stays : (old new : Content) → new ≡ old → GoesOn old [] new
+stays old new same = λ h was. rw (append-nil h) (subst (AgreesWith h) (sym same) was)
+
+pub admit_made : (old new : Content) (by c : ℕ) (r : Result (Unit {0}) AdmitFault) → MatchResult r (λ _. admit_refusal old c ≡ None) (IsAdmitFault (admit_refusal old c))
+    → OnOk r (GoesOn old (note by (event.Admit c) ∷ []) new) → OnErr r (new ≡ old) → IsMade old (call.Admit by c) (reply.Admitted r) new
+admit_made old new by c (Ok x) told goes same = (note by (event.Admit c) ∷ [], (told, refl), goes)
+admit_made old new by c (Err e) told goes same = ([], (told, (refl, same)), stays old new same)
+
+pub accept_made : (old new : Content) (by : ℕ) (q : Request) (r : Result (Unit {0}) (Request × Refusal)) → MatchResult r (λ _. accept_refusal old q.client ≡ None) (λ e. (e.0 ≡ q) × (accept_refusal old q.client ≡ Some e.1))
+    → OnOk r (GoesOn old (note by (event.Accept q) ∷ []) new) → OnErr r (new ≡ old) → IsMade old (call.Accept by q) (reply.Accepted r) new
+accept_made old new by q (Ok x) told goes same = (note by (event.Accept q) ∷ [], (told, refl), goes)
+accept_made old new by q (Err e) told goes same = ([], (told.0, told.1, (refl, same)), stays old new same)
+
+pub take_made : (old new : Content) (by : ℕ) (r : Result Sent TakeRefusal) → MatchResult r (λ _. take_refusal old ≡ None) (λ e. take_refusal old ≡ Some e)
+    → IfOk r (λ s. slice_get old.queue 0 ≡ Some s.request) → IfOk r (λ s. GoesOn old (note by (event.Take s.request.client s.request.ordinal s.upstream) ∷ []) new) → OnErr r (new ≡ old) → IsMade old (call.Take by) (reply.Taken r) new
+take_made old new by (Ok s) told oldest goes same = (note by (event.Take s.request.client s.request.ordinal s.upstream) ∷ [], (told, oldest, refl), goes)
+take_made old new by (Err e) told oldest goes same = ([], (told, (refl, same)), stays old new same)
+
+pub answer_made : (old new : Content) (by : ℕ) (p : Pdu) (r : Answered) → IsAnswered old by p r new → IsMade old (call.Answer by p) (reply.Answered r) new
+answer_made old new by p (answered.Queued c) told = (note by (event.Answer told.0.client told.0.ordinal p) ∷ [], (told.0, told.2, told.3, refl), told.5)
+answer_made old new by p answered.Late told = (note by (event.Late told.0.client told.0.ordinal p.number p.command) ∷ [], (told.0, told.1, told.2, refl), told.3)
+answer_made old new by p (answered.Unknown back) told = ([], (told.0, told.1, (refl, told.2)), stays old new told.2)
+
+pub collect_made : (old new : Content) (by c : ℕ) (r : Option Pdu) → IsCollected old by c r new → IsMade old (call.Collect by c) (reply.Collected r) new
+collect_made old new by c (Some p) told = (note by (event.Collect c told.0.ordinal) ∷ [], (told.0, told.1, told.2, refl), told.3)
+collect_made old new by c None told = ([], (told.0, (refl, told.1)), stays old new told.1)
+
+pub retire_made : (old new : Content) (by c : ℕ) (r : Result (Unit {0}) NotAdmitted) → MatchResult r (λ _. IsSome (member_with c old.members)) (λ _. member_with c old.members ≡ None)
+    → OnOk r (GoesOn old (note by (event.Retire c) ∷ []) new) → OnErr r (new ≡ old) → IsMade old (call.Retire by c) (reply.Retired r) new
+retire_made old new by c (Ok x) told goes same = (note by (event.Retire c) ∷ [], refl, goes)
+retire_made old new by c (Err e) told goes same = ([], (told, (refl, same)), stays old new same)
+
+-- nothing was called
+pub ran_none : (old : Content) → Ran old [] [] [] old
+ran_none old = (refl, refl)
+
+pub goes_further : (old mid new : Content) (notes own : List Note) → GoesOn old notes mid → GoesOn mid own new → GoesOn old (notes ++ own) new
+goes_further old mid new notes own first then = λ h was. rw (← append_assoc h notes own) (then (h ++ notes) (first h was))
+
+-- one more call
+pub ran_further : (calls : List Call) (replies : List Reply) (notes own : List Note) (old mid new : Content) (made : Call) (came : Reply) → Ran old calls replies notes mid
+    → IsReply mid made came own new → GoesOn mid own new → Ran old (calls ++ made ∷ []) (replies ++ came ∷ []) (notes ++ own) new
+ran_further [] [] notes own old mid new made came ran told goes =
+    (new, own, [], ap (λ ns. ns ++ own) ran.0 ∙ sym (append-nil own), subst (λ x. IsReply x made came own new) ran.1 told, subst (λ x. GoesOn x own new) ran.1 goes, (refl, refl))
+ran_further [] (r ∷ replies) notes own old mid new made came ran told goes = absurd ran
+ran_further (c ∷ calls) [] notes own old mid new made came ran told goes = absurd ran
+ran_further (c ∷ calls) (r ∷ replies) notes own old mid new made came ran told goes = (
+  ran.0,
+  ran.1,
+  ran.2 ++ own,
+  ap (λ ns. ns ++ own) ran.3 ∙ append_assoc ran.1 ran.2 own,
+  ran.4,
+  ran.5,
+  ran_further calls replies ran.2 own ran.0 mid new made came ran.6 told goes,
+)

@@ -1,0 +1,58 @@
+-- What a list of calls leaves, and what the calls answer.
+use Rattle.std.specs.Prelude.{◌≡◌, ◌++◌, ◌∷◌, [], ℕ, List, Option, Some, None, Ok, Err, slice_get}
+use Rattle.std.specs.List.{find}
+use Rattle.smx_history.specs.declared.note.Note.{Note}
+use Rattle.smx_history.specs.declared.place.Place.{Place}
+use Rattle.smx_history.specs.declared.response.Response.{Response}
+use Rattle.smx_history.specs.declared.note.Event.TheVariants as event
+use Rattle.smx_history.specs.declared.reply.Answered.TheVariants as answered
+use Rattle.smx_history.specs.History.{note}
+use Rattle.smx_history.specs.Contents.{Content, AgreesWith}
+use Rattle.smx_history.specs.Replies.{admit_refusal, accept_refusal, take_refusal, answers_place, member_with}
+use Rattle.smx_history.specs.Answering.{oldest_in}
+use Rattle.smx_lane.specs.Conditions.{IsOwn, IsNext}
+use Rattle.smx_lane.specs.Faults.{IsAdmitFault}
+use Rattle.smx_lane.specs.declared.call.Call.{Call}
+use Rattle.smx_lane.specs.declared.call.Call.TheVariants as call
+use Rattle.smx_lane.specs.declared.call.Reply.{Reply}
+use Rattle.smx_lane.specs.declared.call.Reply.TheVariants as reply
+
+-- with whatever history the lane agreed, it agrees with that and these notes
+abbrev pub GoesOn : Content → List Note → Content → Type 0
+GoesOn old own new = (h : List Note) → AgreesWith h old → AgreesWith (h ++ own) new
+
+-- a refused call has no note, and leaves the lane as it was
+abbrev pub Stays : Content → List Note → Content → Type 0
+Stays old own new = (own ≡ []) × (new ≡ old)
+
+-- the call keeps to its condition
+abbrev pub Keeps : Content → Call → Type 0
+Keeps old (call.Accept by r) = IsNext old by r.client r.ordinal
+Keeps old (call.Collect by c) = IsOwn old by c
+Keeps old (call.Retire by c) = IsOwn old by c
+Keeps old _ = Unit {0}
+
+-- the reply to a call on a lane with this content, its notes, and what the lane holds then
+abbrev pub IsReply : Content → Call → Reply → List Note → Content → Type 0
+IsReply old (call.Admit by c) (reply.Admitted (Ok _)) own new = (admit_refusal old c ≡ None) × (own ≡ note by (event.Admit c) ∷ [])
+IsReply old (call.Admit by c) (reply.Admitted (Err e)) own new = IsAdmitFault (admit_refusal old c) e × Stays old own new
+IsReply old (call.Accept by r) (reply.Accepted (Ok _)) own new = (accept_refusal old r.client ≡ None) × (own ≡ note by (event.Accept r) ∷ [])
+IsReply old (call.Accept by r) (reply.Accepted (Err e)) own new = (e.0 ≡ r) × (accept_refusal old r.client ≡ Some e.1) × Stays old own new
+IsReply old (call.Take by) (reply.Taken (Ok s)) own new = (take_refusal old ≡ None) × (slice_get old.queue 0 ≡ Some s.request) × (own ≡ note by (event.Take s.request.client s.request.ordinal s.upstream) ∷ [])
+IsReply old (call.Take by) (reply.Taken (Err e)) own new = (take_refusal old ≡ Some e) × Stays old own new
+IsReply old (call.Answer by p) (reply.Answered (answered.Queued c)) own new = (q : Place) × (find (answers_place p) old.window ≡ Some q) × (q.client ≡ c) × (own ≡ note by (event.Answer q.client q.ordinal p) ∷ [])
+IsReply old (call.Answer by p) (reply.Answered answered.Late) own new = (q : Place) × (find (answers_place p) old.window ≡ Some q) × (member_with q.client old.members ≡ None) × (own ≡ note by (event.Late q.client q.ordinal p.number p.command) ∷ [])
+IsReply old (call.Answer by p) (reply.Answered (answered.Unknown back)) own new = (find (answers_place p) old.window ≡ None) × (back ≡ p) × Stays old own new
+IsReply old (call.Collect by c) (reply.Collected (Some p)) own new = (r : Response) × (oldest_in (member_with c old.members) ≡ Some r) × (r.pdu ≡ p) × (own ≡ note by (event.Collect c r.ordinal) ∷ [])
+IsReply old (call.Collect by c) (reply.Collected None) own new = (oldest_in (member_with c old.members) ≡ None) × Stays old own new
+IsReply old (call.Retire by c) (reply.Retired (Ok _)) own new = own ≡ note by (event.Retire c) ∷ []
+IsReply old (call.Retire by c) (reply.Retired (Err _)) own new = (member_with c old.members ≡ None) × Stays old own new
+IsReply old made reply.Unkept own new = ¬ (Keeps old made) × Stays old own new
+IsReply old _ _ own new = ⊥
+
+-- each call in turn was answered by a lane that agrees with the notes of the calls before it
+abbrev pub Ran : Content → List Call → List Reply → List Note → Content → Type 0
+Ran old [] [] notes new = (notes ≡ []) × (new ≡ old)
+Ran old (made ∷ calls) (came ∷ replies) notes new =
+    (mid : Content) × (own : List Note) × (rest : List Note) × (notes ≡ own ++ rest) × IsReply old made came own mid × GoesOn old own mid × Ran mid calls replies rest new
+Ran old _ _ notes new = ⊥

@@ -1,0 +1,125 @@
+//! Readers and writers that fail.
+ghost use Rattle.std.specs.Prelude.{Some};
+
+use crate::{RunEnd, run};
+use std::io;
+use std::io::{ErrorKind, Read, Write};
+use std::test::*;
+
+const SCRIPT: &str =
+    "client trx\nin 1 00000022000000040000000000000007000000000000310000000000000000000000\ntake 0\nback 0 000000128000000400000000000000013100\ncollect 1\n";
+
+const OUTPUT: &str =
+    "client 1\naccepted 1 0\nup 0 00000022000000040000000000000001000000000000310000000000000000000000\nqueued 1\nto 1 000000128000000400000000000000073100\n";
+
+// A reader that gives one octet at a time, and fails after so many reads.
+#[derive(Drop)]
+struct Broken {
+    reads: usize,
+    at: usize,
+}
+
+impl Read for Broken {
+    fn read(&mut self, buf: &mut [u8]) -> io::Result<usize> {
+        if self.reads == 0 {
+            return Err(io::Error::from(ErrorKind::Other));
+        }
+        self.reads -= 1;
+        let script = SCRIPT.as_bytes();
+        if self.at >= script.len() || buf.is_empty() {
+            return Ok(0);
+        }
+        buf[0] = script[self.at];
+        self.at += 1;
+        Ok(1)
+    }
+}
+
+// A writer that takes some octets at a time, and fails or takes nothing after so many writes.
+#[derive(Drop)]
+struct Weary {
+    held: Vec<u8>,
+    writes: usize,
+    takes: usize,
+    fails: bool,
+}
+
+impl Write for Weary {
+    ghost contents = { λ w. Some w.held.items };
+
+    fn write(&mut self, buf: &[u8]) -> io::Result<usize> {
+        if self.writes == 0 {
+            if self.fails {
+                return Err(io::Error::from(ErrorKind::Other));
+            }
+            return Ok(0);
+        }
+        self.writes -= 1;
+        let count = buf.len().min(self.takes);
+        self.held.extend_from_slice(&buf[..count])?;
+        Ok(count)
+    }
+
+    fn flush(&mut self) -> io::Result<()> {
+        Ok(())
+    }
+}
+
+#[test]
+fn a_reader_that_fails(rt: HostRuntime) {
+    for reads in 0..=SCRIPT.len() {
+        let mut out = Vec::new(rt.alloc());
+        assert_eq!(rt; run(rt.alloc(), &mut Broken { reads, at: 0 }, &mut out), RunEnd::ReadFault);
+        assert!(rt; out.is_empty());
+    }
+    let mut out = Vec::new(rt.alloc());
+    let mut whole = Broken {
+        reads: SCRIPT.len() + 1,
+        at: 0,
+    };
+    assert_eq!(rt; run(rt.alloc(), &mut whole, &mut out), RunEnd::Clean);
+    assert_eq!(rt; out.as_slice(), OUTPUT.as_bytes());
+}
+
+// Each octet is written alone, or each text at once: in either case what was written is a front.
+#[test]
+fn a_writer_that_fails(rt: HostRuntime) {
+    for (takes, most) in [(1, OUTPUT.len()), (1_000, 5)] {
+        for turn in 0..2 * most {
+            let writes = turn / 2;
+            let fails = turn % 2 == 0;
+            let mut out = Weary {
+                held: Vec::new(rt.alloc()),
+                writes,
+                takes,
+                fails,
+            };
+            let mut script = SCRIPT.as_bytes();
+            assert_eq!(rt; run(rt.alloc(), &mut script, &mut out), RunEnd::WriteFault);
+            assert!(rt; OUTPUT.as_bytes().starts_with(out.held.as_slice()));
+            if takes == 1 {
+                assert_eq!(rt; out.held.len(), writes);
+            }
+        }
+        let mut out = Weary {
+            held: Vec::new(rt.alloc()),
+            writes: most,
+            takes,
+            fails: true,
+        };
+        let mut script = SCRIPT.as_bytes();
+        assert_eq!(rt; run(rt.alloc(), &mut script, &mut out), RunEnd::Clean);
+        assert_eq!(rt; out.held.as_slice(), OUTPUT.as_bytes());
+    }
+}
+
+#[test]
+fn the_longest_script(rt: HostRuntime) -> Result<(), Fail> {
+    let mut text = vec![in rt.alloc(); b'#'; 1_048_576]?;
+    let mut out = Vec::new(rt.alloc());
+    assert_eq!(rt; run(rt.alloc(), &mut text.as_slice(), &mut out), RunEnd::Clean);
+    text.push(b'#')?;
+    assert_eq!(rt; run(rt.alloc(), &mut text.as_slice(), &mut out), RunEnd::TooLong);
+    assert!(rt; out.is_empty());
+    Ok(())
+}

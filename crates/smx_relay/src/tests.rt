@@ -1,0 +1,144 @@
+use crate::{RunEnd, run};
+use std::test::*;
+
+// A script, and what it prints when each line is run.
+const ROWS: [(&str, &str, &str); 11] = [
+    (
+        "one request and its response",
+        "client trx\nin 1 00000022000000040000000000000007000000000000310000000000000000000000\ntake 0\nback 0 000000128000000400000000000000013100\ncollect 1\n",
+        "client 1\naccepted 1 0\nup 0 00000022000000040000000000000001000000000000310000000000000000000000\nqueued 1\nto 1 000000128000000400000000000000073100\n",
+    ),
+    (
+        "responses in the order in which they come",
+        "client trx\nin 1 00000022000000040000000000000007000000000000310000000000000000000000\nin 1 00000022000000040000000000000007000000000000320000000000000000000000\ntake 0\ntake 0\nback 0 000000128000000400000000000000023200\nback 0 000000128000000400000000000000013100\ncollect 1\n",
+        "client 1\naccepted 1 0\naccepted 1 0\nup 0 00000022000000040000000000000001000000000000310000000000000000000000\nup 0 00000022000000040000000000000002000000000000320000000000000000000000\nqueued 1\nqueued 1\nto 1 000000128000000400000000000000073200\nto 1 000000128000000400000000000000073100\n",
+    ),
+    (
+        "the same response again",
+        "client trx\nin 1 00000022000000040000000000000007000000000000310000000000000000000000\ntake 0\nback 0 000000128000000400000000000000013100\ncollect 1\nback 0 000000128000000400000000000000013100\ncollect 1\n",
+        "client 1\naccepted 1 0\nup 0 00000022000000040000000000000001000000000000310000000000000000000000\nqueued 1\nto 1 000000128000000400000000000000073100\nunknown\nnone 1\n",
+    ),
+    (
+        "generic_nack answers",
+        "client trx\nin 1 00000022000000040000000000000007000000000000310000000000000000000000\ntake 0\nback 0 00000010800000000000000300000001\nback 0 00000010800000000000000200000000\ncollect 1\ncollect 1\n",
+        "client 1\naccepted 1 0\nup 0 00000022000000040000000000000001000000000000310000000000000000000000\nqueued 1\nunknown\nto 1 00000010800000000000000300000007\nnone 1\n",
+    ),
+    (
+        "a response of another kind",
+        "client trx\nin 1 00000022000000040000000000000007000000000000310000000000000000000000\ntake 0\nback 0 0000001180000005000000000000000100\nback 0 000000128000000400000000000000013100\n",
+        "client 1\naccepted 1 0\nup 0 00000022000000040000000000000001000000000000310000000000000000000000\nunknown\nqueued 1\n",
+    ),
+    (
+        "a full queue and a full window",
+        "limits 1 1 3 1000\nclient trx\ntake 0\nin 1 00000022000000040000000000000001000000000000310000000000000000000000\nin 1 00000022000000040000000000000002000000000000310000000000000000000000\ntake 0\nin 1 00000022000000040000000000000003000000000000310000000000000000000000\ntake 0\nin 1 00000022000000040000000000000004000000000000310000000000000000000000\n",
+        "client 1\ntake 0 empty\naccepted 1 0\nto 1 00000010800000040000001400000002\nup 0 00000022000000040000000000000001000000000000310000000000000000000000\naccepted 1 0\ntake 0 full\nto 1 00000010800000040000001400000004\n",
+    ),
+    (
+        "a client with one request at a time",
+        "limits 10 10 1 1000\nclient trx\nin 1 00000022000000040000000000000001000000000000310000000000000000000000\nin 1 00000022000000040000000000000002000000000000310000000000000000000000\ntake 0\nback 0 000000128000000400000000000000013100\ncollect 1\nin 1 00000022000000040000000000000003000000000000310000000000000000000000\n",
+        "client 1\naccepted 1 0\nto 1 00000010800000040000001400000002\nup 0 00000022000000040000000000000001000000000000310000000000000000000000\nqueued 1\nto 1 000000128000000400000000000000013100\naccepted 1 0\n",
+    ),
+    (
+        "two lanes in a ring",
+        "lanes 2\nlimits 1 1 3 1000\nclient trx\nin 1 00000022000000040000000000000001000000000000310000000000000000000000\nin 1 00000022000000040000000000000002000000000000310000000000000000000000\nin 1 00000022000000040000000000000003000000000000310000000000000000000000\ntake 1\nhistory 1\n",
+        "client 1\naccepted 1 0\naccepted 1 1\nto 1 00000010800000040000001400000003\nup 1 00000022000000040000000000000001000000000000310000000000000000000000\nadmit 1 0 0\naccept 1 2 2\ntake 1 2 1\n",
+    ),
+    ("no line", "", ""),
+    ("empty lines and comments with any octet", "\n# \r\0\n\n#", ""),
+    (
+        "the last setting counts, and digits in upper case",
+        "lanes 3\nlimits 1 1 1 1000\n\n# two\nlanes 2\nlimits 9 9 9 1000\nclient trx\nclient trx\nin 2 000000220000000400000000ABCDEF01000000000000310000000000000000000000\nin 2 00000022000000040000000000000002000000000000310000000000000000000000\ncollect 2",
+        "client 1\nclient 2\naccepted 2 0\naccepted 2 1\nnone 2\n",
+    ),
+];
+
+// Lines that are bad after one client entered.
+const BAD_LINES: [&str; 23] = [
+    "take 1",
+    "take 00",
+    "take +0",
+    "take 0 ",
+    " take 0",
+    "take 0\r",
+    "take",
+    "collect 2",
+    "collect 0",
+    "collect 01",
+    "client tx",
+    "in 1 ",
+    "in 1 0",
+    "in 2 00000022000000040000000000000001000000000000310000000000000000000000",
+    "in 1 0000002200000004000000000000000100000000000031000000000000000000000000",
+    "in 1 00000010800000040000000000000001",
+    "back 0 00000022000000040000000000000001000000000000310000000000000000000000",
+    "back 1 000000128000000400000000000000013100",
+    "history 1",
+    "limits 1 1 3 1000",
+    "lanes 1",
+    "take 18446744073709551616",
+    "nothing",
+];
+
+// Settings that are bad.
+const BAD_SETTINGS: [&str; 10] = [
+    "limits 0 1 1 1000",
+    "limits 65536 1 1 1000",
+    "limits 1 1025 1 1000",
+    "limits 1 1 257 1000",
+    "limits 1 1 1 999",
+    "limits 1 1 1 1000001",
+    "limits 01 1 1 1000",
+    "lanes 0",
+    "lanes 17",
+    "limits 1 1 1",
+];
+
+#[test]
+fn scripts_print_what_their_lines_cause(rt: HostRuntime) -> Result<(), Fail> {
+    for (name, script, output) in ROWS {
+        let mut out = Vec::new(rt.alloc());
+        let mut reader = script.as_bytes();
+        assert_eq!(rt; run(rt.alloc(), &mut reader, &mut out), RunEnd::Clean, "{name}");
+        assert_eq!(rt; out.as_slice(), output.as_bytes(), "{name}");
+    }
+    for line in BAD_LINES {
+        let script = format!(in rt.alloc(); "client trx\n{line}\ncollect 1\n")?;
+        let mut out = Vec::new(rt.alloc());
+        let mut reader = script.as_bytes();
+        assert_eq!(rt; run(rt.alloc(), &mut reader, &mut out), RunEnd::BadLine(2), "{line}");
+        assert_eq!(rt; out.as_slice(), "client 1\nbad line 2\n".as_bytes(), "{line}");
+    }
+    for line in BAD_SETTINGS {
+        let mut out = Vec::new(rt.alloc());
+        let mut reader = line.as_bytes();
+        assert_eq!(rt; run(rt.alloc(), &mut reader, &mut out), RunEnd::BadLine(1), "{line}");
+        assert_eq!(rt; out.as_slice(), "bad line 1\n".as_bytes(), "{line}");
+    }
+    let mut out = Vec::new(rt.alloc());
+    let mut reader = "take 1".as_bytes();
+    assert_eq!(rt; run(rt.alloc(), &mut reader, &mut out), RunEnd::BadLine(1));
+    assert_eq!(rt; out.as_slice(), "bad line 1\n".as_bytes());
+    Ok(())
+}
+
+// Lane 1 has one accepted request more than lane 0, and so no room for the 496th client first: with
+// n clients present, the next one needs 2n + 8 of the 1,000 places on lane 0 and 2n + 12 on lane 1.
+#[test]
+fn clients_that_are_refused(rt: HostRuntime) -> Result<(), Fail> {
+    let mut script = String::from_str(
+        rt.alloc(),
+        "lanes 2\nlimits 1 2 2 1000\nclient trx\nclient trx\nin 1 00000022000000040000000000000001000000000000310000000000000000000000\nin 2 00000022000000040000000000000001000000000000310000000000000000000000\ntake 1\nin 2 00000022000000040000000000000002000000000000310000000000000000000000\n",
+    )?;
+    for _ in 0..496 {
+        script.push_str("client trx\n")?;
+    }
+    script.push_str("history 0\ncollect 496\n")?;
+    let mut out = Vec::new(rt.alloc());
+    let mut reader = script.as_bytes();
+    assert_eq!(rt; run(rt.alloc(), &mut reader, &mut out), RunEnd::BadLine(506));
+    let begin = "client 1\nclient 2\naccepted 1 0\naccepted 2 1\nup 1 00000022000000040000000000000001000000000000310000000000000000000000\naccepted 2 1\nclient 3\n";
+    let end = "admit 495 0 0\nadmit 496 0 0\nretire 496 0 0\nadmit 497 0 0\nretire 497 0 0\nbad line 506\n";
+    assert!(rt; out.as_slice().starts_with(begin.as_bytes()));
+    assert!(rt; out.as_slice().ends_with(end.as_bytes()));
+    Ok(())
+}
