@@ -1,6 +1,7 @@
 //! Calls drawn by chance, made on a lane and on the model.
 
 use crate::model::Model;
+use crate::spoiling::Spoiling;
 use rand_core::utils::NextWord;
 use rand_pcg::Pcg32;
 use smx_lane::{Answered, Entry, Kind, Lane, LaneFault, Limits, Request};
@@ -89,6 +90,15 @@ impl Driver {
     /// Whether the check of a finished history finds this one legal.
     pub fn is_legal(&self) -> bool {
         smx_history::is_legal(self.lane.entries(), LIMITS)
+    }
+
+    /// Whether the check refuses this history once it is spoiled so, or nothing where it has no
+    /// entry to spoil.
+    pub fn refuses(&self, spoiling: Spoiling) -> Result<Option<bool>, AllocError> {
+        match spoiling.of(self.alloc, self.lane.entries())? {
+            Some(entries) => Ok(Some(!smx_history::is_legal(&entries, LIMITS))),
+            None => Ok(None),
+        }
     }
 
     // Begins anew where the history is full, and says whether the old one was legal.

@@ -3,8 +3,10 @@
 
 mod drive;
 mod model;
+mod spoiling;
 
 use drive::Driver;
+use spoiling::{SPOILINGS, Spoiling};
 
 const CALLS: u32 = 10_000;
 
@@ -14,6 +16,10 @@ enum Difference {
     Call(u32),
     #[error("the history is not legal")]
     Legal,
+    #[error("there is nothing to spoil by {0:?}")]
+    Unspoiled(Spoiling),
+    #[error("the history is legal after {0:?}")]
+    Spoiled(Spoiling),
 }
 
 fn main(rt: HostRuntime) -> anyhow::Result<()> {
@@ -27,5 +33,13 @@ fn main(rt: HostRuntime) -> anyhow::Result<()> {
         return Err(Difference::Legal.into());
     }
     println!(rt; "{CALLS} calls agree")?;
+    for spoiling in SPOILINGS {
+        match driver.refuses(spoiling)? {
+            Some(true) => {}
+            Some(false) => return Err(Difference::Spoiled(spoiling).into()),
+            None => return Err(Difference::Unspoiled(spoiling).into()),
+        }
+    }
+    println!(rt; "{} spoilings are refused", SPOILINGS.len())?;
     Ok(())
 }
