@@ -1,7 +1,5 @@
 //! Rounds of accept, take, answer and collect on one lane.
-ghost use Rattle.std.specs.Prelude.{◌≡◌};
-
-use smx_lane::{Answered, Lane, Limits, Request};
+use smx_lane::{AdmitFault, Answered, Lane, Limits, Request};
 use smx_pdu::{Body, Pdu};
 use std::alloc::Global;
 use std::rt::Clock;
@@ -23,26 +21,66 @@ struct Refused;
 
 /// Prints the nanoseconds of a round with 1 and with 256 clients, from 1,000 and from 900,000 stored entries on.
 pub(crate) fn run<R: Print + Clock + AllocGlobal>(rt: &R) -> anyhow::Result<()> {
-    for clients in [1, 256] {
-        for stored in [1_000, 900_000] {
-            let mut lane = Lane::new(rt.alloc(), LIMITS)?;
-            for client in 1..=clients {
-                lane.admit(0, client)?;
-            }
-            let mut done = 0;
-            while lane.entries().len() < stored && done < LIMITS.history as u64 {
-                round(rt.alloc(), &mut lane, 1 + done % clients, done + 1)?;
-                done += 1;
-            }
-            let start = Instant::now(rt)?;
-            for next in done..done.saturating_add(ROUNDS) {
-                round(rt.alloc(), &mut lane, 1 + next % clients, next.saturating_add(1))?;
-            }
-            let nanos = start.elapsed(rt)?.as_nanos() / u128::from(ROUNDS);
-            println!(rt; "{clients} clients, {stored} entries: {nanos} ns a round")?;
-        }
+    measure(rt, 1, 1_000)?;
+    measure(rt, 1, 900_000)?;
+    measure(rt, 256, 1_000)?;
+    measure(rt, 256, 900_000)
+}
+
+fn measure<R: Print + Clock + AllocGlobal>(
+    rt: &R,
+    clients: u64,
+    stored: usize,
+) -> anyhow::Result<()> {
+    let mut lane = Lane::new(rt.alloc(), LIMITS)?;
+    admit_all(&mut lane, clients)?;
+    let done = fill(rt.alloc(), &mut lane, clients, stored)?;
+    let start = Instant::now(rt)?;
+    rounds(rt.alloc(), &mut lane, clients, done)?;
+    let nanos = start.elapsed(rt)?.as_nanos() / u128::from(ROUNDS);
+    println!(rt; "{clients} clients, {stored} entries: {nanos} ns a round")?;
+    Ok(())
+}
+
+fn admit_all(lane: &mut Lane, clients: u64) -> Result<(), AdmitFault> {
+    for client in 0..clients {
+        lane.admit(0, client.saturating_add(1))?;
     }
     Ok(())
+}
+
+// Makes rounds until so many entries are stored, and tells how many.
+fn fill(alloc: Global, lane: &mut Lane, clients: u64, stored: usize) -> Result<u64, Refused> {
+    for done in 0..1_000_000_u64 {
+        if lane.entries().len() >= stored {
+            return Ok(done);
+        }
+        round(
+            alloc,
+            lane,
+            client_of(done, clients),
+            done.saturating_add(1),
+        )?;
+    }
+    Err(Refused)
+}
+
+fn rounds(alloc: Global, lane: &mut Lane, clients: u64, done: u64) -> Result<(), Refused> {
+    for next in 0..ROUNDS {
+        let number = done.saturating_add(next);
+        round(
+            alloc,
+            lane,
+            client_of(number, clients),
+            number.saturating_add(1),
+        )?;
+    }
+    Ok(())
+}
+
+// The clients take turns.
+fn client_of(number: u64, clients: u64) -> u64 {
+    number.checked_rem(clients).unwrap_or(0).saturating_add(1)
 }
 
 // One request of the client there and its response back.

@@ -16,7 +16,9 @@ const TOGETHER: u64 = 400_000;
 
 /// Prints the time of an uncontended hold in nanoseconds; then, for 2, 4 and 8 threads that add to
 /// a counter, holds in millions a second under each lock, and the Mutex's by the ticket lock's.
-pub(crate) fn run<R: Threads + Wait + Sync + Print + Clock + AllocGlobal>(rt: &R) -> anyhow::Result<()> {
+pub(crate) fn run<R: Threads + Wait + Sync + Print + Clock + AllocGlobal>(
+    rt: &R,
+) -> anyhow::Result<()> {
     let ticket = alone_under_ticket_lock(rt)?;
     let mutex = alone_under_mutex(rt)?;
     println!(rt;

@@ -40,7 +40,12 @@ class_of command =
 
 -- the response to a request
 abbrev pub response : Pdu → ℕ → List ℕ → Pdu
-response request status body = record { command = RESPONSE + request.command; status = status; number = request.number; body = body }
+response request status body = record {
+  command = RESPONSE + request.command;
+  status = status;
+  number = request.number;
+  body = body;
+}
 
 -- the response to a message with its message_id in decimal (4.4.2), and to another forwarded
 -- command, which fails
@@ -82,11 +87,19 @@ answers Response c p = []
 abbrev pub after : Class → Centring → Pdu → Centring
 after Bind c p = c
 after Session c p = c
-after Message c p = record c { messages = next c.messages; held = kept c.mode c.held (forwarded_response (Some (next c.messages)) p) }
+after Message c p = record c {
+  messages = next c.messages;
+  held = kept c.mode c.held (forwarded_response (Some (next c.messages)) p);
+}
 after Forwarded c p = record c { held = kept c.mode c.held (forwarded_response None p) }
 after OtherRequest c p = c
 after Response c p = c
 
 -- a message to a destination, all else in it empty (4.6.1)
 abbrev pub delivery : ℕ → List ℕ → Pdu
-delivery number destination = record { command = DELIVER_SM; status = ESME_ROK; number = number; body = replicate 6 0 ++ destination ++ replicate 11 0 }
+delivery number destination = record {
+  command = DELIVER_SM;
+  status = ESME_ROK;
+  number = number;
+  body = replicate 6 0 ++ destination ++ replicate 11 0;
+}

@@ -70,8 +70,11 @@ impl Centre {
     // copy is one more.
     fn send(&mut self, request: &Pdu, message: Option<u32>) -> Result<Vec<Pdu>, AllocError>
         requires { request.now.command < RESPONSE }
-        ensures ok { IfOk result (λ pdus. pdus.items ≡ sent self.old.mode self.old.held (forwarded_response message request.now)) }
-        ensures held { OnOk result (self.new ≡ record self.old { held = kept self.old.mode self.old.held (forwarded_response message request.now) }) }
+        ensures ok { IfOk result (λ pdus. pdus.items
+            ≡ sent self.old.mode self.old.held (forwarded_response message request.now)) }
+        ensures held { OnOk result (self.new ≡ record self.old {
+          held = kept self.old.mode self.old.held (forwarded_response message request.now);
+        }) }
         ensures err { OnErr result (self.new ≡ self.old) }
     {
         let alloc = self.alloc;

@@ -116,6 +116,7 @@ find_any test other (y ∷ xs) x found meets = at (test y) refl found (λ f. fin
     either : (b : Bool) → (b || true) ≡ true
     either true = refl
     either false = refl
+
     at : (b : Bool) → test y ≡ b → cond b (Some y) (find test xs) ≡ Some x → (find test xs ≡ Some x → list_any other xs ≡ true) → (other y || list_any other xs) ≡ true
     at true e f later = let same : x ≡ y = cc in rw (subst (λ z. other z ≡ true) same meets) refl
     at false e f later = rw (later f) (either (other y))
@@ -172,16 +173,17 @@ few_numbers n (e ∷ us) h = at (e.number == n) refl (few_numbers n us h.1)
     others : (xs : List Entry) → e.number ≡ n → AllByRecursion (λ y. nat_eq e.number y ≡ false) (map (λ x. x.number) xs) → count_by (λ x. x.number == n) xs ≡ 0
     others [] same apart = refl
     others (x ∷ xs) same apart =
-      let differs : (x.number == n) ≡ false = ne_eqb x.number n (λ eq. let z : false ≡ true = sym apart.0 ∙ eq-eqb e.number x.number (same ∙ sym eq) in cc) in
-      let zero : ◌≡◌ {A = ℕ} (cond (x.number == n) 1 0) 0 = ap {B = ℕ} (λ b. cond b 1 0) differs in
-      omega (arith, sum_by-cons (λ (y : Entry). cond (y.number == n) 1 0) x xs, zero, others xs same apart.1)
+        let differs : (x.number == n) ≡ false = ne_eqb x.number n (λ eq. let z : false ≡ true = sym apart.0 ∙ eq-eqb e.number x.number (same ∙ sym eq) in cc) in
+        let zero : ◌≡◌ {A = ℕ} (cond (x.number == n) 1 0) 0 = ap {B = ℕ} (λ b. cond b 1 0) differs in
+        omega (arith, sum_by-cons (λ (y : Entry). cond (y.number == n) 1 0) x xs, zero, others xs same apart.1)
+
     at : (b : Bool) → (e.number == n) ≡ b → count_by (λ x. x.number == n) us ≤ 1 → count_by (λ x. x.number == n) (e ∷ us) ≤ 1
     at true eq later =
-      let one : ◌≡◌ {A = ℕ} (cond (e.number == n) 1 0) 1 = ap {B = ℕ} (λ b. cond b 1 0) eq in
-      omega (arith, sum_by-cons (λ (y : Entry). cond (y.number == n) 1 0) e us, one, others us (eqb-true e.number n eq) h.0)
+        let one : ◌≡◌ {A = ℕ} (cond (e.number == n) 1 0) 1 = ap {B = ℕ} (λ b. cond b 1 0) eq in
+        omega (arith, sum_by-cons (λ (y : Entry). cond (y.number == n) 1 0) e us, one, others us (eqb-true e.number n eq) h.0)
     at false eq later =
-      let zero : ◌≡◌ {A = ℕ} (cond (e.number == n) 1 0) 0 = ap {B = ℕ} (λ b. cond b 1 0) eq in
-      omega (arith, sum_by-cons (λ (y : Entry). cond (y.number == n) 1 0) e us, zero, later)
+        let zero : ◌≡◌ {A = ℕ} (cond (e.number == n) 1 0) 0 = ap {B = ℕ} (λ b. cond b 1 0) eq in
+        omega (arith, sum_by-cons (λ (y : Entry). cond (y.number == n) 1 0) e us, zero, later)
 
 few_places : (h : List Note) (v : Content) (n : ℕ) → AgreesWith h v → count_by (λ (q : Place). q.upstream == n) (window_after h) ≤ 1
 few_places h v n a =
@@ -196,7 +198,7 @@ only_place xs ys n q y test same few found n_is there here =
     let none : count_by (λ x. numbered x && not (is_place q x)) xs ≡ 0 = omega (arith, split, one, few) in
     let none_there = count_none_any (λ x. numbered x && not (is_place q x)) ys (same (λ x. numbered x && not (is_place q x)) ∙ none) in
     elim (cases_Bool (is_place q y)) [
-      inl yes' ↦ is_place-true q y yes'
+      | inl yes' ↦ is_place-true q y yes'
       | inr other ↦ absurd (let some = find_any test (λ x. numbered x && not (is_place q x)) ys y there (and_from _ _ (eq-eqb y.upstream n here) (ap not other)) in let z : false ≡ true = sym none_there ∙ some in cc)
     ]
 
@@ -228,13 +230,14 @@ waiting-collected h v by c n a =
     let x = note by (Collect c n) in
     let push = entries_of-push h x in
     let count : length (collects_of c (es ++ e ∷ [])) ≡ length (collects_of c es) + 1 =
-      ap length (filter_push (λ y. is_collect y.kind && (y.client == c)) es e (eq-eqb c c refl)) ∙ length-append (collects_of c es) (e ∷ []) in
+    ap length (filter_push (λ y. is_collect y.kind && (y.client == c)) es e (eq-eqb c c refl)) ∙ length-append (collects_of c es) (e ∷ []) in
     let box = map (shown es c) (responses c h) in
     rw (push, present-other es e refl refl, count, responses-other c h x refl, shown-kept c h (e ∷ []) a.legal.pairing)
-      (at (list_any (λ a. a.client == c) (present es)) (length (collects_of c es)) box)
+    (at (list_any (λ a. a.client == c) (present es)) (length (collects_of c es)) box)
   where
     more : {X : Type 0} (k : ℕ) (xs : List X) → drop (k + 1) xs ≡ drop 1 (drop k xs)
     more k xs = ap (λ j. drop j xs) (omega arith) ∙ sym (drop-drop 1 k xs)
+
     at : (b : Bool) (k : ℕ) (xs : List Response) → cond b (drop (k + 1) xs) [] ≡ drop 1 (cond b (drop k xs) [])
     at true k xs = more k xs
     at false k xs = refl
@@ -244,7 +247,7 @@ first_free : (ps : List Place) (left n : ℕ) → n + left ≡ 1025 → 1 ≤ n 
 first_free ps zero n sum low had room = absurd (let all = had-le-length 1024 ps (λ k one lt. had k one (omega arith)) in omega (arith, all))
 first_free ps (suc left) n sum low had room =
     elim (cases_Bool (list_any (λ p. p.upstream == n) ps)) [
-      inl here ↦ first_free ps left (n + 1) (omega arith) (omega arith) (had_more ps n had here) room
+      | inl here ↦ first_free ps left (n + 1) (omega arith) (omega arith) (had_more ps n had here) room
       | inr free ↦ (n, omega arith, omega arith, free)
     ]
 
@@ -252,9 +255,9 @@ first_free ps (suc left) n sum low had room =
 pub some_free : (h : List Note) → (u : ℕ) × IsFree h u
 some_free h =
     elim (cases_lt (length (window_after h)) 1024) [
-      inl room ↦
-        let found = first_free (window_after h) 1024 1 refl (omega arith) (λ k one lt. absurd (omega arith)) room in
-        (found.0, record { above = λ _. found.1; below = λ _. omega (arith, found.2); unused = λ _. found.3 })
+      | inl room ↦
+          let found = first_free (window_after h) 1024 1 refl (omega arith) (λ k one lt. absurd (omega arith)) room in
+          (found.0, record { above = λ _. found.1; below = λ _. omega (arith, found.2); unused = λ _. found.3 })
       | inr full ↦ (0, record { above = λ room. absurd (omega arith); below = λ room. absurd (omega arith); unused = λ room. absurd (omega arith) })
     ]
 

@@ -1,5 +1,5 @@
 -- What each call says of its reply, and what a list of calls leaves.
-use Rattle.std.proofs.Common.{◌≡◌, ◌<◌, ◌++◌, ◌∷◌, [], ℕ, List, Bool, true, false, Option, Some, None, Result, Ok, Err, IsTrue, IsSome, IfOk, OnOk, OnErr, MatchResult, ◌↔◌, refl, sym, ap, ◌∙◌, subst, append_assoc, slice_get}
+use Rattle.std.proofs.Common.{◌≡◌, ◌++◌, ◌∷◌, [], ℕ, List, Option, Some, None, Result, Ok, Err, IsSome, IfOk, OnOk, OnErr, MatchResult, refl, sym, ap, ◌∙◌, subst, append_assoc, slice_get}
 use Rattle.std.proofs.lemmas.List.{append-nil}
 use Rattle.smx_pdu.specs.declared.pdu.Pdu.{Pdu}
 use Rattle.smx_history.specs.declared.note.Note.{Note}
@@ -21,7 +21,7 @@ use Rattle.smx_lane.specs.declared.call.Call.TheVariants as call
 use Rattle.smx_lane.specs.declared.call.Reply.{Reply}
 use Rattle.smx_lane.specs.declared.call.Reply.TheVariants as reply
 use Rattle.smx_lane.specs.Faults.{IsAdmitFault}
-use Rattle.smx_lane.specs.Calls.{GoesOn, Keeps, IsReply, Ran}
+use Rattle.smx_lane.specs.Calls.{GoesOn, IsReply, Ran}
 
 -- a call with its reply and its notes
 abbrev pub IsMade : Content → Call → Reply → Content → Type 0

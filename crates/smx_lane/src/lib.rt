@@ -15,5 +15,6 @@ pub use fault::{AdmitFault, LaneFault, NotAdmitted};
 pub use lane::Lane;
 pub use sent::Sent;
 pub use smx_history::{
-    Answered, Entry, Event, Kind, Limits, Note, Place, Refusal, Request, Response, TakeRefusal,
+    AdmitRefusal, Answered, Entry, Event, Kind, Limits, Note, Place, Refusal, Request, Response,
+    TakeRefusal, is_legal,
 };

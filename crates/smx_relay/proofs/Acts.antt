@@ -1,5 +1,5 @@
 -- Actions, commands and lines, from what their functions say.
-use Rattle.std.proofs.Common.{◌≡◌, ℕ, List, [], Option, Some, None, refl, sym, ap, subst, ◌∙◌}
+use Rattle.std.proofs.Common.{◌≡◌, ℕ, List, [], Option, Some, None, sym, subst}
 use Rattle.std.specs.Global.{Vec}
 use Rattle.smx_relay.specs.declared.state.State.{State}
 use Rattle.smx_relay.specs.declared.command.Action.{Action}
@@ -8,9 +8,9 @@ use Rattle.smx_relay.specs.declared.command.Setting.{Setting}
 use Rattle.smx_relay.specs.declared.command.Command.{Command}
 use Rattle.smx_relay.specs.declared.command.Command.TheVariants.{Skip, Set, Run}
 use Rattle.smx_relay.specs.Script.{command_of}
-use Rattle.smx_relay.specs.Relay.{Relay, act, turn, begun, set_turn, on_lane, take_on, AreFree}
+use Rattle.smx_relay.specs.Relay.{Relay, act, turn, begun, set_turn, AreFree}
 use Rattle.smx_relay.specs.Runs.{next_of}
-use Rattle.smx_relay.specs.Agrees.{Agrees, Turned, Prints}
+use Rattle.smx_relay.specs.Agrees.{Agrees, Prints}
 use Rattle.smx_relay.proofs.Running.{some_numbers}
 use Rattle.smx_relay.proofs.StateTurns.{Takes}
 

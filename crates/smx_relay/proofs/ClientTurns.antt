@@ -1,8 +1,8 @@
 -- The turns of clients, from what the loops over the lanes say.
-use Rattle.std.proofs.Common.{◌≡◌, ◌≢◌, ◌<◌, ◌≤◌, ◌+◌, ℕ, Bool, true, false, cond, List, [], ◌∷◌, ◌++◌, length, map, take, drop, refl, sym, ◌∙◌, ap, subst, arith, Option, Some, None, codes, zero, suc}
+use Rattle.std.proofs.Common.{◌≡◌, ◌≢◌, ◌<◌, ℕ, true, false, List, [], ◌∷◌, ◌++◌, length, map, take, drop, refl, sym, ◌∙◌, ap, subst, arith, Option, Some, None, codes, zero, suc}
 use Rattle.std.specs.Global.{Vec}
 use Rattle.std.specs.Prelude.{is_none}
-use Rattle.std.specs.List.{AllZip, position, flat_map}
+use Rattle.std.specs.List.{position, flat_map}
 use Rattle.std.specs.Fmt.{decimal}
 use Rattle.std.proofs.lemmas.List.{length-take-le}
 use Rattle.std.proofs.lemmas.List.Quantifiers.{position-Some}
@@ -11,9 +11,9 @@ use Rattle.smx_history.specs.declared.note.Note.{Note}
 use Rattle.smx_history.specs.Contents.{Content}
 use Rattle.smx_relay.specs.declared.state.State.{State}
 use Rattle.smx_relay.specs.Texts.{text_line}
-use Rattle.smx_relay.specs.Relay.{Relay, last_of, entered, entered_and_left, client_turn, client_turn_at, collect_text, collected, collect_turn, or_none}
+use Rattle.smx_relay.specs.Relay.{Relay, last_of, entered, entered_and_left, client_turn, collect_text, collected, collect_turn, or_none}
 use Rattle.smx_relay.specs.OnLane.{OnLane}
-use Rattle.smx_relay.specs.Agrees.{Agrees, Turned, Prints, AreOn, Enters, HaveEntered, AreReached}
+use Rattle.smx_relay.specs.Agrees.{Agrees, Turned, Prints, AreOn, Enters, HaveEntered}
 use Rattle.smx_relay.proofs.Lanes.{zip-weaker}
 use Rattle.smx_relay.proofs.Entering.{refuses}
 use Rattle.smx_relay.proofs.OwnNotes.{own_grows, grows_push}
@@ -87,13 +87,13 @@ or_none-some c (x ∷ xs) some = refl
 
 collect_left : (old new : State) (s : Relay) (c : ℕ) → Agrees old s → AreOn s.limits s.clients (map (collected c) s.histories) new.lanes.items → KeepsSettings old new → new.clients.items ≡ old.clients.items → Agrees new (record s { histories = map (collected c) s.histories })
 collect_left old new s c a on keeps clients = record {
-    limits = keeps.limits ∙ a.limits;
-    count = keeps.count ∙ a.count;
-    started = keeps.started ∙ a.started;
-    clients = clients ∙ a.clients;
-    lanes = on;
-    none_yet = λ off. ap (map (collected c)) (a.none_yet off);
-  }
+  limits = keeps.limits ∙ a.limits;
+  count = keeps.count ∙ a.count;
+  started = keeps.started ∙ a.started;
+  clients = clients ∙ a.clients;
+  lanes = on;
+  none_yet = λ off. ap (map (collected c)) (a.none_yet off);
+}
 
 -- the client collected this on all lanes
 pub record IsCollectedOn (s : Relay) (c : ℕ) (text : List ℕ) (lanes : List Content) : Type 0 where

@@ -1,7 +1,7 @@
 -- Collecting what waits on a lane, one response after another.
-use Rattle.std.proofs.Common.{◌≡◌, ◌<◌, ◌≤◌, ◌+◌, ◌==◌, ℕ, Bool, true, false, cond, List, [], ◌∷◌, ◌++◌, length, map, drop, refl, sym, ◌∙◌, ap, subst, arith, Option, Some, None, slice_get, append_assoc}
+use Rattle.std.proofs.Common.{◌≡◌, ◌<◌, ℕ, List, [], ◌∷◌, ◌++◌, length, map, drop, refl, sym, ◌∙◌, ap, subst, arith, Option, Some, None, slice_get, append_assoc}
 use Rattle.std.specs.List.{flat_map, AllByRecursion}
-use Rattle.std.proofs.lemmas.List.{append-nil, map_push, map-append}
+use Rattle.std.proofs.lemmas.List.{append-nil, map_push}
 use Rattle.std.proofs.lemmas.Grind.{flat_map-append}
 use Rattle.smx_pdu.specs.declared.pdu.Pdu.{Pdu}
 use Rattle.smx_history.specs.declared.note.Note.{Note}
@@ -10,7 +10,7 @@ use Rattle.smx_history.specs.declared.response.Response.{Response}
 use Rattle.smx_history.specs.History.{note, entries_of, entry_of}
 use Rattle.smx_history.specs.Contents.{AgreesWith, Content, Member}
 use Rattle.smx_history.specs.Replies.{member_with}
-use Rattle.smx_history.specs.Answering.{IsCollected, oldest_in}
+use Rattle.smx_history.specs.Answering.{IsCollected}
 use Rattle.smx_history.specs.Finding.{waiting_after}
 use Rattle.smx_history.proofs.Growing.{All-push}
 use Rattle.smx_history.proofs.Reading.{entries_of-push}
@@ -65,15 +65,18 @@ collecting_more c old v new p text more got e so_far h a =
     let g = h ++ collects c done in
     let front : x.1 ≡ r ∷ drop 1 x.1 = first_of x.1 r (ap (λ rs. slice_get rs 0) (sym x.2.left) ∙ sym (oldest_same g v c x.2.agrees) ∙ got.1) in
     let history : h ++ collects c (done ++ r ∷ []) ≡ g ++ note 0 (Collect c r.ordinal) ∷ [] =
-      ap (λ ns. h ++ ns) (map_push (λ (q : Response). note 0 (Collect c q.ordinal)) done r) ∙ sym (append_assoc h (collects c done) (note 0 (Collect c r.ordinal) ∷ [])) in
+    ap (λ ns. h ++ ns) (map_push (λ (q : Response). note 0 (Collect c q.ordinal)) done r) ∙ sym (append_assoc h (collects c done) (note 0 (Collect c r.ordinal) ∷ [])) in
     let printed : lines c (done ++ r ∷ []) ≡ lines c done ++ pdu_line (to_client c) r.pdu =
-      flat_map-append (λ (q : Response). pdu_line (to_client c) q.pdu) done (r ∷ []) ∙ ap (λ t. lines c done ++ t) (append-nil (pdu_line (to_client c) r.pdu)) in
-    (done ++ r ∷ [], drop 1 x.1, record {
-      all = x.2.all ∙ ap (λ rs. done ++ rs) front ∙ sym (append_assoc done (r ∷ []) (drop 1 x.1));
-      agrees = subst (λ ns. AgreesWith ns new) (sym history) (got.3 g x.2.agrees);
-      left = ap (λ ns. waiting_after ns c) history ∙ waiting-collected g v 0 c r.ordinal x.2.agrees ∙ ap (drop 1) x.2.left;
-      printed = e ∙ ap (λ t. t ++ pdu_line (to_client c) p) x.2.printed ∙ ap (λ q. lines c done ++ pdu_line (to_client c) q) (sym got.2) ∙ sym printed;
-    })
+    flat_map-append (λ (q : Response). pdu_line (to_client c) q.pdu) done (r ∷ []) ∙ ap (λ t. lines c done ++ t) (append-nil (pdu_line (to_client c) r.pdu)) in (
+      done ++ r ∷ [],
+      drop 1 x.1,
+      record {
+        all = x.2.all ∙ ap (λ rs. done ++ rs) front ∙ sym (append_assoc done (r ∷ []) (drop 1 x.1));
+        agrees = subst (λ ns. AgreesWith ns new) (sym history) (got.3 g x.2.agrees);
+        left = ap (λ ns. waiting_after ns c) history ∙ waiting-collected g v 0 c r.ordinal x.2.agrees ∙ ap (drop 1) x.2.left;
+        printed = e ∙ ap (λ t. t ++ pdu_line (to_client c) p) x.2.printed ∙ ap (λ q. lines c done ++ pdu_line (to_client c) q) (sym got.2) ∙ sym printed;
+      },
+    )
 
 none_left : (rest : List Response) → slice_get rest 0 ≡ None → rest ≡ []
 none_left [] e = refl

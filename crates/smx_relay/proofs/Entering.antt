@@ -1,10 +1,10 @@
 -- Loops over the lanes: a client enters, leaves again, or collects.
-use Rattle.std.proofs.Common.{◌≡◌, ◌<◌, ◌≤◌, ◌+◌, ◌==◌, ℕ, zero, suc, Bool, true, false, cond, not, List, [], ◌∷◌, ◌++◌, length, map, take, drop, get_or, set, refl, sym, ◌∙◌, ap, subst, arith, Option, Some, None, append_assoc, length-append, nat_le, filter, rules}
+use Rattle.std.proofs.Common.{◌≡◌, ◌<◌, ◌≤◌, ◌+◌, ◌==◌, ℕ, Bool, true, false, List, [], ◌∷◌, ◌++◌, length, map, take, drop, get_or, set, refl, sym, ◌∙◌, ap, subst, arith, Option, Some, None, append_assoc, length-append, rules}
 use Rattle.std.specs.Prelude.{is_some, IsSome, Result, Ok, Err, MatchResult, OnOk}
 use Rattle.smx_lane.specs.declared.fault.NotAdmitted.{NotAdmitted}
 use Rattle.std.specs.List.{AllZip, AllByRecursion, list_any, position, flat_map}
 use Rattle.std.proofs.lemmas.Bool.{eq-eqb}
-use Rattle.std.proofs.lemmas.List.{append-nil, map_push, map-append, length-map, take-append-le}
+use Rattle.std.proofs.lemmas.List.{append-nil, map_push, length-map}
 use Rattle.std.proofs.lemmas.Grind.{flat_map-append}
 use Rattle.smx_history.specs.declared.entry.Entry.{Entry}
 use Rattle.smx_history.specs.declared.limits.Limits.{Limits}
@@ -12,7 +12,7 @@ use Rattle.smx_history.specs.declared.note.Note.{Note}
 use Rattle.smx_history.specs.declared.note.Event.TheVariants.{Admit, Retire}
 use Rattle.smx_history.specs.declared.reply.AdmitRefusal.{AdmitRefusal}
 use Rattle.smx_history.specs.Prefixes.{RiseAbove, last_or}
-use Rattle.smx_history.specs.Entries.{admits, present, is_admit, is_retired}
+use Rattle.smx_history.specs.Entries.{admits, present, is_admit}
 use Rattle.smx_history.specs.Legal.{IsLegal, StandsWell, IsPaired}
 use Rattle.smx_history.specs.History.{note, entry_by, entries_of}
 use Rattle.smx_history.specs.Contents.{AgreesWith, Content, Member}
@@ -63,12 +63,15 @@ entering_more c old lanes i lane after so_far lt is allowed goes kept limits cli
     let at = passing_at (OnLane limits clients) (entered c) hs x.0 x.1 lanes i lane x.2.passing lt in
     let h = at.0 in
     let there : OnLane limits clients h lane = subst (OnLane limits clients h) (sym is) at.3 in
-    let free : refuses limits c h ≡ false = ap is_some (ap (λ l. admit_refusal_after l h c) (sym there.limits_are) ∙ sym (admit_refusal_same h lane c there.agrees) ∙ allowed) in
-    (x.0 ++ h ∷ [], at.1, record {
-      passing = passing_more (OnLane limits clients) (entered c) hs x.0 x.1 lanes i h at.1 after x.2.passing at.2
-        (record { agrees = goes h there.agrees; limits_are = kept ∙ there.limits_are; own = own_entered clients c h there.own });
-      none = any_push_none (refuses limits c) x.0 h x.2.none free;
-    })
+    let free : refuses limits c h ≡ false = ap is_some (ap (λ l. admit_refusal_after l h c) (sym there.limits_are) ∙ sym (admit_refusal_same h lane c there.agrees) ∙ allowed) in (
+      x.0 ++ h ∷ [],
+      at.1,
+      record {
+        passing = passing_more (OnLane limits clients) (entered c) hs x.0 x.1 lanes i h at.1 after x.2.passing at.2
+            (record { agrees = goes h there.agrees; limits_are = kept ∙ there.limits_are; own = own_entered clients c h there.own });
+        none = any_push_none (refuses limits c) x.0 h x.2.none free;
+      },
+    )
 
 pub entering_refused : (c : ℕ) (old lanes new : List Content) (i : ℕ) (lane : Content) (e : AdmitRefusal) → Entering c old lanes i → i < length lanes → lane ≡ get_or lanes i lane → admit_refusal lane c ≡ Some e → new ≡ lanes
     → (limits : Limits) (clients : List (Option ℕ)) (hs : List (List Note)) → AreOn limits clients hs old → Enters limits clients hs c (Some i) new
@@ -116,11 +119,14 @@ collecting_all_more c old lanes text more waiting i lane after so_far lt is does
     let at = passing_at (OnLane limits clients) (collected c) hs x.0 x.1 lanes i lane x.2.passing lt in
     let h = at.0 in
     let there : OnLane limits clients h lane = subst (OnLane limits clients h) (sym is) at.3 in
-    let t = does h there.agrees in
-    (x.0 ++ h ∷ [], at.1, record {
-      passing = passing_more (OnLane limits clients) (collected c) hs x.0 x.1 lanes i h at.1 after x.2.passing at.2 (collected_on limits clients c h lane after waiting there does);
-      printed = e ∙ ap (λ w. w ++ waiting) x.2.printed ∙ ap (λ w. flat_map (collect_text c) x.0 ++ w) (t.text ∙ sym (append-nil (collect_text c h))) ∙ sym (flat_map-append (collect_text c) x.0 (h ∷ []));
-    })
+    let t = does h there.agrees in (
+      x.0 ++ h ∷ [],
+      at.1,
+      record {
+        passing = passing_more (OnLane limits clients) (collected c) hs x.0 x.1 lanes i h at.1 after x.2.passing at.2 (collected_on limits clients c h lane after waiting there does);
+        printed = e ∙ ap (λ w. w ++ waiting) x.2.printed ∙ ap (λ w. flat_map (collect_text c) x.0 ++ w) (t.text ∙ sym (append-nil (collect_text c h))) ∙ sym (flat_map-append (collect_text c) x.0 (h ∷ []));
+      },
+    )
 
 pub collecting_all_end : (c : ℕ) (old lanes : List Content) (text : List ℕ) (i : ℕ) → CollectingAll c old lanes text i → length lanes ≤ i → (limits : Limits) (clients : List (Option ℕ)) (hs : List (List Note)) → AreOn limits clients hs old
     → (text ≡ flat_map (collect_text c) hs) × AreOn limits clients (map (collected c) hs) lanes
@@ -154,7 +160,7 @@ entered_present h v c a =
     let push = entries_of-push h (note 0 (Admit c)) in
     let legal : IsLegal v.limits (es ++ e ∷ []) = subst (IsLegal v.limits) push a.legal in
     let grown : map (λ x. x.client) (admits (es ++ e ∷ [])) ≡ map (λ x. x.client) (admits es) ++ c ∷ [] =
-      ap (map (λ x. x.client)) (filter_push (λ x. is_admit x.kind) es e refl) ∙ map_push (λ (x : Entry). x.client) (admits es) e in
+    ap (map (λ x. x.client)) (filter_push (λ x. is_admit x.kind) es e refl) ∙ map_push (λ (x : Entry). x.client) (admits es) e in
     let rise = rise_split 0 (map (λ x. x.client) (admits es)) c (subst (RiseAbove 0) grown legal.membership.clients) in
     let none = none_admitted es c rise.0 rise.1 in
     let new = unseen c es (AtEach-init (λ before x. StandsWell x.kind before x) es e legal.standing) (AtEach-init (λ before x. IsPaired x.kind before x) es e legal.pairing) none in
@@ -190,9 +196,13 @@ leaving_some_start c count lanes x = (x.0, x.1, x.2, x.3, [], x.2, x.4, leaving_
 leaving_at : (limits : Limits) (clients : List (Option ℕ)) (some others : List (List Note)) (c : ℕ) (done left : List (List Note)) (lanes : List Content) (i count : ℕ) (lane : Content) → length some ≡ count → IsLeaving limits clients some others c done left lanes i → i < count → lane ≡ get_or lanes i lane
     → (h : List Note) × (rest : List (List Note)) × (left ≡ h ∷ rest) × OnLane limits clients (entered c h) lane
 leaving_at limits clients some others c done [] lanes i count lane n x lt is = absurd (omega (arith, ap length x.all, length-append done [], x.count))
-leaving_at limits clients some others c done (h ∷ rest) lanes i count lane n x lt is =
-    (h, rest, refl, subst (OnLane limits clients (entered c h)) (sym is) (subst (λ k. OnLane limits clients (entered c h) (get_or lanes k lane)) (length-map done (entered_and_left c) ∙ x.count)
-      (zip-middle (OnLane limits clients) (map (entered_and_left c) done) (entered c h) (map (entered c) rest ++ others) lanes lane x.lanes_are)))
+leaving_at limits clients some others c done (h ∷ rest) lanes i count lane n x lt is = (
+  h,
+  rest,
+  refl,
+  subst (OnLane limits clients (entered c h)) (sym is) (subst (λ k. OnLane limits clients (entered c h) (get_or lanes k lane)) (length-map done (entered_and_left c) ∙ x.count)
+      (zip-middle (OnLane limits clients) (map (entered_and_left c) done) (entered c h) (map (entered c) rest ++ others) lanes lane x.lanes_are)),
+)
 
 leaving_next : (limits : Limits) (clients : List (Option ℕ)) (some others : List (List Note)) (c : ℕ) (done left : List (List Note)) (lanes : List Content) (i : ℕ) (h : List Note) (rest : List (List Note)) (after : Content) → IsLeaving limits clients some others c done left lanes i → left ≡ h ∷ rest → OnLane limits clients (entered_and_left c h) after
     → IsLeaving limits clients some others c (done ++ h ∷ []) rest (set lanes i after) (i + 1)
@@ -200,7 +210,7 @@ leaving_next limits clients some others c done left lanes i h rest after x e r =
     let R = OnLane limits clients in
     let before : AllZip R (map (entered_and_left c) done ++ entered c h ∷ (map (entered c) rest ++ others)) lanes = subst (λ xs. AllZip R (map (entered_and_left c) done ++ (map (entered c) xs ++ others)) lanes) e x.lanes_are in
     let now = subst (λ k. AllZip R (map (entered_and_left c) done ++ entered_and_left c h ∷ (map (entered c) rest ++ others)) (set lanes k after)) (length-map done (entered_and_left c) ∙ x.count)
-      (zip-middle_set R (map (entered_and_left c) done) (entered c h) (entered_and_left c h) (map (entered c) rest ++ others) lanes after before r) in
+    (zip-middle_set R (map (entered_and_left c) done) (entered c h) (entered_and_left c h) (map (entered c) rest ++ others) lanes after before r) in
     record {
       all = x.all ∙ ap (λ xs. done ++ xs) e ∙ sym (append_assoc done (h ∷ []) rest);
       count = omega (arith, length-append done (h ∷ []), x.count);
@@ -238,8 +248,18 @@ leaving_requires c count lanes i lane x lt is =
 
 pub leaving_within : (c count : ℕ) (lanes : List Content) (i : ℕ) → LeavingSome c count lanes i → i < count → i < length lanes
 leaving_within c count lanes i x lt =
-    omega (arith, zip-length (OnLane x.0 x.1) (map (entered_and_left c) x.4 ++ (map (entered c) x.5 ++ x.3)) lanes x.7.lanes_are, length-append (map (entered_and_left c) x.4) (map (entered c) x.5 ++ x.3), length-append (map (entered c) x.5) x.3,
-      length-map x.4 (entered_and_left c), length-map x.5 (entered c), ap length x.7.all, length-append x.4 x.5, x.7.count, x.6)
+    omega (
+      arith,
+      zip-length (OnLane x.0 x.1) (map (entered_and_left c) x.4 ++ (map (entered c) x.5 ++ x.3)) lanes x.7.lanes_are,
+      length-append (map (entered_and_left c) x.4) (map (entered c) x.5 ++ x.3),
+      length-append (map (entered c) x.5) x.3,
+      length-map x.4 (entered_and_left c),
+      length-map x.5 (entered c),
+      ap length x.7.all,
+      length-append x.4 x.5,
+      x.7.count,
+      x.6,
+    )
 
 pub leaving_end : (c count : ℕ) (old lanes : List Content) (i : ℕ) → Leaving c count old lanes i → count ≤ i → (limits : Limits) (clients : List (Option ℕ)) (some : List (List Note)) (others : List (List Note)) → length some ≡ count
     → AreOn limits clients (map (entered c) some ++ others) old → AreOn limits clients (map (entered_and_left c) some ++ others) lanes
@@ -249,8 +269,8 @@ leaving_end c count old lanes i so_far le limits clients some others n on =
   where
     at : (done left : List (List Note)) → IsLeaving limits clients some others c done left lanes i → AreOn limits clients (map (entered_and_left c) some ++ others) lanes
     at done [] y =
-      let same : some ≡ done = y.all ∙ append-nil done in
-      subst (λ xs. AreOn limits clients (map (entered_and_left c) xs ++ others) lanes) (sym same) y.lanes_are
+        let same : some ≡ done = y.all ∙ append-nil done in
+        subst (λ xs. AreOn limits clients (map (entered_and_left c) xs ++ others) lanes) (sym same) y.lanes_are
     at done (h ∷ rest) y = absurd (omega (arith, ap length y.all, length-append done (h ∷ rest), y.count))
 
 -- what a retire answers and leaves

@@ -1,28 +1,24 @@
 -- The turns of one lane, from what its calls say.
-use Rattle.std.proofs.Common.{◌≡◌, ◌≢◌, ◌<◌, ◌≤◌, ◌+◌, ◌==◌, ℕ, Bool, true, false, cond, not, List, [], ◌∷◌, ◌++◌, length, map, drop, refl, sym, ◌∙◌, ap, subst, arith, Option, Some, None, nat_le, nat_lt, slice_get, codes, if◌then◌else◌, inl, inr}
-use Rattle.std.specs.List.{find, list_any}
+use Rattle.std.proofs.Common.{◌≡◌, ◌≢◌, ◌<◌, ◌≤◌, ◌==◌, ℕ, true, false, List, [], ◌∷◌, ◌++◌, length, refl, sym, ◌∙◌, ap, subst, arith, Option, Some, None, nat_le, nat_lt, slice_get, codes, if◌then◌else◌, inl, inr}
 use Rattle.std.specs.Fmt.{decimal}
 use Rattle.std.proofs.lemmas.Bool.{cases_lt, ne_eqb, le-leb, lt-leb, lt-ltb, le-ltb}
 use Rattle.smx_pdu.specs.declared.pdu.Pdu.{Pdu}
 use Rattle.smx_history.specs.declared.request.Request.{Request}
-use Rattle.smx_history.specs.declared.limits.Limits.{Limits}
 use Rattle.smx_history.specs.declared.note.Note.{Note}
 use Rattle.smx_history.specs.declared.note.Event.TheVariants as event
-use Rattle.smx_history.specs.declared.place.Place.{Place}
-use Rattle.smx_history.specs.declared.reply.Answered.{Answered}
 use Rattle.smx_history.specs.declared.reply.Answered.TheVariants.{Queued, Late, Unknown}
 use Rattle.smx_history.specs.declared.reply.TakeRefusal.{TakeRefusal}
 use Rattle.smx_history.specs.declared.reply.TakeRefusal.TheVariants.{QueueEmpty, WindowFull}
 use Rattle.smx_history.specs.Legal.{IsLegal}
 use Rattle.smx_history.specs.History.{note, entries_of}
-use Rattle.smx_history.specs.Contents.{AgreesWith, Content, Member, queue_after, window_after}
-use Rattle.smx_history.specs.Replies.{take_refusal, answers_place, member_with}
+use Rattle.smx_history.specs.Contents.{AgreesWith, Content, queue_after, window_after}
+use Rattle.smx_history.specs.Replies.{take_refusal}
 use Rattle.smx_history.specs.Answering.{IsAnswered}
 use Rattle.smx_history.specs.Finding.{IsFree, is_present, place_answered}
 use Rattle.smx_history.proofs.Counts.{length-same}
 use Rattle.smx_history.proofs.Finding.{some_free, taken_free, place_same, absent, row_found}
 use Rattle.smx_relay.specs.Texts.{text_line, pdu_line, up_lane, upstream_of}
-use Rattle.smx_relay.specs.Relay.{take_with, take_on, back_to, back_on}
+use Rattle.smx_relay.specs.Relay.{take_with, take_on, back_on}
 use Rattle.smx_relay.specs.OnLane.{TurnsLane}
 
 window_length : (h : List Note) (v : Content) → AgreesWith h v → length v.window ≡ length (window_after h)
@@ -48,7 +44,7 @@ unfolding refusal_of_queue
 takable_at v [] e = subst (λ (q : List Request). IsTakable v (refusal_of_queue v q)) (sym e) (record { takes = λ x. cc; empty = λ x. e; full = λ x. cc })
 takable_at v (r ∷ rs) e =
     elim (cases_lt (length v.window) v.limits.window) [
-      inl lt ↦ subst (IsTakable v) (sym (is_taken v r rs e lt)) (record { takes = λ x. lt; empty = λ x. cc; full = λ x. cc })
+      | inl lt ↦ subst (IsTakable v) (sym (is_taken v r rs e lt)) (record { takes = λ x. lt; empty = λ x. cc; full = λ x. cc })
       | inr le ↦ subst (IsTakable v) (sym (is_full v r rs e le)) (record { takes = λ x. cc; empty = λ x. cc; full = λ x. le })
     ]
 

@@ -1,17 +1,15 @@
 -- A request that is offered to the lanes.
-use Rattle.std.proofs.Common.{◌≡◌, ◌<◌, ◌≤◌, ◌+◌, ◌%◌, ◌==◌, ℕ, zero, suc, Bool, true, false, cond, List, [], ◌∷◌, ◌++◌, length, map, set, refl, sym, ◌∙◌, ap, subst, arith, Option, Some, None, slice_get, codes}
+use Rattle.std.proofs.Common.{◌≡◌, ◌+◌, ◌%◌, ℕ, zero, suc, Bool, List, [], ◌∷◌, ◌++◌, length, set, refl, sym, ◌∙◌, ap, subst, arith, Option, Some, None, slice_get, codes}
 use Rattle.std.specs.Prelude.{is_none, unwrap_or}
 use Rattle.std.specs.List.{AllByRecursion, AllZip, find}
 use Rattle.std.specs.Fmt.{decimal}
 use Rattle.smx_pdu.specs.declared.pdu.Pdu.{Pdu}
 use Rattle.smx_history.specs.declared.limits.Limits.{Limits}
 use Rattle.smx_history.specs.declared.request.Request.{Request}
-use Rattle.smx_history.specs.declared.reply.Refusal.{Refusal}
 use Rattle.smx_history.specs.declared.note.Note.{Note}
 use Rattle.smx_history.specs.declared.note.Event.TheVariants.{Accept}
 use Rattle.smx_history.specs.History.{note}
 use Rattle.smx_history.specs.Contents.{AgreesWith, Content}
-use Rattle.smx_history.specs.Replies.{accept_refusal}
 use Rattle.smx_history.specs.Finding.{refusal_after}
 use Rattle.smx_history.proofs.Finding.{refusal_same}
 use Rattle.smx_relay.specs.declared.state.State.{State}
@@ -50,7 +48,7 @@ pub lanes_may_accept : (state : State) (s : Relay) (c n m : ℕ) → Agrees stat
 lanes_may_accept state s c n m a known e =
     let last : last_of s.clients c ≡ Some n = ap (λ cs. last_of cs c) (sym a.clients) ∙ known in
     subst (λ k. AllByRecursion (MayAccept c k) state.lanes.items) (sym e)
-      (zip-all (OnLane s.limits s.clients) (MayAccept c (n + 1)) (λ h lane on. rows_below s.clients h lane c n on.agrees on.own last) s.histories state.lanes.items a.lanes)
+    (zip-all (OnLane s.limits s.clients) (MayAccept c (n + 1)) (λ h lane on. rows_below s.clients h lane c n on.agrees on.own last) s.histories state.lanes.items a.lanes)
 
 lane_test : (limits : Limits) (clients : List (Option ℕ)) (c : ℕ) (h : List Note) (lane : Content) → OnLane limits clients h lane → accepts_on limits c (Some h) ≡ accepts_in c (Some lane)
 lane_test limits clients c h lane on = ap is_none (ap (λ l. refusal_after l h c) (sym on.limits_are) ∙ sym (refusal_same h lane c on.agrees))
@@ -87,11 +85,11 @@ offered_some old new s c last at o lane after text a known is e =
     let clients = set s.clients c (Some (last + 1)) in
     let grows = grows_set s.clients c last last_is in
     let own = own_push clients h (note 0 (Accept (request_of c (last + 1) o))) (own_grows s.clients clients h grows there.2.own)
-      (record { by = refl; known = λ accept. omega (arith, ap (λ x. unwrap_or x 0) (last_set s.clients c last (last + 1) last_is)) }) in
+    (record { by = refl; known = λ accept. omega (arith, ap (λ x. unwrap_or x 0) (last_set s.clients c last (last + 1) last_is)) }) in
     let on : OnLane s.limits clients longer after = record { agrees = is.goes h there.2.agrees; limits_are = is.limits_kept ∙ there.2.limits_are; own = own } in
     let weaker = zip-weaker R (OnLane s.limits clients) (λ g v x. record { agrees = x.agrees; limits_are = x.limits_are; own = own_grows s.clients clients g grows x.own }) s.histories old.lanes.items a.lanes in
     let zipped : AllZip (OnLane s.limits clients) (set s.histories at longer) new.lanes.items =
-      subst (λ ls. AllZip (OnLane s.limits clients) (set s.histories at longer) ls) (sym is.lanes) (zip-set (OnLane s.limits clients) s.histories old.lanes.items at longer after weaker on) in
+    subst (λ ls. AllZip (OnLane s.limits clients) (set s.histories at longer) ls) (sym is.lanes) (zip-set (OnLane s.limits clients) s.histories old.lanes.items at longer after weaker on) in
     rw (found, there.1) (record {
       text = e;
       left = record {

@@ -1,10 +1,8 @@
 -- Offers that were read.
-use Rattle.std.proofs.Common.{◌≡◌, ℕ, Bool, true, false, Option, Some, None, refl, sym, ap, ◌∙◌, []}
+use Rattle.std.proofs.Common.{◌≡◌, ℕ, Bool, true, false, Some, sym, ap, ◌∙◌}
 use mathlib.Core.Bool.{Bool-set}
 use Rattle.smx_pdu.specs.declared.pdu.Pdu.{Pdu}
 use Rattle.smx_pdu.specs.Command.{is_forwarded}
-use Rattle.smx_relay.specs.declared.offer.Offer.{Offer}
-use Rattle.smx_relay.specs.declared.command.Command.{Command}
 use Rattle.smx_relay.specs.declared.command.Command.TheVariants.{Run}
 use Rattle.smx_relay.specs.declared.command.Action.TheVariants.{In}
 use Rattle.smx_relay.specs.Script.{in_forwarded}

@@ -1,5 +1,5 @@
 -- What the lines add to the histories is the one caller's.
-use Rattle.std.proofs.Common.{◌≡◌, ◌⊎◌, ◌<◌, ◌≤◌, ◌+◌, ◌==◌, ℕ, Bool, true, false, cond, List, [], ◌∷◌, ◌++◌, length, map, set, refl, sym, ◌∙◌, ap, subst, arith, Option, Some, None, slice_get, inl, inr, zero, suc, codes}
+use Rattle.std.proofs.Common.{◌≡◌, ◌⊎◌, ◌<◌, ◌≤◌, ◌+◌, ℕ, Bool, true, false, cond, List, [], ◌∷◌, ◌++◌, length, set, refl, sym, ◌∙◌, ap, subst, arith, Option, Some, None, slice_get, inl, inr, zero, suc, codes}
 use Rattle.std.specs.Prelude.{unwrap_or}
 use Rattle.std.specs.List.{AllByRecursion}
 use Rattle.std.specs.Fmt.{decimal}
@@ -15,7 +15,7 @@ use Rattle.smx_history.specs.declared.note.Note.{Note}
 use Rattle.smx_history.specs.declared.place.Place.{Place}
 use Rattle.smx_history.specs.Entries.{is_accept}
 use Rattle.smx_history.specs.History.{entry_of, entries_of, note}
-use Rattle.smx_history.specs.Contents.{queue_after, window_after}
+use Rattle.smx_history.specs.Contents.{queue_after}
 use Rattle.smx_history.specs.Finding.{is_present, place_answered, waiting_after}
 use Rattle.smx_history.proofs.Growing.{All-push}
 use Rattle.smx_history.proofs.Reading.{entries_of-push, All-each}
@@ -85,10 +85,12 @@ slice_get-push (y ∷ xs) x zero = inl refl
 slice_get-push (y ∷ xs) x (suc i) = slice_get-push xs x i
 
 pub grows_push : (clients : List (Option ℕ)) (o : Option ℕ) → Grows clients (clients ++ o ∷ [])
-grows_push clients o = record { each = λ c. elim (slice_get-push clients o c) [
-    inl same ↦ omega (arith, ap (λ x. unwrap_or (last_in x) 0) same)
+grows_push clients o = record {
+  each = λ c. elim (slice_get-push clients o c) [
+    | inl same ↦ omega (arith, ap (λ x. unwrap_or (last_in x) 0) same)
     | inr none ↦ omega (arith, ap (λ x. unwrap_or (last_in x) 0) none)
-  ] }
+  ];
+}
 
 set-grows : (clients : List (Option ℕ)) (c n d : ℕ) → last_of clients c ≡ Some n → unwrap_or (last_of clients d) 0 ≤ unwrap_or (last_of (set clients c (Some (n + 1))) d) 0
 set-grows [] c n d known = omega arith

@@ -1,18 +1,14 @@
 -- The ring of lanes in which a request is offered.
-use Rattle.std.proofs.Common.{◌≡◌, ◌<◌, ◌≤◌, ◌+◌, ◌%◌, ◌-◌, ℕ, Bool, true, false, cond, List, [], ◌∷◌, ◌++◌, length, map, drop, get_or, set, refl, sym, ◌∙◌, ap, subst, arith, Option, Some, None, slice_get}
+use Rattle.std.proofs.Common.{◌≡◌, ◌<◌, ◌≤◌, ◌+◌, ◌%◌, ℕ, Bool, true, false, List, ◌∷◌, length, map, drop, get_or, sym, ◌∙◌, ap, subst, arith, Option, Some, None, slice_get}
 use Rattle.std.specs.Prelude.{is_none}
-use Rattle.std.specs.List.{find, range_with_len, AllByRecursion}
+use Rattle.std.specs.List.{find, range_with_len}
 use Rattle.std.proofs.lemmas.List.{drop_more, drop_all, get_or-map}
 use Rattle.std.proofs.lemmas.List.FromFn.{length-map-range_with_len, length-range_with_len, get_or-range_with_len}
 use Rattle.smx_history.specs.declared.reply.Refusal.{Refusal}
-use Rattle.smx_history.specs.declared.request.Request.{Request}
-use Rattle.smx_history.specs.declared.note.Note.{Note}
-use Rattle.smx_history.specs.declared.note.Event.TheVariants.{Accept}
-use Rattle.smx_history.specs.History.{note}
-use Rattle.smx_history.specs.Contents.{AgreesWith, Content}
+use Rattle.smx_history.specs.Contents.{Content}
 use Rattle.smx_history.specs.Replies.{accept_refusal}
 use Rattle.smx_relay.specs.Relay.{ring}
-use Rattle.smx_relay.specs.Agrees.{accepts_in, MayAccept}
+use Rattle.smx_relay.specs.Agrees.{accepts_in}
 use Rattle.smx_relay.proofs.Lanes.{find-here, find-next}
 
 -- the lanes from the k-th of the ring on
@@ -21,7 +17,7 @@ ring_step first count k lt =
     let f : ℕ → ℕ = λ j. (first + j) % count in
     let inside : k < length (map f (range_with_len 0 count)) = omega (arith, length-map-range_with_len f 0 count) in
     let at : get_or (map f (range_with_len 0 count)) k 0 ≡ f k =
-      get_or-map f (range_with_len 0 count) k 0 0 (omega (arith, length-range_with_len 0 count)) ∙ ap f (get_or-range_with_len 0 count k 0 lt ∙ omega arith) in
+    get_or-map f (range_with_len 0 count) k 0 0 (omega (arith, length-range_with_len 0 count)) ∙ ap f (get_or-range_with_len 0 count k 0 lt ∙ omega arith) in
     drop_more (map f (range_with_len 0 count)) k 0 inside ∙ ap (λ i. i ∷ drop (k + 1) (map f (range_with_len 0 count))) at
 
 -- whether the lane at an index accepts a request of the client
@@ -38,7 +34,7 @@ ring_found lanes now c last count k old size lt same here none =
     let there : slice_get lanes ((last % count + k) % count) ≡ Some old = ap (λ xs. slice_get xs ((last % count + k) % count)) (sym same) ∙ here in
     let good : accepts_at lanes c ((last % count + k) % count) ≡ true = ap (accepts_in c) there ∙ ap is_none none in
     let step : drop k (ring (last % length lanes) (length lanes)) ≡ ((last % count + k) % count) ∷ drop (k + 1) (ring (last % length lanes) (length lanes)) =
-      subst (λ n. drop k (ring (last % n) n) ≡ ((last % count + k) % count) ∷ drop (k + 1) (ring (last % n) n)) size (ring_step (last % count) count k lt) in
+    subst (λ n. drop k (ring (last % n) n) ≡ ((last % count + k) % count) ∷ drop (k + 1) (ring (last % n) n)) size (ring_step (last % count) count k lt) in
     find-here (accepts_at lanes c) _ (drop (k + 1) (ring (last % length lanes) (length lanes))) ((last % count + k) % count) step good
 
 pub ring_next : (lanes now : List Content) (c last count k : ℕ) (old : Content) (e : Refusal) → count ≡ length lanes → k < count → now ≡ lanes → slice_get now ((last % count + k) % count) ≡ Some old → accept_refusal old c ≡ Some e
@@ -47,7 +43,7 @@ ring_next lanes now c last count k old e size lt same here refused =
     let there : slice_get lanes ((last % count + k) % count) ≡ Some old = ap (λ xs. slice_get xs ((last % count + k) % count)) (sym same) ∙ here in
     let bad : accepts_at lanes c ((last % count + k) % count) ≡ false = ap (accepts_in c) there ∙ ap is_none refused in
     let step : drop k (ring (last % length lanes) (length lanes)) ≡ ((last % count + k) % count) ∷ drop (k + 1) (ring (last % length lanes) (length lanes)) =
-      subst (λ n. drop k (ring (last % n) n) ≡ ((last % count + k) % count) ∷ drop (k + 1) (ring (last % n) n)) size (ring_step (last % count) count k lt) in
+    subst (λ n. drop k (ring (last % n) n) ≡ ((last % count + k) % count) ∷ drop (k + 1) (ring (last % n) n)) size (ring_step (last % count) count k lt) in
     find-next (accepts_at lanes c) _ (drop (k + 1) (ring (last % length lanes) (length lanes))) ((last % count + k) % count) step bad
 
 pub ring_none : (lanes : List Content) (c last count k : ℕ) → count ≡ length lanes → count ≤ k → first_from lanes c last k ≡ None

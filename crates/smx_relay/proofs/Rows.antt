@@ -1,5 +1,5 @@
 -- The rows of a lane that only the one caller fed.
-use Rattle.std.proofs.Common.{◌≡◌, ◌<◌, ◌≤◌, ◌+◌, ◌==◌, ◌&&◌, ℕ, Bool, true, false, cond, not, List, [], ◌∷◌, length, map, filter, refl, sym, ◌∙◌, ap, subst, arith, Option, Some, None}
+use Rattle.std.proofs.Common.{◌≡◌, ◌<◌, ◌≤◌, ◌+◌, ◌==◌, ◌&&◌, ℕ, Bool, true, false, cond, not, List, [], ◌∷◌, map, refl, sym, ◌∙◌, ap, subst, arith, Option, Some}
 use Rattle.std.specs.Prelude.{unwrap_or}
 use Rattle.std.specs.List.{AllByRecursion, AllZip}
 use Rattle.std.proofs.lemmas.Bool.{eqb-true, and_parts}
@@ -9,7 +9,7 @@ use Rattle.smx_history.specs.Prefixes.{last_or}
 use Rattle.smx_history.specs.Entries.{is_accept, is_admit, is_retired, accepts_of, admits, present}
 use Rattle.smx_history.specs.History.{entries_of}
 use Rattle.smx_history.specs.Contents.{AgreesWith, Content, IsMemberAfter, Member}
-use Rattle.smx_history.proofs.Reading.{All-kept, All-each, All-from_get}
+use Rattle.smx_history.proofs.Reading.{All-kept, All-each}
 use Rattle.smx_relay.specs.Relay.{last_of}
 use Rattle.smx_relay.specs.OnLane.{IsOwn, AreOwn, AreOurs}
 
@@ -43,17 +43,17 @@ accepts_up_to clients c n (e ∷ es) last own = at (is_accept e.kind && (e.clien
   where
     at : (b : Bool) → (is_accept e.kind && (e.client == c)) ≡ b → AllByRecursion (λ x. x ≤ n) (map (λ e. e.ordinal) (accepts_of c es)) → AllByRecursion (λ x. x ≤ n) (map (λ e. e.ordinal) (cond b (e ∷ accepts_of c es) (accepts_of c es)))
     at true is later =
-      let both = and_parts _ _ is in
-      let most : unwrap_or (last_of clients e.client) 0 ≡ n = ap (λ d. unwrap_or (last_of clients d) 0) (eqb-true e.client c both.1) ∙ ap (λ o. unwrap_or o 0) last in
-      (subst (λ k. e.ordinal ≤ k) most (own.0.known both.0), later)
+        let both = and_parts _ _ is in
+        let most : unwrap_or (last_of clients e.client) 0 ≡ n = ap (λ d. unwrap_or (last_of clients d) 0) (eqb-true e.client c both.1) ∙ ap (λ o. unwrap_or o 0) last in
+        (subst (λ k. e.ordinal ≤ k) most (own.0.known both.0), later)
     at false is later = later
 
 -- the next ordinal of a client is above its last one on each lane
 pub rows_below : (clients : List (Option ℕ)) (h : List Note) (v : Content) (c n : ℕ) → AgreesWith h v → AreOwn clients h → last_of clients c ≡ Some n → AllByRecursion (λ m. m.client ≡ c → (m.last < n + 1) × (m.by ≡ 0)) v.members
 rows_below clients h v c n a own last =
     zip-rows (λ e. e.by ≡ 0) (λ m. m.client ≡ c → (m.last < n + 1) × (m.by ≡ 0)) h (present (entries_of h)) v.members
-      (λ e m by row. λ is.
-        let most = last_up_to 0 n (map (λ x. x.ordinal) (accepts_of c (entries_of h))) (omega arith) (accepts_up_to clients c n (entries_of h) last own) in
-        let here : m.last ≡ last_or 0 (map (λ x. x.ordinal) (accepts_of c (entries_of h))) = row.last ∙ ap (λ d. last_or 0 (map (λ x. x.ordinal) (accepts_of d (entries_of h)))) (sym row.client ∙ is) in
-        (omega (arith, most, here), row.by ∙ by))
-      (ours_present h (ours_of_own clients h own)) a.after.members
+    (λ e m by row. λ is.
+    let most = last_up_to 0 n (map (λ x. x.ordinal) (accepts_of c (entries_of h))) (omega arith) (accepts_up_to clients c n (entries_of h) last own) in
+    let here : m.last ≡ last_or 0 (map (λ x. x.ordinal) (accepts_of c (entries_of h))) = row.last ∙ ap (λ d. last_or 0 (map (λ x. x.ordinal) (accepts_of d (entries_of h)))) (sym row.client ∙ is) in
+    (omega (arith, most, here), row.by ∙ by))
+    (ours_present h (ours_of_own clients h own)) a.after.members

@@ -1,19 +1,18 @@
 -- Turns of one lane, as turns of the whole state.
-use Rattle.std.proofs.Common.{◌≡◌, ◌<◌, ◌≤◌, ◌==◌, ℕ, Bool, true, false, cond, List, [], ◌∷◌, ◌++◌, length, set, get_or, refl, sym, ◌∙◌, ap, subst, arith, Option, Some, None, slice_get, inl, inr}
+use Rattle.std.proofs.Common.{◌≡◌, ◌<◌, ◌≤◌, ◌==◌, ℕ, cond, List, length, set, get_or, refl, sym, ◌∙◌, ap, subst, arith, Option, Some, None, slice_get, inl, inr}
 use Rattle.std.specs.Global.{Vec}
 use Rattle.std.specs.List.{AllZip}
 use Rattle.std.proofs.lemmas.Bool.{cases_Bool, eq-eqb, eqb-true}
 use Rattle.std.proofs.lemmas.Option.{slice_get_past}
 use Rattle.smx_pdu.specs.declared.pdu.Pdu.{Pdu}
-use Rattle.smx_history.specs.declared.limits.Limits.{Limits}
 use Rattle.smx_history.specs.declared.note.Note.{Note}
 use Rattle.smx_history.specs.Contents.{AgreesWith, Content}
 use Rattle.smx_history.specs.Finding.{IsFree}
 use Rattle.smx_relay.specs.declared.state.State.{State}
-use Rattle.smx_relay.specs.Relay.{Relay, on_lane, on_found, take_on, back_on, history_on, AreFree}
+use Rattle.smx_relay.specs.Relay.{Relay, on_lane, take_on, back_on, history_on, AreFree}
 use Rattle.smx_relay.specs.OnLane.{OnLane, AreOwn, TurnsLane}
-use Rattle.smx_relay.specs.Agrees.{Agrees, Turned, Prints}
-use Rattle.smx_relay.proofs.Lanes.{zip-length, zip-get, zip-set, at_index}
+use Rattle.smx_relay.specs.Agrees.{Agrees, Prints}
+use Rattle.smx_relay.proofs.Lanes.{zip-length, zip-get, zip-set}
 use Rattle.smx_relay.proofs.OwnNotes.{own_take, own_back}
 use Rattle.smx_relay.proofs.ClientTurns.{KeepsSettings}
 use Rattle.smx_relay.proofs.Running.{some_numbers}
@@ -66,11 +65,11 @@ one_number-here i n u = rw (eq-eqb i i refl) refl
 one_free : (s : Relay) (i n : ℕ) (h : List Note) (u : ℕ → ℕ) → slice_get s.histories i ≡ Some h → IsFree h n → AreFree u s → AreFree (one_number i n u) s
 unfolding one_number
 one_free s i n h u at free others = λ j g there. elim (cases_Bool (j == i)) [
-    inl same ↦
+  | inl same ↦
       let e : h ≡ g = let x : Some h ≡ Some g = sym at ∙ ap (slice_get s.histories) (sym (eqb-true j i same)) ∙ there in cc in
       rw same (subst (λ k. IsFree k n) e free)
-    | inr other ↦ rw other (others j g there)
-  ]
+  | inr other ↦ rw other (others j g there)
+]
 
 abbrev pub Takes : Relay → ℕ → State → Option (Vec ℕ) → Type 0
 Takes s i new text = (u : ℕ → ℕ) × AreFree u s × Prints (on_lane s i (take_on s.limits (u i) i)) new text
@@ -90,7 +89,7 @@ takes_some old new s i lane after text a is goes =
     let others = some_numbers s in
     let u = one_number i t.0 others.0 in
     let turns : TurnsLane (take_on s.limits (u i) i h) lane after text.items =
-      subst (λ n. TurnsLane (take_on s.limits n i h) lane after text.items) (sym (one_number-here i t.0 others.0)) (subst (λ l. TurnsLane (take_on l t.0 i h) lane after text.items) x.2.limits_are t.2) in
+    subst (λ n. TurnsLane (take_on s.limits n i h) lane after text.items) (sym (one_number-here i t.0 others.0)) (subst (λ l. TurnsLane (take_on l t.0 i h) lane after text.items) x.2.limits_are t.2) in
     (u, one_free s i t.0 h others.0 x.1 t.1 others.1, lane_turned old new s i (take_on s.limits (u i) i) h lane after text a is x.1 x.2 turns (own_take s.clients s.limits (u i) i h x.2.own))
 
 pub backs_some : (old new : State) (s : Relay) (i : ℕ) (p : Pdu) (lane after : Content) (text : Vec ℕ) → Agrees old s → IsTurned old new i lane after

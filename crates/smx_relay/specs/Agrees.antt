@@ -1,10 +1,10 @@
 -- What the engine's state stands for.
-use Rattle.std.specs.Prelude.{◌≡◌, ◌<◌, ◌++◌, ◌∷◌, [], ℕ, List, Bool, false, map, Option, Some, None, is_none, slice_get, position, is_some, take, drop, length}
+use Rattle.std.specs.Prelude.{◌≡◌, ◌<◌, ◌++◌, [], ℕ, List, Bool, false, map, Option, Some, None, is_none, position, is_some, take, drop, length}
 use Rattle.std.specs.Global.{Vec}
 use Rattle.std.specs.List.{AllZip, AllByRecursion}
 use Rattle.smx_history.specs.declared.limits.Limits.{Limits}
 use Rattle.smx_history.specs.declared.note.Note.{Note}
-use Rattle.smx_history.specs.Contents.{Content, Member}
+use Rattle.smx_history.specs.Contents.{Content}
 use Rattle.smx_history.specs.Replies.{accept_refusal}
 use Rattle.smx_relay.specs.declared.state.State.{State}
 use Rattle.smx_history.specs.Finding.{admit_refusal_after}

@@ -1,5 +1,5 @@
 -- A lane of the engine, and the history that it stands for.
-use Rattle.std.specs.Prelude.{◌≡◌, ◌≤◌, ℕ, List, Bool, true, Option, Some, None, unwrap_or}
+use Rattle.std.specs.Prelude.{◌≡◌, ◌≤◌, ℕ, List, true, Option, unwrap_or}
 use Rattle.std.specs.List.{AllByRecursion}
 use Rattle.smx_history.specs.declared.limits.Limits.{Limits}
 use Rattle.smx_history.specs.declared.entry.Entry.{Entry}

@@ -1,5 +1,5 @@
 -- What each line of a script does and prints, over the histories of the lanes.
-use Rattle.std.specs.Prelude.{◌≡◌, ℕ, ◌+◌, ◌%◌, ◌==◌, Bool, true, false, List, [], ◌∷◌, ◌++◌, length, map, take, drop, set, replicate, position, codes, Option, Some, None, is_none, is_some, option_and_then, nat_lt, slice_get, if◌then◌else◌}
+use Rattle.std.specs.Prelude.{◌≡◌, ℕ, ◌+◌, ◌%◌, Bool, true, false, List, [], ◌∷◌, ◌++◌, length, map, take, drop, set, replicate, position, codes, Option, Some, None, is_none, is_some, nat_lt, slice_get, if◌then◌else◌}
 use Rattle.std.specs.List.{flat_map, find, range_with_len}
 use Rattle.std.specs.Fmt.{decimal}
 use Rattle.smx_pdu.specs.declared.pdu.Pdu.{Pdu}

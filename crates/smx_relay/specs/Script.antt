@@ -67,12 +67,15 @@ pair_command word what =
     lanes_command : Option ℕ → Option Command
     lanes_command None = None
     lanes_command (Some n) = Some (Set (Lanes n))
+
     take_command : Option ℕ → Option Command
     take_command None = None
     take_command (Some lane) = Some (Run (Take lane))
+
     collect_command : Option ℕ → Option Command
     collect_command None = None
     collect_command (Some client) = Some (Run (Collect client))
+
     history_command : Option ℕ → Option Command
     history_command None = None
     history_command (Some lane) = Some (Run (History lane))

@@ -189,7 +189,7 @@ fn collect_all(alloc: Global, lanes: &mut Vec<Lane>, client: u64) -> Result<Vec<
     requires { AreReached lanes.old.items }
     ensures { (limits : Limits) (clients : List (Option ℕ)) (hs : List (List Note)) → AreOn limits clients hs lanes.old.items
         → IfOk result (λ text. (text.items ≡ flat_map (collect_text client) hs)
-            × AreOn limits clients (map (collected client) hs) lanes.new.items) }
+        × AreOn limits clients (map (collected client) hs) lanes.new.items) }
 {
     let mut text = Vec::new(alloc);
     for at in 0..lanes.len() {
@@ -200,11 +200,7 @@ fn collect_all(alloc: Global, lanes: &mut Vec<Lane>, client: u64) -> Result<Vec<
 }
 
 /// A client collects what waits for it. There is no text where the client isn't known.
-pub fn collect(
-    alloc: Global,
-    state: &mut State,
-    client: u64,
-) -> Result<Option<Vec<u8>>, AllocError>
+pub fn collect(alloc: Global, state: &mut State, client: u64) -> Result<Option<Vec<u8>>, AllocError>
     requires { IsReached state.old }
     ensures { (s : Relay) → Agrees state.old s → IfOk result (λ text.
         Prints (collect_turn s client (last_of s.clients client)) state.new text) }

@@ -69,7 +69,10 @@ impl Write for Weary {
 fn a_reader_that_fails(rt: HostRuntime) {
     for reads in 0..=SCRIPT.len() {
         let mut out = Vec::new(rt.alloc());
-        assert_eq!(rt; run(rt.alloc(), &mut Broken { reads, at: 0 }, &mut out), RunEnd::ReadFault);
+        assert_eq!(rt;
+            run(rt.alloc(), &mut Broken { reads, at: 0 }, &mut out),
+            RunEnd::ReadFault
+        );
         assert!(rt; out.is_empty());
     }
     let mut out = Vec::new(rt.alloc());
@@ -117,9 +120,15 @@ fn a_writer_that_fails(rt: HostRuntime) {
 fn the_longest_script(rt: HostRuntime) -> Result<(), Fail> {
     let mut text = vec![in rt.alloc(); b'#'; 1_048_576]?;
     let mut out = Vec::new(rt.alloc());
-    assert_eq!(rt; run(rt.alloc(), &mut text.as_slice(), &mut out), RunEnd::Clean);
+    assert_eq!(rt;
+        run(rt.alloc(), &mut text.as_slice(), &mut out),
+        RunEnd::Clean
+    );
     text.push(b'#')?;
-    assert_eq!(rt; run(rt.alloc(), &mut text.as_slice(), &mut out), RunEnd::TooLong);
+    assert_eq!(rt;
+        run(rt.alloc(), &mut text.as_slice(), &mut out),
+        RunEnd::TooLong
+    );
     assert!(rt; out.is_empty());
     Ok(())
 }

@@ -66,7 +66,10 @@ fn run_action(
 {
     match action {
         Action::Client => Ok(Some(enter(alloc, state)?)),
-        Action::In { client, offer: request } => offer(alloc, state, client, request),
+        Action::In {
+            client,
+            offer: request,
+        } => offer(alloc, state, client, request),
         Action::Take { lane } => take(alloc, state, lane),
         Action::Back { lane, response } => back(alloc, state, lane, response),
         Action::Collect { client } => collect(alloc, state, client),

@@ -1,6 +1,7 @@
 //! The command of a line.
 ghost use Rattle.std.specs.Prelude.{◌≡◌, IfOk};
 ghost use Rattle.smx_relay.specs.Script.{command_of};
+ghost use Rattle.smx_relay.specs.Script.{is_from_centre, pair_command, octets_command, limits_command};
 
 use crate::command::{Action, Command, Setting};
 use crate::offer::Offer;
@@ -9,8 +10,6 @@ use smx_history::Limits;
 use smx_pdu::command::{DELIVER_SM, GENERIC_NACK, RESPONSE};
 use smx_pdu::{Pdu, is_forwarded};
 use std::alloc::{AllocError, Global};
-
-ghost use Rattle.smx_relay.specs.Script.{is_from_centre, pair_command, octets_command, limits_command};
 
 // Whether a PDU with this command comes from the centre as a response.
 fn is_from_centre(command: u32) -> bool

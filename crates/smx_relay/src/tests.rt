@@ -44,7 +44,11 @@ const ROWS: [(&str, &str, &str); 11] = [
         "client 1\naccepted 1 0\naccepted 1 1\nto 1 00000010800000040000001400000003\nup 1 00000022000000040000000000000001000000000000310000000000000000000000\nadmit 1 0 0\naccept 1 2 2\ntake 1 2 1\n",
     ),
     ("no line", "", ""),
-    ("empty lines and comments with any octet", "\n# \r\0\n\n#", ""),
+    (
+        "empty lines and comments with any octet",
+        "\n# \r\0\n\n#",
+        "",
+    ),
     (
         "the last setting counts, and digits in upper case",
         "lanes 3\nlimits 1 1 1 1000\n\n# two\nlanes 2\nlimits 9 9 9 1000\nclient trx\nclient trx\nin 2 000000220000000400000000ABCDEF01000000000000310000000000000000000000\nin 2 00000022000000040000000000000002000000000000310000000000000000000000\ncollect 2",
@@ -98,20 +102,36 @@ fn scripts_print_what_their_lines_cause(rt: HostRuntime) -> Result<(), Fail> {
     for (name, script, output) in ROWS {
         let mut out = Vec::new(rt.alloc());
         let mut reader = script.as_bytes();
-        assert_eq!(rt; run(rt.alloc(), &mut reader, &mut out), RunEnd::Clean, "{name}");
+        assert_eq!(rt;
+            run(rt.alloc(), &mut reader, &mut out),
+            RunEnd::Clean,
+            "{name}"
+        );
         assert_eq!(rt; out.as_slice(), output.as_bytes(), "{name}");
     }
     for line in BAD_LINES {
         let script = format!(in rt.alloc(); "client trx\n{line}\ncollect 1\n")?;
         let mut out = Vec::new(rt.alloc());
         let mut reader = script.as_bytes();
-        assert_eq!(rt; run(rt.alloc(), &mut reader, &mut out), RunEnd::BadLine(2), "{line}");
-        assert_eq!(rt; out.as_slice(), "client 1\nbad line 2\n".as_bytes(), "{line}");
+        assert_eq!(rt;
+            run(rt.alloc(), &mut reader, &mut out),
+            RunEnd::BadLine(2),
+            "{line}"
+        );
+        assert_eq!(rt;
+            out.as_slice(),
+            "client 1\nbad line 2\n".as_bytes(),
+            "{line}"
+        );
     }
     for line in BAD_SETTINGS {
         let mut out = Vec::new(rt.alloc());
         let mut reader = line.as_bytes();
-        assert_eq!(rt; run(rt.alloc(), &mut reader, &mut out), RunEnd::BadLine(1), "{line}");
+        assert_eq!(rt;
+            run(rt.alloc(), &mut reader, &mut out),
+            RunEnd::BadLine(1),
+            "{line}"
+        );
         assert_eq!(rt; out.as_slice(), "bad line 1\n".as_bytes(), "{line}");
     }
     let mut out = Vec::new(rt.alloc());
@@ -135,9 +155,14 @@ fn clients_that_are_refused(rt: HostRuntime) -> Result<(), Fail> {
     script.push_str("history 0\ncollect 496\n")?;
     let mut out = Vec::new(rt.alloc());
     let mut reader = script.as_bytes();
-    assert_eq!(rt; run(rt.alloc(), &mut reader, &mut out), RunEnd::BadLine(506));
-    let begin = "client 1\nclient 2\naccepted 1 0\naccepted 2 1\nup 1 00000022000000040000000000000001000000000000310000000000000000000000\naccepted 2 1\nclient 3\n";
-    let end = "admit 495 0 0\nadmit 496 0 0\nretire 496 0 0\nadmit 497 0 0\nretire 497 0 0\nbad line 506\n";
+    assert_eq!(rt;
+        run(rt.alloc(), &mut reader, &mut out),
+        RunEnd::BadLine(506)
+    );
+    let begin =
+        "client 1\nclient 2\naccepted 1 0\naccepted 2 1\nup 1 00000022000000040000000000000001000000000000310000000000000000000000\naccepted 2 1\nclient 3\n";
+    let end =
+        "admit 495 0 0\nadmit 496 0 0\nretire 496 0 0\nadmit 497 0 0\nretire 497 0 0\nbad line 506\n";
     assert!(rt; out.as_slice().starts_with(begin.as_bytes()));
     assert!(rt; out.as_slice().ends_with(end.as_bytes()));
     Ok(())

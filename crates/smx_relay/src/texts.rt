@@ -122,6 +122,9 @@ pub fn push_entry(alloc: Global, out: &mut Vec<u8>, entry: &Entry) -> Result<(),
     ensures { OnOk result (out.new.items ≡ out.old.items ++ entry_line entry.now) }
 {
     let kind = kind_name(entry.kind);
-    let line = format!(in alloc; "{kind} {} {} {}\n", entry.client, entry.ordinal, entry.number)?;
+    let line = format!(in alloc;
+        "{kind} {} {} {}\n",
+        entry.client, entry.ordinal, entry.number
+    )?;
     out.extend_from_slice(line.as_bytes())
 }

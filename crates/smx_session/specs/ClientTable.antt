@@ -13,7 +13,7 @@ use Rattle.smx_session.specs.declared.client_row.ClientRow.{ClientRow}
 use Rattle.smx_session.specs.declared.client_row.ClientRow.TheVariants as row
 use Rattle.smx_session.specs.declared.act.Act.{Act}
 use Rattle.smx_session.specs.declared.act.Act.TheVariants as act
-use Rattle.smx_session.specs.Pdus.{response, unknown, undecoded}
+use Rattle.smx_session.specs.Pdus.{response, unknown}
 use Rattle.smx_session.specs.declared.bind_check.Checked.{Checked}
 use Rattle.smx_session.specs.declared.bind_check.Checked.TheVariants.{Refused, Granted}
 use Rattle.smx_session.specs.Binds.{check_bind, bind_answer}

@@ -76,7 +76,10 @@ enquiry u now = if is_due u now then Some (request ENQUIRE_LINK enquiry_number) 
 
 -- it is unanswered from that moment on
 abbrev pub after_moment : Upstream → ℕ → Upstream
-after_moment u now = record u { latest = moment u now; enquired = if is_due u now then Some (moment u now) else u.enquired }
+after_moment u now = record u {
+  latest = moment u now;
+  enquired = if is_due u now then Some (moment u now) else u.enquired;
+}
 
 -- whether an enquiry is unanswered for at least the silence
 abbrev pub unanswered_for : ℕ → ℕ → Option ℕ → Bool

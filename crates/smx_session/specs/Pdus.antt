@@ -7,7 +7,12 @@ use Rattle.smx_pdu.specs.declared.status.TheConstants.{ESME_ROK, ESME_RINVCMDLEN
 -- the response to a request bears its id with the top bit, and its number (SMPP 3.4, sections
 -- 3.2 and 5.1.2.1)
 abbrev pub response : Pdu → ℕ → List ℕ → Pdu
-response request status body = record { command = RESPONSE + request.command; status = status; number = request.number; body = body }
+response request status body = record {
+  command = RESPONSE + request.command;
+  status = status;
+  number = request.number;
+  body = body;
+}
 
 -- generic_nack of a PDU whose command is unknown (4.3)
 abbrev pub unknown : Pdu → Pdu

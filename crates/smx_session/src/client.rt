@@ -74,7 +74,8 @@ impl ClientSession {
         ensures act { IfOk result (λ act. act ≡ (client_decides accounts.now self.old pdu.now).0) }
         ensures state { OnOk result (self.new ≡ (client_decides accounts.now self.old pdu.now).1) }
         ensures err { OnErr result (self.new ≡ self.old) }
-        ensures memory { OnErr result (Binds (client_cell (client_row pdu.now.command) self.old) accounts.now pdu.now.body) }
+        ensures memory { OnErr result (Binds (client_cell (client_row pdu.now.command) self.old)
+            accounts.now pdu.now.body) }
     {
         let alloc = self.alloc;
         let act = match (client_row(pdu.command), self.state) {
@@ -108,7 +109,8 @@ impl ClientSession {
         ensures act { IfOk result (λ act. act ≡ (client_decides accounts.now self.old pdu.now).0) }
         ensures state { OnOk result (self.new ≡ (client_decides accounts.now self.old pdu.now).1) }
         ensures err { OnErr result (self.new ≡ self.old) }
-        ensures memory { OnErr result (Binds (client_cell (client_row pdu.now.command) self.old) accounts.now pdu.now.body) }
+        ensures memory { OnErr result (Binds (client_cell (client_row pdu.now.command) self.old)
+            accounts.now pdu.now.body) }
     {
         match check_bind(accounts, pdu.body.as_slice()) {
             Checked::Refused(status) => {

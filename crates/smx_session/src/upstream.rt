@@ -35,7 +35,15 @@ impl Model for UpstreamSession {
 
     ghost Value = { Upstream };
 
-    ghost view = { λ s. record { system_id = s.system_id.items; password = s.password.items; silence = s.silence; state = s.state; latest = s.latest; heard = s.heard; enquired = s.enquired } };
+    ghost view = { λ s. record {
+      system_id = s.system_id.items;
+      password = s.password.items;
+      silence = s.silence;
+      state = s.state;
+      latest = s.latest;
+      heard = s.heard;
+      enquired = s.enquired;
+    } };
 
     ghost invariant = { λ s. IsText 16 s.system_id.items × IsText 9 s.password.items };
 }
@@ -58,7 +66,15 @@ impl UpstreamSession {
     ) -> UpstreamSession
         requires system_id { IsText 16 system_id.items }
         requires password { IsText 9 password.items }
-        ensures { result ≡ record { system_id = system_id.items; password = password.items; silence = silence; state = UpstreamState.Binding; latest = now; heard = now; enquired = None } }
+        ensures { result ≡ record {
+          system_id = system_id.items;
+          password = password.items;
+          silence = silence;
+          state = UpstreamState.Binding;
+          latest = now;
+          heard = now;
+          enquired = None;
+        } }
     {
         UpstreamSession {
             alloc,
@@ -81,7 +97,12 @@ impl UpstreamSession {
     /// The proxy's bind_transceiver (SMPP 3.4, section 4.1.5), which is sent first. It takes memory
     /// for its body.
     pub fn start(&self) -> Result<Pdu, AllocError>
-        ensures { IfOk result (λ p. p ≡ record { command = BIND_TRANSCEIVER; status = ESME_ROK; number = bind_number; body = all_octets bind_fields (in_order (own_bind self.now.system_id self.now.password)) }) }
+        ensures { IfOk result (λ p. p ≡ record {
+          command = BIND_TRANSCEIVER;
+          status = ESME_ROK;
+          number = bind_number;
+          body = all_octets bind_fields (in_order (own_bind self.now.system_id self.now.password));
+        }) }
     {
         let mut octets = Vec::new(self.alloc);
         let bind = Bind {

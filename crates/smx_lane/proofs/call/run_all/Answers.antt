@@ -1,8 +1,5 @@
-use Rattle.std.proofs.Common.{◌≡◌, ◌≤◌, ◌<◌, ◌+◌, ◌++◌, ◌∷◌, ℕ, List, [], length, length-append, refl, sym, ap, ◌∙◌, subst, arith, append_assoc, vec_len}
+use Rattle.std.proofs.Common.{◌≡◌, ◌++◌, ◌∷◌, List, [], length, length-append, refl, sym, ap, ◌∙◌, arith, append_assoc}
 use Rattle.std.proofs.lemmas.List.{append-nil}
-use Rattle.smx_lane.specs.declared.call.Call.{Call}
-use Rattle.smx_lane.specs.declared.call.Reply.{Reply}
-use Rattle.smx_lane.specs.Calls.{Ran, GoesOn}
 use Rattle.smx_lane.proofs.Calling.{ran_none, ran_further, goes_further, stays}
 use Rattle.smx_lane.proofs.call.run_all.Goals as goal
 

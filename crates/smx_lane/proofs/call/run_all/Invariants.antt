@@ -1,4 +1,4 @@
-use Rattle.std.proofs.Common.{◌≡◌, ◌≤◌, ◌++◌, ℕ, List, length, vec_len, vec_capacity}
+use Rattle.std.proofs.Common.{◌≡◌, ◌≤◌, ◌++◌, List, length, vec_len, vec_capacity}
 use Rattle.smx_history.specs.declared.note.Note.{Note}
 use Rattle.smx_lane.specs.Calls.{GoesOn, Ran}
 use Rattle.smx_lane.proofs.call.run_all.Given as goal

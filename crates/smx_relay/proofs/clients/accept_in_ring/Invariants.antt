@@ -9,5 +9,5 @@ invariant-loop-k l = record {
   same : l.lanes.items ≡ l.fn.lanes.items;
   request_same : l.request ≡ l.fn.request;
   none : find (λ i. accepts_in l.fn.request.client (slice_get l.fn.lanes.items i)) (ring (l.last % length l.fn.lanes.items) (length l.fn.lanes.items))
-    ≡ find (λ i. accepts_in l.fn.request.client (slice_get l.fn.lanes.items i)) (drop l.k (ring (l.last % length l.fn.lanes.items) (length l.fn.lanes.items)));
+      ≡ find (λ i. accepts_in l.fn.request.client (slice_get l.fn.lanes.items i)) (drop l.k (ring (l.last % length l.fn.lanes.items) (length l.fn.lanes.items)));
 }

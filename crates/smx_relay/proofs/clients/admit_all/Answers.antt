@@ -1,4 +1,4 @@
-use Rattle.std.proofs.Common.{◌≡◌, rules, arith, refl, sym, ◌∙◌}
+use Rattle.std.proofs.Common.{arith, refl, ◌∙◌}
 use Rattle.std.proofs.Math.ListN.{length-set}
 use Rattle.smx_history.specs.declared.reply.AdmitRefusal.TheVariants.{Known, HistoryFull}
 use Rattle.smx_relay.proofs.Lanes.{written_back}

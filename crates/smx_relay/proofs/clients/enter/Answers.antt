@@ -1,4 +1,4 @@
-use Rattle.std.proofs.Common.{◌≡◌, ℕ, rules, arith, refl, sym, ◌∙◌, subst, Option, Some, None}
+use Rattle.std.proofs.Common.{ℕ, rules, arith, refl, subst, Option}
 use Rattle.std.proofs.lemmas.Result.{IfOk-weaker}
 use Rattle.smx_relay.specs.Agrees.{Enters}
 use Rattle.smx_relay.proofs.ClientTurns.{entered_all, entered_none, have_entered}
@@ -9,7 +9,7 @@ retire_before-requires c =
     let s = c.requires.0 in
     let a = c.requires.1 in
     have_entered c.args.state.now s c.len-client.result c.in-Some.refusing c.admit_all.new.lanes.items a
-      (subst (λ (o : Option ℕ). Enters s.limits s.clients s.histories c.len-client.result o c.admit_all.new.lanes.items) c.in-Some.is (c.in_ok-admit_all.ensures s.limits s.clients s.histories a.lanes))
+    (subst (λ (o : Option ℕ). Enters s.limits s.clients s.histories c.len-client.result o c.admit_all.new.lanes.items) c.in-Some.is (c.in_ok-admit_all.ensures s.limits s.clients s.histories a.lanes))
 
 pub returns-in_ok-push-in-None : goal.returns-in_ok-push-in-None
 returns-in_ok-push-in-None c = λ s a.
@@ -20,4 +20,4 @@ pub returns-in_ok-push-in-Some : goal.returns-in_ok-push-in-Some
 returns-in_ok-push-in-Some c = λ s a.
     let enters = subst (λ (o : Option ℕ). Enters s.limits s.clients s.histories c.len-client.result o c.admit_all.new.lanes.items) c.in-Some.is (c.in_ok-admit_all.ensures s.limits s.clients s.histories a.lanes) in
     IfOk-weaker c.from_slice.result _ _ (λ text e. entered_none c.args.state.now c.admit_all.new.lanes.items _ s c.len-client.result c.in-Some.refusing text.items a (omega arith) enters c.retire_before.ensures
-      (record { limits = refl; count = refl; started = refl }) (search rules) e) (search rules)
+    (record { limits = refl; count = refl; started = refl }) (search rules) e) (search rules)

@@ -1,9 +1,9 @@
-use Rattle.std.proofs.Common.{◌≡◌, ℕ, rules, arith, refl, sym, ◌∙◌, ap, Some, None, subst, ◌++◌, ◌∷◌, []}
+use Rattle.std.proofs.Common.{rules, arith, refl, subst, ◌++◌, ◌∷◌, []}
 use Rattle.smx_history.specs.Contents.{AgreesWith}
 use Rattle.smx_history.specs.History.{note}
 use Rattle.smx_history.specs.declared.note.Event.TheVariants.{Accept}
 use Rattle.std.proofs.lemmas.Result.{IfOk-weaker}
-use Rattle.smx_relay.proofs.Offering.{lanes_may_accept, offered_some, offered_none, IsAccepted}
+use Rattle.smx_relay.proofs.Offering.{lanes_may_accept, offered_some, offered_none}
 use Rattle.smx_relay.proofs.OwnNotes.{known_within}
 use Rattle.smx_relay.proofs.clients.offer_next.Goals as goal
 
@@ -16,7 +16,7 @@ index_mut-requires c = let w = known_within c.args.state.now.clients.items c.arg
 pub returns-in-Some-accept_in_ring : goal.returns-in-Some-accept_in_ring
 returns-in-Some-accept_in_ring c = λ s a. let w = c.in-Some-accept_in_ring.ensures.accepted in
     IfOk-weaker c.accepted_line.result _ _ (λ text e. offered_some c.args.state.now _ s c.args.client c.args.last c.in-Some-accept_in_ring.at c.args.offer w.0 w.1 text.items a c.requires.known
-      (record { found = search rules; here = w.2; lanes = w.3; limits_kept = w.4; goes = λ h ag. subst (λ r. AgreesWith (h ++ note 0 (Accept r) ∷ []) w.1) (search rules) (w.5 h ag); clients = search rules; limits = refl; count = refl; started = refl }) e) c.accepted_line.ensures
+    (record { found = search rules; here = w.2; lanes = w.3; limits_kept = w.4; goes = λ h ag. subst (λ r. AgreesWith (h ++ note 0 (Accept r) ∷ []) w.1) (search rules) (w.5 h ag); clients = search rules; limits = refl; count = refl; started = refl }) e) c.accepted_line.ensures
 
 pub returns : goal.returns
 returns c = λ s a. IfOk-weaker c.to_line.result _ _ (λ text e. offered_none c.args.state.now _ s c.args.client c.args.last c.args.offer c.refusal_of-refusal.result text.items a (search rules) (search rules) refl refl refl refl (search rules) e) c.to_line.ensures

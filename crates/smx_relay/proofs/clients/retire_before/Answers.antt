@@ -1,5 +1,5 @@
-use Rattle.std.proofs.Common.{◌≡◌, ◌<◌, rules, arith, refl, sym, ◌∙◌, length, ap, Some, None}
-use Rattle.smx_relay.proofs.Entering.{leaving_start, leaving_some_start, leaving_more, leaving_some_more, leaving_requires, leaving_within, leaving_end, IsLeft, left_by}
+use Rattle.std.proofs.Common.{arith}
+use Rattle.smx_relay.proofs.Entering.{leaving_start, leaving_some_start, leaving_more, leaving_some_more, leaving_requires, leaving_within, leaving_end, left_by}
 use Rattle.smx_relay.proofs.clients.retire_before.Goals as goal
 
 pub loop-at-init : goal.loop-at-init

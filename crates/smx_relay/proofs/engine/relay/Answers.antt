@@ -1,8 +1,7 @@
-use Rattle.std.proofs.Common.{◌≡◌, ◌∷◌, ◌+◌, [], refl, ap, sym, subst, ◌∙◌, map, drop, List, ℕ, Bor, Option, Some, None, length, arith, rules, get_or}
+use Rattle.std.proofs.Common.{[], sym, subst, ◌∙◌, List, ℕ, Bor, Option, Some, None, arith, rules, get_or}
 use Rattle.std.specs.Global.{Vec}
 use Rattle.std.specs.Io.KnownBytes.{Appends}
-use Rattle.smx_relay.specs.Script.{lines_of}
-use Rattle.smx_relay.proofs.Standing.{Stands, Turns, stands_start, stands_more, stands_end, stands_front, stands_part, stands_bad, stands_bad_part, stands_nothing, line_at, lines_past}
+use Rattle.smx_relay.proofs.Standing.{Turns, stands_start, stands_more, stands_end, stands_front, stands_part, stands_bad, stands_bad_part, stands_nothing, line_at, lines_past}
 use Rattle.smx_relay.proofs.engine.relay.Goals as goal
 
 -- the reference that a read past the end would give

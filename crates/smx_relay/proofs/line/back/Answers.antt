@@ -1,4 +1,4 @@
-use Rattle.std.proofs.Common.{◌≡◌, ◌≤◌, rules, arith, refl, length}
+use Rattle.std.proofs.Common.{arith, refl}
 use Rattle.smx_relay.specs.Relay.{back_on}
 use Rattle.smx_relay.proofs.StateTurns.{no_lane, backs_some}
 use Rattle.smx_relay.proofs.line.back.Goals as goal

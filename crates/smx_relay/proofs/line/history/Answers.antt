@@ -1,4 +1,4 @@
-use Rattle.std.proofs.Common.{◌≡◌, ◌≤◌, rules, arith, refl, sym, length, get_or}
+use Rattle.std.proofs.Common.{◌≡◌, rules, arith, refl, sym, get_or}
 use Rattle.smx_relay.specs.Relay.{history_on}
 use Rattle.smx_relay.proofs.Lanes.{written_back}
 use Rattle.smx_relay.proofs.StateTurns.{no_lane, history_some}

@@ -1,4 +1,3 @@
-use Rattle.std.proofs.Common.{◌≡◌, refl, sym, ap, Some}
 use Rattle.std.proofs.lemmas.Result.{IfOk-weaker}
 use Rattle.smx_relay.specs.Relay.{begun}
 use Rattle.smx_relay.proofs.Acts.{does_skip, does_set, does_run}

@@ -1,4 +1,4 @@
-use Rattle.std.proofs.Common.{◌≡◌, refl, sym, ap, ◌∙◌, Some, None}
+use Rattle.std.proofs.Common.{sym, ◌∙◌}
 use Rattle.std.proofs.lemmas.Result.{IfOk-weaker}
 use Rattle.smx_relay.proofs.Acts.{lines_command, lines_bad}
 use Rattle.smx_relay.proofs.line.run_line.Goals as goal

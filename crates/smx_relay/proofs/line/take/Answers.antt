@@ -1,4 +1,4 @@
-use Rattle.std.proofs.Common.{◌≡◌, ◌≤◌, rules, arith, refl, length}
+use Rattle.std.proofs.Common.{arith, refl}
 use Rattle.smx_relay.proofs.StateTurns.{takes_none, takes_some}
 use Rattle.smx_relay.proofs.line.take.Goals as goal
 

@@ -1,4 +1,4 @@
-use Rattle.std.proofs.Common.{◌≡◌, rules, refl}
+use Rattle.std.proofs.Common.{rules}
 use Rattle.std.proofs.lemmas.Result.{IfOk-weaker}
 use Rattle.smx_relay.proofs.LaneTurns.{answered_queued, answered_late, answered_unknown}
 use Rattle.smx_relay.proofs.on_lane.back_on.Goals as goal

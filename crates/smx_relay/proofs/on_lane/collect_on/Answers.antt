@@ -1,4 +1,4 @@
-use Rattle.std.proofs.Common.{◌≡◌, rules, refl, ◌∙◌}
+use Rattle.std.proofs.Common.{rules, refl, ◌∙◌}
 use Rattle.smx_relay.proofs.Rows.{rows_ours}
 use Rattle.smx_relay.proofs.Collecting.{collecting_start, collecting_more, collecting_end, fed_more, box_smaller}
 use Rattle.smx_relay.proofs.on_lane.collect_on.Goals as goal

@@ -1,4 +1,4 @@
-use Rattle.std.proofs.Common.{◌≡◌, rules}
+use Rattle.std.proofs.Common.{rules}
 use Rattle.std.proofs.lemmas.Result.{IfOk-weaker}
 use Rattle.smx_relay.proofs.LaneTurns.{took, took_none, took_full}
 use Rattle.smx_relay.proofs.on_lane.take_on.Goals as goal

@@ -1,4 +1,4 @@
-use Rattle.std.proofs.Common.{◌≡◌, rules, refl, ◌∙◌}
+use Rattle.std.proofs.Common.{rules, refl}
 use Rattle.smx_relay.proofs.Beginning.{beginning_start, beginning_more, beginning_end, already}
 use Rattle.smx_relay.proofs.settings.begin.Goals as goal
 

@@ -1,5 +1,5 @@
 use Rattle.std.proofs.Common.{◌≡◌, ◌∙◌, sym, refl}
-use Rattle.std.proofs.lemmas.Bool.{eqb-true, eq-eqb, ltb-true, lt-ltb}
+use Rattle.std.proofs.lemmas.Bool.{eqb-true, eq-eqb}
 use Rattle.smx_history.specs.Contents.{Member}
 use Rattle.smx_history.proofs.Keeping.{found_meets}
 use Rattle.smx_lane.specs.Inside.{content_of}
