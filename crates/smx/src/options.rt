@@ -12,7 +12,7 @@ pub enum Asked {
 }
 
 /// Reads the words of a command line, the program's name first.
-pub fn read(alloc: Global, words: &[String]) -> Result<Asked, Error> {
+pub(crate) fn read(alloc: Global, words: &[String]) -> Result<Asked, Error> {
     let command = Command::new(alloc, "smx")
         .subcommand_required(true)
         .subcommand(Command::new(alloc, "relay"))?;

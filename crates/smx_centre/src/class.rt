@@ -24,7 +24,7 @@ pub enum Class {
     Response,
 }
 
-pub fn class_of(command: u32) -> Class
+pub(crate) fn class_of(command: u32) -> Class
     ensures { result ≡ class_of command }
 {
     match command {

@@ -5,7 +5,7 @@ use smx_pdu::Pdu;
 use std::alloc::{AllocError, Global};
 
 // Adds a PDU, where there is room for it.
-pub fn add(pdus: &mut Vec<Pdu>, pdu: Pdu)
+pub(crate) fn add(pdus: &mut Vec<Pdu>, pdu: Pdu)
     requires { vec_len pdus.old < vec_capacity pdus.old }
     ensures items { pdus.new.items ≡ pdus.old.items ++ pdu ∷ [] }
     ensures capacity { vec_capacity pdus.old ≤ vec_capacity pdus.new }
@@ -14,7 +14,7 @@ pub fn add(pdus: &mut Vec<Pdu>, pdu: Pdu)
 }
 
 // One PDU alone.
-pub fn one(alloc: Global, pdu: Pdu) -> Result<Vec<Pdu>, AllocError>
+pub(crate) fn one(alloc: Global, pdu: Pdu) -> Result<Vec<Pdu>, AllocError>
     ensures { IfOk result (λ pdus. pdus.items ≡ pdu ∷ []) }
 {
     let mut pdus = Vec::with_capacity(alloc, 1)?;
@@ -23,7 +23,7 @@ pub fn one(alloc: Global, pdu: Pdu) -> Result<Vec<Pdu>, AllocError>
 }
 
 // One PDU and then another.
-pub fn two(alloc: Global, first: Pdu, second: Pdu) -> Result<Vec<Pdu>, AllocError>
+pub(crate) fn two(alloc: Global, first: Pdu, second: Pdu) -> Result<Vec<Pdu>, AllocError>
     ensures { IfOk result (λ pdus. pdus.items ≡ first ∷ second ∷ []) }
 {
     let mut pdus = Vec::with_capacity(alloc, 2)?;

@@ -9,7 +9,7 @@ use smx_pdu::{Body, Pdu};
 use std::alloc::{AllocError, Global};
 
 // The response to a request.
-pub fn response(request: &Pdu, status: u32, body: Body) -> Pdu
+pub(crate) fn response(request: &Pdu, status: u32, body: Body) -> Pdu
     requires { request.now.command < RESPONSE }
     ensures { result ≡ response request.now status body }
 {
@@ -22,7 +22,7 @@ pub fn response(request: &Pdu, status: u32, body: Body) -> Pdu
 }
 
 // generic_nack of a PDU with an unknown command (section 4.3).
-pub fn unknown(alloc: Global, number: u32) -> Pdu
+pub(crate) fn unknown(alloc: Global, number: u32) -> Pdu
     ensures { result ≡ record { command = GENERIC_NACK; status = ESME_RINVCMDID; number = number; body = [] } }
 {
     Pdu {
@@ -45,14 +45,14 @@ fn short(octets: Vec<u8>) -> Body
 }
 
 // The body of a bind's response: the system_id of the centre (section 4.1.2).
-pub fn system_id(alloc: Global) -> Result<Body, AllocError>
+pub(crate) fn system_id(alloc: Global) -> Result<Body, AllocError>
     ensures { IfOk result (λ b. b ≡ codes "centre" ++ 0 ∷ []) }
 {
     Ok(short(Vec::from_slice(alloc, b"centre\0")?))
 }
 
 // The body of a message's response: its message_id in decimal (section 4.4.2).
-pub fn message_id(alloc: Global, id: u32) -> Result<Body, AllocError>
+pub(crate) fn message_id(alloc: Global, id: u32) -> Result<Body, AllocError>
     ensures { IfOk result (λ b. b ≡ decimal id ++ 0 ∷ []) }
 {
     let mut octets = id.to_string(alloc)?.into_bytes();
@@ -61,7 +61,7 @@ pub fn message_id(alloc: Global, id: u32) -> Result<Body, AllocError>
 }
 
 // A message to a destination, all else in it empty.
-pub fn delivery(alloc: Global, number: u32, destination: &[u8]) -> Result<Pdu, AllocError>
+pub(crate) fn delivery(alloc: Global, number: u32, destination: &[u8]) -> Result<Pdu, AllocError>
     requires { length destination.now ≤ 20 }
     ensures { IfOk result (λ p. p ≡ delivery number destination.now) }
 {
@@ -78,7 +78,7 @@ pub fn delivery(alloc: Global, number: u32, destination: &[u8]) -> Result<Pdu, A
 }
 
 // The response to a forwarded command: to a message with its message id, else that it failed.
-pub fn forwarded_response(
+pub(crate) fn forwarded_response(
     alloc: Global,
     request: &Pdu,
     message: Option<u32>,

@@ -52,7 +52,7 @@ fn entry(kind: Kind, by: u64, client: u64, ordinal: u64) -> Entry {
 }
 
 impl Driver {
-    pub fn new(alloc: Global) -> Result<Driver, LaneFault> {
+    pub(crate) fn new(alloc: Global) -> Result<Driver, LaneFault> {
         Ok(Driver {
             alloc,
             chance: Pcg32::new(42, 54),
@@ -74,7 +74,7 @@ impl Driver {
     }
 
     /// Makes one call, and says whether lane and model agree.
-    pub fn step(&mut self) -> Result<bool, AllocError> {
+    pub(crate) fn step(&mut self) -> Result<bool, AllocError> {
         let (by, client) = self.client();
         let same = match self.below(40) {
             0..=1 => self.admit()?,
@@ -88,13 +88,13 @@ impl Driver {
     }
 
     /// Whether the check of a finished history finds this one legal.
-    pub fn is_legal(&self) -> bool {
+    pub(crate) fn is_legal(&self) -> bool {
         smx_lane::is_legal(self.lane.entries(), LIMITS)
     }
 
     /// Whether the check refuses this history once it is spoiled so, or nothing where it has no
     /// entry to spoil.
-    pub fn refuses(&self, spoiling: Spoiling) -> Result<Option<bool>, AllocError> {
+    pub(crate) fn refuses(&self, spoiling: Spoiling) -> Result<Option<bool>, AllocError> {
         match spoiling.of(self.alloc, self.lane.entries())? {
             Some(entries) => Ok(Some(!smx_lane::is_legal(&entries, LIMITS))),
             None => Ok(None),

@@ -59,24 +59,24 @@ fn waiting(entries: &[Entry], client: u64) -> usize {
 }
 
 impl Model {
-    pub fn new(alloc: Global, limits: Limits) -> Model {
+    pub(crate) fn new(alloc: Global, limits: Limits) -> Model {
         Model {
             limits,
             entries: Vec::new(alloc),
         }
     }
 
-    pub fn entries(&self) -> &[Entry] {
+    pub(crate) fn entries(&self) -> &[Entry] {
         self.entries.as_slice()
     }
 
     /// Stores what happened.
-    pub fn note(&mut self, entry: Entry) -> Result<(), AllocError> {
+    pub(crate) fn note(&mut self, entry: Entry) -> Result<(), AllocError> {
         Ok(self.entries.push(entry)?)
     }
 
     /// The greatest number of a client that was admitted.
-    pub fn greatest(&self) -> u64 {
+    pub(crate) fn greatest(&self) -> u64 {
         self.entries
             .iter()
             .filter(|entry| entry.kind == Kind::Admit)
@@ -85,13 +85,13 @@ impl Model {
     }
 
     /// Whether the client was admitted and has not retired.
-    pub fn is_present(&self, client: u64) -> bool {
+    pub(crate) fn is_present(&self, client: u64) -> bool {
         of_client(self.entries(), Kind::Admit, client) == 1
             && of_client(self.entries(), Kind::Retire, client) == 0
     }
 
     /// The ordinal of the client's last accept.
-    pub fn last(&self, client: u64) -> u64 {
+    pub(crate) fn last(&self, client: u64) -> u64 {
         self.entries
             .iter()
             .filter(|entry| entry.kind == Kind::Accept && entry.client == client)
@@ -129,7 +129,7 @@ impl Model {
     }
 
     /// Why the client is not admitted.
-    pub fn admit_refusal(&self, client: u64) -> Option<AdmitFault> {
+    pub(crate) fn admit_refusal(&self, client: u64) -> Option<AdmitFault> {
         if client <= self.greatest() {
             Some(AdmitFault::Known)
         } else if !self.has_room() {
@@ -140,7 +140,7 @@ impl Model {
     }
 
     /// Why a request of the client is not accepted.
-    pub fn accept_refusal(&self, client: u64) -> Option<Refusal> {
+    pub(crate) fn accept_refusal(&self, client: u64) -> Option<Refusal> {
         let pending = of_client(self.entries(), Kind::Accept, client).saturating_sub(of_client(
             self.entries(),
             Kind::Collect,
@@ -164,7 +164,7 @@ impl Model {
     }
 
     /// The accept of the request that is to be taken next.
-    pub fn next_taken(&self) -> Result<Entry, TakeRefusal> {
+    pub(crate) fn next_taken(&self) -> Result<Entry, TakeRefusal> {
         let taken = of_kind(self.entries(), Kind::Take);
         let mut accepts = self
             .entries
@@ -180,7 +180,7 @@ impl Model {
     }
 
     /// The accept of the request that a response with the number and the command answers.
-    pub fn answered(&self, number: u32, command: u32) -> Option<Entry> {
+    pub(crate) fn answered(&self, number: u32, command: u32) -> Option<Entry> {
         let take = self.entries.iter().find(|entry| {
             entry.kind == Kind::Take
                 && entry.number == number
@@ -192,7 +192,7 @@ impl Model {
     }
 
     /// The client's oldest answer that it has not collected.
-    pub fn oldest_answer(&self, client: u64) -> Option<Entry> {
+    pub(crate) fn oldest_answer(&self, client: u64) -> Option<Entry> {
         if !self.is_present(client) {
             return None;
         }
@@ -203,7 +203,7 @@ impl Model {
     }
 
     /// What the client called the request.
-    pub fn own(&self, client: u64, ordinal: u64) -> u32 {
+    pub(crate) fn own(&self, client: u64, ordinal: u64) -> u32 {
         accept_of(self.entries(), client, ordinal).map_or(0, |accept| accept.number)
     }
 }

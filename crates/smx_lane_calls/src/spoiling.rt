@@ -120,7 +120,11 @@ impl Spoiling {
     }
 
     /// The entries spoiled so, or nothing where there is no entry to spoil.
-    pub fn of(self, alloc: Global, entries: &[Entry]) -> Result<Option<Vec<Entry>>, AllocError> {
+    pub(crate) fn of(
+        self,
+        alloc: Global,
+        entries: &[Entry],
+    ) -> Result<Option<Vec<Entry>>, AllocError> {
         let Some(at) = entries.iter().position(|entry| entry.kind == self.kind()) else {
             return Ok(None);
         };

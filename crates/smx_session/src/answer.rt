@@ -8,7 +8,7 @@ use smx_pdu::{Body, Pdu};
 use std::alloc::Global;
 
 // The response to a request.
-pub fn response(request: &Pdu, status: u32, body: Body) -> Pdu
+pub(crate) fn response(request: &Pdu, status: u32, body: Body) -> Pdu
     requires { request.now.command < RESPONSE }
     ensures { result ≡ response request.now status body }
 {
@@ -21,7 +21,7 @@ pub fn response(request: &Pdu, status: u32, body: Body) -> Pdu
 }
 
 // The response with a header alone. It takes no memory.
-pub fn header_response(alloc: Global, request: &Pdu, status: u32) -> Pdu
+pub(crate) fn header_response(alloc: Global, request: &Pdu, status: u32) -> Pdu
     requires { request.now.command < RESPONSE }
     ensures { result ≡ response request.now status [] }
 {
@@ -29,7 +29,7 @@ pub fn header_response(alloc: Global, request: &Pdu, status: u32) -> Pdu
 }
 
 // generic_nack of a PDU whose command is unknown. It takes no memory.
-pub fn unknown(alloc: Global, pdu: &Pdu) -> Pdu
+pub(crate) fn unknown(alloc: Global, pdu: &Pdu) -> Pdu
     ensures { result ≡ unknown pdu.now }
 {
     Pdu {
@@ -41,7 +41,7 @@ pub fn unknown(alloc: Global, pdu: &Pdu) -> Pdu
 }
 
 // generic_nack of what couldn't be decoded. It takes no memory.
-pub fn undecoded(alloc: Global) -> Pdu
+pub(crate) fn undecoded(alloc: Global) -> Pdu
     ensures { result ≡ undecoded }
 {
     Pdu {
@@ -53,7 +53,7 @@ pub fn undecoded(alloc: Global) -> Pdu
 }
 
 // A request with a header alone. It takes no memory.
-pub fn request(alloc: Global, command: u32, number: u32) -> Pdu
+pub(crate) fn request(alloc: Global, command: u32, number: u32) -> Pdu
     ensures { result ≡ request command number }
 {
     Pdu {
@@ -65,7 +65,7 @@ pub fn request(alloc: Global, command: u32, number: u32) -> Pdu
 }
 
 // A body of octets that aren't too many.
-pub fn short(octets: Vec<u8>) -> Body
+pub(crate) fn short(octets: Vec<u8>) -> Body
     requires { length octets.items ≤ 65520 }
     ensures { result ≡ octets.items }
 {

@@ -69,7 +69,7 @@ fn bind_of(body: &[u8]) -> Result<Bind<'_>, BodyFault>
 }
 
 // Checks a bind's body against the accounts.
-pub fn check_bind(accounts: &[Account], body: &[u8]) -> Checked
+pub(crate) fn check_bind(accounts: &[Account], body: &[u8]) -> Checked
     ensures { result ≡ check_bind accounts.now body.now }
 {
     match bind_of(body) {
@@ -80,7 +80,7 @@ pub fn check_bind(accounts: &[Account], body: &[u8]) -> Checked
 
 // The body of the answer to a bind that succeeds: the system_id `smx`, and sc_interface_version for
 // a client that speaks SMPP 3.4 or later.
-pub fn bind_answer(alloc: Global, version: u8) -> Result<Body, AllocError>
+pub(crate) fn bind_answer(alloc: Global, version: u8) -> Result<Body, AllocError>
     ensures { IfOk result (λ b. b ≡ bind_answer version) }
 {
     let octets = if version >= VERSION {

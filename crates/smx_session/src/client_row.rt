@@ -32,7 +32,7 @@ pub enum ClientRow {
     Unknown,
 }
 
-pub fn client_row(command: u32) -> ClientRow
+pub(crate) fn client_row(command: u32) -> ClientRow
     ensures { result ≡ client_row command }
 {
     match command {

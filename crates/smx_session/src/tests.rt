@@ -5,7 +5,7 @@ use std::process::Abort;
 use std::test::*;
 
 // A PDU with a header alone.
-pub fn header(alloc: Global, command: u32, status: u32, number: u32) -> Pdu {
+pub(crate) fn header(alloc: Global, command: u32, status: u32, number: u32) -> Pdu {
     Pdu {
         command,
         status,
@@ -126,7 +126,7 @@ fn kinds(rt: HostRuntime) -> Result<(), Fail> {
 }
 
 // A session with the system_id `proxy` and the password `pw`, and the silence 1000, at 0.
-pub fn upstream(rt: &impl Abort, alloc: Global) -> Result<UpstreamSession, AllocError> {
+pub(crate) fn upstream(rt: &impl Abort, alloc: Global) -> Result<UpstreamSession, AllocError> {
     let bind = Bind {
         system_id: b"proxy",
         password: b"pw",

@@ -54,7 +54,7 @@ pub enum UpstreamRow {
     Unknown,
 }
 
-pub fn upstream_row(command: u32, number: u32) -> UpstreamRow
+pub(crate) fn upstream_row(command: u32, number: u32) -> UpstreamRow
     ensures { result ≡ upstream_row command number }
 {
     match (command, number) {
