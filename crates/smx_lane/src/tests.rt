@@ -134,3 +134,21 @@ fn retired_clients_get_nothing(rt: HostRuntime) -> Result<(), Fail> {
     assert!(rt; lane.collect(0, 1).is_none());
     Ok(())
 }
+
+// Want of memory is said by name, and leaves the lane as it was: tools/refuse-memory refuses each
+// allocation in turn.
+#[test]
+fn refused_memory(rt: HostRuntime) {
+    let mut lane = match Lane::new(rt.alloc(), ROOMY) {
+        Ok(lane) => lane,
+        Err(fault) => return assert_eq!(rt; fault, LaneFault::NoMemory),
+    };
+    match lane.admit(0, 1) {
+        Ok(()) => assert_eq!(rt; lane.entries().len(), 1),
+        Err(fault) => {
+            assert_eq!(rt; fault, AdmitFault::NoMemory);
+            assert!(rt; lane.entries().is_empty());
+            assert_eq!(rt; lane.limits(), ROOMY);
+        }
+    }
+}
