@@ -33,7 +33,7 @@ impl Model for Framer {
 }
 
 impl Framer {
-    ghost use Rattle.std.specs.Prelude.{◌≡◌, ◌+◌, ◌≤◌, ◌<◌, ◌++◌, ◌⊎◌, [], OnOk, OnErr, IfOk, IfErr, IfSome, IsOk, IsErrOf, length};
+    ghost use Rattle.std.specs.Prelude.{◌≡◌, ◌+◌, ◌≤◌, ◌<◌, ◌++◌, ◌⊎◌, [], OnOk, OnErr, IfOk, IfErr, IfSome, IsOk, IsErrOf, is_some, length};
     ghost use Rattle.smx_frame.specs.Stream.{TakesFirst, BeginsFrame, HasNone, fault_at};
 
     /// A framer of PDUs with at most `max` octets each, their headers included. It takes no memory.
@@ -57,6 +57,13 @@ impl Framer {
         ensures { result.now ≡ self.now.stream.rest }
     {
         &self.octets[self.start..]
+    }
+
+    /// Whether [`Framer::next_pdu`] has answered a bad length, which ends the stream.
+    pub fn has_failed(&self) -> bool
+        ensures { result ≡ is_some self.now.stream.failed }
+    {
+        self.failed.is_some()
     }
 
     /// Makes room for so many octets more, so that to feed them takes no memory. A caller does so

@@ -6,6 +6,7 @@ use Rattle.std.proofs.lemmas.List.{replicate_more}
 use Rattle.smx_history.specs.declared.note.Note.{Note}
 use Rattle.smx_history.specs.Contents.{AgreesWith, Content}
 use Rattle.smx_relay.specs.declared.state.State.{State}
+use Rattle.smx_relay.specs.Links.{CentreLink, bound_centre}
 use Rattle.smx_relay.specs.Relay.{Relay, begun}
 use Rattle.smx_relay.specs.OnLane.{OnLane}
 use Rattle.smx_relay.specs.Agrees.{Agrees}
@@ -18,6 +19,9 @@ pub record IsBeginning (s : Relay) (state : State) (n : ℕ) : Type 0 where
   pub started : state.started ≡ true
   pub clients : state.clients.items ≡ s.clients
   pub lanes : AllZip (OnLane s.limits s.clients) (replicate n []) state.lanes.items
+  pub accounts : state.accounts.items ≡ s.accounts
+  pub links : state.links.items ≡ s.links
+  pub centres : state.centres.items ≡ replicate n bound_centre
 
 abbrev pub Beginning : State → State → ℕ → Type 0
 Beginning old state n = (s : Relay) → Agrees old s → s.started ≡ false → IsBeginning s state n
@@ -25,8 +29,12 @@ Beginning old state n = (s : Relay) → Agrees old s → s.started ≡ false →
 none_made : (R : List Note → Content → Type 0) (hs : List (List Note)) (lanes : List Content) → hs ≡ [] → AllZip R hs lanes → AllZip R [] lanes
 none_made R hs lanes e z = subst (λ xs. AllZip R xs lanes) e z
 
-pub beginning_start : (old new : State) → new.limits ≡ old.limits → new.count ≡ old.count → new.started ≡ true → new.clients.items ≡ old.clients.items → new.lanes.items ≡ old.lanes.items → Beginning old new 0
-beginning_start old new limits count started clients lanes s a un = record {
+pub beginning_start : (old new : State) → new.limits ≡ old.limits → new.count ≡ old.count → new.started ≡ true → new.clients.items ≡ old.clients.items → new.lanes.items ≡ old.lanes.items
+    → new.accounts.items ≡ old.accounts.items → new.links.items ≡ old.links.items → new.centres.items ≡ old.centres.items → Beginning old new 0
+beginning_start old new limits count started clients lanes accounts links centres s a un = record {
+  accounts = accounts ∙ a.links.accounts_are;
+  links = links ∙ a.links.links_are;
+  centres = centres ∙ a.links.centres_are ∙ a.links.none_yet un;
   limits = limits ∙ a.limits;
   count = count ∙ a.count;
   started = started;
@@ -34,10 +42,14 @@ beginning_start old new limits count started clients lanes s a un = record {
   lanes = rw lanes (none_made (OnLane s.limits s.clients) s.histories old.lanes.items (a.none_yet un) a.lanes);
 }
 
-pub beginning_more : (old v new : State) (n : ℕ) (lane : Content) → Beginning old v n → lane.limits ≡ v.limits → AgreesWith [] lane → new.limits ≡ v.limits → new.count ≡ v.count → new.started ≡ v.started → new.clients.items ≡ v.clients.items → new.lanes.items ≡ v.lanes.items ++ lane ∷ [] → Beginning old new (n + 1)
-beginning_more old v new n lane b is agrees limits count started clients lanes s a un =
+pub beginning_more : (old v new : State) (n : ℕ) (lane : Content) (centre : CentreLink) → Beginning old v n → lane.limits ≡ v.limits → AgreesWith [] lane → centre ≡ bound_centre → new.limits ≡ v.limits → new.count ≡ v.count → new.started ≡ v.started → new.clients.items ≡ v.clients.items → new.lanes.items ≡ v.lanes.items ++ lane ∷ []
+    → new.accounts.items ≡ v.accounts.items → new.links.items ≡ v.links.items → new.centres.items ≡ v.centres.items ++ centre ∷ [] → Beginning old new (n + 1)
+beginning_more old v new n lane centre b is agrees bound limits count started clients lanes accounts links centres s a un =
     let x = b s a un in
     record {
+      accounts = accounts ∙ x.accounts;
+      links = links ∙ x.links;
+      centres = centres ∙ ap (λ (cs : List CentreLink). cs ++ centre ∷ []) x.centres ∙ ap (λ (k : CentreLink). replicate n bound_centre ++ k ∷ []) bound ∙ replicate_more {X = CentreLink} n bound_centre;
       limits = limits ∙ x.limits;
       count = count ∙ x.count;
       started = started ∙ x.started;
@@ -50,11 +62,20 @@ beginning_end old new n b all un s a =
     let off : s.started ≡ false = sym a.started ∙ un in
     let x = b s a off in
     let whole : AllZip (OnLane s.limits s.clients) (replicate s.count []) new.lanes.items = subst (λ k. AllZip (OnLane s.limits s.clients) (replicate k []) new.lanes.items) (all ∙ a.count) x.lanes in
-    rw off (record { limits = x.limits; count = x.count; started = x.started; clients = x.clients; lanes = whole; none_yet = λ e. absurd (let z : true ≡ false = e in cc) })
+    let centres : new.centres.items ≡ replicate s.count bound_centre = x.centres ∙ ap (λ k. replicate k bound_centre) (all ∙ a.count) in
+    rw off (record {
+      limits = x.limits;
+      count = x.count;
+      started = x.started;
+      clients = x.clients;
+      lanes = whole;
+      none_yet = λ e. absurd (let z : true ≡ false = e in cc);
+      links = record { accounts_are = x.accounts; links_are = x.links; centres_are = centres; none_yet = λ e. absurd (let z : true ≡ false = e in cc) };
+    })
 
 -- lanes that were made stay
 pub begun_on : (s : Relay) → s.started ≡ true → begun s ≡ s
-begun_on s e = ap (λ (b : Bool). cond b s (record s { started = true; histories = replicate s.count [] })) e
+begun_on s e = ap (λ (b : Bool). cond b s (record s { started = true; histories = replicate s.count []; centres = replicate s.count bound_centre })) e
 
 pub already : (old : State) → old.started ≡ true → (s : Relay) → Agrees old s → Agrees old (begun s)
 already old on s a = subst (Agrees old) (sym (begun_on s (sym a.started ∙ on))) a

@@ -9,20 +9,17 @@ use Rattle.std.proofs.lemmas.List.Quantifiers.{position-Some}
 use Rattle.smx_history.specs.declared.limits.Limits.{Limits}
 use Rattle.smx_history.specs.declared.note.Note.{Note}
 use Rattle.smx_history.specs.Contents.{Content}
+use Rattle.smx_session.specs.declared.kind.Kind.{Kind}
 use Rattle.smx_relay.specs.declared.state.State.{State}
+use Rattle.smx_relay.specs.Links.{ClientLink, new_link}
 use Rattle.smx_relay.specs.Texts.{text_line}
 use Rattle.smx_relay.specs.Relay.{Relay, last_of, entered, entered_and_left, client_turn, collect_text, collected, collect_turn, or_none}
 use Rattle.smx_relay.specs.OnLane.{OnLane}
-use Rattle.smx_relay.specs.Agrees.{Agrees, Turned, Prints, AreOn, Enters, HaveEntered}
+use Rattle.smx_relay.specs.Agrees.{Agrees, HasLinks, Turned, Prints, AreOn, Enters, HaveEntered}
 use Rattle.smx_relay.proofs.Lanes.{zip-weaker}
 use Rattle.smx_relay.proofs.Entering.{refuses}
+use Rattle.smx_relay.proofs.Keeping.{KeepsSettings, kept_links}
 use Rattle.smx_relay.proofs.OwnNotes.{own_grows, grows_push}
-
--- the settings stay
-pub record KeepsSettings (old new : State) : Type 0 where
-  pub limits : new.limits ≡ old.limits
-  pub count : new.count ≡ old.count
-  pub started : new.started ≡ old.started
 
 grown_lanes : (limits : Limits) (clients : List (Option ℕ)) (o : Option ℕ) (hs : List (List Note)) (lanes : List Content) → AreOn limits clients hs lanes → AreOn limits (clients ++ o ∷ []) hs lanes
 grown_lanes limits clients o hs lanes on =
@@ -31,9 +28,18 @@ grown_lanes limits clients o hs lanes on =
 place_within : (limits : Limits) (c i : ℕ) (hs : List (List Note)) → position (refuses limits c) hs ≡ Some i → i < length hs
 place_within limits c i hs e = let w = position-Some (refuses limits c) hs i [] e in w.0
 
-pub entered_all : (old new : State) (s : Relay) (c : ℕ) (text : List ℕ) → Agrees old s → c ≡ length old.clients.items → Enters s.limits s.clients s.histories c None new.lanes.items → KeepsSettings old new → new.clients.items ≡ old.clients.items ++ Some 0 ∷ []
-    → text ≡ text_line (codes "client " ++ decimal c) → Turned (client_turn s) new text
-entered_all old new s c text a is enters keeps clients e =
+-- one link more
+more_links : (old new : State) (s : Relay) (kind : Option Kind) → Agrees old s → KeepsSettings old new → new.links.items ≡ old.links.items ++ new_link kind ∷ [] → HasLinks new s.accounts (s.links ++ new_link kind ∷ []) s.centres s.started
+more_links old new s kind a keeps links = record {
+  accounts_are = keeps.accounts ∙ a.links.accounts_are;
+  links_are = links ∙ ap (λ (ls : List ClientLink). ls ++ new_link kind ∷ []) a.links.links_are;
+  centres_are = keeps.centres ∙ a.links.centres_are;
+  none_yet = a.links.none_yet;
+}
+
+pub entered_all : (old new : State) (s : Relay) (kind : Option Kind) (c : ℕ) (text : List ℕ) → Agrees old s → c ≡ length old.clients.items → Enters s.limits s.clients s.histories c None new.lanes.items → KeepsSettings old new → new.clients.items ≡ old.clients.items ++ Some 0 ∷ [] → new.links.items ≡ old.links.items ++ new_link kind ∷ []
+    → text ≡ text_line (codes "client " ++ decimal c) → Turned (client_turn s kind) new text
+entered_all old new s kind c text a is enters keeps clients links e =
     let c_is : c ≡ length s.clients = is ∙ ap length a.clients in
     let here : Enters s.limits s.clients s.histories (length s.clients) None new.lanes.items = subst (λ n. Enters s.limits s.clients s.histories n None new.lanes.items) c_is enters in
     rw here.0 (record {
@@ -45,6 +51,7 @@ entered_all old new s c text a is enters keeps clients e =
         clients = clients ∙ ap (λ cs. cs ++ Some 0 ∷ []) a.clients;
         lanes = grown_lanes s.limits s.clients (Some 0) (map (entered (length s.clients)) s.histories) new.lanes.items here.1;
         none_yet = λ off. ap (map (entered (length s.clients))) (a.none_yet off);
+        links = more_links old new s kind a keeps links;
       };
     })
 
@@ -60,10 +67,10 @@ none_parted c i hs e = ap (λ xs. map (entered_and_left c) (take i xs) ++ drop i
     none_left zero = refl
     none_left (suc i) = refl
 
-pub entered_none : (old : State) (mid : List Content) (new : State) (s : Relay) (c i : ℕ) (text : List ℕ) → Agrees old s → c ≡ length old.clients.items → Enters s.limits s.clients s.histories c (Some i) mid
+pub entered_none : (old : State) (mid : List Content) (new : State) (s : Relay) (kind : Option Kind) (c i : ℕ) (text : List ℕ) → Agrees old s → c ≡ length old.clients.items → Enters s.limits s.clients s.histories c (Some i) mid
     → ((limits : Limits) (clients : List (Option ℕ)) (some : List (List Note)) (others : List (List Note)) → length some ≡ i → AreOn limits clients (map (entered c) some ++ others) mid → AreOn limits clients (map (entered_and_left c) some ++ others) new.lanes.items)
-    → KeepsSettings old new → new.clients.items ≡ old.clients.items ++ None ∷ [] → text ≡ text_line (codes "refused") → Turned (client_turn s) new text
-entered_none old mid new s c i text a is enters leaves keeps clients e =
+    → KeepsSettings old new → new.clients.items ≡ old.clients.items ++ None ∷ [] → new.links.items ≡ old.links.items ++ new_link kind ∷ [] → text ≡ text_line (codes "refused") → Turned (client_turn s kind) new text
+entered_none old mid new s kind c i text a is enters leaves keeps clients links e =
     let c_is : c ≡ length s.clients = is ∙ ap length a.clients in
     let within = place_within s.limits c i s.histories enters.0 in
     let place : position (refuses s.limits (length s.clients)) s.histories ≡ Some i = subst (λ n. position (refuses s.limits n) s.histories ≡ Some i) c_is enters.0 in
@@ -78,6 +85,7 @@ entered_none old mid new s c i text a is enters leaves keeps clients e =
         clients = clients ∙ ap (λ cs. cs ++ None ∷ []) a.clients;
         lanes = grown_lanes s.limits s.clients None (map (entered_and_left (length s.clients)) (take i s.histories) ++ drop i s.histories) new.lanes.items on';
         none_yet = λ off. none_parted (length s.clients) i s.histories (a.none_yet off);
+        links = more_links old new s kind a keeps links;
       };
     })
 
@@ -85,14 +93,15 @@ or_none-some : (c : ℕ) (text : List ℕ) → text ≢ [] → or_none c text �
 or_none-some c [] some = absurd (some refl)
 or_none-some c (x ∷ xs) some = refl
 
-collect_left : (old new : State) (s : Relay) (c : ℕ) → Agrees old s → AreOn s.limits s.clients (map (collected c) s.histories) new.lanes.items → KeepsSettings old new → new.clients.items ≡ old.clients.items → Agrees new (record s { histories = map (collected c) s.histories })
-collect_left old new s c a on keeps clients = record {
+collect_left : (old new : State) (s : Relay) (c : ℕ) → Agrees old s → AreOn s.limits s.clients (map (collected c) s.histories) new.lanes.items → KeepsSettings old new → new.clients.items ≡ old.clients.items → new.links.items ≡ old.links.items → Agrees new (record s { histories = map (collected c) s.histories })
+collect_left old new s c a on keeps clients links = record {
   limits = keeps.limits ∙ a.limits;
   count = keeps.count ∙ a.count;
   started = keeps.started ∙ a.started;
   clients = clients ∙ a.clients;
   lanes = on;
   none_yet = λ off. ap (map (collected c)) (a.none_yet off);
+  links = kept_links old new s.accounts s.links s.centres s.started keeps links a.links;
 }
 
 -- the client collected this on all lanes
@@ -100,15 +109,15 @@ pub record IsCollectedOn (s : Relay) (c : ℕ) (text : List ℕ) (lanes : List C
   pub text_is : text ≡ flat_map (collect_text c) s.histories
   pub lanes_are : AreOn s.limits s.clients (map (collected c) s.histories) lanes
 
-pub collected_some : (old new : State) (s : Relay) (c n : ℕ) (text : Vec ℕ) → Agrees old s → last_of s.clients c ≡ Some n → IsCollectedOn s c text.items new.lanes.items → text.items ≢ [] → KeepsSettings old new → new.clients.items ≡ old.clients.items
+pub collected_some : (old new : State) (s : Relay) (c n : ℕ) (text : Vec ℕ) → Agrees old s → last_of s.clients c ≡ Some n → IsCollectedOn s c text.items new.lanes.items → text.items ≢ [] → KeepsSettings old new → new.clients.items ≡ old.clients.items → new.links.items ≡ old.links.items
     → Prints (collect_turn s c (last_of s.clients c)) new (Some text)
-collected_some old new s c n text a known is some keeps clients =
-    rw known (record { text = sym (or_none-some c text.items some) ∙ ap (or_none c) is.text_is; left = collect_left old new s c a is.lanes_are keeps clients })
+collected_some old new s c n text a known is some keeps clients links =
+    rw known (record { text = sym (or_none-some c text.items some) ∙ ap (or_none c) is.text_is; left = collect_left old new s c a is.lanes_are keeps clients links })
 
-pub collected_none : (old new : State) (s : Relay) (c n : ℕ) (none : List ℕ) (text : Vec ℕ) → Agrees old s → last_of s.clients c ≡ Some n → IsCollectedOn s c none new.lanes.items → none ≡ [] → KeepsSettings old new → new.clients.items ≡ old.clients.items
+pub collected_none : (old new : State) (s : Relay) (c n : ℕ) (none : List ℕ) (text : Vec ℕ) → Agrees old s → last_of s.clients c ≡ Some n → IsCollectedOn s c none new.lanes.items → none ≡ [] → KeepsSettings old new → new.clients.items ≡ old.clients.items → new.links.items ≡ old.links.items
     → text.items ≡ text_line (codes "none " ++ decimal c) → Prints (collect_turn s c (last_of s.clients c)) new (Some text)
-collected_none old new s c n none text a known is empty keeps clients e =
-    rw known (record { text = e ∙ ap (or_none c) (sym empty ∙ is.text_is); left = collect_left old new s c a is.lanes_are keeps clients })
+collected_none old new s c n none text a known is empty keeps clients links e =
+    rw known (record { text = e ∙ ap (or_none c) (sym empty ∙ is.text_is); left = collect_left old new s c a is.lanes_are keeps clients links })
 
 -- a client that is known, or not
 pub known_last : (old : State) (s : Relay) (c : ℕ) (o : Option ℕ) → Agrees old s → o ≡ last_of old.clients.items c → last_of s.clients c ≡ o
@@ -121,7 +130,7 @@ some_last (Some n) e = (n, refl)
 pub known_client : (old : State) (s : Relay) (c : ℕ) (o : Option ℕ) → Agrees old s → o ≡ last_of old.clients.items c → is_none o ≡ false → (n : ℕ) × (last_of s.clients c ≡ Some n)
 known_client old s c o a is some = let w = some_last o some in (w.0, known_last old s c o a is ∙ w.1)
 
-none_last : (o : Option ℕ) → is_none o ≡ true → o ≡ None
+pub none_last : (o : Option ℕ) → is_none o ≡ true → o ≡ None
 none_last None e = refl
 none_last (Some n) e = absurd (let z : false ≡ true = e in cc)
 

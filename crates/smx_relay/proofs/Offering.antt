@@ -20,6 +20,7 @@ use Rattle.smx_relay.specs.OnLane.{OnLane}
 use Rattle.smx_relay.specs.Agrees.{Agrees, Turned, MayAccept, accepts_in}
 use Rattle.smx_relay.proofs.Lanes.{zip-length, zip-set, zip-weaker, find-agree}
 use Rattle.smx_relay.proofs.Rows.{rows_below}
+use Rattle.smx_relay.proofs.Keeping.{KeepsSettings, kept_links}
 use Rattle.smx_relay.proofs.OwnNotes.{own_push, own_grows, grows_set, last_set}
 
 zip-all : {X Y : Type 0} (R : X → Y → Type 0) (Q : Y → Type 0) → ((x : X) (y : Y) → R x y → Q y) → (xs : List X) (ys : List Y) → AllZip R xs ys → AllByRecursion Q ys
@@ -72,6 +73,9 @@ pub record IsAccepted (old new : State) (c last at : ℕ) (r : Request) (lane af
   pub limits : new.limits ≡ old.limits
   pub count : new.count ≡ old.count
   pub started : new.started ≡ old.started
+  pub accounts : new.accounts.items ≡ old.accounts.items
+  pub centres : new.centres.items ≡ old.centres.items
+  pub links : new.links.items ≡ old.links.items
 
 pub offered_some : (old new : State) (s : Relay) (c last at : ℕ) (o : Offer) (lane after : Content) (text : List ℕ) → Agrees old s → last_of old.clients.items c ≡ Some last → IsAccepted old new c last at (request_of c (last + 1) o) lane after
     → text ≡ text_line (codes "accepted " ++ (decimal c ++ (codes " " ++ decimal at))) → Turned (in_turn_at s c last o (lane_for s c last)) new text
@@ -99,22 +103,24 @@ offered_some old new s c last at o lane after text a known is e =
         clients = is.clients ∙ ap (λ cs. set cs c (Some (last + 1))) a.clients;
         lanes = zipped;
         none_yet = λ off. ap (λ hs. set hs at longer) (a.none_yet off);
+        links = kept_links old new s.accounts s.links s.centres s.started (record { limits = is.limits; count = is.count; started = is.started; accounts = is.accounts; centres = is.centres }) is.links a.links;
       };
     })
 
 pub offered_none : (old new : State) (s : Relay) (c last : ℕ) (o : Offer) (p : Pdu) (text : List ℕ) → Agrees old s → find (λ i. accepts_in c (slice_get old.lanes.items i)) (ring (last % length old.lanes.items) (length old.lanes.items)) ≡ None
-    → new.lanes.items ≡ old.lanes.items → new.clients.items ≡ old.clients.items → new.limits ≡ old.limits → new.count ≡ old.count → new.started ≡ old.started
+    → new.lanes.items ≡ old.lanes.items → new.clients.items ≡ old.clients.items → KeepsSettings old new → new.links.items ≡ old.links.items
     → p ≡ refusal_of o → text ≡ pdu_line (to_client c) p → Turned (in_turn_at s c last o (lane_for s c last)) new text
-offered_none old new s c last o p text a none lanes clients limits count started is e =
+offered_none old new s c last o p text a none lanes clients keeps links is e =
     let found : lane_for s c last ≡ None = lane_same old s c last a ∙ none in
     rw found (record {
       text = e ∙ ap (pdu_line (to_client c)) is;
       left = record {
-        limits = limits ∙ a.limits;
-        count = count ∙ a.count;
-        started = started ∙ a.started;
+        limits = keeps.limits ∙ a.limits;
+        count = keeps.count ∙ a.count;
+        started = keeps.started ∙ a.started;
         clients = clients ∙ a.clients;
         lanes = rw lanes a.lanes;
         none_yet = a.none_yet;
+        links = kept_links old new s.accounts s.links s.centres s.started keeps links a.links;
       };
     })

@@ -71,6 +71,9 @@ own_entered clients c h own = own_push clients h _ own (own_other clients _ refl
 pub own_left : (clients : List (Option ℕ)) (c : ℕ) (h : List Note) → AreOwn clients (entered c h) → AreOwn clients (entered_and_left c h)
 own_left clients c h own = own_push clients (entered c h) _ own (own_other clients _ refl refl)
 
+pub own_retired : (clients : List (Option ℕ)) (c : ℕ) (h : List Note) → AreOwn clients h → AreOwn clients (h ++ note 0 (event.Retire c) ∷ [])
+own_retired clients c h own = own_push clients h _ own (own_other clients _ refl refl)
+
 -- where last ordinals only grow, what was own is own
 pub record Grows (old new : List (Option ℕ)) : Type 0 where
   pub each : (c : ℕ) → unwrap_or (last_of old c) 0 ≤ unwrap_or (last_of new c) 0

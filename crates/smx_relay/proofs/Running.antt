@@ -1,47 +1,35 @@
 -- A run, a line at a time.
 use Rattle.std.proofs.Common.{◌≡◌, ℕ, ◌+◌, List, [], ◌∷◌, ◌++◌, Option, Some, None, refl, sym, ap, subst, ◌∙◌, append_assoc, slice_get}
-use Rattle.std.specs.Prelude.{unwrap_or}
 use Rattle.std.proofs.lemmas.List.{append-nil}
-use Rattle.smx_history.specs.declared.note.Note.{Note}
-use Rattle.smx_history.specs.Finding.{IsFree}
-use Rattle.smx_history.proofs.Finding.{some_free}
 use Rattle.smx_relay.specs.Texts.{bad_line}
-use Rattle.smx_relay.specs.Relay.{Relay, start, begun, AreFree}
-use Rattle.smx_relay.specs.Runs.{next_of, Goes, Runs}
-
--- in each state some number can be given on each lane
-pub some_numbers : (s : Relay) → (u : ℕ → ℕ) × AreFree u s
-some_numbers s =
-    let number : (i : ℕ) → (u : ℕ) × IsFree (unwrap_or (slice_get s.histories i) []) u = λ i. some_free (unwrap_or (slice_get s.histories i) []) in
-    (λ i. (number i).0, λ i h here. subst (λ (g : List Note). IsFree g (number i).0) (ap (λ (o : Option (List Note)). unwrap_or o []) here) (number i).1)
+use Rattle.smx_relay.specs.Relay.{Relay, start}
+use Rattle.smx_relay.specs.Turns.{Lines}
+use Rattle.smx_relay.specs.Runs.{Runs}
+use Rattle.smx_relay.proofs.Lining.{some_line}
 
 pub runs_end : (n : ℕ) (s : Relay) → Runs n s [] [] None
 unfolding Runs
 runs_end n s = (refl, refl)
 
-pub runs_bad : (n : ℕ) (u : ℕ → ℕ) (s : Relay) (line : List ℕ) (lines : List (List ℕ)) → AreFree u (begun s) → next_of u s line ≡ None → Runs n s (line ∷ lines) (bad_line n) (Some n)
+pub runs_bad : (n : ℕ) (s : Relay) (line : List ℕ) (lines : List (List ℕ)) → Lines s line None → Runs n s (line ∷ lines) (bad_line n) (Some n)
 unfolding Runs
-runs_bad n u s line lines free e =
-    let P : Option (List ℕ × Relay) → Type 0 = λ x. Goes n x (λ t rest. Runs (n + 1) t lines rest (Some n)) (bad_line n) (Some n) in
-    (u, free, subst P (sym e) (refl, refl))
+runs_bad n s line lines bad = (None, bad, (refl, refl))
 
-pub runs_more : (n : ℕ) (u : ℕ → ℕ) (s : Relay) (line : List ℕ) (lines : List (List ℕ)) (x : List ℕ × Relay) (rest : List ℕ) (stop : Option ℕ) → AreFree u (begun s) → next_of u s line ≡ Some x → Runs (n + 1) x.1 lines rest stop → Runs n s (line ∷ lines) (x.0 ++ rest) stop
+pub runs_more : (n : ℕ) (s : Relay) (line : List ℕ) (lines : List (List ℕ)) (x : List ℕ × Relay) (rest : List ℕ) (stop : Option ℕ) → Lines s line (Some x) → Runs (n + 1) x.1 lines rest stop → Runs n s (line ∷ lines) (x.0 ++ rest) stop
 unfolding Runs
-runs_more n u s line lines x rest stop free e r =
-    let P : Option (List ℕ × Relay) → Type 0 = λ y. Goes n y (λ t others. Runs (n + 1) t lines others stop) (x.0 ++ rest) stop in
-    (u, free, subst P (sym e) (rest, r, refl))
+runs_more n s line lines x rest stop does r = (Some x, does, (rest, r, refl))
 
 -- from each state the lines may print something
 pub runs_on : (n : ℕ) (s : Relay) (lines : List (List ℕ)) → (out : List ℕ) × (stop : Option ℕ) × Runs n s lines out stop
 runs_on n s [] = ([], None, runs_end n s)
 runs_on n s (line ∷ lines) =
-    let number = some_numbers (begun s) in
-    (elim (next_of number.0 s line) as (λ x. next_of number.0 s line ≡ x → (out : List ℕ) × (stop : Option ℕ) × Runs n s (line ∷ lines) out stop) [
-      | None ↦ λ e. (bad_line n, Some n, runs_bad n number.0 s line lines number.1 e)
-      | Some x ↦ λ e.
+    let turn = some_line s line in
+    (elim turn.0 as (λ x. Lines s line x → (out : List ℕ) × (stop : Option ℕ) × Runs n s (line ∷ lines) out stop) [
+      | None ↦ λ bad. (bad_line n, Some n, runs_bad n s line lines bad)
+      | Some x ↦ λ does.
           let others = runs_on (n + 1) x.1 lines in
-          (x.0 ++ others.0, others.1, runs_more n number.0 s line lines x others.0 others.1 number.1 e others.2)
-    ]) refl
+          (x.0 ++ others.0, others.1, runs_more n s line lines x others.0 others.1 does others.2)
+    ]) turn.1
 
 -- what was written, before whatever the lines from here print, is what all lines print
 pub record SoFar (n : ℕ) (s : Relay) (lines all : List (List ℕ)) (written : List ℕ) : Type 0 where
@@ -50,11 +38,11 @@ pub record SoFar (n : ℕ) (s : Relay) (lines all : List (List ℕ)) (written : 
 pub so_far_start : (all : List (List ℕ)) → SoFar 1 start all all []
 so_far_start all = record { goes_on = λ out stop r. r }
 
-pub so_far_more : (n : ℕ) (u : ℕ → ℕ) (s : Relay) (line : List ℕ) (lines all : List (List ℕ)) (written : List ℕ) (x : List ℕ × Relay) → SoFar n s (line ∷ lines) all written → AreFree u (begun s) → next_of u s line ≡ Some x → SoFar (n + 1) x.1 lines all (written ++ x.0)
-so_far_more n u s line lines all written x so_far free e = record {
+pub so_far_more : (n : ℕ) (s : Relay) (line : List ℕ) (lines all : List (List ℕ)) (written : List ℕ) (x : List ℕ × Relay) → SoFar n s (line ∷ lines) all written → Lines s line (Some x) → SoFar (n + 1) x.1 lines all (written ++ x.0)
+so_far_more n s line lines all written x so_far does = record {
   goes_on = λ out stop r.
       let P : List ℕ → Type 0 = λ w. Runs 1 start all w stop in
-      subst P (sym (append_assoc written x.0 out)) (so_far.goes_on (x.0 ++ out) stop (runs_more n u s line lines x out stop free e r));
+      subst P (sym (append_assoc written x.0 out)) (so_far.goes_on (x.0 ++ out) stop (runs_more n s line lines x out stop does r));
 }
 
 pub so_far_end : (n : ℕ) (s : Relay) (all : List (List ℕ)) (written : List ℕ) → SoFar n s [] all written → Runs 1 start all written None
@@ -62,8 +50,8 @@ so_far_end n s all written so_far =
     let P : List ℕ → Type 0 = λ w. Runs 1 start all w None in
     subst P (append-nil written) (so_far.goes_on [] None (runs_end n s))
 
-pub so_far_bad : (n : ℕ) (u : ℕ → ℕ) (s : Relay) (line : List ℕ) (lines all : List (List ℕ)) (written : List ℕ) → SoFar n s (line ∷ lines) all written → AreFree u (begun s) → next_of u s line ≡ None → Runs 1 start all (written ++ bad_line n) (Some n)
-so_far_bad n u s line lines all written so_far free e = so_far.goes_on (bad_line n) (Some n) (runs_bad n u s line lines free e)
+pub so_far_bad : (n : ℕ) (s : Relay) (line : List ℕ) (lines all : List (List ℕ)) (written : List ℕ) → SoFar n s (line ∷ lines) all written → Lines s line None → Runs 1 start all (written ++ bad_line n) (Some n)
+so_far_bad n s line lines all written so_far bad = so_far.goes_on (bad_line n) (Some n) (runs_bad n s line lines bad)
 
 -- what was written is a front of what all lines print
 pub so_far_front : (n : ℕ) (s : Relay) (lines all : List (List ℕ)) (written : List ℕ) → SoFar n s lines all written → (more : List ℕ) × (stop : Option ℕ) × Runs 1 start all (written ++ more) stop

@@ -10,9 +10,10 @@ use Rattle.std.proofs.lemmas.List.{drop_all}
 use Rattle.smx_relay.specs.declared.state.State.{State}
 use Rattle.smx_relay.specs.Script.{lines_of}
 use Rattle.smx_relay.specs.Texts.{bad_line}
-use Rattle.smx_relay.specs.Relay.{Relay, start, begun, AreFree}
-use Rattle.smx_relay.specs.Runs.{next_of, Runs, Relays}
-use Rattle.smx_relay.specs.Agrees.{Agrees, Turned, Prints}
+use Rattle.smx_relay.specs.Relay.{Relay, start}
+use Rattle.smx_relay.specs.Turns.{Lines}
+use Rattle.smx_relay.specs.Runs.{Runs, Relays}
+use Rattle.smx_relay.specs.Agrees.{Agrees, Turned, MayPrint}
 use Rattle.smx_relay.specs.Ends.{BeginsRelay}
 use Rattle.smx_relay.proofs.Running.{SoFar, so_far_start, so_far_more, so_far_end, so_far_bad, so_far_front, so_far_part, runs_on}
 
@@ -22,15 +23,15 @@ Stands before now state i lines = (s : Relay) × Agrees state s × (written : Li
 
 -- what a line's turn may have printed and left
 abbrev pub Turns : State → List ℕ → State → Option (Vec ℕ) → Type 0
-Turns old line new text = (s : Relay) → Agrees old s → (u : ℕ → ℕ) × AreFree u (begun s) × Prints (next_of u s line) new text
+Turns old line new text = (s : Relay) → Agrees old s → MayPrint (Lines s line) new text
 
-prints_some : (o : Option (List ℕ × Relay)) (state : State) (text : Vec ℕ) → Prints o state (Some text) → (x : List ℕ × Relay) × (o ≡ Some x) × Turned x state text.items
-prints_some None state text p = absurd p
-prints_some (Some x) state text p = (x, refl, p)
+prints_some : (May : Option (List ℕ × Relay) → Type 0) (state : State) (text : Vec ℕ) → MayPrint May state (Some text) → (x : List ℕ × Relay) × May (Some x) × Turned x state text.items
+prints_some May state text (None, may, p) = absurd p
+prints_some May state text (Some x, may, p) = (x, may, p)
 
-prints_none : (o : Option (List ℕ × Relay)) (state : State) → Prints o state None → o ≡ None
-prints_none None state p = refl
-prints_none (Some x) state p = absurd p
+prints_none : (May : Option (List ℕ × Relay) → Type 0) (state : State) → MayPrint May state None → May None
+prints_none May state (None, may, p) = may
+prints_none May state (Some x, may, p) = absurd p
 
 pub stands_start : (known : Option (List ℕ)) (state : State) (lines : List (List ℕ)) → Agrees state start → Stands known known state 0 lines
 stands_start known state lines agrees = (start, agrees, [], Appends-nil known, so_far_start lines)
@@ -38,10 +39,9 @@ stands_start known state lines agrees = (start, agrees, [], Appends-nil known, s
 pub stands_more : (a b c : Option (List ℕ)) (old new : State) (i : ℕ) (lines : List (List ℕ)) (line : List ℕ) (text : Vec ℕ) → drop i lines ≡ line ∷ drop (i + 1) lines → Stands a b old i lines → Turns old line new (Some text) → Appends b c text.items → Stands a c new (i + 1) lines
 stands_more a b c old new i lines line text at stands turns wrote =
     let s = stands.0 in
-    let turn = turns s stands.1 in
-    let found = prints_some (next_of turn.0 s line) new text turn.2 in
+    let found = prints_some (Lines s line) new text (turns s stands.1) in
     let here : SoFar (i + 1) s (line ∷ drop (i + 1) lines) lines stands.2 = subst (λ (ls : List (List ℕ)). SoFar (i + 1) s ls lines stands.2) at stands.4 in
-    let next = so_far_more (i + 1) turn.0 s line (drop (i + 1) lines) lines stands.2 found.0 here turn.1 found.1 in
+    let next = so_far_more (i + 1) s line (drop (i + 1) lines) lines stands.2 found.0 here found.1 in
     (found.0.1, found.2.left, stands.2 ++ text.items, Appends-trans a b c stands.2 text.items stands.3 wrote, subst (λ (t : List ℕ). SoFar (i + 1 + 1) found.0.1 (drop (i + 1) lines) lines (stands.2 ++ t)) (sym found.2.text) next)
 
 pub stands_end : (a b : Option (List ℕ)) (state : State) (i : ℕ) (lines : List (List ℕ)) (script : List ℕ) → length lines ≤ i → lines ≡ lines_of script → Stands a b state i lines → (out : List ℕ) × Appends a b out × Relays script out None
@@ -59,10 +59,9 @@ pub stands_part : (a b c : Option (List ℕ)) (old new : State) (i : ℕ) (lines
     → (front : List ℕ) × (back : List ℕ) × (text.items ≡ front ++ back) × Appends b c front → (out : List ℕ) × Appends a c out × BeginsRelay script out
 stands_part a b c old new i lines script line text same at stands turns wrote =
     let s = stands.0 in
-    let turn = turns s stands.1 in
-    let found = prints_some (next_of turn.0 s line) new text turn.2 in
+    let found = prints_some (Lines s line) new text (turns s stands.1) in
     let here : SoFar (i + 1) s (line ∷ drop (i + 1) lines) lines stands.2 = subst (λ (ls : List (List ℕ)). SoFar (i + 1) s ls lines stands.2) at stands.4 in
-    let next = so_far_more (i + 1) turn.0 s line (drop (i + 1) lines) lines stands.2 found.0 here turn.1 found.1 in
+    let next = so_far_more (i + 1) s line (drop (i + 1) lines) lines stands.2 found.0 here found.1 in
     let whole = so_far_part wrote.0 wrote.1 found.0.0 (i + 1 + 1) found.0.1 (drop (i + 1) lines) lines stands.2 (sym found.2.text ∙ wrote.2) next in
     (stands.2 ++ wrote.0, Appends-trans a b c stands.2 wrote.0 stands.3 wrote.3, (whole.0, whole.1, subst (λ (ls : List (List ℕ)). Runs 1 start ls ((stands.2 ++ wrote.0) ++ whole.0) whole.1) same whole.2))
 
@@ -70,18 +69,16 @@ pub stands_bad : (a b c : Option (List ℕ)) (old new : State) (i : ℕ) (lines 
     → (out : List ℕ) × Appends a c out × Relays script out (Some (i + 1))
 stands_bad a b c old new i lines script line text same at stands turns e wrote =
     let s = stands.0 in
-    let turn = turns s stands.1 in
     let here : SoFar (i + 1) s (line ∷ drop (i + 1) lines) lines stands.2 = subst (λ (ls : List (List ℕ)). SoFar (i + 1) s ls lines stands.2) at stands.4 in
-    let whole = so_far_bad (i + 1) turn.0 s line (drop (i + 1) lines) lines stands.2 here turn.1 (prints_none (next_of turn.0 s line) new turn.2) in
+    let whole = so_far_bad (i + 1) s line (drop (i + 1) lines) lines stands.2 here (prints_none (Lines s line) new (turns s stands.1)) in
     (stands.2 ++ text, Appends-trans a b c stands.2 text stands.3 wrote, subst (λ (t : List ℕ). Relays script (stands.2 ++ t) (Some (i + 1))) (sym e) (subst (λ (ls : List (List ℕ)). Runs 1 start ls (stands.2 ++ bad_line (i + 1)) (Some (i + 1))) same whole))
 
 pub stands_bad_part : (a b c : Option (List ℕ)) (old new : State) (i : ℕ) (lines : List (List ℕ)) (script line text : List ℕ) → lines ≡ lines_of script → drop i lines ≡ line ∷ drop (i + 1) lines → Stands a b old i lines → Turns old line new None → text ≡ bad_line (i + 1)
     → (front : List ℕ) × (back : List ℕ) × (text ≡ front ++ back) × Appends b c front → (out : List ℕ) × Appends a c out × BeginsRelay script out
 stands_bad_part a b c old new i lines script line text same at stands turns e wrote =
     let s = stands.0 in
-    let turn = turns s stands.1 in
     let here : SoFar (i + 1) s (line ∷ drop (i + 1) lines) lines stands.2 = subst (λ (ls : List (List ℕ)). SoFar (i + 1) s ls lines stands.2) at stands.4 in
-    let whole = so_far_bad (i + 1) turn.0 s line (drop (i + 1) lines) lines stands.2 here turn.1 (prints_none (next_of turn.0 s line) new turn.2) in
+    let whole = so_far_bad (i + 1) s line (drop (i + 1) lines) lines stands.2 here (prints_none (Lines s line) new (turns s stands.1)) in
     let parts : stands.2 ++ bad_line (i + 1) ≡ (stands.2 ++ wrote.0) ++ wrote.1 = ap (λ (t : List ℕ). stands.2 ++ t) (sym e ∙ wrote.2) ∙ sym (append_assoc stands.2 wrote.0 wrote.1) in
     (stands.2 ++ wrote.0, Appends-trans a b c stands.2 wrote.0 stands.3 wrote.3, (wrote.1, Some (i + 1), subst (λ (ls : List (List ℕ)). Runs 1 start ls ((stands.2 ++ wrote.0) ++ wrote.1) (Some (i + 1))) same (subst (λ (t : List ℕ). Runs 1 start lines t (Some (i + 1))) parts whole)))
 

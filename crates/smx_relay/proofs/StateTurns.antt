@@ -1,21 +1,23 @@
 -- Turns of one lane, as turns of the whole state.
-use Rattle.std.proofs.Common.{◌≡◌, ◌<◌, ◌≤◌, ◌==◌, ℕ, cond, List, length, set, get_or, refl, sym, ◌∙◌, ap, subst, arith, Option, Some, None, slice_get, inl, inr}
+use Rattle.std.proofs.Common.{◌≡◌, ◌<◌, ◌≤◌, ℕ, List, [], length, set, get_or, sym, ◌∙◌, ap, subst, arith, Option, Some, None, slice_get, Result, Ok, Err, IfOk, rules}
+use Rattle.std.specs.Prelude.{unwrap_or}
 use Rattle.std.specs.Global.{Vec}
 use Rattle.std.specs.List.{AllZip}
-use Rattle.std.proofs.lemmas.Bool.{cases_Bool, eq-eqb, eqb-true}
 use Rattle.std.proofs.lemmas.Option.{slice_get_past}
 use Rattle.smx_pdu.specs.declared.pdu.Pdu.{Pdu}
 use Rattle.smx_history.specs.declared.note.Note.{Note}
 use Rattle.smx_history.specs.Contents.{AgreesWith, Content}
 use Rattle.smx_history.specs.Finding.{IsFree}
+use Rattle.smx_history.proofs.Finding.{some_free}
 use Rattle.smx_relay.specs.declared.state.State.{State}
-use Rattle.smx_relay.specs.Relay.{Relay, on_lane, take_on, back_on, history_on, AreFree}
+use Rattle.smx_relay.specs.Relay.{Relay, on_lane, take_on, back_on, history_on}
+use Rattle.smx_relay.specs.Turns.{IsFreeOn}
 use Rattle.smx_relay.specs.OnLane.{OnLane, AreOwn, TurnsLane}
-use Rattle.smx_relay.specs.Agrees.{Agrees, Prints}
+use Rattle.smx_relay.specs.Agrees.{Agrees, Prints, Turned}
 use Rattle.smx_relay.proofs.Lanes.{zip-length, zip-get, zip-set}
 use Rattle.smx_relay.proofs.OwnNotes.{own_take, own_back}
-use Rattle.smx_relay.proofs.ClientTurns.{KeepsSettings}
-use Rattle.smx_relay.proofs.Running.{some_numbers}
+use Rattle.smx_relay.proofs.ActTurns.{some_printed}
+use Rattle.smx_relay.proofs.Keeping.{KeepsSettings, kept_links}
 
 -- there is no such lane
 pub no_lane : (old new : State) (s : Relay) (i : ℕ) (f : List Note → List ℕ × List Note) → Agrees old s → length old.lanes.items ≤ i → Prints (on_lane s i f) new None
@@ -28,6 +30,7 @@ pub record IsTurned (old new : State) (i : ℕ) (lane after : Content) : Type 0 
   pub here : lane ≡ get_or old.lanes.items i lane
   pub lanes : new.lanes.items ≡ set old.lanes.items i after
   pub clients : new.clients.items ≡ old.clients.items
+  pub links : new.links.items ≡ old.links.items
   pub keeps : KeepsSettings old new
 
 -- the history of the lane at the index
@@ -51,33 +54,29 @@ lane_turned old new s i f h lane after text a is at on turns own =
         clients = is.clients ∙ a.clients;
         lanes = lanes;
         none_yet = λ off. ap (λ hs. set hs i (f h).1) (a.none_yet off);
+        links = kept_links old new s.accounts s.links s.centres s.started is.keeps is.links a.links;
       };
     })
 
--- the number on one lane, and some on each other
-one_number : ℕ → ℕ → (ℕ → ℕ) → ℕ → ℕ
-one_number i n u j = cond (j == i) n (u j)
+-- some number is free
+pub some_free_on : (s : Relay) (i : ℕ) → (u : ℕ) × IsFreeOn s i u
+some_free_on s i =
+    let number = some_free (unwrap_or (slice_get s.histories i) []) in
+    (number.0, λ h here. subst (λ (g : List Note). IsFree g number.0) (ap (λ (o : Option (List Note)). unwrap_or o []) here) number.1)
 
-one_number-here : (i n : ℕ) (u : ℕ → ℕ) → one_number i n u i ≡ n
-unfolding one_number
-one_number-here i n u = rw (eq-eqb i i refl) refl
+free_here : (s : Relay) (i u : ℕ) (h : List Note) → slice_get s.histories i ≡ Some h → IsFree h u → IsFreeOn s i u
+free_here s i u h at free g there =
+    let e : h ≡ g = let x : Some h ≡ Some g = sym at ∙ there in cc in
+    subst (λ k. IsFree k u) e free
 
-one_free : (s : Relay) (i n : ℕ) (h : List Note) (u : ℕ → ℕ) → slice_get s.histories i ≡ Some h → IsFree h n → AreFree u s → AreFree (one_number i n u) s
-unfolding one_number
-one_free s i n h u at free others = λ j g there. elim (cases_Bool (j == i)) [
-  | inl same ↦
-      let e : h ≡ g = let x : Some h ≡ Some g = sym at ∙ ap (slice_get s.histories) (sym (eqb-true j i same)) ∙ there in cc in
-      rw same (subst (λ k. IsFree k n) e free)
-  | inr other ↦ rw other (others j g there)
-]
-
+-- a request of a lane that is up is taken
 abbrev pub Takes : Relay → ℕ → State → Option (Vec ℕ) → Type 0
-Takes s i new text = (u : ℕ → ℕ) × AreFree u s × Prints (on_lane s i (take_on s.limits (u i) i)) new text
+Takes s i new text = (u : ℕ) × IsFreeOn s i u × Prints (on_lane s i (take_on s.limits u i)) new text
 
 pub takes_none : (old new : State) (s : Relay) (i : ℕ) → Agrees old s → length old.lanes.items ≤ i → Takes s i new None
 takes_none old new s i a past =
-    let u = some_numbers s in
-    (u.0, u.1, no_lane old new s i (take_on s.limits (u.0 i) i) a past)
+    let u = some_free_on s i in
+    (u.0, u.1, no_lane old new s i (take_on s.limits u.0 i) a past)
 
 -- the lane gave some free number
 pub takes_some : (old new : State) (s : Relay) (i : ℕ) (lane after : Content) (text : Vec ℕ) → Agrees old s → IsTurned old new i lane after
@@ -86,17 +85,20 @@ takes_some old new s i lane after text a is goes =
     let x = history_at old s i lane a is.within is.here in
     let h = x.0 in
     let t = goes h x.2.agrees in
-    let others = some_numbers s in
-    let u = one_number i t.0 others.0 in
-    let turns : TurnsLane (take_on s.limits (u i) i h) lane after text.items =
-    subst (λ n. TurnsLane (take_on s.limits n i h) lane after text.items) (sym (one_number-here i t.0 others.0)) (subst (λ l. TurnsLane (take_on l t.0 i h) lane after text.items) x.2.limits_are t.2) in
-    (u, one_free s i t.0 h others.0 x.1 t.1 others.1, lane_turned old new s i (take_on s.limits (u i) i) h lane after text a is x.1 x.2 turns (own_take s.clients s.limits (u i) i h x.2.own))
+    let turns : TurnsLane (take_on s.limits t.0 i h) lane after text.items = subst (λ l. TurnsLane (take_on l t.0 i h) lane after text.items) x.2.limits_are t.2 in
+    (t.0, free_here s i t.0 h x.1 t.1, lane_turned old new s i (take_on s.limits t.0 i) h lane after text a is x.1 x.2 turns (own_take s.clients s.limits t.0 i h x.2.own))
 
 pub backs_some : (old new : State) (s : Relay) (i : ℕ) (p : Pdu) (lane after : Content) (text : Vec ℕ) → Agrees old s → IsTurned old new i lane after
     → ((h : List Note) → AgreesWith h lane → TurnsLane (back_on p h) lane after text.items) → Prints (on_lane s i (back_on p)) new (Some text)
 backs_some old new s i p lane after text a is goes =
     let x = history_at old s i lane a is.within is.here in
     lane_turned old new s i (back_on p) x.0 lane after text a is x.1 x.2 (goes x.0 x.2.agrees) (own_back s.clients p x.0 x.2.own)
+
+-- so it is with what a response's turn answers
+pub backs_one : {E : Type 0} (old new : State) (s : Relay) (i : ℕ) (p : Pdu) (lane after : Content) (result : Result (Vec ℕ) E) → Agrees old s → IsTurned old new i lane after
+    → ((h : List Note) → AgreesWith h lane → IfOk result (λ text. TurnsLane (back_on p h) lane after text.items)) → IfOk result (λ text. Turned (unwrap_or (on_lane s i (back_on p)) ([], s)) new text.items)
+backs_one old new s i p lane after (Ok text) a is goes = some_printed (on_lane s i (back_on p)) ([], s) new text (backs_some old new s i p lane after text a is goes)
+backs_one old new s i p lane after (Err e) a is goes = tt
 
 history_own : (clients : List (Option ℕ)) (h : List Note) → AreOwn clients h → AreOwn clients (history_on h).1
 unfolding history_on

@@ -6,10 +6,19 @@ use Rattle.smx_history.specs.declared.limits.Limits.{Limits}
 use Rattle.smx_history.specs.declared.note.Note.{Note}
 use Rattle.smx_history.specs.Contents.{Content}
 use Rattle.smx_history.specs.Replies.{accept_refusal}
+use Rattle.smx_session.specs.Login.{Login}
 use Rattle.smx_relay.specs.declared.state.State.{State}
+use Rattle.smx_relay.specs.Links.{ClientLink, CentreLink}
 use Rattle.smx_history.specs.Finding.{admit_refusal_after}
-use Rattle.smx_relay.specs.Relay.{Relay, entered}
+use Rattle.smx_relay.specs.Relay.{Relay, entered, left}
 use Rattle.smx_relay.specs.OnLane.{OnLane}
+
+-- the links are these, of which the lanes' are made with the lanes
+pub record HasLinks (state : State) (accounts : List Login) (links : List ClientLink) (centres : List CentreLink) (started : Bool) : Type 0 where
+  pub accounts_are : state.accounts.items ≡ accounts
+  pub links_are : state.links.items ≡ links
+  pub centres_are : state.centres.items ≡ centres
+  pub none_yet : started ≡ false → centres ≡ []
 
 pub record Agrees (state : State) (s : Relay) : Type 0 where
   pub limits : state.limits ≡ s.limits
@@ -18,6 +27,7 @@ pub record Agrees (state : State) (s : Relay) : Type 0 where
   pub clients : state.clients.items ≡ s.clients
   pub lanes : AllZip (OnLane s.limits s.clients) s.histories state.lanes.items
   pub none_yet : s.started ≡ false → s.histories ≡ []
+  pub links : HasLinks state s.accounts s.links s.centres s.started
 
 -- the state stands for some histories
 abbrev pub IsReached : State → Type 0
@@ -35,6 +45,10 @@ Prints (Some x) state (Some text) = Turned x state text.items
 Prints None state (Some text) = ⊥
 Prints (Some x) state None = ⊥
 
+-- a turn that may print this and leave that did so, or was a bad line
+abbrev pub MayPrint : (Option (List ℕ × Relay) → Type 0) → State → Option (Vec ℕ) → Type 0
+MayPrint May state text = (x : Option (List ℕ × Relay)) × May x × Prints x state text
+
 -- the lanes agree with these histories
 abbrev pub AreOn : Limits → List (Option ℕ) → List (List Note) → List Content → Type 0
 AreOn limits clients hs lanes = AllZip (OnLane limits clients) hs lanes
@@ -46,6 +60,10 @@ accepts_in c (Some lane) = is_none (accept_refusal lane c)
 -- each row of the client has a smaller ordinal, and is the one caller's
 abbrev pub MayAccept : ℕ → ℕ → Content → Type 0
 MayAccept c n lane = AllByRecursion (λ m. m.client ≡ c → (m.last < n) × (m.by ≡ 0)) lane.members
+
+-- the client left each lane
+abbrev pub HasLeft : ℕ → List Content → List Content → Type 0
+HasLeft c old new = (limits : Limits) (clients : List (Option ℕ)) (hs : List (List Note)) → AreOn limits clients hs old → AreOn limits clients (map (left c) hs) new
 
 -- the client was admitted on each lane, or on those before the first that refuses it
 abbrev pub Enters : Limits → List (Option ℕ) → List (List Note) → ℕ → Option ℕ → List Content → Type 0

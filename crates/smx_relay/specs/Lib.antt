@@ -1,6 +1,10 @@
 pub mod Script
 pub mod Texts
+pub mod Links
 pub mod Relay
+pub mod ClientTurn
+pub mod CentreTurn
+pub mod Turns
 pub mod OnLane
 pub mod Agrees
 pub mod Runs

@@ -1,8 +1,10 @@
 -- What each line of a script does and prints, over the histories of the lanes.
-use Rattle.std.specs.Prelude.{◌≡◌, ℕ, ◌+◌, ◌%◌, Bool, true, false, List, [], ◌∷◌, ◌++◌, length, map, take, drop, set, replicate, position, codes, Option, Some, None, is_none, is_some, nat_lt, slice_get, if◌then◌else◌}
+use Rattle.std.specs.Prelude.{ℕ, ◌+◌, ◌%◌, Bool, true, false, List, [], ◌∷◌, ◌++◌, length, map, take, drop, set, replicate, position, codes, Option, Some, None, is_none, is_some, ◌||◌, nat_lt, nat_le, slice_get, if◌then◌else◌}
 use Rattle.std.specs.List.{flat_map, find, range_with_len}
 use Rattle.std.specs.Fmt.{decimal}
 use Rattle.smx_pdu.specs.declared.pdu.Pdu.{Pdu}
+use Rattle.smx_session.specs.Login.{Login}
+use Rattle.smx_session.specs.declared.kind.Kind.{Kind}
 use Rattle.smx_history.specs.declared.limits.Limits.{Limits}
 use Rattle.smx_history.specs.declared.request.Request.{Request}
 use Rattle.smx_history.specs.declared.place.Place.{Place}
@@ -10,38 +12,51 @@ use Rattle.smx_history.specs.declared.note.Note.{Note}
 use Rattle.smx_history.specs.declared.note.Event.TheVariants as event
 use Rattle.smx_history.specs.History.{note, entries_of}
 use Rattle.smx_history.specs.Contents.{queue_after, window_after}
-use Rattle.smx_history.specs.Finding.{is_present, admit_refusal_after, refusal_after, place_answered, waiting_after, IsFree}
+use Rattle.smx_history.specs.Finding.{is_present, admit_refusal_after, refusal_after, place_answered, waiting_after}
 use Rattle.smx_relay.specs.declared.offer.Offer.{Offer}
-use Rattle.smx_relay.specs.declared.command.Command.{Command}
-use Rattle.smx_relay.specs.declared.command.Command.TheVariants.{Skip, Set, Run}
 use Rattle.smx_relay.specs.declared.command.Setting.{Setting}
-use Rattle.smx_relay.specs.declared.command.Setting.TheVariants.{Sizes, Lanes}
-use Rattle.smx_relay.specs.declared.command.Action.{Action}
-use Rattle.smx_relay.specs.declared.command.Action.TheVariants.{Client, In, Take, Back, Collect, History}
+use Rattle.smx_relay.specs.declared.command.Setting.TheVariants.{Sizes, Lanes, Account}
+use Rattle.smx_relay.specs.Links.{ClientLink, CentreLink, new_link, bound_centre}
 use Rattle.smx_relay.specs.Texts.{text_line, pdu_line, to_client, up_lane, refusal_of, upstream_of, entry_line}
 
 pub record Relay : Type 0 where
   -- the sizes of each lane, and how many lanes there are to be
   pub limits : Limits
   pub count : ℕ
+  -- who may bind
+  pub accounts : List Login
   -- a line other than a setting was run
   pub started : Bool
   -- what happened on each lane since
   pub histories : List (List Note)
+  -- the link of each lane
+  pub centres : List CentreLink
   -- the last ordinal of each client, by its number; none of a number that no client has, as 0 and those that were refused
   pub clients : List (Option ℕ)
+  -- the link of each client, by its number; that of a number that no client has is never used
+  pub links : List ClientLink
 
 abbrev pub start : Relay
-start = record { limits = record { queue = 100; window = 10; client = 20; history = 10000 }; count = 1; started = false; histories = []; clients = None ∷ [] }
+start = record {
+  limits = record { queue = 100; window = 10; client = 20; history = 10000 };
+  count = 1;
+  accounts = [];
+  started = false;
+  histories = [];
+  centres = [];
+  clients = None ∷ [];
+  links = new_link None ∷ [];
+}
 
 -- settings count up to the first other line
 abbrev pub set_turn : Relay → Setting → Option (List ℕ × Relay)
 set_turn s (Sizes limits) = if s.started then None else Some ([], record s { limits = limits })
 set_turn s (Lanes count) = if s.started then None else Some ([], record s { count = count })
+set_turn s (Account login) = if s.started || nat_le 256 (length s.accounts) then None else Some ([], record s { accounts = s.accounts ++ login ∷ [] })
 
 -- the lanes begin with the first line that is no setting
 abbrev pub begun : Relay → Relay
-begun s = if s.started then s else record s { started = true; histories = replicate s.count [] }
+begun s = if s.started then s else record s { started = true; histories = replicate s.count []; centres = replicate s.count bound_centre }
 
 abbrev pub last_in : Option (Option ℕ) → Option ℕ
 last_in None = None
@@ -67,15 +82,24 @@ entered c h = h ++ note 0 (event.Admit c) ∷ []
 abbrev pub entered_and_left : ℕ → List Note → List Note
 entered_and_left c h = (h ++ note 0 (event.Admit c) ∷ []) ++ note 0 (event.Retire c) ∷ []
 
-abbrev pub client_turn_at : Relay → ℕ → Option ℕ → List ℕ × Relay
-client_turn_at s c None =
-    (text_line (codes "client " ++ decimal c), record s { histories = map (entered c) s.histories; clients = s.clients ++ Some 0 ∷ [] })
-client_turn_at s c (Some i) =
-    (text_line (codes "refused"), record s { histories = map (entered_and_left c) (take i s.histories) ++ drop i s.histories; clients = s.clients ++ None ∷ [] })
+abbrev pub client_turn_at : Relay → Option Kind → ℕ → Option ℕ → List ℕ × Relay
+client_turn_at s kind c None =
+    (text_line (codes "client " ++ decimal c), record s { histories = map (entered c) s.histories; clients = s.clients ++ Some 0 ∷ []; links = s.links ++ new_link kind ∷ [] })
+client_turn_at s kind c (Some i) = (
+  text_line (codes "refused"),
+  record s { histories = map (entered_and_left c) (take i s.histories) ++ drop i s.histories; clients = s.clients ++ None ∷ []; links = s.links ++ new_link kind ∷ [] },
+)
 
 -- the next number is used up either way
-abbrev pub client_turn : Relay → List ℕ × Relay
-client_turn s = client_turn_at s (length s.clients) (position (λ h. is_some (admit_refusal_after s.limits h (length s.clients))) s.histories)
+abbrev pub client_turn : Relay → Option Kind → List ℕ × Relay
+client_turn s kind = client_turn_at s kind (length s.clients) (position (λ h. is_some (admit_refusal_after s.limits h (length s.clients))) s.histories)
+
+-- a client leaves a lane, where it is present
+abbrev pub left : ℕ → List Note → List Note
+left c h = if is_present c h then h ++ note 0 (event.Retire c) ∷ [] else h
+
+abbrev pub all_left : ℕ → Relay → Relay
+all_left c s = record s { histories = map (left c) s.histories }
 
 abbrev pub request_of : ℕ → ℕ → Offer → Request
 request_of c n o = record { client = c; ordinal = n; own = o.own; command = o.command; body = o.body; forwarded = o.forwarded }
@@ -102,10 +126,6 @@ abbrev pub in_turn_at : Relay → ℕ → ℕ → Offer → Option ℕ → List 
 in_turn_at s c last o None = (pdu_line (to_client c) (refusal_of o), s)
 in_turn_at s c last o (Some i) =
     (text_line (codes "accepted " ++ (decimal c ++ (codes " " ++ decimal i))), accepted s c last o i (slice_get s.histories i))
-
-abbrev pub in_turn : Relay → ℕ → Offer → Option ℕ → Option (List ℕ × Relay)
-in_turn s c o None = None
-in_turn s c o (Some last) = Some (in_turn_at s c last o (lane_for s c last))
 
 abbrev pub take_with : ℕ → ℕ → List Note → List Request → Bool → List ℕ × List Note
 take_with u i h [] room = (text_line (codes "take " ++ (decimal i ++ codes " empty")), h)
@@ -144,21 +164,3 @@ collect_turn s c (Some last) = Some (or_none c (flat_map (collect_text c) s.hist
 
 unfoldable pub history_on : List Note → List ℕ × List Note
 history_on h = (flat_map entry_line (entries_of h), h)
-
--- what an action prints and leaves, where u has the number that a request would be given on each lane; none at a bad line
-unfoldable pub act : (ℕ → ℕ) → Relay → Action → Option (List ℕ × Relay)
-act u s Client = Some (client_turn s)
-act u s (In c o) = in_turn s c o (last_of s.clients c)
-act u s (Take i) = on_lane s i (take_on s.limits (u i) i)
-act u s (Back i p) = on_lane s i (back_on p)
-act u s (Collect c) = collect_turn s c (last_of s.clients c)
-act u s (History i) = on_lane s i history_on
-
-unfoldable pub turn : (ℕ → ℕ) → Relay → Command → Option (List ℕ × Relay)
-turn u s Skip = Some ([], s)
-turn u s (Set setting) = set_turn s setting
-turn u s (Run action) = act u (begun s) action
-
--- the numbers are free, each on its lane
-abbrev pub AreFree : (ℕ → ℕ) → Relay → Type 0
-AreFree u s = (i : ℕ) (h : List Note) → slice_get s.histories i ≡ Some h → IsFree h (u i)

@@ -1,17 +1,16 @@
 -- What the lines of a script say.
-use Rattle.std.specs.Prelude.{◌≡◌, ℕ, ◌==◌, ◌&&◌, ◌||◌, ◌+◌, ◌-◌, ◌*◌, ◌^◌, Bool, true, false, List, [], ◌∷◌, length, slice_index, codes, nat_lt, nat_le, Option, Some, None, Result, Ok, Err, refl, if◌then◌else◌}
+use Rattle.std.specs.Prelude.{◌≡◌, ℕ, ◌==◌, ◌&&◌, ◌||◌, ◌+◌, ◌-◌, ◌*◌, ◌^◌, Bool, true, false, List, [], ◌∷◌, length, slice_index, codes, nat_lt, nat_le, Option, Some, None, Result, Ok, Err, if◌then◌else◌}
 use Rattle.std.specs.Char.{is_ascii_digit}
-use Rattle.std.specs.List.{list_any, slice_split}
+use Rattle.std.specs.List.{list_all, slice_split}
 use Rattle.std.specs.Str.{bytes_eq}
 use Rattle.hex.specs.Hex.{decode_of}
 use Rattle.hex.specs.declared.error.FromHexError.{FromHexError}
-use Rattle.smx_pdu.specs.declared.pdu.Pdu.{Pdu}
-use Rattle.smx_pdu.specs.declared.command.TheConstants.{DELIVER_SM, GENERIC_NACK, RESPONSE}
-use Rattle.smx_pdu.specs.Pdu.{pdu_of}
-use Rattle.smx_pdu.specs.Command.{forwarded, is_forwarded}
+use Rattle.smx_session.specs.Login.{Login}
+use Rattle.smx_session.specs.declared.kind.Kind.{Kind}
+use Rattle.smx_session.specs.declared.kind.Kind.TheVariants.{Tx, Rx, Trx}
 use Rattle.smx_relay.specs.declared.command.Command.{Command}
 use Rattle.smx_relay.specs.declared.command.Command.TheVariants.{Skip, Set, Run}
-use Rattle.smx_relay.specs.declared.command.Setting.TheVariants.{Sizes, Lanes}
+use Rattle.smx_relay.specs.declared.command.Setting.TheVariants.{Sizes, Lanes, Account}
 use Rattle.smx_relay.specs.declared.command.Action.TheVariants.{Client, In, Take, Back, Collect, History}
 
 -- lines end with a line feed, which the last may lack
@@ -43,27 +42,43 @@ within least most (Some n) = if nat_le least n && nat_le n most then Some n else
 unfoldable pub number_within : ℕ → ℕ → List ℕ → Option ℕ
 number_within least most word = within least most (number_of word)
 
-abbrev pub pdu_of_octets : Result (List ℕ) FromHexError → Option Pdu
-pdu_of_octets (Ok octets) = pdu_of octets
-pdu_of_octets (Err e) = None
+abbrev pub some_octets : Result (List ℕ) FromHexError → Option (List ℕ)
+some_octets (Ok octets) = Some octets
+some_octets (Err e) = None
 
--- the PDU that hexadecimal digits spell, in either case
-unfoldable pub pdu_in : List ℕ → Option Pdu
-pdu_in digits = pdu_of_octets (decode_of digits)
+-- the octets that hexadecimal digits spell, in either case, one at least
+unfoldable pub octets_in : List ℕ → Option (List ℕ)
+octets_in digits = if length digits == 0 then None else some_octets (decode_of digits)
 
--- the responses to requests that are passed on, that of deliver_sm, and generic_nack
-abbrev pub is_from_centre : ℕ → Bool
-is_from_centre command = (command == GENERIC_NACK) || list_any (λ id. command == RESPONSE + id) (DELIVER_SM ∷ forwarded)
+abbrev pub is_printable : ℕ → Bool
+is_printable octet = nat_le 33 octet && nat_le octet 126
+
+-- a word of printable ASCII, which has one octet and at most so many
+abbrev pub is_text : ℕ → List ℕ → Bool
+is_text most word = nat_le 1 (length word) && nat_le (length word) most && list_all is_printable word
+
+-- how a client enters: it binds itself, or is bound so
+abbrev pub entry_of : List ℕ → Option (Option Kind)
+entry_of word =
+    if bytes_eq word (codes "open") then Some None
+    else if bytes_eq word (codes "tx") then Some (Some Tx)
+    else if bytes_eq word (codes "rx") then Some (Some Rx)
+    else if bytes_eq word (codes "trx") then Some (Some Trx)
+    else None
 
 unfoldable pub pair_command : List ℕ → List ℕ → Option Command
 pair_command word what =
-    if bytes_eq word (codes "client") then (if bytes_eq what (codes "trx") then Some (Run Client) else None)
+    if bytes_eq word (codes "client") then client_command (entry_of what)
     else if bytes_eq word (codes "lanes") then lanes_command (number_within 1 16 what)
     else if bytes_eq word (codes "take") then take_command (number_of what)
     else if bytes_eq word (codes "collect") then collect_command (number_of what)
     else if bytes_eq word (codes "history") then history_command (number_of what)
     else None
   where
+    client_command : Option (Option Kind) → Option Command
+    client_command None = None
+    client_command (Some kind) = Some (Run (Client kind))
+
     lanes_command : Option ℕ → Option Command
     lanes_command None = None
     lanes_command (Some n) = Some (Set (Lanes n))
@@ -80,25 +95,22 @@ pair_command word what =
     history_command None = None
     history_command (Some lane) = Some (Run (History lane))
 
--- a request that is passed on
-abbrev pub in_forwarded : ℕ → (p : Pdu) → (b : Bool) → is_forwarded p.command ≡ b → Option Command
-in_forwarded client p true e = Some (Run (In client (record { own = p.number; command = p.command; body = p.body; forwarded = e })))
-in_forwarded client p false e = None
+abbrev pub in_command : Option ℕ → Option (List ℕ) → Option Command
+in_command (Some client) (Some octets) = Some (Run (In client octets))
+in_command _ _ = None
 
-abbrev pub in_command : Option ℕ → Option Pdu → Option Command
-in_command None p = None
-in_command (Some client) None = None
-in_command (Some client) (Some p) = in_forwarded client p (is_forwarded p.command) refl
+abbrev pub back_command : Option ℕ → Option (List ℕ) → Option Command
+back_command (Some lane) (Some octets) = Some (Run (Back lane octets))
+back_command _ _ = None
 
-abbrev pub back_command : Option ℕ → Option Pdu → Option Command
-back_command None p = None
-back_command (Some lane) None = None
-back_command (Some lane) (Some p) = if is_from_centre p.command then Some (Run (Back lane p)) else None
+abbrev pub account_command : List ℕ → List ℕ → Option Command
+account_command id password = if is_text 15 id && is_text 8 password then Some (Set (Account (record { system_id = id; password = password }))) else None
 
-unfoldable pub octets_command : List ℕ → List ℕ → List ℕ → Option Command
-octets_command word place digits =
-    if bytes_eq word (codes "in") then in_command (number_of place) (pdu_in digits)
-    else if bytes_eq word (codes "back") then back_command (number_of place) (pdu_in digits)
+unfoldable pub triple_command : List ℕ → List ℕ → List ℕ → Option Command
+triple_command word what other =
+    if bytes_eq word (codes "account") then account_command what other
+    else if bytes_eq word (codes "in") then in_command (number_of what) (octets_in other)
+    else if bytes_eq word (codes "back") then back_command (number_of what) (octets_in other)
     else None
 
 abbrev pub sizes : Option ℕ → Option ℕ → Option ℕ → Option ℕ → Option Command
@@ -113,7 +125,7 @@ limits_command word queue window client history =
 
 abbrev pub command_of_fields : List (List ℕ) → Option Command
 command_of_fields (word ∷ what ∷ []) = pair_command word what
-command_of_fields (word ∷ place ∷ digits ∷ []) = octets_command word place digits
+command_of_fields (word ∷ what ∷ other ∷ []) = triple_command word what other
 command_of_fields (word ∷ queue ∷ window ∷ client ∷ history ∷ []) = limits_command word queue window client history
 command_of_fields _ = None
 

@@ -1,11 +1,14 @@
 -- The lines that a run prints.
-use Rattle.std.specs.Prelude.{ℕ, List, [], ◌∷◌, ◌++◌, codes, unwrap_or}
+use Rattle.std.specs.Prelude.{ℕ, List, [], ◌∷◌, ◌++◌, codes, unwrap_or, Result, Ok, Err}
 use Rattle.std.specs.Fmt.{decimal}
 use Rattle.hex.specs.Hex.{encode_lower}
 use Rattle.smx_pdu.specs.declared.pdu.Pdu.{Pdu}
 use Rattle.smx_pdu.specs.declared.command.TheConstants.{GENERIC_NACK}
+use Rattle.smx_pdu.specs.declared.status.TheConstants.{ESME_RINVCMDLEN, ESME_RMSGQFUL, ESME_RX_T_APPN}
+use Rattle.smx_pdu.specs.declared.body_fault.BodyFault.{BodyFault}
 use Rattle.smx_pdu.specs.Pdu.{spelling}
 use Rattle.smx_pdu.specs.Command.{response_of}
+use Rattle.smx_pdu.specs.Reading.{destination_at}
 use Rattle.smx_history.specs.declared.entry.Kind.{Kind}
 use Rattle.smx_history.specs.declared.entry.Kind.TheVariants.{Admit, Accept, Take, Answer, Late, Collect, Retire}
 use Rattle.smx_history.specs.declared.entry.Entry.{Entry}
@@ -29,9 +32,28 @@ up_lane lane = codes "up " ++ (decimal lane ++ codes " ")
 unfoldable pub bad_line : ℕ → List ℕ
 bad_line n = text_line (codes "bad line " ++ decimal n)
 
--- the answer to a request that each lane refuses: a header with status 0x14, the queue is full
+abbrev pub closed_line : ℕ → List ℕ
+closed_line c = text_line (codes "closed " ++ decimal c)
+
+abbrev pub down_line : ℕ → List ℕ
+down_line lane = text_line (codes "down " ++ decimal lane)
+
+-- the answer to a request, a header with this status
+abbrev pub refusal : ℕ → ℕ → ℕ → Pdu
+refusal command number status = record { command = unwrap_or (response_of command) GENERIC_NACK; status = status; number = number; body = [] }
+
+-- the answer to a request that each lane refuses: the queue is full (SMPP 3.4, section 5.1.3)
 abbrev pub refusal_of : Offer → Pdu
-refusal_of o = record { command = unwrap_or (response_of o.command) GENERIC_NACK; status = 20; number = o.own; body = [] }
+refusal_of o = refusal o.command o.own ESME_RMSGQFUL
+
+-- no client is to be reached; or the message can't be read up to its destination
+abbrev pub message_status : Result (List ℕ) BodyFault → ℕ
+message_status (Ok destination) = ESME_RX_T_APPN
+message_status (Err e) = ESME_RINVCMDLEN
+
+-- the answer to a message, which is for no client
+unfoldable pub message_refusal : Pdu → Pdu
+message_refusal p = refusal p.command p.number (message_status (destination_at p.body))
 
 -- a request as it goes upstream
 abbrev pub upstream_of : Request → ℕ → Pdu

@@ -1,29 +1,31 @@
 //! What the lines of a script ask for.
 
-use crate::offer::Offer;
+use crate::octets::Octets;
 use smx_history::Limits;
-use smx_pdu::Pdu;
+use smx_session::{Account, Kind};
 
-/// What holds for all lanes.
-#[derive(Clone, Copy, Debug, PartialEq, Eq)]
+/// What holds for all lanes and clients.
+#[derive(Debug, Drop)]
 pub enum Setting {
     /// The sizes of each lane.
     Sizes(Limits),
     /// The number of lanes, 1 to 16.
     Lanes(usize),
+    /// A client that may bind.
+    Account(Account),
 }
 
 /// What a line does on the lanes.
 #[derive(Debug, Drop)]
 pub enum Action {
-    /// A new client enters.
-    Client,
-    /// A client hands in a request.
-    In { client: u64, offer: Offer },
+    /// A new client enters. It is bound so, or is still to bind.
+    Client { kind: Option<Kind> },
+    /// Octets come from a client.
+    In { client: u64, octets: Octets },
     /// The oldest request of a lane goes upstream.
     Take { lane: u64 },
-    /// A response comes back on a lane.
-    Back { lane: u64, response: Pdu },
+    /// Octets come from the centre on a lane.
+    Back { lane: u64, octets: Octets },
     /// A client collects what waits for it on each lane.
     Collect { client: u64 },
     /// A lane's entries are listed.

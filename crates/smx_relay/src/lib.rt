@@ -1,13 +1,20 @@
 //! The relay: a script of lines drives lanes on one thread, and each line prints what it caused.
 #![tactic(auto)]
 
+mod centre_turn;
+mod client_turn;
 mod clients;
 mod command;
 mod end;
 mod engine;
 mod line;
+mod link;
+mod octets;
 mod offer;
 mod on_lane;
+mod receive;
+mod refusal;
+mod requests;
 mod script;
 mod settings;
 mod state;
@@ -20,5 +27,7 @@ pub use engine::run;
 
 #[cfg(test)]
 mod fakes;
+#[cfg(test)]
+mod session_tests;
 #[cfg(test)]
 mod tests;

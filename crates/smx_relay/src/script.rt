@@ -1,23 +1,28 @@
 //! The command of a line.
 ghost use Rattle.std.specs.Prelude.{◌≡◌, IfOk};
-ghost use Rattle.smx_relay.specs.Script.{command_of};
-ghost use Rattle.smx_relay.specs.Script.{is_from_centre, pair_command, octets_command, limits_command};
+ghost use Rattle.smx_relay.specs.Script.{account_command, command_of, entry_of, limits_command, pair_command, triple_command};
 
 use crate::command::{Action, Command, Setting};
-use crate::offer::Offer;
-use crate::words::{number, number_within, parts_of, pdu_in};
+use crate::words::{is_text, number, number_within, octets_in, parts_of};
 use smx_history::Limits;
-use smx_pdu::command::{DELIVER_SM, GENERIC_NACK, RESPONSE};
-use smx_pdu::{Pdu, is_forwarded};
+use smx_session::{Account, Kind};
 use std::alloc::{AllocError, Global};
 
-// Whether a PDU with this command comes from the centre as a response.
-fn is_from_centre(command: u32) -> bool
-    ensures { result ≡ is_from_centre command }
+// How a client enters.
+fn entry_of(word: &[u8]) -> Option<Option<Kind>>
+    ensures { result ≡ entry_of word.now }
 {
-    command == GENERIC_NACK
-        || (command >= RESPONSE
-            && (command - RESPONSE == DELIVER_SM || is_forwarded(command - RESPONSE)))
+    if word == "open".as_bytes() {
+        Some(None)
+    } else if word == "tx".as_bytes() {
+        Some(Some(Kind::Tx))
+    } else if word == "rx".as_bytes() {
+        Some(Some(Kind::Rx))
+    } else if word == "trx".as_bytes() {
+        Some(Some(Kind::Trx))
+    } else {
+        None
+    }
 }
 
 // A command of two words.
@@ -26,10 +31,8 @@ fn pair_command(word: &[u8], what: &[u8]) -> Option<Command>
     ensures { result ≡ pair_command word.now what.now }
 {
     if word == "client".as_bytes() {
-        if what == "trx".as_bytes() {
-            return Some(Command::Run(Action::Client));
-        }
-        return None;
+        let kind = entry_of(what)?;
+        return Some(Command::Run(Action::Client { kind }));
     }
     if word == "lanes".as_bytes() {
         let lanes = number_within(1, 16, what)?;
@@ -50,57 +53,53 @@ fn pair_command(word: &[u8], what: &[u8]) -> Option<Command>
     None
 }
 
-// A request that a client hands in.
-fn in_command(client: u64, pdu: Pdu) -> Option<Command>
-    ensures { result ≡ in_command (Some client) (Some pdu) }
+// A client that may bind.
+fn account_command(alloc: Global, id: &[u8], password: &[u8]) -> Result<Option<Command>, AllocError>
+    ensures { IfOk result (λ command. command ≡ account_command id.now password.now) }
 {
-    if !is_forwarded(pdu.command) {
-        return None;
+    if !is_text(15, id) || !is_text(8, password) {
+        return Ok(None);
     }
-    let offer = Offer {
-        own: pdu.number,
-        command: pdu.command,
-        body: pdu.body,
+    let account = Account {
+        system_id: Vec::from_slice(alloc, id)?,
+        password: Vec::from_slice(alloc, password)?,
     };
-    Some(Command::Run(Action::In { client, offer }))
+    Ok(Some(Command::Set(Setting::Account(account))))
 }
 
-// A response that comes back on a lane.
-fn back_command(lane: u64, response: Pdu) -> Option<Command>
-    ensures { result ≡ back_command (Some lane) (Some response) }
-{
-    if !is_from_centre(response.command) {
-        return None;
-    }
-    Some(Command::Run(Action::Back { lane, response }))
-}
-
-ghost use Rattle.std.specs.Prelude.{Some};
-ghost use Rattle.smx_relay.specs.Script.{in_command, back_command};
-
-// A command of two words and octets.
-#[tactic(auto, unfolding(crate::specs::Script::octets_command))]
-fn octets_command(
+// A command of three words.
+#[tactic(auto, unfolding(crate::specs::Script::triple_command))]
+fn triple_command(
     alloc: Global,
     word: &[u8],
-    place: &[u8],
-    digits: &[u8],
+    what: &[u8],
+    other: &[u8],
 ) -> Result<Option<Command>, AllocError>
-    ensures { IfOk result (λ command. command ≡ octets_command word.now place.now digits.now) }
+    ensures { IfOk result (λ command. command ≡ triple_command word.now what.now other.now) }
 {
-    let Some(place) = number(place) else {
-        return Ok(None);
-    };
-    let Some(pdu) = pdu_in(alloc, digits)? else {
-        return Ok(None);
-    };
-    if word == "in".as_bytes() {
-        Ok(in_command(place, pdu))
-    } else if word == "back".as_bytes() {
-        Ok(back_command(place, pdu))
-    } else {
-        Ok(None)
+    if word == "account".as_bytes() {
+        return account_command(alloc, what, other);
     }
+    let Some(place) = number(what) else {
+        return Ok(None);
+    };
+    let Some(octets) = octets_in(alloc, other)? else {
+        return Ok(None);
+    };
+    let action = if word == "in".as_bytes() {
+        Action::In {
+            client: place,
+            octets,
+        }
+    } else if word == "back".as_bytes() {
+        Action::Back {
+            lane: place,
+            octets,
+        }
+    } else {
+        return Ok(None);
+    };
+    Ok(Some(Command::Run(action)))
 }
 
 // The sizes of lanes.
@@ -136,7 +135,7 @@ pub fn read_command(alloc: Global, line: &[u8]) -> Result<Option<Command>, Alloc
     let fields = parts_of(alloc, line, b' ')?;
     match fields.as_slice() {
         [word, what] => Ok(pair_command(word, what)),
-        [word, place, digits] => octets_command(alloc, word, place, digits),
+        [word, what, other] => triple_command(alloc, word, what, other),
         [word, queue, window, client, history] => {
             Ok(limits_command(word, queue, window, client, history))
         }

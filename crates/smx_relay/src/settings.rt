@@ -4,6 +4,7 @@ ghost use Rattle.smx_relay.specs.Relay.{Relay, start, begun, set_turn};
 ghost use Rattle.smx_relay.specs.Agrees.{Agrees, Prints};
 
 use crate::command::Setting;
+use crate::link::{CentreLink, ClientLink};
 use crate::state::State;
 use smx_history::Limits;
 use smx_lane::Lane;
@@ -15,6 +16,8 @@ pub fn new_state(alloc: Global) -> Result<State, AllocError>
 {
     let mut clients = Vec::new(alloc);
     clients.push(None)?;
+    let mut links = Vec::new(alloc);
+    links.push(ClientLink::new(alloc, None))?;
     Ok(State {
         limits: Limits {
             queue: 100,
@@ -23,27 +26,43 @@ pub fn new_state(alloc: Global) -> Result<State, AllocError>
             history: 10_000,
         },
         count: 1,
+        accounts: Vec::new(alloc),
         started: false,
         lanes: Vec::new(alloc),
+        centres: Vec::new(alloc),
         clients,
+        links,
     })
 }
 
+/// The most accounts that a script has.
+const MAX_ACCOUNTS: usize = 256;
+
 /// Keeps a setting, unless the lanes were started.
-pub fn set(alloc: Global, state: &mut State, setting: Setting) -> Option<Vec<u8>>
-    ensures { (s : Relay) → Agrees state.old s → Prints (set_turn s setting) state.new result }
+pub fn set(
+    alloc: Global,
+    state: &mut State,
+    setting: Setting,
+) -> Result<Option<Vec<u8>>, AllocError>
+    ensures { (s : Relay) → Agrees state.old s → IfOk result (λ text. Prints (set_turn s setting) state.new text) }
 {
     if state.started {
-        return None;
+        return Ok(None);
     }
     match setting {
         Setting::Sizes(limits) => state.limits = limits,
         Setting::Lanes(count) => state.count = count,
+        Setting::Account(account) => {
+            if state.accounts.len() >= MAX_ACCOUNTS {
+                return Ok(None);
+            }
+            state.accounts.push(account)?;
+        }
     }
-    Some(Vec::new(alloc))
+    Ok(Some(Vec::new(alloc)))
 }
 
-/// Makes the lanes, unless they were made.
+/// Makes the lanes and their links, unless they were made.
 pub fn begin(alloc: Global, state: &mut State) -> Result<(), AllocError>
     ensures { (s : Relay) → Agrees state.old s → OnOk result (Agrees state.new (begun s)) }
 {
@@ -56,6 +75,7 @@ pub fn begin(alloc: Global, state: &mut State) -> Result<(), AllocError>
             return Err(AllocError);
         };
         state.lanes.push(lane)?;
+        state.centres.push(CentreLink::bound(alloc)?)?;
     }
     Ok(())
 }

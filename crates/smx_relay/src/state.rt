@@ -1,7 +1,9 @@
 //! What a run holds between two lines.
 
+use crate::link::{CentreLink, ClientLink};
 use smx_history::Limits;
 use smx_lane::Lane;
+use smx_session::Account;
 
 /// The settings, the lanes and the clients.
 #[derive(Drop)]
@@ -10,9 +12,15 @@ pub struct State {
     pub limits: Limits,
     /// How many lanes there are to be, 1 to 16.
     pub count: usize,
+    /// Who may bind.
+    pub accounts: Vec<Account>,
     /// A line other than a setting was run, so the lanes are made.
     pub started: bool,
     pub lanes: Vec<Lane>,
+    /// The link of each lane.
+    pub centres: Vec<CentreLink>,
     /// The last ordinal of each client, by its number; none of a number that no client has.
     pub clients: Vec<Option<u64>>,
+    /// The link of each client, by its number; that of a number that no client has is never used.
+    pub links: Vec<ClientLink>,
 }

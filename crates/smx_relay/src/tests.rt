@@ -68,13 +68,13 @@ const BAD_LINES: [&str; 23] = [
     "collect 2",
     "collect 0",
     "collect 01",
-    "client tx",
+    "client xx",
+    "client",
+    "account a p",
+    "back 0 0g",
     "in 1 ",
     "in 1 0",
     "in 2 00000022000000040000000000000001000000000000310000000000000000000000",
-    "in 1 0000002200000004000000000000000100000000000031000000000000000000000000",
-    "in 1 00000010800000040000000000000001",
-    "back 0 00000022000000040000000000000001000000000000310000000000000000000000",
     "back 1 000000128000000400000000000000013100",
     "history 1",
     "limits 1 1 3 1000",
@@ -84,7 +84,12 @@ const BAD_LINES: [&str; 23] = [
 ];
 
 // Settings that are bad.
-const BAD_SETTINGS: [&str; 10] = [
+const BAD_SETTINGS: [&str; 15] = [
+    "account a",
+    "account aaaaaaaaaaaaaaaa p",
+    "account a ppppppppp",
+    "account \x7F p",
+    "account a ",
     "limits 0 1 1 1000",
     "limits 65536 1 1 1000",
     "limits 1 1025 1 1000",

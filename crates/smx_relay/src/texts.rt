@@ -1,6 +1,6 @@
 //! The lines that a run prints.
 ghost use Rattle.std.specs.Prelude.{◌≡◌, ◌++◌, IfOk, OnOk, string_bytes, codes};
-ghost use Rattle.smx_relay.specs.Texts.{bad_line, entry_line, kind_name, pdu_line, text_line, to_client, up_lane};
+ghost use Rattle.smx_relay.specs.Texts.{bad_line, closed_line, down_line, entry_line, kind_name, pdu_line, text_line, to_client, up_lane};
 ghost use Rattle.std.specs.Fmt.{decimal};
 
 use smx_history::{Entry, Kind};
@@ -100,6 +100,38 @@ pub fn none_line(alloc: Global, client: u64) -> Result<Vec<u8>, AllocError>
     ensures { IfOk result (λ line. line.items ≡ text_line (codes "none " ++ decimal client)) }
 {
     Ok(format!(in alloc; "none {client}\n")?.into_bytes())
+}
+
+/// What is printed of a client that was hung up.
+pub fn closed_line(alloc: Global, client: u64) -> Result<Vec<u8>, AllocError>
+    ensures { IfOk result (λ line. line.items ≡ closed_line client) }
+{
+    Ok(format!(in alloc; "closed {client}\n")?.into_bytes())
+}
+
+/// What is printed of a lane that is down.
+pub fn down_line(alloc: Global, lane: u64) -> Result<Vec<u8>, AllocError>
+    ensures { IfOk result (λ line. line.items ≡ down_line lane) }
+{
+    Ok(format!(in alloc; "down {lane}\n")?.into_bytes())
+}
+
+/// What a client gets last, and that it is hung up.
+pub fn hangup_lines(alloc: Global, client: u64, pdu: &Pdu) -> Result<Vec<u8>, AllocError>
+    ensures { IfOk result (λ lines. lines.items ≡ pdu_line (to_client client) pdu.now ++ closed_line client) }
+{
+    let mut lines = to_line(alloc, client, pdu)?;
+    lines.extend_from_slice(&closed_line(alloc, client)?)?;
+    Ok(lines)
+}
+
+/// What goes upstream last from a lane, and that it is down.
+pub fn farewell_lines(alloc: Global, lane: u64, pdu: &Pdu) -> Result<Vec<u8>, AllocError>
+    ensures { IfOk result (λ lines. lines.items ≡ pdu_line (up_lane lane) pdu.now ++ down_line lane) }
+{
+    let mut lines = up_line(alloc, lane, pdu)?;
+    lines.extend_from_slice(&down_line(alloc, lane)?)?;
+    Ok(lines)
 }
 
 // The name of a kind of entry.

@@ -1,9 +1,9 @@
-//! The parts of a line, and the numbers and PDUs that they spell.
+//! The parts of a line, and the numbers and octets that they spell.
 ghost use Rattle.std.specs.Prelude.{◌≡◌, ◌==◌, IfOk, map};
-ghost use Rattle.std.specs.List.{slice_split};
-ghost use Rattle.smx_relay.specs.Script.{number_of, number_within, pdu_in};
+ghost use Rattle.std.specs.List.{list_all, slice_split};
+ghost use Rattle.smx_relay.specs.Script.{is_printable, is_text, number_of, number_within, octets_in};
 
-use smx_pdu::{Pdu, PduFault, decode};
+use crate::octets::Octets;
 use std::alloc::{AllocError, Global};
 
 /// The parts of octets round each octet of one value.
@@ -45,18 +45,31 @@ pub fn number_within(least: u32, most: u32, word: &[u8]) -> Option<u32>
     Some(value as u32)
 }
 
-/// The PDU that hexadecimal digits spell.
-#[tactic(auto, unfolding(crate::specs::Script::pdu_in))]
-pub fn pdu_in(alloc: Global, digits: &[u8]) -> Result<Option<Pdu>, AllocError>
-    ensures { IfOk result (λ pdu. pdu ≡ pdu_in digits.now) }
+/// The octets that hexadecimal digits spell, in either case, one at least.
+#[tactic(auto, unfolding(crate::specs::Script::octets_in))]
+pub fn octets_in(alloc: Global, digits: &[u8]) -> Result<Option<Octets>, AllocError>
+    ensures { IfOk result (λ octets. octets ≡ octets_in digits.now) }
 {
+    if digits.is_empty() {
+        return Ok(None);
+    }
     match hex::decode(alloc, digits) {
-        Ok(octets) => match decode(alloc, &octets) {
-            Ok(pdu) => Ok(Some(pdu)),
-            Err(PduFault::NoMemory) => Err(AllocError),
-            Err(_) => Ok(None),
-        },
+        Ok(octets) => Ok(Some(Octets::new(octets))),
         Err(hex::FromHexError::OutOfMemory) => Err(AllocError),
         Err(_) => Ok(None),
     }
+}
+
+// Whether each octet is printable ASCII.
+fn are_printable(word: &[u8]) -> bool
+    ensures { result ≡ list_all is_printable word.now }
+{
+    word.iter().all(|octet| *octet >= b'!' && *octet <= b'~')
+}
+
+/// Whether a word is printable ASCII of one octet to so many.
+pub fn is_text(most: usize, word: &[u8]) -> bool
+    ensures { result ≡ is_text most word.now }
+{
+    !word.is_empty() && word.len() <= most && are_printable(word)
 }

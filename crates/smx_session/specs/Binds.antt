@@ -4,30 +4,30 @@ use Rattle.std.specs.Str.{bytes_eq}
 use Rattle.smx_pdu.specs.declared.body_fault.BodyFault.{BodyFault}
 use Rattle.smx_pdu.specs.declared.status.TheConstants.{ESME_RINVCMDLEN, ESME_RINVSYSID, ESME_RINVPASWD}
 use Rattle.smx_pdu.specs.Reading.{BindFields, bind_at}
-use Rattle.smx_session.specs.declared.account.Account.{Account}
+use Rattle.smx_session.specs.Login.{Login}
 use Rattle.smx_session.specs.declared.bind_check.Checked.{Checked}
 use Rattle.smx_session.specs.declared.bind_check.Checked.TheVariants.{Refused, Granted}
 
 -- the first account with exactly this system_id
-abbrev pub account_of : List Account → List ℕ → Option ℕ
-account_of accounts system_id = position (λ a. bytes_eq a.system_id.items system_id) accounts
+abbrev pub account_of : List Login → List ℕ → Option ℕ
+account_of accounts system_id = position (λ a. bytes_eq a.system_id system_id) accounts
 
 -- third, the account's password is exactly the bind's (ESME_RINVPASWD, 5.1.3)
-abbrev pub check_password : Option Account → ℕ → BindFields → Checked
+abbrev pub check_password : Option Login → ℕ → BindFields → Checked
 check_password None i b = Refused ESME_RINVSYSID
-check_password (Some a) i b = if bytes_eq a.password.items b.password then Granted i b.interface_version else Refused ESME_RINVPASWD
+check_password (Some a) i b = if bytes_eq a.password b.password then Granted i b.interface_version else Refused ESME_RINVPASWD
 
 -- second, there is an account (ESME_RINVSYSID)
-abbrev pub check_account : List Account → BindFields → Option ℕ → Checked
+abbrev pub check_account : List Login → BindFields → Option ℕ → Checked
 check_account accounts b None = Refused ESME_RINVSYSID
 check_account accounts b (Some i) = check_password (slice_get accounts i) i b
 
 -- first, the body is read (ESME_RINVCMDLEN)
-abbrev pub check_fields : List Account → Result BindFields BodyFault → Checked
+abbrev pub check_fields : List Login → Result BindFields BodyFault → Checked
 check_fields accounts (Err e) = Refused ESME_RINVCMDLEN
 check_fields accounts (Ok b) = check_account accounts b (account_of accounts b.system_id)
 
-abbrev pub check_bind : List Account → List ℕ → Checked
+abbrev pub check_bind : List Login → List ℕ → Checked
 check_bind accounts body = check_fields accounts (bind_at body)
 
 -- the body of a bind's response: the system_id, and to a client of SMPP 3.4 or later the optional

@@ -4,7 +4,7 @@ use Rattle.std.specs.List.{list_any}
 use Rattle.smx_pdu.specs.declared.pdu.Pdu.{Pdu}
 use Rattle.smx_pdu.specs.declared.command.TheConstants.{BIND_RECEIVER, BIND_TRANSMITTER, BIND_TRANSCEIVER, QUERY_SM, SUBMIT_SM, DELIVER_SM, UNBIND, REPLACE_SM, CANCEL_SM, OUTBIND, ENQUIRE_LINK, SUBMIT_MULTI, ALERT_NOTIFICATION, DATA_SM, GENERIC_NACK, RESPONSE}
 use Rattle.smx_pdu.specs.declared.status.TheConstants.{ESME_ROK, ESME_RINVBNDSTS, ESME_RALYBND}
-use Rattle.smx_session.specs.declared.account.Account.{Account}
+use Rattle.smx_session.specs.Login.{Login}
 use Rattle.smx_session.specs.declared.kind.Kind.{Kind}
 use Rattle.smx_session.specs.declared.kind.Kind.TheVariants as kind
 use Rattle.smx_session.specs.declared.client_state.ClientState.{ClientState}
@@ -119,7 +119,7 @@ abbrev pub bind_decision : Kind → Checked → ClientState → Pdu → Act × C
 bind_decision k (Refused status) s p = (act.Answer (response p status []), s)
 bind_decision k (Granted i version) s p = (act.Bind k i (response p ESME_ROK (bind_answer version)), bound_state k)
 
-abbrev pub client_decision : ClientCell → List Account → ClientState → Pdu → Act × ClientState
+abbrev pub client_decision : ClientCell → List Login → ClientState → Pdu → Act × ClientState
 client_decision (checks k) accounts s p = bind_decision k (check_bind accounts p.body) s p
 client_decision (answer status) accounts s p = (act.Answer (response p status []), s)
 client_decision nack accounts s p = (act.Answer (unknown p), s)
@@ -129,7 +129,7 @@ client_decision leave accounts s p = (act.Leave (response p ESME_ROK []), Ended)
 client_decision ignore accounts s p = (act.Ignore, s)
 
 -- what a session in a state does with a PDU
-abbrev pub client_decides : List Account → ClientState → Pdu → Act × ClientState
+abbrev pub client_decides : List Login → ClientState → Pdu → Act × ClientState
 client_decides accounts s p = client_decision (client_cell (client_row p.command) s) accounts s p
 
 -- a bind that succeeds, whose answer is all that takes memory
@@ -137,7 +137,7 @@ abbrev pub IsGranted : Checked → Type 0
 IsGranted (Refused status) = ⊥
 IsGranted (Granted i version) = Unit {0}
 
-abbrev pub Binds : ClientCell → List Account → List ℕ → Type 0
+abbrev pub Binds : ClientCell → List Login → List ℕ → Type 0
 Binds (checks k) accounts body = IsGranted (check_bind accounts body)
 Binds (answer status) accounts body = ⊥
 Binds nack accounts body = ⊥

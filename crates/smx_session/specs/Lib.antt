@@ -1,4 +1,5 @@
 pub mod Pdus
+pub mod Login
 pub mod Binds
 pub mod ClientTable
 pub mod UpstreamTable

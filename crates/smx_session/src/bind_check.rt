@@ -37,7 +37,7 @@ fn account_of(accounts: &[Account], system_id: &[u8]) -> Option<usize>
 
 // Whether the account has exactly this password.
 fn has_password(account: &Account, password: &[u8]) -> bool
-    ensures { result ≡ bytes_eq account.now.password.items password.now }
+    ensures { result ≡ bytes_eq account.now.password password.now }
 {
     account.password.as_slice() == password
 }

@@ -1,0 +1,96 @@
+-- What comes of a session's act, by its kind.
+use Rattle.std.proofs.Common.{◌≡◌, ◌++◌, ℕ, List, [], Option, Some, None, sym, subst}
+use Rattle.std.specs.Prelude.{unwrap_or}
+use Rattle.std.specs.Global.{Vec}
+use Rattle.smx_pdu.specs.declared.pdu.Pdu.{Pdu}
+use Rattle.smx_session.specs.declared.kind.Kind.{Kind}
+use Rattle.smx_session.specs.declared.act.Act.{Act}
+use Rattle.smx_session.specs.declared.act.Act.TheVariants as act
+use Rattle.smx_session.specs.declared.up_act.UpAct.{UpAct}
+use Rattle.smx_session.specs.declared.up_act.UpAct.TheVariants as up
+use Rattle.smx_relay.specs.declared.state.State.{State}
+use Rattle.smx_relay.specs.Texts.{pdu_line, to_client, closed_line, down_line, up_lane, message_refusal}
+use Rattle.smx_relay.specs.Relay.{Relay, all_left}
+use Rattle.smx_relay.specs.ClientTurn.{client_act, forward}
+use Rattle.smx_relay.specs.CentreTurn.{centre_act, to_lane}
+use Rattle.smx_relay.specs.Agrees.{Agrees, Turned, Prints}
+
+-- ---- clients
+
+client_by : (c : ℕ) (p : Pdu) (a x : Act) (s : Relay) (state : State) (text : List ℕ) → a ≡ x → Turned (client_act c p x s) state text → Turned (client_act c p a s) state text
+client_by c p a x s state text is turned = subst (λ (y : Act). Turned (client_act c p y s) state text) (sym is) turned
+
+pub client_answers : (c : ℕ) (p : Pdu) (a : Act) (answer : Pdu) (s : Relay) (state : State) (text : List ℕ) → a ≡ act.Answer answer → Agrees state s → text ≡ pdu_line (to_client c) answer → Turned (client_act c p a s) state text
+unfolding client_act
+client_answers c p a answer s state text is agrees e = client_by c p a (act.Answer answer) s state text is (record { text = e; left = agrees })
+
+pub client_binds : (c : ℕ) (p : Pdu) (a : Act) (kind : Kind) (account : ℕ) (answer : Pdu) (s : Relay) (state : State) (text : List ℕ) → a ≡ act.Bind kind account answer → Agrees state s → text ≡ pdu_line (to_client c) answer → Turned (client_act c p a s) state text
+unfolding client_act
+client_binds c p a kind account answer s state text is agrees e = client_by c p a (act.Bind kind account answer) s state text is (record { text = e; left = agrees })
+
+pub client_forwards : (c : ℕ) (p : Pdu) (a : Act) (s : Relay) (state : State) (text : List ℕ) → a ≡ act.Forward → Turned (forward c p s) state text → Turned (client_act c p a s) state text
+unfolding client_act
+client_forwards c p a s state text is turned = client_by c p a act.Forward s state text is turned
+
+pub client_leaves : (c : ℕ) (p : Pdu) (a : Act) (answer : Pdu) (s : Relay) (state : State) (text : List ℕ) → a ≡ act.Leave answer → Agrees state (all_left c s) → text ≡ pdu_line (to_client c) answer → Turned (client_act c p a s) state text
+unfolding client_act
+client_leaves c p a answer s state text is agrees e = client_by c p a (act.Leave answer) s state text is (record { text = e; left = agrees })
+
+pub client_hung_up : (c : ℕ) (p : Pdu) (a : Act) (answer : Pdu) (s : Relay) (state : State) (text : List ℕ) → a ≡ act.Hangup answer → Agrees state (all_left c s) → text ≡ pdu_line (to_client c) answer ++ closed_line c → Turned (client_act c p a s) state text
+unfolding client_act
+client_hung_up c p a answer s state text is agrees e = client_by c p a (act.Hangup answer) s state text is (record { text = e; left = agrees })
+
+pub client_answers_message : (c : ℕ) (p : Pdu) (a : Act) (number : ℕ) (s : Relay) (state : State) (text : List ℕ) → a ≡ act.MoAnswer number → Agrees state s → text ≡ [] → Turned (client_act c p a s) state text
+unfolding client_act
+client_answers_message c p a number s state text is agrees e = client_by c p a (act.MoAnswer number) s state text is (record { text = e; left = agrees })
+
+pub client_ignored : (c : ℕ) (p : Pdu) (a : Act) (s : Relay) (state : State) (text : List ℕ) → a ≡ act.Ignore → Agrees state s → text ≡ [] → Turned (client_act c p a s) state text
+unfolding client_act
+client_ignored c p a s state text is agrees e = client_by c p a act.Ignore s state text is (record { text = e; left = agrees })
+
+-- ---- the centre
+
+centre_by : (i : ℕ) (p : Pdu) (a x : UpAct) (s : Relay) (state : State) (text : List ℕ) → a ≡ x → Turned (centre_act i p x s) state text → Turned (centre_act i p a s) state text
+centre_by i p a x s state text is turned = subst (λ (y : UpAct). Turned (centre_act i p y s) state text) (sym is) turned
+
+pub centre_answers : (i : ℕ) (p : Pdu) (a : UpAct) (answer : Pdu) (s : Relay) (state : State) (text : List ℕ) → a ≡ up.Answer answer → Agrees state s → text ≡ pdu_line (up_lane i) answer → Turned (centre_act i p a s) state text
+unfolding centre_act
+centre_answers i p a answer s state text is agrees e = centre_by i p a (up.Answer answer) s state text is (record { text = e; left = agrees })
+
+pub centre_leaves : (i : ℕ) (p : Pdu) (a : UpAct) (answer : Pdu) (s : Relay) (state : State) (text : List ℕ) → a ≡ up.Leave answer → Agrees state s → text ≡ pdu_line (up_lane i) answer ++ down_line i → Turned (centre_act i p a s) state text
+unfolding centre_act
+centre_leaves i p a answer s state text is agrees e = centre_by i p a (up.Leave answer) s state text is (record { text = e; left = agrees })
+
+pub centre_refuses : (i : ℕ) (p : Pdu) (a : UpAct) (answer : Pdu) (s : Relay) (state : State) (text : List ℕ) → a ≡ up.Mo → answer ≡ message_refusal p → Agrees state s → text ≡ pdu_line (up_lane i) answer → Turned (centre_act i p a s) state text
+unfolding centre_act
+centre_refuses i p a answer s state text is said agrees e =
+    centre_by i p a up.Mo s state text is (subst (λ (q : Pdu). Turned (pdu_line (up_lane i) q, s) state text) said (record { text = e; left = agrees }))
+
+pub centre_up : (i : ℕ) (p : Pdu) (a : UpAct) (s : Relay) (state : State) (text : List ℕ) → a ≡ up.Up → Agrees state s → text ≡ [] → Turned (centre_act i p a s) state text
+unfolding centre_act
+centre_up i p a s state text is agrees e = centre_by i p a up.Up s state text is (record { text = e; left = agrees })
+
+pub centre_failed : (i : ℕ) (p : Pdu) (a : UpAct) (status : ℕ) (s : Relay) (state : State) (text : List ℕ) → a ≡ up.Failed status → Agrees state s → text ≡ [] → Turned (centre_act i p a s) state text
+unfolding centre_act
+centre_failed i p a status s state text is agrees e = centre_by i p a (up.Failed status) s state text is (record { text = e; left = agrees })
+
+pub centre_closed : (i : ℕ) (p : Pdu) (a : UpAct) (s : Relay) (state : State) (text : List ℕ) → a ≡ up.Closed → Agrees state s → text ≡ [] → Turned (centre_act i p a s) state text
+unfolding centre_act
+centre_closed i p a s state text is agrees e = centre_by i p a up.Closed s state text is (record { text = e; left = agrees })
+
+pub centre_ignored : (i : ℕ) (p : Pdu) (a : UpAct) (s : Relay) (state : State) (text : List ℕ) → a ≡ up.Ignore → Agrees state s → text ≡ [] → Turned (centre_act i p a s) state text
+unfolding centre_act
+centre_ignored i p a s state text is agrees e = centre_by i p a up.Ignore s state text is (record { text = e; left = agrees })
+
+-- a response for the lane
+pub some_printed : (o : Option (List ℕ × Relay)) (d : List ℕ × Relay) (state : State) (text : Vec ℕ) → Prints o state (Some text) → Turned (unwrap_or o d) state text.items
+some_printed None d state text p = absurd p
+some_printed (Some x) d state text p = p
+
+pub none_printed : (o : Option (List ℕ × Relay)) (d : List ℕ × Relay) (state : State) (text : List ℕ) → Prints o state None → Turned d state text → Turned (unwrap_or o d) state text
+none_printed None d state text p turned = turned
+none_printed (Some x) d state text p turned = absurd p
+
+pub centre_to_lane : (i : ℕ) (p : Pdu) (a : UpAct) (s : Relay) (state : State) (text : List ℕ) → a ≡ up.ToLane → Turned (to_lane i p s) state text → Turned (centre_act i p a s) state text
+unfolding centre_act
+centre_to_lane i p a s state text is turned = centre_by i p a up.ToLane s state text is turned

@@ -1,0 +1,83 @@
+-- From each state a line may print something.
+use Rattle.std.proofs.Common.{◌≡◌, ℕ, Bool, true, false, List, Option, Some, None, refl, slice_get}
+use Rattle.smx_relay.specs.declared.command.Action.{Action}
+use Rattle.smx_relay.specs.declared.command.Action.TheVariants.{Client, In, Take, Back, Collect, History}
+use Rattle.smx_relay.specs.declared.command.Command.{Command}
+use Rattle.smx_relay.specs.declared.command.Command.TheVariants.{Skip, Set, Run}
+use Rattle.smx_relay.specs.Script.{command_of}
+use Rattle.smx_relay.specs.Links.{ClientLink, CentreLink, has_failed, is_down}
+use Rattle.smx_relay.specs.Relay.{Relay, begun, last_of}
+use Rattle.smx_relay.specs.ClientTurn.{OnOpen, OnStream, OnLink, OnClient, InTurn}
+use Rattle.smx_relay.specs.CentreTurn.{OnUp, OnCentre, OnIndex, BackTurn}
+use Rattle.smx_relay.specs.Turns.{TakeTurn, Acts, Does, OnCommand, Lines}
+use Rattle.smx_relay.proofs.Receiving.{some_received}
+use Rattle.smx_relay.proofs.StateTurns.{some_free_on}
+
+abbrev Some_of : (Option (List ℕ × Relay) → Type 0) → Type 0
+Some_of May = (x : Option (List ℕ × Relay)) × May x
+
+some_open : (s : Relay) (c : ℕ) (octets : List ℕ) (k : ClientLink) → Some_of (OnOpen s c octets k)
+some_open s c octets k =
+    let r = some_received k.stream octets in
+    (_, (r.0, r.1, r.2, refl))
+
+some_stream : (s : Relay) (c : ℕ) (octets : List ℕ) (k : ClientLink) (b : Bool) → Some_of (OnStream s c octets k b)
+some_stream s c octets k true = (_, refl)
+some_stream s c octets k false = some_open s c octets k
+
+some_link : (s : Relay) (c : ℕ) (octets : List ℕ) (o : Option ClientLink) → Some_of (OnLink s c octets o)
+some_link s c octets None = (None, refl)
+some_link s c octets (Some k) = some_stream s c octets k (has_failed k.stream)
+
+some_client : (s : Relay) (c : ℕ) (octets : List ℕ) (o : Option ℕ) → Some_of (OnClient s c octets o)
+some_client s c octets None = (None, refl)
+some_client s c octets (Some last) = some_link s c octets (slice_get s.links c)
+
+some_in : (s : Relay) (c : ℕ) (octets : List ℕ) → Some_of (InTurn s c octets)
+unfolding InTurn
+some_in s c octets = some_client s c octets (last_of s.clients c)
+
+some_up : (s : Relay) (i : ℕ) (octets : List ℕ) (k : CentreLink) → Some_of (OnUp s i octets k)
+some_up s i octets k =
+    let r = some_received k.stream octets in
+    (_, (r.0, r.1, r.2, refl))
+
+some_centre : (s : Relay) (i : ℕ) (octets : List ℕ) (k : CentreLink) (b : Bool) → Some_of (OnCentre s i octets k b)
+some_centre s i octets k true = (_, refl)
+some_centre s i octets k false = some_up s i octets k
+
+some_index : (s : Relay) (i : ℕ) (octets : List ℕ) (o : Option CentreLink) → Some_of (OnIndex s i octets o)
+some_index s i octets None = (None, refl)
+some_index s i octets (Some k) = some_centre s i octets k (is_down k)
+
+some_back : (s : Relay) (i : ℕ) (octets : List ℕ) → Some_of (BackTurn s i octets)
+unfolding BackTurn
+some_back s i octets = some_index s i octets (slice_get s.centres i)
+
+some_take : (s : Relay) (i : ℕ) → Some_of (TakeTurn s i)
+some_take s i =
+    let u = some_free_on s i in
+    (_, (u.0, u.1, refl))
+
+some_act : (s : Relay) (action : Action) → Some_of (Acts s action)
+unfolding Acts
+some_act s (Client kind) = (_, refl)
+some_act s (In c octets) = some_in s c octets
+some_act s (Take i) = some_take s i
+some_act s (Back i octets) = some_back s i octets
+some_act s (Collect c) = (_, refl)
+some_act s (History i) = (_, refl)
+
+some_does : (s : Relay) (command : Command) → Some_of (Does s command)
+unfolding Does
+some_does s Skip = (_, refl)
+some_does s (Set setting) = (_, refl)
+some_does s (Run action) = some_act (begun s) action
+
+some_command : (s : Relay) (o : Option Command) → Some_of (OnCommand s o)
+some_command s None = (None, refl)
+some_command s (Some command) = some_does s command
+
+pub some_line : (s : Relay) (line : List ℕ) → Some_of (Lines s line)
+unfolding Lines
+some_line s line = some_command s (command_of line)

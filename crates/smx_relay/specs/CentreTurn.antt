@@ -1,0 +1,85 @@
+-- Octets of the centre on a lane: what the lane's session decides of each PDU, and what comes of that.
+use Rattle.std.specs.Prelude.{◌≡◌, ℕ, ◌++◌, Bool, true, false, not, ◌&&◌, List, [], ◌∷◌, set, Option, Some, None, slice_get, unwrap_or, if◌then◌else◌}
+use Rattle.smx_pdu.specs.declared.pdu.Pdu.{Pdu}
+use Rattle.smx_frame.specs.Stream.{Stream}
+use Rattle.smx_session.specs.declared.up_act.UpAct.{UpAct}
+use Rattle.smx_session.specs.declared.up_act.UpAct.TheVariants.{Up, Failed, ToLane, Mo, Answer, Leave, Closed, Ignore}
+use Rattle.smx_session.specs.Pdus.{undecoded}
+use Rattle.smx_session.specs.Moments.{Upstream, act_on, after_pdu}
+use Rattle.smx_relay.specs.Texts.{pdu_line, up_lane, down_line, message_refusal}
+use Rattle.smx_relay.specs.Links.{CentreLink, Receives, has_failed, has_left, is_down}
+use Rattle.smx_relay.specs.Relay.{Relay, on_lane, back_on}
+use Rattle.smx_relay.specs.ClientTurn.{followed_by, each_pdu}
+
+-- what a session makes of a PDU, and the session after it
+unfoldable pub act_of : Upstream → Pdu → UpAct
+act_of u p = act_on u p
+
+unfoldable pub session_after : Upstream → Pdu → Upstream
+session_after u p = after_pdu u p 0
+
+abbrev pub answer_centre : ℕ → Pdu → List ℕ
+answer_centre i answer = pdu_line (up_lane i) answer
+
+-- a response goes to the lane
+abbrev pub to_lane : ℕ → Pdu → Relay → List ℕ × Relay
+to_lane i p s = unwrap_or (on_lane s i (back_on p)) ([], s)
+
+-- what comes of a session's act: a response goes to the lane; until clients can be routed to, no message is for one
+unfoldable pub centre_act : ℕ → Pdu → UpAct → Relay → List ℕ × Relay
+centre_act i p Up s = ([], s)
+centre_act i p (Failed status) s = ([], s)
+centre_act i p ToLane s = to_lane i p s
+centre_act i p Mo s = (answer_centre i (message_refusal p), s)
+centre_act i p (Answer answer) s = (answer_centre i answer, s)
+centre_act i p (Leave answer) s = (answer_centre i answer ++ down_line i, s)
+centre_act i p Closed s = ([], s)
+centre_act i p Ignore s = ([], s)
+
+abbrev pub with_centre : Relay → ℕ → CentreLink → Relay
+with_centre s i k = record s { centres = set s.centres i k }
+
+-- what comes after the centre's unbind is dropped
+abbrev pub centre_pdu_at : ℕ → Pdu → Relay → Option CentreLink → List ℕ × Relay
+centre_pdu_at i p s None = ([], s)
+centre_pdu_at i p s (Some k) =
+    if has_left k then ([], s) else centre_act i p (act_of k.session p) (with_centre s i (record k { session = session_after k.session p }))
+
+-- a PDU of the centre
+unfoldable pub centre_pdu : ℕ → Pdu → Relay → List ℕ × Relay
+centre_pdu i p s = centre_pdu_at i p s (slice_get s.centres i)
+
+abbrev pub centre_end_at : ℕ → Relay → Option CentreLink → List ℕ × Relay
+centre_end_at i s None = ([], s)
+centre_end_at i s (Some k) = if has_left k then ([], s) else (answer_centre i undecoded ++ down_line i, s)
+
+-- at a bad length the lane is down, unless it was
+unfoldable pub centre_end : ℕ → Bool → Relay → List ℕ × Relay
+centre_end i false s = ([], s)
+centre_end i true s = centre_end_at i s (slice_get s.centres i)
+
+-- each PDU that the octets complete is decided
+abbrev pub OnUp : Relay → ℕ → List ℕ → CentreLink → Option (List ℕ × Relay) → Type 0
+OnUp s i octets k x =
+    (ps : List Pdu) × (stream : Stream) × Receives k.stream octets ps stream
+    × (x ≡ Some (followed_by (each_pdu (centre_pdu i) (with_centre s i (record k { stream = stream })) ps) (centre_end i (has_failed stream))))
+
+abbrev pub OnCentre : Relay → ℕ → List ℕ → CentreLink → Bool → Option (List ℕ × Relay) → Type 0
+OnCentre s i octets k true x = x ≡ Some (down_line i, s)
+OnCentre s i octets k false x = OnUp s i octets k x
+
+abbrev pub OnIndex : Relay → ℕ → List ℕ → Option CentreLink → Option (List ℕ × Relay) → Type 0
+OnIndex s i octets None x = x ≡ None
+OnIndex s i octets (Some k) x = OnCentre s i octets k (is_down k) x
+
+-- octets of the centre
+unfoldable pub BackTurn : Relay → ℕ → List ℕ → Option (List ℕ × Relay) → Type 0
+BackTurn s i octets x = OnIndex s i octets (slice_get s.centres i) x
+
+abbrev pub unless_down_at : Relay → ℕ → Option CentreLink → Option (List ℕ × Relay) → Option (List ℕ × Relay)
+unless_down_at s i None x = None
+unless_down_at s i (Some k) x = if is_down k then Some (down_line i, s) else x
+
+-- on a lane that is up
+abbrev pub unless_down : Relay → ℕ → Option (List ℕ × Relay) → Option (List ℕ × Relay)
+unless_down s i x = unless_down_at s i (slice_get s.centres i) x

@@ -1,0 +1,103 @@
+-- Octets of a client: what its session decides of each PDU, and what comes of that.
+use Rattle.std.specs.Prelude.{◌≡◌, ℕ, ◌+◌, ◌++◌, Bool, true, false, List, [], ◌∷◌, set, Option, Some, None, slice_get, refl}
+use Rattle.smx_pdu.specs.declared.pdu.Pdu.{Pdu}
+use Rattle.smx_pdu.specs.Command.{is_forwarded}
+use Rattle.smx_frame.specs.declared.fault.FrameFault.{FrameFault}
+use Rattle.smx_frame.specs.Stream.{Stream}
+use Rattle.smx_session.specs.Login.{Login}
+use Rattle.smx_session.specs.declared.act.Act.{Act}
+use Rattle.smx_session.specs.declared.act.Act.TheVariants.{Answer, Bind, Forward, MoAnswer, Leave, Hangup, Ignore}
+use Rattle.smx_session.specs.declared.client_state.ClientState.{ClientState}
+use Rattle.smx_session.specs.declared.client_state.ClientState.TheVariants.{Ended}
+use Rattle.smx_session.specs.Pdus.{undecoded}
+use Rattle.smx_session.specs.ClientTable.{client_decides}
+use Rattle.smx_relay.specs.declared.offer.Offer.{Offer}
+use Rattle.smx_relay.specs.Texts.{pdu_line, to_client, closed_line}
+use Rattle.smx_relay.specs.Links.{ClientLink, Receives, has_failed}
+use Rattle.smx_relay.specs.Relay.{Relay, last_of, lane_for, in_turn_at, all_left}
+
+-- one turn, and then another
+abbrev pub followed_by : List ℕ × Relay → (Relay → List ℕ × Relay) → List ℕ × Relay
+followed_by x turn = (x.0 ++ (turn x.1).0, (turn x.1).1)
+
+-- a turn for each PDU, in their order
+abbrev pub each_pdu : (Pdu → Relay → List ℕ × Relay) → Relay → List Pdu → List ℕ × Relay
+each_pdu turn s [] = ([], s)
+each_pdu turn s (p ∷ ps) = followed_by (turn p s) (λ t. each_pdu turn t ps)
+
+abbrev pub offer_if : (p : Pdu) (b : Bool) → is_forwarded p.command ≡ b → Option Offer
+offer_if p true e = Some (record { own = p.number; command = p.command; body = p.body; forwarded = e })
+offer_if p false e = None
+
+-- a request that is passed on
+unfoldable pub offer_of : Pdu → Option Offer
+offer_of p = offer_if p (is_forwarded p.command) refl
+
+abbrev pub forward_at : Relay → ℕ → Option Offer → Option ℕ → List ℕ × Relay
+forward_at s c (Some o) (Some last) = in_turn_at s c last o (lane_for s c last)
+forward_at s c _ _ = ([], s)
+
+-- a client's request goes to the first lane that accepts it
+unfoldable pub forward : ℕ → Pdu → Relay → List ℕ × Relay
+forward c p s = forward_at s c (offer_of p) (last_of s.clients c)
+
+abbrev pub answer_client : ℕ → Pdu → Relay → List ℕ × Relay
+answer_client c answer s = (pdu_line (to_client c) answer, s)
+
+-- what comes of a session's act: a client that unbinds or is hung up leaves each lane
+unfoldable pub client_act : ℕ → Pdu → Act → Relay → List ℕ × Relay
+client_act c p (Answer answer) s = answer_client c answer s
+client_act c p (Bind kind account answer) s = answer_client c answer s
+client_act c p Forward s = forward c p s
+client_act c p (MoAnswer number) s = ([], s)
+client_act c p (Leave answer) s = answer_client c answer (all_left c s)
+client_act c p (Hangup answer) s = (pdu_line (to_client c) answer ++ closed_line c, all_left c s)
+client_act c p Ignore s = ([], s)
+
+-- what a session in a state makes of a PDU
+unfoldable pub decides : List Login → ClientState → Pdu → Act × ClientState
+decides accounts state p = client_decides accounts state p
+
+abbrev pub with_link : Relay → ℕ → ClientLink → Relay
+with_link s c k = record s { links = set s.links c k }
+
+abbrev pub client_pdu_at : ℕ → Pdu → Relay → Option ClientLink → List ℕ × Relay
+client_pdu_at c p s None = ([], s)
+client_pdu_at c p s (Some k) =
+    client_act c p (decides s.accounts k.session p).0 (with_link s c (record k { session = (decides s.accounts k.session p).1 }))
+
+-- a PDU of a client
+unfoldable pub client_pdu : ℕ → Pdu → Relay → List ℕ × Relay
+client_pdu c p s = client_pdu_at c p s (slice_get s.links c)
+
+abbrev pub client_end_at : ℕ → Relay → Option ClientLink → List ℕ × Relay
+client_end_at c s None = ([], s)
+client_end_at c s (Some k) = (pdu_line (to_client c) undecoded ++ closed_line c, all_left c (with_link s c (record k { session = Ended })))
+
+-- at a bad length the client is hung up
+unfoldable pub client_end : ℕ → Bool → Relay → List ℕ × Relay
+client_end c false s = ([], s)
+client_end c true s = client_end_at c s (slice_get s.links c)
+
+-- each PDU that the octets complete is decided
+abbrev pub OnOpen : Relay → ℕ → List ℕ → ClientLink → Option (List ℕ × Relay) → Type 0
+OnOpen s c octets k x =
+    (ps : List Pdu) × (stream : Stream) × Receives k.stream octets ps stream
+    × (x ≡ Some (followed_by (each_pdu (client_pdu c) (with_link s c (record k { stream = stream })) ps) (client_end c (has_failed stream))))
+
+-- a client that was hung up is closed
+abbrev pub OnStream : Relay → ℕ → List ℕ → ClientLink → Bool → Option (List ℕ × Relay) → Type 0
+OnStream s c octets k true x = x ≡ Some (closed_line c, s)
+OnStream s c octets k false x = OnOpen s c octets k x
+
+abbrev pub OnLink : Relay → ℕ → List ℕ → Option ClientLink → Option (List ℕ × Relay) → Type 0
+OnLink s c octets None x = x ≡ None
+OnLink s c octets (Some k) x = OnStream s c octets k (has_failed k.stream) x
+
+abbrev pub OnClient : Relay → ℕ → List ℕ → Option ℕ → Option (List ℕ × Relay) → Type 0
+OnClient s c octets None x = x ≡ None
+OnClient s c octets (Some last) x = OnLink s c octets (slice_get s.links c) x
+
+-- octets of a client
+unfoldable pub InTurn : Relay → ℕ → List ℕ → Option (List ℕ × Relay) → Type 0
+InTurn s c octets x = OnClient s c octets (last_of s.clients c) x

@@ -1,0 +1,62 @@
+-- The links of the engine, and what comes on them.
+use Rattle.std.specs.Prelude.{◌≡◌, ℕ, ◌++◌, ◌||◌, List, [], codes, Bool, true, false, Option, Some, None, is_some}
+use Rattle.smx_pdu.specs.declared.pdu.Pdu.{Pdu}
+use Rattle.smx_frame.specs.Stream.{Stream, Cuts, fault_at}
+use Rattle.smx_session.specs.declared.kind.Kind.{Kind}
+use Rattle.smx_session.specs.declared.client_state.ClientState.{ClientState}
+use Rattle.smx_session.specs.declared.client_state.ClientState.TheVariants.{Opened}
+use Rattle.smx_session.specs.declared.upstream_state.UpstreamState.{UpstreamState}
+use Rattle.smx_session.specs.declared.upstream_state.UpstreamState.TheVariants.{Binding, Bound, Unbinding, Ended}
+use Rattle.smx_session.specs.ClientTable.{bound_state}
+use Rattle.smx_session.specs.Moments.{Upstream}
+
+-- a client's link: the state of its session, and the stream of its octets
+pub record ClientLink : Type 0 where
+  pub session : ClientState
+  pub stream : Stream
+
+-- a lane's link to the centre
+pub record CentreLink : Type 0 where
+  pub session : Upstream
+  pub stream : Stream
+
+-- no octet has come, and no PDU is to have more than 65,536
+abbrev pub new_stream : Stream
+new_stream = record { max = 65536; rest = []; failed = None }
+
+-- the octets complete these PDUs, and leave a rest that begins with none; at a bad length the stream has failed
+pub record Receives (old : Stream) (octets : List ℕ) (ps : List Pdu) (new : Stream) : Type 0 where
+  pub cuts : Cuts old.max (old.rest ++ octets) ps new.rest
+  pub left : new ≡ record { max = old.max; rest = new.rest; failed = fault_at old.max new.rest }
+
+abbrev pub has_failed : Stream → Bool
+has_failed stream = is_some stream.failed
+
+-- a client binds before it sends, or is bound so from the start
+abbrev pub opening : Option Kind → ClientState
+opening None = Opened
+opening (Some kind) = bound_state kind
+
+abbrev pub new_link : Option Kind → ClientLink
+new_link kind = record { session = opening kind; stream = new_stream }
+
+-- a lane is bound before the first line that is no setting; no script has moments
+abbrev pub bound_centre : CentreLink
+bound_centre = record {
+  session = record { system_id = codes "smx"; password = []; silence = 0; state = Bound; latest = 0; heard = 0; enquired = None };
+  stream = new_stream;
+}
+
+abbrev pub is_ended : UpstreamState → Bool
+is_ended Binding = false
+is_ended Bound = false
+is_ended Unbinding = false
+is_ended Ended = true
+
+-- the centre has unbound
+abbrev pub has_left : CentreLink → Bool
+has_left k = is_ended k.session.state
+
+-- the centre has unbound, or its stream has failed
+abbrev pub is_down : CentreLink → Bool
+is_down k = has_left k || has_failed k.stream

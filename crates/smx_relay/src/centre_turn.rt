@@ -1,0 +1,126 @@
+//! Octets of the centre on a lane: the lane's session decides each PDU.
+ghost use Rattle.std.specs.Prelude.{◌≡◌, IfOk};
+ghost use Rattle.smx_session.specs.Pdus.{undecoded};
+ghost use Rattle.smx_relay.specs.Relay.{Relay};
+ghost use Rattle.smx_relay.specs.ClientTurn.{each_pdu};
+ghost use Rattle.smx_relay.specs.CentreTurn.{BackTurn, centre_act, centre_end, centre_pdu, to_lane};
+ghost use Rattle.smx_relay.specs.Agrees.{Agrees, MayPrint, Turned};
+
+use crate::on_lane::back_on;
+use crate::refusal::{message_refusal, undecoded};
+use crate::state::State;
+use crate::texts::{down_line, farewell_lines, up_line};
+use smx_pdu::Pdu;
+use smx_session::UpAct;
+use std::alloc::{AllocError, Global};
+
+// Hands a response to a lane.
+fn back(alloc: Global, state: &mut State, lane: u64, response: Pdu) -> Result<Vec<u8>, AllocError>
+    ensures { (s : Relay) → Agrees state.old s → IfOk result (λ text. Turned (to_lane lane response s) state.new text.items) }
+{
+    let at = lane as usize;
+    if at >= state.lanes.len() {
+        return Ok(Vec::new(alloc));
+    }
+    back_on(alloc, &mut state.lanes[at], response)
+}
+
+// Does what a lane's session says of a PDU.
+fn centre_act(
+    alloc: Global,
+    state: &mut State,
+    lane: u64,
+    pdu: Pdu,
+    act: UpAct,
+) -> Result<Vec<u8>, AllocError>
+    ensures { (s : Relay) → Agrees state.old s → IfOk result (λ text. Turned (centre_act lane pdu act s) state.new text.items) }
+{
+    match act {
+        UpAct::ToLane => back(alloc, state, lane, pdu),
+        UpAct::Mo => up_line(alloc, lane, &message_refusal(alloc, &pdu)),
+        UpAct::Answer(answer) => up_line(alloc, lane, &answer),
+        UpAct::Leave(answer) => farewell_lines(alloc, lane, &answer),
+        UpAct::Up => Ok(Vec::new(alloc)),
+        UpAct::Failed(_) => Ok(Vec::new(alloc)),
+        UpAct::Closed => Ok(Vec::new(alloc)),
+        UpAct::Ignore => Ok(Vec::new(alloc)),
+    }
+}
+
+// A PDU of the centre. What comes after its unbind is dropped.
+fn centre_pdu(alloc: Global, state: &mut State, lane: u64, pdu: Pdu) -> Result<Vec<u8>, AllocError>
+    ensures { (s : Relay) → Agrees state.old s → IfOk result (λ text. Turned (centre_pdu lane pdu s) state.new text.items) }
+{
+    let at = lane as usize;
+    if at >= state.centres.len() {
+        return Ok(Vec::new(alloc));
+    }
+    let link = &mut state.centres[at];
+    if link.has_left() {
+        return Ok(Vec::new(alloc));
+    }
+    let act = link.decide(&pdu);
+    centre_act(alloc, state, lane, pdu, act)
+}
+
+// Each PDU of the centre in turn.
+fn each_centre_pdu(
+    alloc: Global,
+    state: &mut State,
+    lane: u64,
+    pdus: Vec<Pdu>,
+) -> Result<Vec<u8>, AllocError>
+    ensures { (s : Relay) → Agrees state.old s → IfOk result (λ text. Turned (each_pdu (centre_pdu lane) s pdus.items) state.new text.items) }
+{
+    let mut text = Vec::new(alloc);
+    for pdu in pdus {
+        text.extend_from_slice(&centre_pdu(alloc, state, lane, pdu)?)?;
+    }
+    Ok(text)
+}
+
+// A lane is down from a bad length on.
+fn centre_end(
+    alloc: Global,
+    state: &State,
+    lane: u64,
+    has_failed: bool,
+) -> Result<Vec<u8>, AllocError>
+    ensures { (s : Relay) → Agrees state.now s → IfOk result (λ text. Turned (centre_end lane has_failed s) state.now text.items) }
+{
+    let at = lane as usize;
+    if !has_failed {
+        return Ok(Vec::new(alloc));
+    }
+    if at >= state.centres.len() {
+        return Ok(Vec::new(alloc));
+    }
+    if state.centres[at].has_left() {
+        return Ok(Vec::new(alloc));
+    }
+    farewell_lines(alloc, lane, &undecoded(alloc))
+}
+
+/// Octets of the centre. There is no text where there is no such lane.
+pub fn receive_back(
+    alloc: Global,
+    state: &mut State,
+    lane: u64,
+    octets: &[u8],
+) -> Result<Option<Vec<u8>>, AllocError>
+    ensures { (s : Relay) → Agrees state.old s → IfOk result (λ text. MayPrint (BackTurn s lane octets.now) state.new text) }
+{
+    let at = lane as usize;
+    if at >= state.centres.len() {
+        return Ok(None);
+    }
+    let link = &mut state.centres[at];
+    if link.is_down() {
+        return Ok(Some(down_line(alloc, lane)?));
+    }
+    let pdus = link.receive(alloc, octets)?;
+    let has_failed = link.has_failed();
+    let mut text = each_centre_pdu(alloc, state, lane, pdus)?;
+    text.extend_from_slice(&centre_end(alloc, state, lane, has_failed)?)?;
+    Ok(Some(text))
+}

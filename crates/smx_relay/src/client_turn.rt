@@ -1,0 +1,130 @@
+//! Octets of a client: its session decides each PDU.
+ghost use Rattle.std.specs.Prelude.{◌≡◌, IfOk};
+ghost use Rattle.smx_relay.specs.Relay.{Relay};
+ghost use Rattle.smx_relay.specs.ClientTurn.{InTurn, client_act, client_end, client_pdu, each_pdu};
+ghost use Rattle.smx_relay.specs.Agrees.{Agrees, IsReached, MayPrint, Turned};
+
+use crate::clients::{last_of, leave_all};
+use crate::requests::forward;
+use crate::state::State;
+use crate::texts::{closed_line, hangup_lines, to_line};
+use smx_pdu::Pdu;
+use smx_session::Act;
+use std::alloc::{AllocError, Global};
+
+// Does what a client's session says of a PDU.
+fn client_act(
+    alloc: Global,
+    state: &mut State,
+    client: u64,
+    pdu: Pdu,
+    act: Act,
+) -> Result<Vec<u8>, AllocError>
+    requires { IsReached state.old }
+    ensures { (s : Relay) → Agrees state.old s → IfOk result (λ text. Turned (client_act client pdu act s) state.new text.items) }
+{
+    match act {
+        Act::Answer(answer) => to_line(alloc, client, &answer),
+        Act::Bind {
+            kind: _,
+            account: _,
+            answer,
+        } => to_line(alloc, client, &answer),
+        Act::Forward => forward(alloc, state, client, pdu),
+        Act::Leave(answer) => {
+            leave_all(&mut state.lanes, client);
+            to_line(alloc, client, &answer)
+        }
+        Act::Hangup(answer) => {
+            leave_all(&mut state.lanes, client);
+            hangup_lines(alloc, client, &answer)
+        }
+        Act::MoAnswer { number: _ } => Ok(Vec::new(alloc)),
+        Act::Ignore => Ok(Vec::new(alloc)),
+    }
+}
+
+// A PDU of a client.
+fn client_pdu(
+    alloc: Global,
+    state: &mut State,
+    client: u64,
+    pdu: Pdu,
+) -> Result<Vec<u8>, AllocError>
+    requires { IsReached state.old }
+    ensures { (s : Relay) → Agrees state.old s → IfOk result (λ text. Turned (client_pdu client pdu s) state.new text.items) }
+{
+    let at = client as usize;
+    if at >= state.links.len() {
+        return Ok(Vec::new(alloc));
+    }
+    let act = state.links[at].decide(&pdu, &state.accounts)?;
+    client_act(alloc, state, client, pdu, act)
+}
+
+// Each PDU of a client in turn.
+fn each_client_pdu(
+    alloc: Global,
+    state: &mut State,
+    client: u64,
+    pdus: Vec<Pdu>,
+) -> Result<Vec<u8>, AllocError>
+    requires { IsReached state.old }
+    ensures { (s : Relay) → Agrees state.old s → IfOk result (λ text. Turned (each_pdu (client_pdu client) s pdus.items) state.new text.items) }
+{
+    let mut text = Vec::new(alloc);
+    for pdu in pdus {
+        text.extend_from_slice(&client_pdu(alloc, state, client, pdu)?)?;
+    }
+    Ok(text)
+}
+
+// A client is hung up at a bad length.
+fn client_end(
+    alloc: Global,
+    state: &mut State,
+    client: u64,
+    has_failed: bool,
+) -> Result<Vec<u8>, AllocError>
+    requires { IsReached state.old }
+    ensures { (s : Relay) → Agrees state.old s → IfOk result (λ text. Turned (client_end client has_failed s) state.new text.items) }
+{
+    let at = client as usize;
+    if !has_failed {
+        return Ok(Vec::new(alloc));
+    }
+    if at >= state.links.len() {
+        return Ok(Vec::new(alloc));
+    }
+    let answer = state.links[at].end();
+    leave_all(&mut state.lanes, client);
+    hangup_lines(alloc, client, &answer)
+}
+
+/// Octets of a client. There is no text where the client isn't known.
+pub fn receive_in(
+    alloc: Global,
+    state: &mut State,
+    client: u64,
+    octets: &[u8],
+) -> Result<Option<Vec<u8>>, AllocError>
+    requires { IsReached state.old }
+    ensures { (s : Relay) → Agrees state.old s → IfOk result (λ text. MayPrint (InTurn s client octets.now) state.new text) }
+{
+    let at = client as usize;
+    if last_of(&state.clients, client).is_none() {
+        return Ok(None);
+    }
+    if at >= state.links.len() {
+        return Ok(None);
+    }
+    let link = &mut state.links[at];
+    if link.has_failed() {
+        return Ok(Some(closed_line(alloc, client)?));
+    }
+    let pdus = link.receive(alloc, octets)?;
+    let has_failed = link.has_failed();
+    let mut text = each_client_pdu(alloc, state, client, pdus)?;
+    text.extend_from_slice(&client_end(alloc, state, client, has_failed)?)?;
+    Ok(Some(text))
+}

@@ -1,0 +1,130 @@
+//! Requests of clients, which go to the lanes.
+ghost use Rattle.std.specs.Prelude.{◌≡◌, ◌<◌, ◌+◌, ◌%◌, List, [], ◌++◌, ◌∷◌, length, Some, IfOk, IfSome, IfNone, slice_get, set};
+ghost use Rattle.std.specs.List.{AllByRecursion, find};
+ghost use Rattle.smx_history.specs.declared.note.Note.{Note};
+ghost use Rattle.smx_history.specs.declared.note.Event.TheVariants.{Accept};
+ghost use Rattle.smx_history.specs.History.{note};
+ghost use Rattle.smx_history.specs.Contents.{AgreesWith, Content};
+ghost use Rattle.smx_relay.specs.Texts.{refusal_of};
+ghost use Rattle.smx_relay.specs.Relay.{Relay, in_turn_at, lane_for, last_of, request_of, ring};
+ghost use Rattle.smx_relay.specs.ClientTurn.{forward, offer_of};
+ghost use Rattle.smx_relay.specs.Agrees.{Agrees, IsReached, MayAccept, Turned, accepts_in};
+
+use crate::clients::last_of;
+use crate::offer::Offer;
+use crate::on_lane::CALLER;
+use crate::refusal::refusal;
+use crate::state::State;
+use crate::texts::{accepted_line, to_line};
+use smx_history::Request;
+use smx_lane::Lane;
+use smx_pdu::status::ESME_RMSGQFUL;
+use smx_pdu::{Pdu, is_forwarded};
+use std::alloc::{AllocError, Global};
+
+// Offers a request to each lane, from one on in a ring, and gives the first that accepts it.
+fn accept_in_ring(lanes: &mut Vec<Lane>, last: u64, request: Request) -> Option<usize>
+    requires own { AllByRecursion (MayAccept request.client request.ordinal) lanes.old.items }
+    ensures first { result ≡ find (λ i. accepts_in request.client (slice_get lanes.old.items i))
+        (ring (last % length lanes.old.items) (length lanes.old.items)) }
+    ensures accepted { IfSome result (λ i. (old new : Content) × (slice_get lanes.old.items i ≡ Some old)
+        × (lanes.new.items ≡ set lanes.old.items i new) × (new.limits ≡ old.limits)
+        × ((h : List Note) → AgreesWith h old → AgreesWith (h ++ note 0 (Accept request) ∷ []) new)) }
+    ensures refused { IfNone result (lanes.new.items ≡ lanes.old.items) }
+{
+    let count = lanes.len();
+    if count == 0 {
+        return None;
+    }
+    let first = (last % count as u64) as usize;
+    let mut request = request;
+    for k in 0..count {
+        let at = (first + k) % count;
+        match lanes[at].accept(CALLER, request) {
+            Ok(()) => return Some(at),
+            Err((back, _)) => request = back,
+        }
+    }
+    None
+}
+
+// A client's request under its ordinal.
+fn request_of(client: u64, ordinal: u64, offer: Offer) -> Request
+    ensures { result ≡ request_of client ordinal offer }
+{
+    Request {
+        client,
+        ordinal,
+        own: offer.own,
+        command: offer.command,
+        body: offer.body,
+    }
+}
+
+// Keeps the last ordinal of a client.
+fn keep_last(clients: &mut Vec<Option<u64>>, client: u64, ordinal: u64)
+    requires { client < length clients.old.items }
+    ensures { clients.new.items ≡ set clients.old.items client (Some ordinal) }
+{
+    clients[client as usize] = Some(ordinal);
+}
+
+// Offers a client's next request to the lanes.
+fn offer_next(
+    alloc: Global,
+    state: &mut State,
+    client: u64,
+    last: u64,
+    offer: Offer,
+) -> Result<Vec<u8>, AllocError>
+    requires reached { IsReached state.old }
+    requires known { last_of state.old.clients.items client ≡ Some last }
+    ensures { (s : Relay) → Agrees state.old s → IfOk result (λ text.
+        Turned (in_turn_at s client last offer (lane_for s client last)) state.new text.items) }
+{
+    // No script has so many lines that the ordinals end.
+    let Some(ordinal) = last.checked_add(1) else {
+        return Err(AllocError);
+    };
+    let refusal = refusal(alloc, offer.command, offer.own, ESME_RMSGQFUL);
+    let request = request_of(client, ordinal, offer);
+    match accept_in_ring(&mut state.lanes, last, request) {
+        Some(at) => {
+            keep_last(&mut state.clients, client, ordinal);
+            accepted_line(alloc, client, at as u64)
+        }
+        None => to_line(alloc, client, &refusal),
+    }
+}
+
+// A request that is passed on.
+#[tactic(auto, unfolding(crate::specs::ClientTurn::offer_of))]
+fn offer_of(pdu: Pdu) -> Option<Offer>
+    ensures { result ≡ offer_of pdu }
+{
+    if !is_forwarded(pdu.command) {
+        return None;
+    }
+    Some(Offer {
+        own: pdu.number,
+        command: pdu.command,
+        body: pdu.body,
+    })
+}
+
+/// A client's request goes to the first lane that accepts it.
+#[tactic(auto, unfolding(crate::specs::ClientTurn::forward))]
+pub fn forward(
+    alloc: Global,
+    state: &mut State,
+    client: u64,
+    pdu: Pdu,
+) -> Result<Vec<u8>, AllocError>
+    requires { IsReached state.old }
+    ensures { (s : Relay) → Agrees state.old s → IfOk result (λ text. Turned (forward client pdu s) state.new text.items) }
+{
+    match (offer_of(pdu), last_of(&state.clients, client)) {
+        (Some(offer), Some(last)) => offer_next(alloc, state, client, last, offer),
+        _ => Ok(Vec::new(alloc)),
+    }
+}
