@@ -115,20 +115,21 @@ const PRINTED: &str =
     "client 1\naccepted 1 0\naccepted 1 0\nup 0 00000022000000040000000000000001000000000000310000000000000000000000\nup 0 00000022000000040000000000000002000000000000320000000000000000000000\nqueued 1\nqueued 1\nto 1 000000128000000400000000000000073200\nto 1 000000128000000400000000000000073100\n";
 
 // The lines with octets are cut behind so many of them, where they have more.
-fn cut_script(rt: HostRuntime, octets: usize) -> Result<String, Fail> {
-    let mut script = String::from_str(rt.alloc(), "client trx\n")?;
+fn cut_script(rt: HostRuntime, octets: usize) -> Result<Vec<u8>, Fail> {
+    let mut script = Vec::from_slice(rt.alloc(), b"client trx\n")?;
     for (command, digits) in LINES {
-        let (front, back) = digits.split_at(digits.len().min(octets.saturating_mul(2)));
-        script.push_str(command)?;
-        script.push_str(front)?;
-        script.push_str("\n")?;
+        let place = digits.len().min(octets.saturating_mul(2));
+        let (front, back) = digits.as_bytes().split_at(place);
+        script.extend_from_slice(command.as_bytes())?;
+        script.extend_from_slice(front)?;
+        script.push(b'\n')?;
         if !back.is_empty() {
-            script.push_str(command)?;
-            script.push_str(back)?;
-            script.push_str("\n")?;
+            script.extend_from_slice(command.as_bytes())?;
+            script.extend_from_slice(back)?;
+            script.push(b'\n')?;
         }
     }
-    script.push_str("collect 1\n")?;
+    script.extend_from_slice(b"collect 1\n")?;
     Ok(script)
 }
 
@@ -138,7 +139,7 @@ fn lines_cut_at_each_octet(rt: HostRuntime) -> Result<(), Fail> {
         let script = cut_script(rt, octets)?;
         let mut out = Vec::new(rt.alloc());
         assert_eq!(rt;
-            run(rt.alloc(), &mut script.as_bytes(), &mut out),
+            run(rt.alloc(), &mut script.as_slice(), &mut out),
             RunEnd::Clean
         );
         assert_eq!(rt; out.as_slice(), PRINTED.as_bytes());
