@@ -1,6 +1,7 @@
 //! The program: the command line, and the status that it ends with.
 #![tactic(auto)]
 
+mod config_file;
 mod options;
 
 use options::Asked;
@@ -43,6 +44,7 @@ fn main(rt: HostRuntime) -> ExitCode {
     };
     match options::read(rt.alloc(), words.as_slice()) {
         Ok(Asked::Relay) => run_relay(&rt),
+        Ok(Asked::Check(path)) => config_file::run(&rt, path),
         Ok(Asked::Nothing) => ExitCode::FAILURE,
         Err(error) => {
             let _ = rt.eprint(&error);

@@ -1,0 +1,2 @@
+mod Distinct
+mod Items

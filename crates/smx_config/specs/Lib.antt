@@ -1,0 +1,4 @@
+pub mod Keys
+pub mod Settings
+pub mod Reading
+pub mod Lines

@@ -1,0 +1,157 @@
+-- The settings that a TOML text states, or its first fault.
+use Rattle.std.specs.Prelude.{ℕ, ◌+◌, ℤ, pos, negsuc, List, [], ◌∷◌, ◌++◌, length, Option, Some, None, option_and_then, Result, Ok, Err, ok_or, Bool, true, ◌&&◌, nat_le, is_some, if◌then◌else◌, codes}
+use Rattle.std.specs.List.{list_any}
+use Rattle.std.specs.Str.{bytes_eq}
+use Rattle.std.specs.Option.{option_map_or}
+use Rattle.std.specs.Result.{result_ok}
+use Rattle.toml.specs.Data.{Data, Items, no_items, item, Members, no_members, get, get_member, as_array, as_integer, as_str, as_table}
+use Rattle.toml.specs.Parse.{parse_document}
+use Rattle.smx_history.specs.declared.limits.Limits.{Limits}
+use Rattle.smx_config.specs.declared.number.Number.{Number}
+use Rattle.smx_config.specs.declared.number.Number.TheVariants as number
+use Rattle.smx_config.specs.declared.text.Text.{Text}
+use Rattle.smx_config.specs.declared.text.Text.TheVariants as text
+use Rattle.smx_config.specs.declared.fault.ConfigFault.{ConfigFault}
+use Rattle.smx_config.specs.declared.fault.ConfigFault.TheVariants as fault
+use Rattle.smx_config.specs.Keys.{number_key, default_of, is_number, text_key, is_text}
+use Rattle.smx_config.specs.Settings.{UpstreamSettings, AccountSettings, Settings}
+
+-- an integer as a number that may stand at the key
+abbrev pub number_within : Number → ℤ → Option ℕ
+number_within key (pos n) = if is_number key n then Some n else None
+number_within key (negsuc n) = None
+
+abbrev pub number_of : Number → Data → Option ℕ
+number_of key d = option_and_then (number_within key) (as_integer d)
+
+-- the number at a key, or its default where the key is absent
+abbrev pub number_at : Number → Members → Option ℕ
+number_at key ms = option_map_or (number_of key) (get_member (number_key key) ms) (Some (default_of key))
+
+abbrev pub text_within : Text → List ℕ → Option (List ℕ)
+text_within key s = if is_text key s then Some s else None
+
+abbrev pub text_of : Text → Data → Option (List ℕ)
+text_of key d = option_and_then (text_within key) (as_str d)
+
+-- the text at a key of a table, and of a value
+abbrev pub text_at : Text → Members → Option (List ℕ)
+text_at key ms = option_and_then (text_of key) (get_member (text_key key) ms)
+
+abbrev pub text_in : Text → Data → Option (List ℕ)
+text_in key d = option_and_then (text_of key) (get (text_key key) d)
+
+-- clients, box and silence, where each is in its range
+abbrev pub all_three : Option ℕ → Option ℕ → Option ℕ → Option (ℕ × ℕ × ℕ)
+all_three None places silence = None
+all_three (Some clients) None silence = None
+all_three (Some clients) (Some places) None = None
+all_three (Some clients) (Some places) (Some silence) = Some (clients, places, silence)
+
+abbrev pub numbers_of : Members → Option (ℕ × ℕ × ℕ)
+numbers_of ms = all_three (number_at number.Clients ms) (number_at number.Places ms) (number_at number.Silence ms)
+
+-- a lane's limits, where each is in its range
+abbrev pub all_four : Option ℕ → Option ℕ → Option ℕ → Option ℕ → Option Limits
+all_four None window client history = None
+all_four (Some queue) None client history = None
+all_four (Some queue) (Some window) None history = None
+all_four (Some queue) (Some window) (Some client) None = None
+all_four (Some queue) (Some window) (Some client) (Some history) = Some (record { queue = queue; window = window; client = client; history = history })
+
+abbrev pub limits_of : Members → Option Limits
+limits_of ms = all_four (number_at number.Queue ms) (number_at number.Window ms) (number_at number.Client ms) (number_at number.History ms)
+
+-- the limits that a table states; where it is absent, each is the default
+abbrev pub limits_at : Members → Option Limits
+limits_at ms = option_map_or (λ d. option_and_then limits_of (as_table d)) (get_member (codes "limits") ms) (limits_of no_members)
+
+abbrev pub item_count : Items → ℕ
+item_count no_items = 0
+item_count (item d ds) = 1 + item_count ds
+
+abbrev pub are_tables : Items → Bool
+are_tables no_items = true
+are_tables (item d ds) = is_some (as_table d) && are_tables ds
+
+-- a list of tables, at least one and at most so many
+abbrev pub tables_within : ℕ → Items → Option Items
+tables_within most ds = if (nat_le 1 (item_count ds) && nat_le (item_count ds) most) && are_tables ds then Some ds else None
+
+abbrev pub tables_at : List ℕ → ℕ → Members → Option Items
+tables_at key most ms = option_and_then (tables_within most) (option_and_then as_array (get_member key ms))
+
+-- what items state one after another, after what stands before them, or how many stand before the
+-- first of them that states nothing
+abbrev pub stated_after : {A : Type 0} → (List A → Data → Option A) → List A → Items → Result (List A) ℕ
+stated_after one before no_items = Ok before
+stated_after one before (item d ds) = option_map_or (λ a. stated_after one (before ++ a ∷ []) ds) (one before d) (Err (length before))
+
+abbrev pub upstream_from : Option (List ℕ) → Option (List ℕ) → Option (List ℕ) → Option UpstreamSettings
+upstream_from None system_id password = None
+upstream_from (Some address) None password = None
+upstream_from (Some address) (Some system_id) None = None
+upstream_from (Some address) (Some system_id) (Some password) = Some (record { address = address; system_id = system_id; password = password })
+
+abbrev pub upstream_of : List UpstreamSettings → Data → Option UpstreamSettings
+upstream_of before d = upstream_from (text_in text.Address d) (text_in text.SystemId d) (text_in text.Password d)
+
+-- a prefix that no earlier one of the account equals
+abbrev pub new_prefix : List (List ℕ) → List ℕ → Option (List ℕ)
+new_prefix before p = if list_any (bytes_eq p) before then None else Some p
+
+abbrev pub prefix_of : List (List ℕ) → Data → Option (List ℕ)
+prefix_of before d = option_and_then (new_prefix before) (text_of text.Prefix d)
+
+-- at most 16 prefixes
+abbrev pub prefixes_of : Items → Option (List (List ℕ))
+prefixes_of ds = if nat_le (item_count ds) 16 then result_ok (stated_after prefix_of [] ds) else None
+
+-- the prefixes of an account, of which it may have none
+abbrev pub prefixes_in : Data → Option (List (List ℕ))
+prefixes_in d = option_map_or (λ p. option_and_then prefixes_of (as_array p)) (get (text_key text.Prefix) d) (Some [])
+
+abbrev pub account_from : Option (List ℕ) → Option (List ℕ) → Option (List (List ℕ)) → Option AccountSettings
+account_from None password prefixes = None
+account_from (Some system_id) None prefixes = None
+account_from (Some system_id) (Some password) None = None
+account_from (Some system_id) (Some password) (Some prefixes) = Some (record { system_id = system_id; password = password; prefixes = prefixes })
+
+-- an account whose system_id no earlier one has
+abbrev pub new_account : List AccountSettings → AccountSettings → Option AccountSettings
+new_account before a = if list_any (λ b. bytes_eq a.system_id b.system_id) before then None else Some a
+
+abbrev pub account_of : List AccountSettings → Data → Option AccountSettings
+account_of before d = option_and_then (new_account before) (account_from (text_in text.SystemId d) (text_in text.Password d) (prefixes_in d))
+
+-- goes on with what is stated, or stops at the fault
+abbrev pub on : {A B E : Type 0} → Result A E → (A → Result B E) → Result B E
+on (Ok a) next = next a
+on (Err e) next = Err e
+
+-- the fault of an item, by its number
+abbrev pub faulty : {A : Type 0} → (ℕ → ConfigFault) → Result A ℕ → Result A ConfigFault
+faulty fault (Ok a) = Ok a
+faulty fault (Err i) = Err (fault i)
+
+abbrev pub upstreams_of : Items → Result (List UpstreamSettings) ConfigFault
+upstreams_of ds = faulty fault.Upstream (stated_after upstream_of [] ds)
+
+abbrev pub accounts_of : Items → Result (List AccountSettings) ConfigFault
+accounts_of ds = faulty fault.Account (stated_after account_of [] ds)
+
+-- the settings that a table states, or the first fault in this order
+abbrev pub config_of : Members → Result Settings ConfigFault
+config_of ms =
+    on (ok_or (text_at text.Listen ms) fault.Listen) (λ listen.
+    on (ok_or (numbers_of ms) fault.Numbers) (λ numbers.
+    on (ok_or (limits_at ms) fault.Limits) (λ limits.
+    on (ok_or (tables_at (codes "upstream") 16 ms) fault.Upstreams) (λ upstreams.
+    on (upstreams_of upstreams) (λ upstream.
+    on (ok_or (tables_at (codes "account") 256 ms) fault.Accounts) (λ accounts.
+    on (accounts_of accounts) (λ account.
+    Ok (record { listen = listen; clients = numbers.0; places = numbers.1; silence = numbers.2; limits = limits; upstream = upstream; account = account }))))))))
+
+-- the settings that a text states, or its first fault
+abbrev pub settings_of : List ℕ → Result Settings ConfigFault
+settings_of text = option_map_or config_of (parse_document text) (Err fault.NotToml)

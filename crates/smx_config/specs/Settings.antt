@@ -1,0 +1,53 @@
+-- What a configuration says, and the limits that its type keeps.
+use Rattle.std.specs.Prelude.{◌≢◌, ◌≤◌, ℕ, List, length, All, AllPairs, IsTrue}
+use Rattle.smx_history.specs.declared.limits.Limits.{Limits}
+use Rattle.smx_history.specs.Room.{AreLimits}
+use Rattle.smx_config.specs.declared.text.Text.TheVariants as text
+use Rattle.smx_config.specs.Keys.{is_text}
+
+pub record UpstreamSettings : Type 0 where
+  pub address : List ℕ
+  pub system_id : List ℕ
+  pub password : List ℕ
+
+pub record AccountSettings : Type 0 where
+  pub system_id : List ℕ
+  pub password : List ℕ
+  pub prefixes : List (List ℕ)
+
+pub record Settings : Type 0 where
+  pub listen : List ℕ
+  pub clients : ℕ
+  pub places : ℕ
+  pub silence : ℕ
+  pub limits : Limits
+  pub upstream : List UpstreamSettings
+  pub account : List AccountSettings
+
+-- what every `Upstream` keeps
+pub record IsUpstream (u : UpstreamSettings) : Type 0 where
+  pub address : IsTrue (is_text text.Address u.address)
+  pub system_id : IsTrue (is_text text.SystemId u.system_id)
+  pub password : IsTrue (is_text text.Password u.password)
+
+pub record ArePrefixes (prefixes : List (List ℕ)) : Type 0 where
+  pub short : All (λ p. IsTrue (is_text text.Prefix p)) prefixes
+  pub few : length prefixes ≤ 16
+  pub distinct : AllPairs (λ p q. p ≢ q) prefixes
+
+-- what every `Account` keeps
+pub record IsAccount (a : AccountSettings) : Type 0 where
+  pub system_id : IsTrue (is_text text.SystemId a.system_id)
+  pub password : IsTrue (is_text text.Password a.password)
+  pub prefixes : ArePrefixes a.prefixes
+
+-- what every `Config` keeps
+pub record IsConfig (s : Settings) : Type 0 where
+  pub listen : IsTrue (is_text text.Listen s.listen)
+  pub clients : (1 ≤ s.clients) × (s.clients ≤ 256)
+  pub places : (1 ≤ s.places) × (s.places ≤ 256)
+  pub silence : (1 ≤ s.silence) × (s.silence ≤ 3600000)
+  pub limits : AreLimits s.limits
+  pub upstream : (1 ≤ length s.upstream) × (length s.upstream ≤ 16)
+  pub account : (1 ≤ length s.account) × (length s.account ≤ 256)
+  pub distinct : AllPairs (λ a b. a.system_id ≢ b.system_id) s.account

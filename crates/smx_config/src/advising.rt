@@ -1,0 +1,218 @@
+//! What is wrong with a configuration and what would be right, in words for a person.
+ghost use Rattle.std.specs.Prelude.{◌≡◌, List, ℕ, ◌++◌, IfOk, string_bytes};
+ghost use Rattle.smx_config.specs.Lines.{place_of};
+
+use crate::account::prefixes_within;
+use crate::fault::ConfigFault;
+use crate::number::Number;
+use crate::table::find;
+use crate::text::Text;
+use std::alloc::{AllocError, Global};
+use toml::{Table, Value};
+
+// What stands before the words on a part of the configuration.
+fn place(alloc: Global, fault: ConfigFault) -> Result<String, AllocError>
+    ensures { IfOk result (λ place. string_bytes place ≡ place_of fault) }
+{
+    match fault {
+        ConfigFault::Limits => String::from_str(alloc, "limits: "),
+        ConfigFault::Upstream(index) => format!(in alloc; "upstream {index}: "),
+        ConfigFault::Account(index) => format!(in alloc; "account {index}: "),
+        _ => Ok(String::new(alloc)),
+    }
+}
+
+// A value as it may stand at a key.
+fn sample(key: Text) -> &'static str {
+    match key {
+        Text::Listen | Text::Address => "\"host:port\"",
+        Text::SystemId => "\"name\"",
+        Text::Password => "\"secret\"",
+        Text::Prefix => "[\"49\"]",
+    }
+}
+
+// Words on the text at a key, unless it is as it may be.
+fn on_text(alloc: Global, key: Text, value: Option<&Value>) -> Result<Option<String>, AllocError> {
+    let what = match value {
+        Some(value) => match key.of(value) {
+            Some(_) => return Ok(None),
+            None => {
+                if value.is_str() {
+                    "is out of its limits"
+                } else {
+                    "is no text"
+                }
+            }
+        },
+        None => "is missing",
+    };
+    let name = key.key();
+    let sample = sample(key);
+    let fewest = key.fewest();
+    let longest = key.longest();
+    let zeros = if key.may_have_zero() {
+        ""
+    } else {
+        ", none of them 0"
+    };
+    let words = format!(in alloc;
+        "{name} {what}: write {name} = {sample}, of {fewest} to {longest} octets{zeros}"
+    )?;
+    Ok(Some(words))
+}
+
+// Words on the number at a key, unless it is as it may be.
+fn on_number(alloc: Global, key: Number, table: &Table) -> Result<Option<String>, AllocError> {
+    let Some(value) = find(table, key.key()) else {
+        return Ok(None);
+    };
+    let what = match key.of(value) {
+        Some(_) => return Ok(None),
+        None => {
+            if value.is_integer() {
+                "is out of its range"
+            } else {
+                "is no whole number"
+            }
+        }
+    };
+    let name = key.key();
+    let least = key.least();
+    let most = key.most();
+    let default = key.default();
+    let words = format!(in alloc;
+        "{name} {what}: write {name} = {default}, or another number from {least} to {most}"
+    )?;
+    Ok(Some(words))
+}
+
+// Words on the first number that isn't as it may be.
+fn on_numbers(alloc: Global, keys: &[Number], table: &Table) -> Result<Option<String>, AllocError> {
+    for key in keys {
+        let words = on_number(alloc, *key, table)?;
+        if words.is_some() {
+            return Ok(words);
+        }
+    }
+    Ok(None)
+}
+
+fn on_limits(alloc: Global, table: &Table) -> Result<Option<String>, AllocError> {
+    let Some(value) = find(table, "limits") else {
+        return Ok(None);
+    };
+    let Some(limits) = value.as_table() else {
+        return Ok(Some(String::from_str(
+            alloc,
+            "limits is no table: write [limits] and its keys below it",
+        )?));
+    };
+    let keys = [
+        Number::Queue,
+        Number::Window,
+        Number::Client,
+        Number::History,
+    ];
+    on_numbers(alloc, &keys, limits)
+}
+
+// Words on the first of these fields of a table that isn't as it may be.
+fn on_texts(alloc: Global, keys: &[Text], value: &Value) -> Result<Option<String>, AllocError> {
+    for key in keys {
+        let words = on_text(alloc, *key, value.get(key.key()))?;
+        if words.is_some() {
+            return Ok(words);
+        }
+    }
+    Ok(None)
+}
+
+// The value with this index in the list at a key.
+fn nth<'a>(table: &'a Table, key: &str, index: usize) -> Option<&'a Value> {
+    match find(table, key) {
+        Some(value) => match value.as_array() {
+            Some(values) => values.as_slice().get(index),
+            None => None,
+        },
+        None => None,
+    }
+}
+
+fn on_upstream(alloc: Global, table: &Table, index: usize) -> Result<Option<String>, AllocError> {
+    match nth(table, "upstream", index) {
+        Some(value) => on_texts(
+            alloc,
+            &[Text::Address, Text::SystemId, Text::Password],
+            value,
+        ),
+        None => Ok(None),
+    }
+}
+
+fn on_account(alloc: Global, table: &Table, index: usize) -> Result<Option<String>, AllocError> {
+    let Some(value) = nth(table, "account", index) else {
+        return Ok(None);
+    };
+    let words = on_texts(alloc, &[Text::SystemId, Text::Password], value)?;
+    if words.is_some() {
+        return Ok(words);
+    }
+    let words = if prefixes_within(alloc, value)?.is_none() {
+        "prefixes is no list of prefixes: write prefixes = [\"49\"], at most 16 texts of 0 to 64 octets, no two equal"
+    } else {
+        "system_id is that of an earlier account: write another one"
+    };
+    Ok(Some(String::from_str(alloc, words)?))
+}
+
+// Words on a fault of a table.
+fn on_fault(
+    alloc: Global,
+    table: &Table,
+    fault: ConfigFault,
+) -> Result<Option<String>, AllocError> {
+    match fault {
+        ConfigFault::Listen => on_text(alloc, Text::Listen, find(table, Text::Listen.key())),
+        ConfigFault::Numbers => {
+            let keys = [Number::Clients, Number::Places, Number::Silence];
+            on_numbers(alloc, &keys, table)
+        }
+        ConfigFault::Limits => on_limits(alloc, table),
+        ConfigFault::Upstreams => Ok(Some(String::from_str(
+            alloc,
+            "upstream is missing or no list of 1 to 16 tables: write [[upstream]] and its keys below it",
+        )?)),
+        ConfigFault::Upstream(index) => on_upstream(alloc, table, index),
+        ConfigFault::Accounts => Ok(Some(String::from_str(
+            alloc,
+            "account is missing or no list of 1 to 256 tables: write [[account]] and its keys below it",
+        )?)),
+        ConfigFault::Account(index) => on_account(alloc, table, index),
+        ConfigFault::NotToml | ConfigFault::NoMemory => Ok(None),
+    }
+}
+
+// Words on the fault of a text, where they can't say more the fault's own.
+fn words_on(alloc: Global, text: &str, fault: ConfigFault) -> Result<String, AllocError> {
+    let words = match toml::table_from_str(alloc, text) {
+        Ok(table) => on_fault(alloc, &table, fault)?,
+        Err(error) if error.is_memory() => None,
+        Err(error) => Some(format!(in alloc; "the text is not TOML: {error}")?),
+    };
+    match words {
+        Some(words) => Ok(words),
+        None => format!(in alloc; "{fault}"),
+    }
+}
+
+/// Says of the fault of a text which key is at fault, what its limit is and what would be right, in
+/// one sentence. Of its words no clause says more than the place with which they begin.
+pub fn advice(alloc: Global, text: &str, fault: ConfigFault) -> Result<String, AllocError>
+    ensures place { IfOk result (λ advice. (words : List ℕ) × (string_bytes advice ≡ place_of fault ++ words)) }
+{
+    let mut advice = place(alloc, fault)?;
+    let words = words_on(alloc, text, fault)?;
+    advice.push_str(words.as_str())?;
+    Ok(advice)
+}

@@ -1,0 +1,36 @@
+//! What is wrong with a configuration.
+use thiserror::Error;
+
+/// The first fault of a configuration, in this order, but for want of memory, which can come at any
+/// point. Indices are those of the file's tables, from 0.
+#[derive(Clone, Copy, Debug, PartialEq, Eq, Error)]
+pub enum ConfigFault {
+    /// The text isn't TOML.
+    #[error("the text is not TOML")]
+    NotToml,
+    /// `listen` is missing or is no address.
+    #[error("listen is not an address")]
+    Listen,
+    /// `clients`, `box` or `silence` is no number in its range.
+    #[error("clients, box or silence is out of range")]
+    Numbers,
+    /// `limits` is no table, or one of its keys is no number in its range.
+    #[error("limits are out of range")]
+    Limits,
+    /// `upstream` is missing or isn't a list of 1 to 16 tables.
+    #[error("upstream is not a list of 1 to 16 tables")]
+    Upstreams,
+    /// A field of this upstream is missing or isn't what it may be.
+    #[error("upstream {0} has a bad field")]
+    Upstream(usize),
+    /// `account` is missing or isn't a list of 1 to 256 tables.
+    #[error("account is not a list of 1 to 256 tables")]
+    Accounts,
+    /// A field of this account is missing or isn't what it may be, or an account before it has the
+    /// same system_id.
+    #[error("account {0} has a bad field, or the system_id of an earlier one")]
+    Account(usize),
+    /// Memory was refused.
+    #[error("out of memory")]
+    NoMemory,
+}

@@ -1,0 +1,11 @@
+pub mod LetterLists
+pub mod BoxHistories
+pub mod BoxHolds
+pub mod ShutCounts
+pub mod BoxEnds
+pub mod BoxSeats
+pub mod Apart
+pub mod Firsts
+pub mod Numbers
+pub mod Places
+pub mod Removing
