@@ -3,6 +3,7 @@
 
 mod call;
 mod fault;
+mod kept;
 mod lane;
 mod roster;
 mod sent;

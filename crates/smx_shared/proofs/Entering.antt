@@ -1,0 +1,83 @@
+-- Clients that enter, and turn back.
+use Rattle.std.proofs.Common.{◌≡◌, ◌<◌, ◌≤◌, ◌+◌, ◌==◌, ◌&&◌, ◌||◌, ◌^◌, ℕ, true, false, List, [], ◌∷◌, ◌++◌, length, slice_get, get_or, Some, Ok, refl, sym, ◌∙◌, ap, arith, append_assoc, inr}
+use Rattle.std.proofs.lemmas.Bool.{eq-eqb}
+use Rattle.std.proofs.lemmas.Option.{slice_get-get_or, slice_get_within}
+use Rattle.smx_lock.specs.Fronts.{Front}
+use Rattle.smx_history.specs.declared.limits.Limits.{Limits}
+use Rattle.smx_history.specs.declared.note.Note.{Note}
+use Rattle.smx_history.specs.declared.note.Event.TheVariants as event
+use Rattle.smx_history.specs.History.{note, entries_of, requests}
+use Rattle.smx_history.specs.Entries.{is_admitted, is_retired}
+use Rattle.smx_shared.specs.Views.{DoorView, locks_of}
+use Rattle.smx_shared.specs.Serving.{SplitServes, AdmitServes}
+use Rattle.smx_shared.specs.Ports.{IsMemberBy, IsPort, HasAccepted}
+use Rattle.smx_shared.specs.Entering.{Enters, Entered, StopsAt, TurnsBack, RefusesEntry}
+use Rattle.smx_shared.specs.declared.fault.EnterFault.{EnterFault}
+use Rattle.smx_shared.specs.declared.fault.EnterFault.TheVariants.{Exhausted, Spent, HistoryFull, NoMemory, Known}
+use Rattle.smx_shared.proofs.Growing.{on_locks}
+
+pub enters_of : (c : ℕ) (f g s p : Front Note Limits) → SplitServes f g s → AdmitServes s p c (Ok tt) → Enters c f g p
+enters_of c f g s p h a = record {
+  served = (s, h, a);
+  begins =
+      let t = h.2.serves.begins in
+      let u = a.2.serves.begins in
+      let new = note s.number (event.Admit c) ∷ [] in
+      let first : s.seen ≡ f.seen ++ t.0 = h.5 ∙ sym t.1 in (
+        t.0 ++ (u.0 ++ new),
+        sym (append_assoc f.seen t.0 (u.0 ++ new)) ∙ ap (λ l. l ++ (u.0 ++ new)) (sym first) ∙ sym (append_assoc s.seen u.0 new) ∙ ap (λ l. l ++ new) u.1 ∙ sym a.2.serves.seen,
+      );
+  mine = a.2.serves.mine ∙ ap (λ l. l ++ note s.number (event.Admit c) ∷ []) h.6 ∙ ap (λ k. note k (event.Admit c) ∷ []) (sym a.2.serves.number);
+  lock = a.2.serves.lock ∙ h.3;
+}
+
+-- who was admitted alone is a member
+pub member_of : (c : ℕ) (f : Front Note Limits) → f.mine ≡ note f.number (event.Admit c) ∷ [] → IsMemberBy c f
+member_of c f mine =
+    let alone : is_admitted f.number c (entries_of (note f.number (event.Admit c) ∷ [])) ≡ true =
+    ap (λ b. (b && (f.number == f.number)) || false) (eq-eqb c c refl) ∙ ap (λ b. b || false) (eq-eqb f.number f.number refl) in
+    record {
+      admitted = ap (λ m. is_admitted f.number c (entries_of m)) mine ∙ alone;
+      stays = ap (λ m. is_retired c (entries_of m)) mine;
+    }
+
+has_at : {X : Type 0} (xs : List X) (k : ℕ) → k < length xs → (x : X) × (slice_get xs k ≡ Some x)
+has_at [] k h = absurd (omega arith)
+has_at (x ∷ xs) k h = (get_or (x ∷ xs) k x, slice_get-get_or (x ∷ xs) k x h)
+
+-- the notes of each seat that was made
+pub made_mine : (to c : ℕ) (old new made : List (Front Note Limits)) → Entered to c old new made → to ≤ length old
+    → (k : ℕ) (p : Front Note Limits) → slice_get made k ≡ Some p → p.mine ≡ note p.number (event.Admit c) ∷ []
+made_mine to c old new made e room k p at =
+    let within = slice_get_within made k p at in
+    let was = has_at old k (omega (arith, within, e.made_count, room)) in
+    let now = has_at new k (omega (arith, within, e.made_count, e.count, room)) in
+    (e.each k was.0 now.0 p was.1 now.1 at).mine
+
+pub made_members : (to c : ℕ) (old new made : List (Front Note Limits)) → Entered to c old new made → to ≤ length old
+    → (k : ℕ) (p : Front Note Limits) → slice_get made k ≡ Some p → IsMemberBy c p
+made_members to c old new made e room k p at = member_of c p (made_mine to c old new made e room k p at)
+
+-- what a port has at first
+pub first_accepts : (c n : ℕ) (fs : List (Front Note Limits)) → ((k : ℕ) (f : Front Note Limits) → slice_get fs k ≡ Some f → f.mine ≡ note f.number (event.Admit c) ∷ [])
+    → HasAccepted (record { client = c; first = n; next = n; fronts = fs }) []
+first_accepts c n fs admitted = record { count = omega arith; lanes = tt; each = λ k f at. ap requests (admitted k f at) }
+
+pub first_port : (c n : ℕ) (fs : List (Front Note Limits)) → (0 < length fs) × (length fs ≤ 16) → (0 < n) × (n ≤ 2 ^ 62)
+    → ((k : ℕ) (f : Front Note Limits) → slice_get fs k ≡ Some f → f.mine ≡ note f.number (event.Admit c) ∷ []) → IsPort (record { client = c; first = n; next = n; fronts = fs })
+first_port c n fs lanes first admitted = record {
+  lanes = lanes;
+  ordinals = (first.0, omega (arith, first.1));
+  member = λ k f at. member_of c f (admitted k f at);
+  accepts = ([], first_accepts c n fs admitted);
+}
+
+pub stops_locks : (lane c : ℕ) (fault : EnterFault) (old new made : List (Front Note Limits)) → StopsAt lane c fault old new made → locks_of new ≡ locks_of old
+stops_locks lane c fault old new made s = let on = s.3 in on_locks lane s.0 new on.0 on.1 on.2 on.3 on.4 ∙ s.2.locks
+
+pub refused_entry : (v w : DoorView) (fault : EnterFault) → w ≡ record v { next = v.next + 1; fronts = w.fronts } → TurnsBack v.next fault v.fronts w.fronts → RefusesEntry v w fault
+refused_entry v w Exhausted is back = absurd back.3.3.5
+refused_entry v w NoMemory is back = (is, inr back)
+refused_entry v w Spent is back = (is, back)
+refused_entry v w HistoryFull is back = (is, back)
+refused_entry v w Known is back = (is, back)

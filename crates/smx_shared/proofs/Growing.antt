@@ -1,0 +1,291 @@
+-- What a port keeps, when notes are added to its fronts.
+use Rattle.std.proofs.Common.{◌≡◌, ◌≢◌, ◌<◌, ◌≤◌, ◌+◌, ◌==◌, ◌^◌, ◌||◌, ◌&&◌, ℕ, Bool, true, false, List, [], ◌∷◌, ◌++◌, length, set, slice_get, get_or, Option, Some, None, Ok, Err, Result, refl, sym, ◌∙◌, ap, subst, arith, inl, inr, length-append, if◌then◌else◌}
+use Rattle.std.specs.List.{AllByRecursion}
+use Rattle.std.proofs.lemmas.List.{append-nil, map-append, length-set}
+use Rattle.std.proofs.lemmas.List.Elements.{filter_map-append}
+use Rattle.std.proofs.lemmas.List.Folds.{list_any-append}
+use Rattle.std.proofs.lemmas.Bool.{cases_lt, cases_eq, eq-eqb, ne_eqb}
+use Rattle.std.proofs.lemmas.Option.{slice_get_within, slice_get-get_or, get_or_from_slice_get}
+use Rattle.std.proofs.Math.Seq.{map-set_same}
+use Rattle.smx_lock.specs.Fronts.{Front, IsSpent, Refused}
+use Rattle.smx_lock.specs.declared.faults.TryFault as tries
+use Rattle.smx_lock.specs.declared.faults.TryFault.TheVariants as try
+use Rattle.smx_history.specs.declared.limits.Limits.{Limits}
+use Rattle.smx_history.specs.declared.note.Note.{Note}
+use Rattle.smx_history.specs.declared.request.Request.{Request}
+use Rattle.smx_history.specs.declared.note.Event.TheVariants as event
+use Rattle.smx_history.specs.Entries.{is_admit, is_retire, is_admitted, is_retired}
+use Rattle.smx_history.specs.History.{entries_of, entry_of, note, request_in, requests}
+use Rattle.smx_history.proofs.Growing.{any_kept}
+use Rattle.smx_shared.specs.Views.{PortView, locks_of}
+use Rattle.smx_shared.specs.Offers.{Accepted, requests_on, request_for}
+use Rattle.smx_shared.specs.Ports.{IsMemberBy, IsBelow, IsPort, HasAccepted}
+use Rattle.smx_shared.specs.Serving.{CollectServes, Waited, Tried}
+use Rattle.smx_shared.specs.Submits.{Passed, WentBy, AcceptsOn, StopsOn, Refuses, request_of, start_of}
+use Rattle.smx_shared.specs.declared.offer.Offer.{Offer}
+use Rattle.smx_shared.specs.declared.fault.SubmitFault.{SubmitFault}
+use Rattle.smx_shared.specs.declared.fault.SubmitFault.TheVariants as fault
+use Rattle.smx_pdu.specs.declared.pdu.Pdu.{Pdu}
+use Rattle.smx_lock.specs.declared.faults.Spent as spent
+use Rattle.std.specs.Prelude.{nat_le}
+use Rattle.smx_shared.proofs.Lists.{All-both}
+use Rattle.smx_shared.proofs.Passing.{got_same, got_other, some_same}
+
+-- each front has more notes, which retire no one and accept what stands here for its lane, numbered from n on
+pub record Grows (c n : ℕ) (named : List Accepted) (old new : List (Front Note Limits)) : Type 0 where
+  pub count : length new ≡ length old
+  pub each : (k : ℕ) (g : Front Note Limits) → slice_get new k ≡ Some g → (f : Front Note Limits) × (ns : List Note) × (slice_get old k ≡ Some f)
+      × (g.number ≡ f.number) × (g.mine ≡ f.mine ++ ns) × (is_retired c (entries_of ns) ≡ false)
+      × (requests ns ≡ requests_on k c n named)
+  pub within : AllByRecursion (λ a. a.lane < length old) named
+
+-- the fronts have the same notes
+pub record SameNotes (old new : List (Front Note Limits)) : Type 0 where
+  pub count : length new ≡ length old
+  pub each : (k : ℕ) (g : Front Note Limits) → slice_get new k ≡ Some g → (f : Front Note Limits) × (slice_get old k ≡ Some f) × (g.number ≡ f.number) × (g.mine ≡ f.mine)
+
+pub same_grows : (c n : ℕ) (old new : List (Front Note Limits)) → SameNotes old new → Grows c n [] old new
+same_grows c n old new s = record {
+  count = s.count;
+  each = λ k g at. let w = s.each k g at in (w.0, [], w.1, w.2, w.3 ∙ sym (append-nil w.0.mine), refl, refl);
+  within = tt;
+}
+
+pub same_then : (c n : ℕ) (named : List Accepted) (a b d : List (Front Note Limits)) → SameNotes a b → Grows c n named b d → Grows c n named a d
+same_then c n named a b d s w = record {
+  count = w.count ∙ s.count;
+  each = λ k g at.
+      let u = w.each k g at in
+      let t = s.each k u.0 u.2 in
+      (t.0, u.1, t.1, u.3 ∙ t.2, u.4 ∙ ap (λ m. m ++ u.1) t.3, u.5, u.6);
+  within = subst (λ z. AllByRecursion (λ (x : Accepted). x.lane < z) named) s.count w.within;
+}
+
+pub same_both : (a b d : List (Front Note Limits)) → SameNotes a b → SameNotes b d → SameNotes a d
+same_both a b d s w = record {
+  count = w.count ∙ s.count;
+  each = λ k g at.
+      let u = w.each k g at in
+      let t = s.each k u.0 u.1 in
+      (t.0, t.1, u.2 ∙ t.2, u.3 ∙ t.3);
+}
+
+has_at : {X : Type 0} (xs : List X) (k : ℕ) → k < length xs → (x : X) × (slice_get xs k ≡ Some x)
+has_at [] k h = absurd (omega arith)
+has_at (x ∷ xs) k h = (get_or (x ∷ xs) k x, slice_get-get_or (x ∷ xs) k x h)
+
+pub passed_same : (from to : ℕ) (r : Request) (old new : List (Front Note Limits)) → Passed from to r old new → SameNotes old new
+passed_same from to r old new p = record {
+  count = p.count;
+  each = λ k g at. elim (cases_lt k from) [
+    | inl low ↦ (g, sym (p.below k low) ∙ at, refl, refl)
+    | inr from_on ↦ elim (cases_lt k to) [
+      | inl within ↦
+          let was = has_at old k (omega (arith, slice_get_within new k g at, p.count)) in
+          let full = p.full k was.0 g from_on within was.1 at in
+          (was.0, was.1, full.3.serves.number, full.3.serves.mine ∙ append-nil was.0.mine)
+      | inr past ↦ (g, sym (p.above k past) ∙ at, refl, refl)
+    ]
+  ];
+}
+
+-- one front has more notes
+pub lane_grows : (c n lane : ℕ) (named : List Accepted) (old new : List (Front Note Limits)) (f g : Front Note Limits) (ns : List Note) → slice_get old lane ≡ Some f → new ≡ set old lane g
+    → g.number ≡ f.number → g.mine ≡ f.mine ++ ns → is_retired c (entries_of ns) ≡ false → requests ns ≡ requests_on lane c n named
+    → ((k : ℕ) → k ≢ lane → requests_on k c n named ≡ []) → AllByRecursion (λ a. a.lane < length old) named → Grows c n named old new
+lane_grows c n lane named old new f g ns at is number mine stays own others within = subst (Grows c n named old) (sym is) record {
+  count = length-set old lane g;
+  each = λ k x now. elim (cases_eq k lane) [
+    | inl here ↦
+        let new : x ≡ g = some_same x g (sym now ∙ ap (slice_get (set old lane g)) here ∙ got_same old lane g (slice_get_within old lane f at)) in
+        (f, ns, ap (slice_get old) here ∙ at, ap (λ z. z.number) new ∙ number, ap (λ z. z.mine) new ∙ mine, stays, own ∙ ap (λ i. requests_on i c n named) (sym here))
+    | inr apart ↦ (x, [], sym (got_other old lane k g apart) ∙ now, refl, sym (append-nil x.mine), refl, sym (others k apart))
+  ];
+  within = within;
+}
+
+entries_more : (a b : List Note) → entries_of (a ++ b) ≡ entries_of a ++ entries_of b
+entries_more a b = map-append entry_of a b
+
+none_both : (a b : Bool) → a ≡ false → b ≡ false → (a || b) ≡ false
+none_both true b h g = cc
+none_both false b h g = g
+
+member_more : (c : ℕ) (f g : Front Note Limits) (ns : List Note) → IsMemberBy c f → g.number ≡ f.number → g.mine ≡ f.mine ++ ns → is_retired c (entries_of ns) ≡ false → IsMemberBy c g
+member_more c f g ns m number mine stays =
+    let is : entries_of g.mine ≡ entries_of f.mine ++ entries_of ns = ap entries_of mine ∙ entries_more f.mine ns in
+    record {
+      admitted = ap (λ es. is_admitted g.number c es) is ∙ ap (λ k. is_admitted k c (entries_of f.mine ++ entries_of ns)) number
+          ∙ any_kept (λ e. is_admit e.kind && ((e.client == c) && (e.by == f.number))) (entries_of f.mine) (entries_of ns) m.admitted;
+      stays = ap (is_retired c) is ∙ list_any-append (λ e. is_retire e.kind && (e.client == c)) (entries_of f.mine) (entries_of ns) ∙ none_both _ _ m.stays stays;
+    }
+
+requests_more : (k c n : ℕ) (xs ys : List Accepted) → requests_on k c n (xs ++ ys) ≡ requests_on k c n xs ++ requests_on k c (n + length xs) ys
+requests_more k c n [] ys = ap (λ i. requests_on k c i ys) (omega arith)
+requests_more k c n (a ∷ xs) ys = requests_more_at (a.lane == k) (requests_more k c (n + 1) xs ys ∙ ap (λ i. requests_on k c (n + 1) xs ++ requests_on k c i ys) (omega arith))
+  where
+    requests_more_at : (b : Bool) → requests_on k c (n + 1) (xs ++ ys) ≡ requests_on k c (n + 1) xs ++ requests_on k c (n + length (a ∷ xs)) ys
+        → (if b then request_for c n a.offer ∷ requests_on k c (n + 1) (xs ++ ys) else requests_on k c (n + 1) (xs ++ ys)) ≡ (if b then request_for c n a.offer ∷ requests_on k c (n + 1) xs else requests_on k c (n + 1) xs) ++ requests_on k c (n + length (a ∷ xs)) ys
+    requests_more_at true h = ap (λ zs. request_for c n a.offer ∷ zs) h
+    requests_more_at false h = h
+
+-- the accepts of a port after its fronts grew
+pub accepted_more : (v : PortView) (named all : List Accepted) (new : List (Front Note Limits)) → HasAccepted v all → Grows v.client v.next named v.fronts new
+    → HasAccepted (record { client = v.client; first = v.first; next = v.next + length named; fronts = new }) (all ++ named)
+accepted_more v named all new has grows = record {
+  count = omega (arith, length-append all named, has.count);
+  lanes = subst (λ z. AllByRecursion (λ (a : Accepted). a.lane < z) (all ++ named)) (sym grows.count) (All-both (λ a. a.lane < length v.fronts) all named has.lanes grows.within);
+  each = λ k g at.
+      let w = grows.each k g at in
+      ap requests w.4
+      ∙ filter_map-append (λ m. request_in m.event) w.0.mine w.1
+      ∙ ap (λ xs. xs ++ requests w.1) (has.each k w.0 w.2)
+      ∙ ap (λ xs. requests_on k v.client v.first all ++ xs) (w.6 ∙ ap (λ i. requests_on k v.client i named) (sym has.count))
+      ∙ sym (requests_more k v.client v.first all named);
+}
+
+-- a port after its fronts grew
+pub port_grows : (v : PortView) (named : List Accepted) (new : List (Front Note Limits)) → IsPort v → Grows v.client v.next named v.fronts new → v.next + length named ≤ 2 ^ 62 + 1
+    → IsPort (record { client = v.client; first = v.first; next = v.next + length named; fronts = new })
+port_grows v named new port grows top = record {
+  lanes = (omega (arith, port.lanes.0, grows.count), omega (arith, port.lanes.1, grows.count));
+  ordinals = (port.ordinals.0, top);
+  member = λ k g at. let w = grows.each k g at in member_more v.client w.0 g w.1 (port.member k w.0 w.2) w.3 w.4 w.5;
+  accepts = (port.accepts.0 ++ named, accepted_more v named port.accepts.0 new port.accepts.1 grows);
+}
+
+requests_below : (k c n : ℕ) (xs : List Accepted) → AllByRecursion (λ r. r.ordinal < n + length xs) (requests_on k c n xs)
+requests_below k c n [] = tt
+requests_below k c n (a ∷ xs) = requests_below_at (a.lane == k) (subst (λ t. AllByRecursion (λ (r : Request). r.ordinal < t) (requests_on k c (n + 1) xs)) (omega arith) (requests_below k c (n + 1) xs))
+  where
+    requests_below_at : (b : Bool) → AllByRecursion (λ (r : Request). r.ordinal < n + length (a ∷ xs)) (requests_on k c (n + 1) xs)
+        → AllByRecursion (λ (r : Request). r.ordinal < n + length (a ∷ xs)) (if b then request_for c n a.offer ∷ requests_on k c (n + 1) xs else requests_on k c (n + 1) xs)
+    requests_below_at true h = (omega arith, h)
+    requests_below_at false h = h
+
+pub port_below : (v : PortView) (k : ℕ) (f : Front Note Limits) → IsPort v → slice_get v.fronts k ≡ Some f → IsBelow v.next f
+port_below v k f port at =
+    subst (AllByRecursion (λ (r : Request). r.ordinal < v.next)) (sym (port.accepts.1.each k f at))
+    (subst (λ t. AllByRecursion (λ (r : Request). r.ordinal < t) (requests_on k v.client v.first port.accepts.0)) port.accepts.1.count (requests_below k v.client v.first port.accepts.0))
+
+-- a port whose fronts have no more accepts
+pub accepted_quiet : (v : PortView) (all : List Accepted) (new : List (Front Note Limits)) → HasAccepted v all → Grows v.client v.next [] v.fronts new
+    → HasAccepted (record { client = v.client; first = v.first; next = v.next; fronts = new }) all
+accepted_quiet v all new has grows =
+    let zero : v.next + length {A = Accepted} [] ≡ v.next = omega arith in
+    subst (HasAccepted (record { client = v.client; first = v.first; next = v.next; fronts = new })) (append-nil all)
+    (subst (λ n. HasAccepted (record { client = v.client; first = v.first; next = n; fronts = new }) (all ++ [])) zero (accepted_more v [] all new has grows))
+
+-- where nothing was accepted nothing joins the list
+pub accepted_none : (v : PortView) (all : List Accepted) → HasAccepted v all → HasAccepted v (all ++ [])
+accepted_none v all has = subst (HasAccepted v) (sym (append-nil all)) has
+
+pub accepted_same : (v : PortView) (all : List Accepted) (new : List (Front Note Limits)) → HasAccepted v all → SameNotes v.fronts new
+    → HasAccepted (record { client = v.client; first = v.first; next = v.next; fronts = new }) (all ++ [])
+accepted_same v all new has same =
+    accepted_none (record { client = v.client; first = v.first; next = v.next; fronts = new }) all (accepted_quiet v all new has (same_grows v.client v.next v.fronts new same))
+
+pub port_same : (v : PortView) (new : List (Front Note Limits)) → IsPort v → SameNotes v.fronts new → IsPort (record { client = v.client; first = v.first; next = v.next; fronts = new })
+port_same v new port same =
+    let zero : v.next + length {A = Accepted} [] ≡ v.next = omega arith in
+    subst (λ n. IsPort (record { client = v.client; first = v.first; next = n; fronts = new })) zero
+    (port_grows v [] new port (same_grows v.client v.next v.fronts new same) (omega (arith, port.ordinals.1)))
+
+pub passed_own : (from to c n : ℕ) (r : Request) (old new : List (Front Note Limits)) → Passed from to r old new
+    → ((k : ℕ) (f : Front Note Limits) → slice_get old k ≡ Some f → IsMemberBy c f × IsBelow n f)
+    → (k : ℕ) (g : Front Note Limits) → slice_get new k ≡ Some g → IsMemberBy c g × IsBelow n g
+passed_own from to c n r old new p own k g at =
+    let w = (passed_same from to r old new p).each k g at in
+    let o = own k w.0 w.1 in (
+      member_more c w.0 g [] o.0 w.2 (w.3 ∙ sym (append-nil w.0.mine)) refl,
+      subst (λ m. AllByRecursion (λ (r : Request). r.ordinal < n) (requests m)) (sym w.3) o.1,
+    )
+
+went_same : (b : Bool) (start count lane : ℕ) (r : Request) (old mid : List (Front Note Limits)) → WentBy b start count lane r old mid → SameNotes old mid
+went_same true start count lane r old mid p = passed_same start lane r old mid p
+went_same false start count lane r old mid p = same_both old p.0 mid (passed_same start count r old p.0 p.1) (passed_same 0 lane r p.0 mid p.2)
+
+spent_same : (f g : Front Note Limits) → IsSpent f g → (g.number ≡ f.number) × (g.mine ≡ f.mine)
+spent_same f g s = elim s [
+  | inl e ↦ (ap (λ z. z.number) e, ap (λ z. z.mine) e)
+  | inr e ↦ (ap (λ z. z.number) e, ap (λ z. z.mine) e)
+]
+
+lane_same : (lane : ℕ) (old new : List (Front Note Limits)) (f g : Front Note Limits) → slice_get old lane ≡ Some f → new ≡ set old lane g
+    → g.number ≡ f.number → g.mine ≡ f.mine → SameNotes old new
+lane_same lane old new f g at is number mine = subst (SameNotes old) (sym is) record {
+  count = length-set old lane g;
+  each = λ k x now. elim (cases_eq k lane) [
+    | inl here ↦
+        let new : x ≡ g = some_same x g (sym now ∙ ap (slice_get (set old lane g)) here ∙ got_same old lane g (slice_get_within old lane f at)) in
+        (f, ap (slice_get old) here ∙ at, ap (λ z. z.number) new ∙ number, ap (λ z. z.mine) new ∙ mine)
+    | inr apart ↦ (x, sym (got_other old lane k g apart) ∙ now, refl, refl)
+  ];
+}
+
+pub accepts_grows : (start c n : ℕ) (o : Offer) (old new : List (Front Note Limits)) (lane : ℕ) → AcceptsOn start (request_for c n o) old new lane → Grows c n (record { lane = lane; offer = o } ∷ []) old new
+accepts_grows start c n o old new lane a =
+    let on = a.3 in
+    let one = on.5.2 in
+    let same = went_same (nat_le start lane) start (length old) lane (request_for c n o) old a.0 a.2 in
+    same_then c n (record { lane = lane; offer = o } ∷ []) old a.0 new same
+    (lane_grows c n lane (record { lane = lane; offer = o } ∷ []) a.0 new on.0 on.1 (note on.0.number (event.Accept (request_for c n o)) ∷ []) on.2 on.3 one.serves.number one.serves.mine refl
+    (ap (λ b. if b then request_for c n o ∷ [] else []) (sym (eq-eqb lane lane refl)))
+    (λ k apart. ap (λ b. if b then request_for c n o ∷ [] else []) (ne_eqb lane k (λ e. apart (sym e))))
+    (omega (arith, a.1, same.count), tt))
+
+pub stops_same : (start : ℕ) (r : Request) (old new : List (Front Note Limits)) (s : SubmitFault) → StopsOn start r old new s → SameNotes old new
+stops_same start r old new fault.AllFull w = same_both old w.0 new (passed_same start (length old) r old w.0 w.1) (passed_same 0 start r w.0 new w.2)
+stops_same start r old new fault.Spent w =
+    let on = w.4 in
+    let same = spent_same on.0 on.1 on.5 in
+    same_both old w.1 new (went_same (nat_le start w.0) start (length old) w.0 r old w.1 w.3) (lane_same w.0 w.1 new on.0 on.1 on.2 on.3 same.0 same.1)
+stops_same start r old new fault.Exhausted w = absurd w
+
+pub refuses : (v : PortView) (o : Offer) (new : List (Front Note Limits)) (s : SubmitFault) → StopsOn (start_of v) (request_of v o) v.fronts new s
+    → Refuses v o (record { client = v.client; first = v.first; next = v.next; fronts = new }) s
+refuses v o new fault.AllFull w = (w, refl)
+refuses v o new fault.Spent w = (w, refl)
+refuses v o new fault.Exhausted w = absurd w
+
+pub collect_grows : (c n lane : ℕ) (old new : List (Front Note Limits)) (f g : Front Note Limits) (res : Result (Option Pdu) spent.Spent) → slice_get old lane ≡ Some f → new ≡ set old lane g
+    → Waited (CollectServes f g c) f g res → Grows c n [] old new
+collect_grows c n lane old new f g (Ok None) at is w = same_grows c n old new (lane_same lane old new f g at is w.2.serves.number (w.2.serves.mine ∙ append-nil f.mine))
+collect_grows c n lane old new f g (Ok (Some p)) at is w =
+    lane_grows c n lane [] old new f g (note f.number (event.Collect c w.2.ordinal) ∷ []) at is w.3.serves.number w.3.serves.mine refl refl (λ k apart. refl) tt
+collect_grows c n lane old new f g (Err s) at is w =
+    let same = spent_same f g w in same_grows c n old new (lane_same lane old new f g at is same.0 same.1)
+
+pub port_quiet : (v : PortView) (new : List (Front Note Limits)) → IsPort v → Grows v.client v.next [] v.fronts new → IsPort (record { client = v.client; first = v.first; next = v.next; fronts = new })
+port_quiet v new port grows =
+    let zero : v.next + length {A = Accepted} [] ≡ v.next = omega arith in
+    subst (λ n. IsPort (record { client = v.client; first = v.first; next = n; fronts = new })) zero (port_grows v [] new port grows (omega (arith, port.ordinals.1)))
+
+refused_same : (f g : Front Note Limits) (e : tries.TryFault) → Refused f g e → (g.number ≡ f.number) × (g.mine ≡ f.mine)
+refused_same f g try.Spent s = spent_same f g s
+refused_same f g try.Busy s = (ap (λ z. z.number) s.0, ap (λ z. z.mine) s.0)
+
+pub try_collect_grows : (c n lane : ℕ) (old new : List (Front Note Limits)) (f g : Front Note Limits) (res : Result (Option Pdu) tries.TryFault) → slice_get old lane ≡ Some f → new ≡ set old lane g
+    → Tried (CollectServes f g c) f g res → Grows c n [] old new
+try_collect_grows c n lane old new f g (Ok x) at is w = collect_grows c n lane old new f g (Ok x) at is w
+try_collect_grows c n lane old new f g (Err e) at is w =
+    let same = refused_same f g e w in same_grows c n old new (lane_same lane old new f g at is same.0 same.1)
+
+pub on_locks : (lane : ℕ) (old new : List (Front Note Limits)) (f g : Front Note Limits) → slice_get old lane ≡ Some f → new ≡ set old lane g → g.lock ≡ f.lock → locks_of new ≡ locks_of old
+on_locks lane old new f g at is lock = ap locks_of is ∙ map-set_same (λ x. x.lock) old lane g f (lock ∙ ap (λ x. x.lock) (sym (get_or_from_slice_get old lane f f at)))
+
+went_locks : (b : Bool) (start count lane : ℕ) (r : Request) (old mid : List (Front Note Limits)) → WentBy b start count lane r old mid → locks_of mid ≡ locks_of old
+went_locks true start count lane r old mid p = p.locks
+went_locks false start count lane r old mid p = p.2.locks ∙ p.1.locks
+
+pub accepts_locks : (start : ℕ) (r : Request) (old new : List (Front Note Limits)) (lane : ℕ) → AcceptsOn start r old new lane → locks_of new ≡ locks_of old
+accepts_locks start r old new lane a =
+    let on = a.3 in
+    on_locks lane a.0 new on.0 on.1 on.2 on.3 on.4 ∙ went_locks (nat_le start lane) start (length old) lane r old a.0 a.2
+
+pub stops_locks : (start : ℕ) (r : Request) (old new : List (Front Note Limits)) (s : SubmitFault) → StopsOn start r old new s → locks_of new ≡ locks_of old
+stops_locks start r old new fault.AllFull w = w.2.locks ∙ w.1.locks
+stops_locks start r old new fault.Spent w =
+    let on = w.4 in
+    on_locks w.0 w.1 new on.0 on.1 on.2 on.3 on.4 ∙ went_locks (nat_le start w.0) start (length old) w.0 r old w.1 w.3
+stops_locks start r old new fault.Exhausted w = absurd w

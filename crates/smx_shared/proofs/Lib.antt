@@ -1,0 +1,10 @@
+pub mod Lists
+pub mod Holding
+pub mod Own
+pub mod Passing
+pub mod Growing
+pub mod Leaving
+pub mod Rounds
+pub mod Entering
+pub mod Making
+pub mod Knowing

@@ -1,0 +1,52 @@
+-- Exchanges that are made and ended.
+use Rattle.std.proofs.Common.{◌≡◌, ◌<◌, ◌+◌, ℕ, List, [], ◌∷◌, ◌++◌, length, map, get_or, slice_get, option_map, Some, refl, sym, ◌∙◌, ap, subst, arith, length-append}
+use Rattle.std.specs.Prelude.{All}
+use Rattle.std.proofs.lemmas.List.{map-append, length-map}
+use Rattle.std.proofs.lemmas.Option.{slice_get-map, slice_get-get_or, get_or_from_slice_get}
+use Rattle.smx_lock.specs.Fronts.{Front, LockId, first_front}
+use Rattle.smx_history.specs.declared.limits.Limits.{Limits}
+use Rattle.smx_history.specs.declared.note.Note.{Note}
+use Rattle.smx_shared.specs.Views.{TapView, locks_of}
+use Rattle.smx_shared.specs.Making.{AreLocks, Tapped}
+use Rattle.smx_shared.proofs.Lists.{All-both}
+
+pub locks_none : (limits : Limits) → AreLocks 0 limits []
+locks_none limits = record { count = refl; each = tt }
+
+pub locks_push : (n : ℕ) (limits : Limits) (locks : List (LockId Limits)) (l : LockId Limits) → AreLocks n limits locks → l.fixed ≡ limits → AreLocks (n + 1) limits (locks ++ l ∷ [])
+locks_push n limits locks l are fixed = record {
+  count = omega (arith, length-append locks (l ∷ []), are.count);
+  each = All-both (λ (x : LockId Limits). x.fixed ≡ limits) locks (l ∷ []) are.each (fixed, tt);
+}
+
+pub firsts_push : (locks : List (LockId Limits)) (l : LockId Limits) (fs : List (Front Note Limits)) (f : Front Note Limits) → fs ≡ map first_front locks → f ≡ first_front l
+    → fs ++ f ∷ [] ≡ map first_front (locks ++ l ∷ [])
+firsts_push locks l fs f is one = ap (λ xs. xs ++ f ∷ []) is ∙ ap (λ x. map first_front locks ++ x ∷ []) one ∙ sym (map-append first_front locks (l ∷ []))
+
+-- the first seats' locks are the locks
+pub locks_of-firsts : (locks : List (LockId Limits)) → locks_of (map first_front locks) ≡ locks
+locks_of-firsts [] = refl
+locks_of-firsts (l ∷ locks) = ap (λ ls. l ∷ ls) (locks_of-firsts locks)
+
+has_at : {X : Type 0} (xs : List X) (k : ℕ) → k < length xs → (x : X) × (slice_get xs k ≡ Some x)
+has_at [] k h = absurd (omega arith)
+has_at (x ∷ xs) k h = (get_or (x ∷ xs) k x, slice_get-get_or (x ∷ xs) k x h)
+
+-- each tap is of the lock of its lane
+pub taps_locks : (lanes : ℕ) (locks : List (LockId Limits)) (new : List (Front Note Limits)) (taps : List TapView) → length locks ≡ lanes → Tapped lanes (map first_front locks) new taps
+    → All (λ (t : TapView). slice_get locks t.lane ≡ Some t.front.lock) taps
+taps_locks lanes locks new taps count tapped k d within =
+    let t = has_at taps k within in
+    let l = has_at locks k (omega (arith, within, tapped.made_count, count)) in
+    let n = length-map locks (first_front {N = Note} {F = Limits}) in
+    let was : slice_get (map (first_front {N = Note} {F = Limits}) locks) k ≡ Some (first_front {N = Note} {F = Limits} l.0) = slice_get-map (first_front {N = Note} {F = Limits}) locks k ∙ ap (option_map (first_front {N = Note} {F = Limits})) l.1 in
+    let now = has_at new k (omega (arith, within, tapped.made_count, count, tapped.count, n)) in
+    let served = tapped.each k (first_front {N = Note} {F = Limits} l.0) now.0 t.0 was now.1 t.1 in
+    subst (λ (x : TapView). slice_get locks x.lane ≡ Some x.front.lock) (sym (get_or_from_slice_get taps k t.0 d t.1))
+    (ap (slice_get locks) served.0 ∙ l.1 ∙ ap Some (sym served.1.3))
+
+pub tapped_firsts : (lanes : ℕ) (locks : List (LockId Limits)) (seats new : List (Front Note Limits)) (taps : List TapView) → seats ≡ map first_front locks → length locks ≡ lanes
+    → Tapped (length seats) seats new taps → Tapped lanes (map first_front locks) new taps
+tapped_firsts lanes locks seats new taps is count tapped =
+    subst (λ n. Tapped n (map (first_front {N = Note} {F = Limits}) locks) new taps) (length-map locks (first_front {N = Note} {F = Limits}) ∙ count)
+    (subst (λ fs. Tapped (length fs) fs new taps) is tapped)

@@ -1,0 +1,243 @@
+-- A seat's own notes tell what the lane has of the client that it admitted.
+use Rattle.std.proofs.Common.{◌≡◌, ◌<◌, ◌≤◌, ◌==◌, ℕ, Bool, true, false, cond, not, ◌||◌, ◌&&◌, List, [], ◌∷◌, ◌++◌, map, take, drop, refl, sym, ◌∙◌, ap, subst, arith, filter, slice_get, Option, Some, None, nat_le, length, if◌then◌else◌}
+use Rattle.std.specs.List.{list_any, AllByRecursion, AllZip, cons_option}
+use Rattle.std.proofs.lemmas.List.{take-append-drop}
+use Rattle.std.proofs.lemmas.List.Elements.{filter_agree}
+use Rattle.std.proofs.lemmas.Bool.{eq-eqb, eqb-true, ne_eqb, and_parts, and_from, both_ways, false_from_ne_true}
+use Rattle.smx_lock.specs.Rule.{notes_of}
+use Rattle.smx_lock.specs.Fronts.{Front, Hold, Finds}
+use Rattle.smx_history.specs.declared.entry.Kind.{Kind}
+use Rattle.smx_history.specs.declared.entry.Kind.TheVariants as kind
+use Rattle.smx_history.specs.declared.entry.Entry.{Entry}
+use Rattle.smx_history.specs.declared.limits.Limits.{Limits}
+use Rattle.smx_history.specs.declared.note.Note.{Note}
+use Rattle.smx_history.specs.declared.note.Event.{Event}
+use Rattle.smx_history.specs.declared.note.Event.TheVariants as event
+use Rattle.smx_history.specs.declared.reply.Refusal.TheVariants.{NotAdmitted, ClientFull, QueueFull, HistoryFull}
+use Rattle.smx_history.specs.Prefixes.{AtEach, RiseAbove, last_or}
+use Rattle.smx_history.specs.Entries.{is_admit, is_accept, is_retire, admits, accepts, accepts_of, is_admitted, is_retired, present}
+use Rattle.smx_history.specs.Legal.{IsMembership, StandsWell}
+use Rattle.smx_history.specs.History.{entry_by, entry_of, entries_of, request_in, requests}
+use Rattle.smx_history.specs.Contents.{Content, Member, AgreesWith, IsMemberAfter}
+use Rattle.smx_lane.specs.Kept.{writer, limits_of, suits}
+use Rattle.smx_history.specs.Replies.{member_with, refusal_for, accept_refusal, has_room}
+use Rattle.smx_history.proofs.Growing.{any_kept}
+use Rattle.smx_history.proofs.Counts.{filter-map}
+use Rattle.smx_history.proofs.Reading.{All-from_get, All-filtered, any_at}
+use Rattle.smx_history.proofs.Sizes.{present_served}
+use Rattle.smx_history.proofs.Taking.{any_none}
+use Rattle.smx_history.proofs.Finding.{absent}
+use Rattle.smx_history.specs.Finding.{is_present}
+use Rattle.smx_shared.proofs.Lists.{All-in_filter, All-at, any_weaken}
+use Rattle.smx_shared.specs.Ports.{IsMemberBy, IsBelow}
+
+by_is : (by : ℕ) (e : Event) → (entry_by by e).by ≡ by
+by_is by (event.Admit c) = refl
+by_is by (event.Accept r) = refl
+by_is by (event.Take c n u) = refl
+by_is by (event.Answer c n p) = refl
+by_is by (event.Late c n u k) = refl
+by_is by (event.Collect c n) = refl
+by_is by (event.Retire c) = refl
+
+-- the entries of a seat are those of its notes
+pub own_entries : (k : ℕ) (h : List Note) → filter (λ e. e.by == k) (entries_of h) ≡ entries_of (notes_of writer k h)
+own_entries k h = filter-map (λ e. e.by == k) entry_of h ∙ ap entries_of (filter_agree (λ n. (entry_of n).by == k) (λ n. writer n == k) (λ n. ap (λ b. b == k) (by_is n.by n.event)) h)
+
+any_filter : {X : Type 0} (p q : X → Bool) (xs : List X) → list_any (λ x. p x && q x) xs ≡ list_any q (filter p xs)
+any_filter p q [] = refl
+any_filter p q (x ∷ xs) = any_filter_at (p x) (any_filter p q xs)
+  where
+    any_filter_at : (b : Bool) → list_any (λ y. p y && q y) xs ≡ list_any q (filter p xs) → ((b && q x) || list_any (λ y. p y && q y) xs) ≡ list_any q (cond b (x ∷ filter p xs) (filter p xs))
+    any_filter_at true h = ap (λ r. q x || r) h
+    any_filter_at false h = h
+
+-- what some element of a filter passes, some element passes
+any_in_filter : {X : Type 0} (p q : X → Bool) (xs : List X) → list_any q (filter p xs) ≡ true → list_any q xs ≡ true
+any_in_filter p q [] h = h
+any_in_filter {X} p q (x ∷ xs) h = any_in_filter_at (p x) (q x) (list_any q (filter p xs)) (list_any q xs) (any_cond (p x) (filter p xs) ∙ h) (any_in_filter p q xs)
+  where
+    any_cond : (b : Bool) (ys : List X) → ((b && q x) || list_any q ys) ≡ list_any q (cond b (x ∷ ys) ys)
+    any_cond true ys = refl
+    any_cond false ys = refl
+
+    any_in_filter_at : (b t l r : Bool) → ((b && t) || l) ≡ true → (l ≡ true → r ≡ true) → (t || r) ≡ true
+    any_in_filter_at b true l r h later = refl
+    any_in_filter_at true false l r h later = later h
+    any_in_filter_at false false l r h later = later h
+
+any_none_get : {X : Type 0} (p : X → Bool) (xs : List X) → ((i : ℕ) (x : X) → slice_get xs i ≡ Some x → p x ≡ true → ⊥) → list_any p xs ≡ false
+any_none_get p xs none = any_none p xs (All-from_get (λ x. p x ≡ false) xs (λ i x at. false_from_ne_true (p x) (λ t. none i x at t)))
+
+any_into_filter : {X : Type 0} (p q : X → Bool) (xs : List X) (i : ℕ) (x : X) → slice_get xs i ≡ Some x → p x ≡ true → q x ≡ true → list_any q (filter p xs) ≡ true
+any_into_filter p q xs i x at here there = sym (any_filter p q xs) ∙ any_at (λ y. p y && q y) xs i x at (and_from (p x) (q x) here there)
+
+or_none : (a l : Bool) → l ≡ false → (a || l) ≡ true → a ≡ true
+or_none true l n h = refl
+or_none false l n h = cc
+
+none_above : (q : Entry → Bool) (c low : ℕ) (xs : List Entry) → c ≤ low → RiseAbove low (map (λ e. e.client) xs) → list_any (λ e. (e.client == c) && q e) xs ≡ false
+none_above q c low [] h rise = refl
+none_above q c low (x ∷ xs) h rise =
+    let other : (x.client == c) ≡ false = ne_eqb x.client c (λ e. omega (arith, rise.0)) in
+    rw other (none_above q c x.client xs (omega (arith, rise.0)) rise.1)
+
+-- a client was admitted by one caller
+one_admit : (c k b low : ℕ) (xs : List Entry) → RiseAbove low (map (λ e. e.client) xs) → list_any (λ e. (e.client == c) && (e.by == k)) xs ≡ true → list_any (λ e. (e.client == c) && (e.by == b)) xs ≡ true → b ≡ k
+one_admit c k b low [] rise h g = cc
+one_admit c k b low (x ∷ xs) rise h g = one_admit_at (x.client == c) refl h g (one_admit c k b x.client xs rise.1)
+  where
+    one_admit_at : (t : Bool) → (x.client == c) ≡ t → ((t && (x.by == k)) || list_any (λ e. (e.client == c) && (e.by == k)) xs) ≡ true → ((t && (x.by == b)) || list_any (λ e. (e.client == c) && (e.by == b)) xs) ≡ true
+        → (list_any (λ e. (e.client == c) && (e.by == k)) xs ≡ true → list_any (λ e. (e.client == c) && (e.by == b)) xs ≡ true → b ≡ k) → b ≡ k
+    one_admit_at true e h g later =
+        let same = eqb-true x.client c e in
+        let one = or_none (x.by == k) _ (none_above (λ e. e.by == k) c x.client xs (omega (arith, same)) rise.1) h in
+        let two = or_none (x.by == b) _ (none_above (λ e. e.by == b) c x.client xs (omega (arith, same)) rise.1) g in
+        sym (eqb-true x.by b two) ∙ eqb-true x.by k one
+    one_admit_at false e h g later = later h g
+
+pub server : (es : List Entry) (c k b : ℕ) → IsMembership es → is_admitted k c es ≡ true → is_admitted b c es ≡ true → b ≡ k
+server es c k b m one two = one_admit c k b 0 (admits es) m.clients
+    (sym (any_filter (λ e. is_admit e.kind) (λ e. (e.client == c) && (e.by == k)) es) ∙ one)
+    (sym (any_filter (λ e. is_admit e.kind) (λ e. (e.client == c) && (e.by == b)) es) ∙ two)
+
+served_if : (kind : Kind) (before : List Entry) (x : Entry) → StandsWell kind before x → (is_accept kind || is_retire kind) ≡ true → is_admitted x.by x.client before ≡ true
+served_if kind.Accept before x s t = s.0
+served_if kind.Retire before x s t = s.0
+served_if kind.Admit before x s t = cc
+served_if kind.Take before x s t = cc
+served_if kind.Answer before x s t = cc
+served_if kind.Late before x s t = cc
+served_if kind.Collect before x s t = cc
+
+-- an accept or a retire of the client was made by the one who admitted it
+own_by : (es : List Entry) (c k i : ℕ) (x : Entry) → IsMembership es → AtEach (λ before e. StandsWell e.kind before e) es → is_admitted k c es ≡ true
+    → slice_get es i ≡ Some x → (is_accept x.kind || is_retire x.kind) ≡ true → x.client ≡ c → x.by ≡ k
+own_by es c k i x m stands admitted at kind of =
+    let before : is_admitted x.by x.client (take i es) ≡ true = served_if x.kind (take i es) x (stands i x at) kind in
+    let now : is_admitted x.by x.client (take i es ++ drop i es) ≡ true = any_kept (λ y. is_admit y.kind && ((y.client == x.client) && (y.by == x.by))) (take i es) (drop i es) before in
+    let whole : is_admitted x.by x.client es ≡ true = rw take-append-drop at now in
+    server es c k x.by m admitted (ap (λ d. is_admitted x.by d es) (sym of) ∙ whole)
+
+-- what holds of the seat's own accepts holds of the client's
+pub accepts_own : (P : Entry → Type 0) (es : List Entry) (c k : ℕ) → IsMembership es → AtEach (λ before e. StandsWell e.kind before e) es → is_admitted k c es ≡ true
+    → AllByRecursion P (accepts (filter (λ e. e.by == k) es)) → AllByRecursion P (accepts_of c es)
+accepts_own P es c k m stands admitted own =
+    let in_own : AllByRecursion (λ e. (e.by == k) ≡ true → is_accept e.kind ≡ true → P e) es =
+    All-in_filter (λ e. is_accept e.kind ≡ true → P e) (λ e. e.by == k) es (All-in_filter P (λ e. is_accept e.kind) (filter (λ e. e.by == k) es) own) in
+    All-filtered P (λ e. is_accept e.kind && (e.client == c)) es (All-from_get (λ e. (is_accept e.kind && (e.client == c)) ≡ true → P e) es (λ i x at t.
+    let w = and_parts (is_accept x.kind) (x.client == c) t in
+    let by = own_by es c k i x m stands admitted at (or_left (is_accept x.kind) (is_retire x.kind) w.0) (eqb-true x.client c w.1) in
+    All-at (λ e. (e.by == k) ≡ true → is_accept e.kind ≡ true → P e) es i x at in_own (eq-eqb x.by k by) w.0))
+  where
+    or_left : (a b : Bool) → a ≡ true → (a || b) ≡ true
+    or_left true b h = refl
+    or_left false b h = cc
+
+-- with no retire of the client among the seat's own notes there is none
+pub stays_own : (es : List Entry) (c k : ℕ) → IsMembership es → AtEach (λ before e. StandsWell e.kind before e) es → is_admitted k c es ≡ true
+    → is_retired c (filter (λ e. e.by == k) es) ≡ false → is_retired c es ≡ false
+stays_own es c k m stands admitted own = any_none_get (λ e. is_retire e.kind && (e.client == c)) es (λ i x at t.
+    let w = and_parts (is_retire x.kind) (x.client == c) t in
+    let by = own_by es c k i x m stands admitted at (or_right (is_accept x.kind) (is_retire x.kind) w.0) (eqb-true x.client c w.1) in
+    both_ways (is_retired c (filter (λ e. e.by == k) es)) own (any_into_filter (λ e. e.by == k) (λ e. is_retire e.kind && (e.client == c)) es i x at (eq-eqb x.by k by) t))
+  where
+    or_right : (a b : Bool) → b ≡ true → (a || b) ≡ true
+    or_right true b h = refl
+    or_right false b h = h
+
+last_below : (n low : ℕ) (es : List Entry) → low < n → AllByRecursion (λ e. e.ordinal < n) es → last_or low (map (λ e. e.ordinal) es) < n
+last_below n low [] h all = h
+last_below n low (e ∷ es) h all = last_below n e.ordinal es all.0 all.1
+
+zip_rows : (P : Entry → Type 0) (Q : Member → Type 0) (h : List Note) → ((a : Entry) (m : Member) → P a → IsMemberAfter h a m → Q m)
+    → (us : List Entry) (ms : List Member) → AllByRecursion P us → AllZip (IsMemberAfter h) us ms → AllByRecursion Q ms
+zip_rows P Q h each [] [] all z = tt
+zip_rows P Q h each [] (m ∷ ms) all z = absurd z
+zip_rows P Q h each (a ∷ us) [] all z = absurd z
+zip_rows P Q h each (a ∷ us) (m ∷ ms) all z = (each a m all.0 z.0, zip_rows P Q h each us ms all.1 z.1)
+
+-- the requests of a history have the ordinals of its accepts
+below_entries : (n : ℕ) (h : List Note) → AllByRecursion (λ r. r.ordinal < n) (requests h) → AllByRecursion (λ (e : Entry). e.ordinal < n) (accepts (entries_of h))
+below_entries n [] all = tt
+below_entries n (m ∷ h) all = below_at m.event all (below_entries n h)
+  where
+    below_at : (e : Event) → AllByRecursion (λ r. r.ordinal < n) (cons_option (request_in e) (requests h)) → (AllByRecursion (λ r. r.ordinal < n) (requests h) → AllByRecursion (λ (x : Entry). x.ordinal < n) (accepts (entries_of h)))
+        → AllByRecursion (λ (x : Entry). x.ordinal < n) (accepts (entry_by m.by e ∷ entries_of h))
+    below_at (event.Accept r) b later = (b.0, later b.1)
+    below_at (event.Admit c) b later = later b
+    below_at (event.Take c o u) b later = later b
+    below_at (event.Answer c o p) b later = later b
+    below_at (event.Late c o u k) b later = later b
+    below_at (event.Collect c o) b later = later b
+    below_at (event.Retire c) b later = later b
+
+-- the client's row is of the seat that admitted it, and its last ordinal is below n
+pub own_rows : (f : Front Note Limits) (h : Hold Content Note Limits) (c n : ℕ) → Finds writer limits_of suits f h → IsMemberBy c f → IsBelow n f → 0 < n
+    → AllByRecursion (λ (m : Member). m.client ≡ c → (m.last < n) × (m.by ≡ h.number)) h.value.members
+own_rows f h c n found member below pos =
+    let es = entries_of h.found in
+    let a : AgreesWith h.found h.value = found.agrees in
+    let mine : filter (λ e. e.by == h.number) es ≡ entries_of f.mine = own_entries h.number h.found ∙ ap entries_of (found.own ∙ found.mine) in
+    let admitted : is_admitted h.number c es ≡ true = any_in_filter (λ e. e.by == h.number) (λ e. is_admit e.kind && ((e.client == c) && (e.by == h.number))) es
+    (ap (is_admitted h.number c) mine ∙ ap (λ k. is_admitted k c (entries_of f.mine)) found.number ∙ member.admitted) in
+    let all : AllByRecursion (λ (e : Entry). e.ordinal < n) (accepts_of c es) = accepts_own (λ e. e.ordinal < n) es c h.number a.legal.membership a.legal.standing admitted
+    (subst (λ xs. AllByRecursion (λ (e : Entry). e.ordinal < n) (accepts xs)) (sym mine) (below_entries n f.mine below)) in
+    zip_rows (λ e. (is_admitted e.by e.client es ≡ true) × (is_retired e.client es ≡ false)) (λ m. m.client ≡ c → (m.last < n) × (m.by ≡ h.number)) h.found
+    (λ e m served after of.
+    let same : e.client ≡ c = sym after.client ∙ of in (
+      subst (λ l. l < n) (sym (after.last ∙ ap (λ d. last_or 0 (map (λ x. x.ordinal) (accepts_of d es))) same)) (last_below n 0 (accepts_of c es) pos all),
+      after.by ∙ server es c h.number e.by a.legal.membership admitted (ap (λ d. is_admitted e.by d es) (sym same) ∙ served.0),
+    ))
+    (present es) h.value.members (present_served es) a.after.members
+
+-- the client's row is of the seat that admitted it
+pub own_rows_by : (f : Front Note Limits) (h : Hold Content Note Limits) (c : ℕ) → Finds writer limits_of suits f h → IsMemberBy c f
+    → AllByRecursion (λ (m : Member). m.client ≡ c → m.by ≡ h.number) h.value.members
+own_rows_by f h c found member =
+    let es = entries_of h.found in
+    let a : AgreesWith h.found h.value = found.agrees in
+    let mine : filter (λ e. e.by == h.number) es ≡ entries_of f.mine = own_entries h.number h.found ∙ ap entries_of (found.own ∙ found.mine) in
+    let admitted : is_admitted h.number c es ≡ true = any_in_filter (λ e. e.by == h.number) (λ e. is_admit e.kind && ((e.client == c) && (e.by == h.number))) es
+    (ap (is_admitted h.number c) mine ∙ ap (λ k. is_admitted k c (entries_of f.mine)) found.number ∙ member.admitted) in
+    zip_rows (λ e. (is_admitted e.by e.client es ≡ true) × (is_retired e.client es ≡ false)) (λ m. m.client ≡ c → m.by ≡ h.number) h.found
+    (λ e m served after of. after.by ∙ server es c h.number e.by a.legal.membership admitted (ap (λ d. is_admitted e.by d es) (sym (sym after.client ∙ of)) ∙ served.0))
+    (present es) h.value.members (present_served es) a.after.members
+
+not_admitted : (v : Content) (m : Member) → refusal_for v (Some m) ≡ Some NotAdmitted → ⊥
+not_admitted v m = refused (nat_le v.limits.client m.pending) (nat_le v.limits.queue (length v.queue)) (has_room v)
+  where
+    refused : (x y z : Bool) → (if x then Some ClientFull else if y then Some QueueFull else if not z then Some HistoryFull else None) ≡ Some NotAdmitted → ⊥
+    refused true y z = λ h. cc
+    refused false true z = λ h. cc
+    refused false false true = λ h. cc
+    refused false false false = λ h. cc
+
+-- who was admitted and has not retired is present
+present_in : (es : List Entry) (c k : ℕ) → is_admitted k c es ≡ true → is_retired c es ≡ false → list_any (λ a. a.client == c) (present es) ≡ true
+present_in es c k admitted here =
+    sym (any_filter (λ a. not (is_retired a.client es)) (λ a. a.client == c) (admits es))
+    ∙ any_weaken (λ a. (a.client == c) && (a.by == k)) (λ a. not (is_retired a.client es) && (a.client == c)) (λ a t. stays a ((and_parts (a.client == c) (a.by == k) t).0)) (admits es)
+    (sym (any_filter (λ e. is_admit e.kind) (λ e. (e.client == c) && (e.by == k)) es) ∙ admitted)
+  where
+    stays : (a : Entry) → (a.client == c) ≡ true → (not (is_retired a.client es) && (a.client == c)) ≡ true
+    stays a is = and_from (not (is_retired a.client es)) (a.client == c) (ap (λ d. not (is_retired d es)) (eqb-true a.client c is) ∙ ap not here) is
+
+-- the client has a row
+pub row_there : (f : Front Note Limits) (h : Hold Content Note Limits) (c : ℕ) → Finds writer limits_of suits f h → IsMemberBy c f → member_with c h.value.members ≡ None → ⊥
+row_there f h c found member none =
+    let es = entries_of h.found in
+    let a : AgreesWith h.found h.value = found.agrees in
+    let mine : filter (λ e. e.by == h.number) es ≡ entries_of f.mine = own_entries h.number h.found ∙ ap entries_of (found.own ∙ found.mine) in
+    let admitted : is_admitted h.number c es ≡ true = any_in_filter (λ e. e.by == h.number) (λ e. is_admit e.kind && ((e.client == c) && (e.by == h.number))) es
+    (ap (is_admitted h.number c) mine ∙ ap (λ k. is_admitted k c (entries_of f.mine)) found.number ∙ member.admitted) in
+    let here : is_retired c es ≡ false = stays_own es c h.number a.legal.membership a.legal.standing admitted (ap (is_retired c) mine ∙ member.stays) in
+    both_ways (is_present c h.found) (absent h.found h.value c a none) (present_in es c h.number admitted here)
+
+-- so a request of the client isn't refused for want of one
+pub has_row : (f : Front Note Limits) (h : Hold Content Note Limits) (c : ℕ) → Finds writer limits_of suits f h → IsMemberBy c f → accept_refusal h.value c ≡ Some NotAdmitted → ⊥
+has_row f h c found member refused = has_row_at (member_with c h.value.members) refl refused
+  where
+    has_row_at : (o : Option Member) → member_with c h.value.members ≡ o → refusal_for h.value o ≡ Some NotAdmitted → ⊥
+    has_row_at (Some m) e r = not_admitted h.value m r
+    has_row_at None e r = row_there f h c found member e

@@ -1,0 +1,25 @@
+use Rattle.std.proofs.Common.{sym, refl, ◌∙◌, ap, arith}
+use Rattle.smx_shared.specs.Views.{locks_of}
+use Rattle.smx_shared.proofs.Making.{locks_of-firsts, tapped_firsts, taps_locks}
+use Rattle.smx_shared.proofs.exchange.Exchange.new_at.Goals as goal
+
+pub split_taps-requires-clause-locks : goal.split_taps-requires-clause-locks
+split_taps-requires-clause-locks g c = ap locks_of c.in_ok-locks.ensures.seats ∙ locks_of-firsts c.in_ok-locks.locks.items ∙ sym c.as_slice.ensures.value
+
+pub returns-clause-ok : goal.returns-clause-ok
+returns-clause-ok g c =
+    let made = c.in_ok-locks.ensures in
+    let tapped = tapped_firsts c.args.lanes c.in_ok-locks.locks.items c.in_ok-locks.seats.items c.split_taps.new.seats.items c.split_taps.new.taps.items made.seats made.locks.count c.in_ok-split_taps.ensures.ok in
+    record {
+      ranges = ((omega (arith, c.if-lanes-eq0.false), omega (arith, c.if-lanes-gt16.false)), made.limits);
+      made = made.locks;
+      numbers = (refl, refl);
+      seats = tapped.locks ∙ locks_of-firsts c.in_ok-locks.locks.items;
+      tapped = tapped;
+    }
+
+pub returns-clause-taps : goal.returns-clause-taps
+returns-clause-taps g c =
+    let made = c.in_ok-locks.ensures in
+    taps_locks c.args.lanes c.in_ok-locks.locks.items c.split_taps.new.seats.items c.split_taps.new.taps.items made.locks.count
+    (tapped_firsts c.args.lanes c.in_ok-locks.locks.items c.in_ok-locks.seats.items c.split_taps.new.seats.items c.split_taps.new.taps.items made.seats made.locks.count c.in_ok-split_taps.ensures.ok)

@@ -1,0 +1,23 @@
+-- What retiring a client leaves on each lane.
+use Rattle.std.specs.Prelude.{◌≡◌, ◌⊎◌, ℕ, ◌≤◌, ◌<◌, Bool, true, false, List, length, slice_get, Some}
+use Rattle.smx_lock.specs.Fronts.{Front, IsSpent}
+use Rattle.smx_history.specs.declared.limits.Limits.{Limits}
+use Rattle.smx_history.specs.declared.note.Note.{Note}
+use Rattle.smx_shared.specs.Views.{locks_of}
+use Rattle.smx_shared.specs.Serving.{RetireServes}
+
+-- the lane's tickets are spent, or one hold retired the client
+abbrev pub Leaves : ℕ → Front Note Limits → Front Note Limits → Type 0
+Leaves c f g = IsSpent f g ⊎ RetireServes f g c
+
+-- each lane below `to` was left, and the others are as they were
+pub record Left (to c : ℕ) (old new : List (Front Note Limits)) : Type 0 where
+  pub count : length new ≡ length old
+  pub left : (k : ℕ) (f g : Front Note Limits) → k < to → slice_get old k ≡ Some f → slice_get new k ≡ Some g → Leaves c f g
+  pub above : (k : ℕ) → to ≤ k → slice_get new k ≡ slice_get old k
+  pub locks : locks_of new ≡ locks_of old
+
+-- below `to` the client was retired on every lane, or some lane is spent
+abbrev pub Retired : Bool → ℕ → ℕ → List (Front Note Limits) → List (Front Note Limits) → Type 0
+Retired true to c old new = (k : ℕ) (f g : Front Note Limits) → k < to → slice_get old k ≡ Some f → slice_get new k ≡ Some g → RetireServes f g c
+Retired false to c old new = (k : ℕ) × (f : Front Note Limits) × (g : Front Note Limits) × (k < to) × (slice_get old k ≡ Some f) × (slice_get new k ≡ Some g) × IsSpent f g

@@ -1,0 +1,10 @@
+pub mod Views
+pub mod Serving
+pub mod Taps
+pub mod Offers
+pub mod Ports
+pub mod Submits
+pub mod Leaving
+pub mod Rounds
+pub mod Entering
+pub mod Making

@@ -1,0 +1,105 @@
+-- One hold of a lane's lock serves one call.
+use Rattle.std.specs.Prelude.{◌≡◌, ◌≢◌, ◌⊎◌, ℕ, List, [], ◌∷◌, Option, Some, None, Result, Ok, Err, slice_get}
+use Rattle.std.specs.List.{find}
+use Rattle.smx_lock.specs.Fronts.{Front, Serves, IsSpent, Refused}
+use Rattle.smx_lock.specs.declared.faults.Spent.{Spent}
+use Rattle.smx_lock.specs.declared.faults.TryFault.{TryFault}
+use Rattle.smx_pdu.specs.declared.pdu.Pdu.{Pdu}
+use Rattle.smx_history.specs.declared.limits.Limits.{Limits}
+use Rattle.smx_history.specs.declared.note.Note.{Note}
+use Rattle.smx_history.specs.declared.place.Place.{Place}
+use Rattle.smx_history.specs.declared.request.Request.{Request}
+use Rattle.smx_history.specs.declared.response.Response.{Response}
+use Rattle.smx_history.specs.declared.note.Event.TheVariants as event
+use Rattle.smx_lane.specs.declared.sent.Sent.{Sent}
+use Rattle.smx_history.specs.declared.reply.TakeRefusal.{TakeRefusal}
+use Rattle.smx_history.specs.declared.reply.Refusal.{Refusal}
+use Rattle.smx_history.specs.declared.reply.Refusal.TheVariants.{NotAdmitted}
+use Rattle.smx_lane.specs.declared.fault.AdmitFault.{AdmitFault}
+use Rattle.smx_lane.specs.Faults.{IsAdmitFault}
+use Rattle.smx_ticket_core.specs.declared.callers.Caller.TheVariants.{Idle}
+use Rattle.smx_history.specs.declared.reply.Answered.{Answered}
+use Rattle.smx_history.specs.declared.reply.Answered.TheVariants.{Queued, Late, Unknown}
+use Rattle.smx_shared.specs.declared.fault.TakeFault as take_fault
+use Rattle.smx_shared.specs.declared.fault.TakeFault.TheVariants as takes
+use Rattle.smx_shared.specs.declared.fault.TryTakeFault as try_fault
+use Rattle.smx_shared.specs.declared.fault.TryTakeFault.TheVariants as tries
+use Rattle.smx_history.specs.History.{note, entries_of}
+use Rattle.smx_lane.specs.Kept.{writer}
+use Rattle.smx_history.specs.Legal.{IsLegal}
+use Rattle.smx_history.specs.Contents.{Content, Member, AgreesWith}
+use Rattle.smx_history.specs.Replies.{admit_refusal, take_refusal, accept_refusal, answers_place, member_with}
+use Rattle.smx_history.specs.Answering.{oldest_in}
+
+-- one hold found this history and left these notes, in a lane that held v, and what was left is legal
+pub record OneHold (f g : Front Note Limits) (found new : List Note) (v : Content) : Type 0 where
+  pub serves : Serves writer f g found new
+  pub agrees : AgreesWith found v
+  pub limits : v.limits ≡ f.lock.fixed
+  pub legal : IsLegal f.lock.fixed (entries_of g.seen)
+
+-- the lane's own reply, said of a lane that agrees with the history found
+abbrev pub TakeServes : Front Note Limits → Front Note Limits → Result Sent TakeRefusal → Type 0
+TakeServes f g (Ok sent) = (found : List Note) × (v : Content)
+    × OneHold f g found (note f.number (event.Take sent.request.client sent.request.ordinal sent.upstream) ∷ []) v
+    × (take_refusal v ≡ None) × (slice_get v.queue 0 ≡ Some sent.request)
+TakeServes f g (Err e) = (found : List Note) × (v : Content) × OneHold f g found [] v × (take_refusal v ≡ Some e)
+
+abbrev pub AnswerServes : Front Note Limits → Front Note Limits → Pdu → Answered → Type 0
+AnswerServes f g p (Queued c) = (found : List Note) × (v : Content) × (q : Place) × (m : Member)
+    × OneHold f g found (note f.number (event.Answer q.client q.ordinal p) ∷ []) v
+    × (find (answers_place p) v.window ≡ Some q) × (q.client ≡ c) × (member_with c v.members ≡ Some m)
+AnswerServes f g p Late = (found : List Note) × (v : Content) × (q : Place)
+    × OneHold f g found (note f.number (event.Late q.client q.ordinal p.number p.command) ∷ []) v
+    × (find (answers_place p) v.window ≡ Some q) × (member_with q.client v.members ≡ None)
+AnswerServes f g p (Unknown back) = (found : List Note) × (v : Content) × OneHold f g found [] v
+    × (find (answers_place p) v.window ≡ None) × (back ≡ p)
+
+abbrev pub AcceptServes : Front Note Limits → Front Note Limits → Request → Result (Unit {0}) (Request × Refusal) → Type 0
+AcceptServes f g r (Ok _) = (found : List Note) × (v : Content)
+    × OneHold f g found (note f.number (event.Accept r) ∷ []) v × (accept_refusal v r.client ≡ None)
+AcceptServes f g r (Err e) = (found : List Note) × (v : Content) × OneHold f g found [] v × (accept_refusal v r.client ≡ Some e.1)
+    × (e.0 ≡ r) × (e.1 ≢ NotAdmitted)
+
+abbrev pub CollectServes : Front Note Limits → Front Note Limits → ℕ → Option Pdu → Type 0
+CollectServes f g c None = (found : List Note) × (v : Content) × OneHold f g found [] v × (oldest_in (member_with c v.members) ≡ None)
+CollectServes f g c (Some p) = (found : List Note) × (v : Content) × (r : Response)
+    × OneHold f g found (note f.number (event.Collect c r.ordinal) ∷ []) v
+    × (oldest_in (member_with c v.members) ≡ Some r) × (r.pdu ≡ p)
+
+-- served, or the lock's tickets are spent
+abbrev pub Waited : {X : Type 0} → (X → Type 0) → Front Note Limits → Front Note Limits → Result X Spent → Type 0
+Waited Serve f g (Ok x) = Serve x
+Waited Serve f g (Err _) = IsSpent f g
+
+-- served, or refused without a hold
+abbrev pub Tried : {X : Type 0} → (X → Type 0) → Front Note Limits → Front Note Limits → Result X TryFault → Type 0
+Tried Serve f g (Ok x) = Serve x
+Tried Serve f g (Err e) = Refused f g e
+
+-- what a tap's calls answer
+abbrev pub Takes : Front Note Limits → Front Note Limits → Result Sent take_fault.TakeFault → Type 0
+Takes f g (Ok sent) = TakeServes f g (Ok sent)
+Takes f g (Err (takes.Refused e)) = TakeServes f g (Err e)
+Takes f g (Err takes.Spent) = IsSpent f g
+
+abbrev pub TriesTake : Front Note Limits → Front Note Limits → Result Sent try_fault.TryTakeFault → Type 0
+TriesTake f g (Ok sent) = TakeServes f g (Ok sent)
+TriesTake f g (Err (tries.Refused e)) = TakeServes f g (Err e)
+TriesTake f g (Err tries.Spent) = IsSpent f g
+TriesTake f g (Err tries.Busy) = (g ≡ f) × (f.caller ≡ Idle)
+
+abbrev pub AdmitServes : Front Note Limits → Front Note Limits → ℕ → Result (Unit {0}) AdmitFault → Type 0
+AdmitServes f g c (Ok _) = (found : List Note) × (v : Content) × OneHold f g found (note f.number (event.Admit c) ∷ []) v × (admit_refusal v c ≡ None)
+AdmitServes f g c (Err e) = (found : List Note) × (v : Content) × OneHold f g found [] v × IsAdmitFault (admit_refusal v c) e
+
+abbrev pub RetireServes : Front Note Limits → Front Note Limits → ℕ → Type 0
+RetireServes f g c = (found : List Note) × (v : Content) × OneHold f g found (note f.number (event.Retire c) ∷ []) v
+
+-- one hold made a seat, which has seen what it found
+abbrev pub SplitServes : Front Note Limits → Front Note Limits → Front Note Limits → Type 0
+SplitServes f g s = (found : List Note) × (v : Content) × OneHold f g found [] v × (s.lock ≡ f.lock) × (s.caller ≡ Idle) × (s.seen ≡ found) × (s.mine ≡ []) × (s.last ≡ 0)
+
+-- no seat was made: every ticket was drawn, or one hold found every number given
+abbrev pub SplitFails : Front Note Limits → Front Note Limits → Type 0
+SplitFails f g = IsSpent f g ⊎ ((found : List Note) × (v : Content) × OneHold f g found [] v)

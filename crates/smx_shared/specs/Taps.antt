@@ -1,0 +1,36 @@
+-- What a tap's caller knows of the tap's notes.
+use Rattle.std.specs.Prelude.{ℕ, List, [], ◌∷◌, filter_map, Option, Some, None, Result, Ok, Err}
+use Rattle.smx_pdu.specs.declared.pdu.Pdu.{Pdu}
+use Rattle.smx_history.specs.declared.note.Note.{Note}
+use Rattle.smx_history.specs.declared.note.Event.{Event}
+use Rattle.smx_history.specs.declared.note.Event.TheVariants as event
+use Rattle.smx_history.specs.declared.reply.Answered.{Answered}
+use Rattle.smx_history.specs.declared.reply.Answered.TheVariants as answered
+use Rattle.smx_lane.specs.declared.sent.Sent.{Sent}
+
+-- a note without its ordinal; of a response that came late its client isn't known either
+pub data Known : Type 0 where
+  Took : (client upstream : ℕ) → Known
+  Queued : (client : ℕ) → (response : Pdu) → Known
+  CameLate : (upstream command : ℕ) → Known
+
+abbrev pub known : Event → Option Known
+known (event.Take c n u) = Some (Took c u)
+known (event.Answer c n p) = Some (Queued c p)
+known (event.Late c n u k) = Some (CameLate u k)
+known _ = None
+
+-- what is known of these notes, in order
+abbrev pub known_of : List Note → List Known
+known_of h = filter_map (λ n. known n.event) h
+
+-- what a take adds to it
+abbrev pub known_by_take : {E : Type 0} → Result Sent E → List Known
+known_by_take (Ok sent) = Took sent.request.client sent.upstream ∷ []
+known_by_take (Err _) = []
+
+-- what an answer adds to it
+abbrev pub known_by_answer : {E : Type 0} → Pdu → Result Answered E → List Known
+known_by_answer p (Ok (answered.Queued c)) = Queued c p ∷ []
+known_by_answer p (Ok answered.Late) = CameLate p.number p.command ∷ []
+known_by_answer p _ = []

@@ -1,0 +1,49 @@
+-- What contracts see of a tap, a port, a door, and what a call noted.
+use Rattle.std.specs.Prelude.{ℕ, List, [], ◌∷◌, map, Option, Some, None}
+use Rattle.smx_ticket_core.specs.declared.callers.Caller.TheVariants.{Idle}
+use Rattle.smx_lock.specs.Fronts.{LockId, Front}
+use Rattle.smx_history.specs.declared.limits.Limits.{Limits}
+use Rattle.smx_history.specs.declared.note.Note.{Note}
+use Rattle.smx_history.specs.declared.note.Event.TheVariants as event
+use Rattle.smx_history.specs.History.{note}
+use Rattle.smx_shared.specs.declared.did.Did.{Did}
+use Rattle.smx_shared.specs.declared.did.Did.TheVariants.{Admitting, Accepting, Taking, Answering, BeingLate, Collecting, Retiring, Nothing}
+
+-- the notes that the seat of the number k makes
+abbrev pub notes_told : Did → ℕ → List Note
+notes_told (Admitting c) k = note k (event.Admit c) ∷ []
+notes_told (Accepting r) k = note k (event.Accept r.value) ∷ []
+notes_told (Taking c n u) k = note k (event.Take c n u) ∷ []
+notes_told (Answering c n p) k = note k (event.Answer c n p.value) ∷ []
+notes_told (BeingLate c n p) k = note k (event.Late c n p.value.number p.value.command) ∷ []
+notes_told (Collecting c n) k = note k (event.Collect c n) ∷ []
+notes_told (Retiring c) k = note k (event.Retire c) ∷ []
+notes_told Nothing k = []
+
+-- a tap: its lane, and the front of its seat there
+pub record TapView : Type 0 where
+  pub lane : ℕ
+  pub front : Front Note Limits
+
+-- a port: its client, its first ordinal and its next, and the fronts of its seats, one a lane
+pub record PortView : Type 0 where
+  pub client : ℕ
+  pub first : ℕ
+  pub next : ℕ
+  pub fronts : List (Front Note Limits)
+
+abbrev pub locks_of : List (Front Note Limits) → List (LockId Limits)
+locks_of fs = map (λ f. f.lock) fs
+
+abbrev pub blank : Front Note Limits
+blank = record { lock = record { table = record { words = 0; slots = 0; views_name = 0; atom = 0; block = 0; offset = 0; slot_names = [] }; fixed = record { queue = 0; window = 0; client = 0; history = 0 } }; caller = Idle; number = 0; seen = []; mine = []; last = 0 }
+
+abbrev pub front_in : Option (Front Note Limits) → Front Note Limits
+front_in (Some f) = f
+front_in None = blank
+
+-- a door: the next client's number, the first ordinal of each, and the fronts of its seats, one a lane
+pub record DoorView : Type 0 where
+  pub next : ℕ
+  pub ordinal : ℕ
+  pub fronts : List (Front Note Limits)

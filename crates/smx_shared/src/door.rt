@@ -1,0 +1,64 @@
+//! The token that enters clients.
+ghost use Rattle.std.specs.Prelude.{◌≡◌, [], IfOk, IfErr};
+ghost use Rattle.smx_shared.specs.Views.{locks_of};
+ghost use Rattle.smx_shared.specs.Ports.{HasAccepted};
+ghost use Rattle.smx_shared.specs.Entering.{Admits, RefusesEntry};
+
+use crate::admit::admit_all;
+use crate::exchange::Exchange;
+use crate::fault::EnterFault;
+use crate::lane_seat::LaneSeat;
+use crate::port::Port;
+use crate::retire::retire_all;
+use smx_ticket_core::MOST;
+use std::marker::Model;
+use std::sync::Wait;
+
+/// The right to enter clients. It is used with the exchange that made it.
+#[derive(Drop)]
+pub struct Door {
+    pub(crate) next: u64,
+    pub(crate) ordinal: u64,
+    pub(crate) seats: Vec<LaneSeat>,
+}
+
+impl Model for Door {
+    ghost use Rattle.smx_shared.specs.Views.{DoorView};
+    ghost use Rattle.smx_shared.specs.Entering.{IsDoor};
+
+    ghost Value = { DoorView };
+
+    ghost view = { λ d. record { next = d.next; ordinal = d.ordinal; fronts = d.seats.items } };
+
+    ghost invariant = { λ d. IsDoor (record { next = d.next; ordinal = d.ordinal; fronts = d.seats.items }) };
+}
+
+impl Door {
+    /// Enters the next client: its port has a seat on every lane. It may wait at each lane, twice.
+    /// At a refusal after the first the client is retired again on the lanes that it entered.
+    pub fn enter<R: Wait>(&mut self, at: &Exchange, rt: &R) -> Result<Port, EnterFault>
+        requires { locks_of self.old.fronts ≡ at.now }
+        ensures ok { IfOk result (Admits self.old self.new) }
+        ensures listed { IfOk result (λ port. HasAccepted port []) }
+        ensures err { IfErr result (RefusesEntry self.old self.new) }
+        ensures locks { locks_of self.new.fronts ≡ locks_of self.old.fronts }
+    {
+        if self.next > MOST {
+            return Err(EnterFault::Exhausted);
+        }
+        let client = self.next;
+        self.next += 1;
+        let Ok(mut seats) = Vec::with_capacity(at.alloc, self.seats.len()) else {
+            return Err(EnterFault::NoMemory);
+        };
+        let locks = at.locks.as_slice();
+        match admit_all(rt, &mut self.seats, &mut seats, locks, client) {
+            Ok(()) => Ok(Port::new(client, self.ordinal, seats)),
+            Err(fault) => {
+                let entered = seats.len();
+                retire_all(rt, &mut seats, &locks[..entered], client);
+                Err(fault)
+            }
+        }
+    }
+}

@@ -1,0 +1,134 @@
+//! The lanes, each under its lock.
+ghost use Rattle.std.specs.Prelude.{◌≡◌, ◌<◌, ◌≤◌, [], length, slice_get, vec_capacity, Some, All, IfOk, IfErr};
+ghost use Rattle.std.specs.List.{AllZip};
+ghost use Rattle.smx_lock.specs.Fronts.{IsLast};
+ghost use Rattle.smx_lane.specs.Kept.{limits_of, suits};
+ghost use Rattle.smx_shared.specs.Views.{locks_of};
+ghost use Rattle.smx_shared.specs.Making.{AreStarts, Opens, IsMakeFault};
+
+use crate::door::Door;
+use crate::fault::{MakeFault, StateOut};
+use crate::lane_seat::LaneSeat;
+use crate::make::{make_locks, split_taps};
+use crate::starts::Starts;
+use crate::tap::Tap;
+use smx_history::Limits;
+use smx_lane::Lane;
+use smx_lock::TicketLock;
+use std::alloc::Global;
+use std::marker::Model;
+use std::sync::Wait;
+
+/// The lanes that doors, ports and taps share. Contracts see its lanes' locks, each with the limits
+/// of its lane.
+#[derive(Drop)]
+pub struct Exchange {
+    pub(crate) locks: Vec<TicketLock<Lane>>,
+    // Empty, with room for all the lanes.
+    pub(crate) room: Vec<Lane>,
+    pub(crate) alloc: Global,
+}
+
+impl Model for Exchange {
+    ghost use Rattle.std.specs.Prelude.{List, [], length, ◌≡◌, ◌≤◌, vec_capacity};
+    ghost use Rattle.smx_lock.specs.Fronts.{LockId};
+    ghost use Rattle.smx_history.specs.declared.limits.Limits.{Limits};
+
+    ghost Value = { List (LockId Limits) };
+
+    ghost view = { λ e. e.locks.items };
+
+    ghost invariant = { λ e. (e.room.items ≡ []) × (length e.locks.items ≤ vec_capacity e.room) };
+}
+
+impl Exchange {
+    /// Lanes under the limits, with a door and, for each lane in order, a tap. It holds each lane
+    /// once, and may wait there.
+    pub fn new<R: Wait>(
+        rt: &R,
+        alloc: Global,
+        limits: Limits,
+        lanes: usize,
+    ) -> Result<(Exchange, Door, Vec<Tap>), MakeFault>
+        ensures ok { IfOk result (λ made. Opens lanes limits Starts.FIRST made.0 made.1 made.2.items) }
+        ensures taps { IfOk result (λ made. All (λ t. slice_get made.0 t.lane ≡ Some t.front.lock) made.2.items) }
+        ensures err { IfErr result (IsMakeFault lanes limits) }
+    {
+        Exchange::new_at(rt, alloc, limits, lanes, Starts::FIRST)
+    }
+
+    /// The same with the counts started elsewhere: for tests of their ends.
+    pub fn new_at<R: Wait>(
+        rt: &R,
+        alloc: Global,
+        limits: Limits,
+        lanes: usize,
+        starts: Starts,
+    ) -> Result<(Exchange, Door, Vec<Tap>), MakeFault>
+        requires { AreStarts starts }
+        ensures ok { IfOk result (λ made. Opens lanes limits starts made.0 made.1 made.2.items) }
+        ensures taps { IfOk result (λ made. All (λ t. slice_get made.0 t.lane ≡ Some t.front.lock) made.2.items) }
+        ensures err { IfErr result (IsMakeFault lanes limits) }
+    {
+        if lanes == 0 || lanes > 16 {
+            return Err(MakeFault::BadLanes);
+        }
+        let (locks, mut seats) = make_locks(alloc, limits, lanes, starts.ticket)?;
+        let Ok(room) = Vec::with_capacity(alloc, lanes) else {
+            return Err(MakeFault::NoMemory);
+        };
+        let Ok(mut taps) = Vec::with_capacity(alloc, lanes) else {
+            return Err(MakeFault::NoMemory);
+        };
+        split_taps(rt, &mut seats, &mut taps, locks.as_slice())?;
+        let door = Door {
+            next: starts.client,
+            ordinal: starts.ordinal,
+            seats,
+        };
+        Ok((Exchange { locks, room, alloc }, door, taps))
+    }
+
+    /// Ends the lanes' locks and gives the lanes, in order. Each agrees with a history that begins
+    /// with all that the door had seen there.
+    // As of the lock's own `finish`, no clause says when `StateOut` comes. Tests show both answers.
+    pub fn finish(self, door: Door) -> Result<Vec<Lane>, StateOut>
+        requires { locks_of door.fronts ≡ self }
+        ensures ok { IfOk result (λ lanes. AllZip (IsLast limits_of suits) door.fronts lanes.items) }
+        ensures err { IfErr result (λ e. e.lane < length self) }
+    {
+        let Exchange {
+            locks,
+            room,
+            alloc: _,
+        } = self;
+        let Door { seats, .. } = door;
+        finish_all(locks, seats, room)
+    }
+}
+
+// Ends each lock by its seat, and puts the lanes into a list that has room for them.
+fn finish_all(
+    locks: Vec<TicketLock<Lane>>,
+    seats: Vec<LaneSeat>,
+    room: Vec<Lane>,
+) -> Result<Vec<Lane>, StateOut>
+    requires locks { locks_of seats.items ≡ locks.items }
+    requires none { room.items ≡ [] }
+    requires room { length locks.items ≤ vec_capacity room }
+    ensures ok { IfOk result (λ lanes. AllZip (IsLast limits_of suits) seats.items lanes.items) }
+    ensures err { IfErr result (λ e. e.lane < length locks.items) }
+{
+    let mut lanes = room;
+    let mut rest = locks.into_iter();
+    for seat in seats {
+        let Some(lock) = rest.next() else {
+            unreachable!()
+        };
+        match lock.finish(seat.into_seat()) {
+            Ok(lane) => lanes.push_reserved(lane),
+            Err(_) => return Err(StateOut { lane: lanes.len() }),
+        }
+    }
+    Ok(lanes)
+}

@@ -1,0 +1,31 @@
+//! Lanes that threads share through tokens.
+//!
+//! An `Exchange` keeps the lanes, each under its ticket lock. A `Door` enters clients, a `Port` is
+//! one client's right to submit, to collect and to leave, and a `Tap` takes from one lane and brings
+//! its answers. Each call of a token is served by one hold of each lane that it uses.
+#![tactic(auto)]
+
+mod admit;
+mod did;
+mod door;
+mod exchange;
+mod fault;
+mod held;
+mod lane_seat;
+mod make;
+mod offer;
+mod port;
+mod retire;
+mod starts;
+mod submit;
+mod tap;
+#[cfg(test)]
+mod tests;
+
+pub use door::Door;
+pub use exchange::Exchange;
+pub use fault::{EnterFault, MakeFault, StateOut, SubmitFault, TakeFault, TryTakeFault};
+pub use offer::Offer;
+pub use port::Port;
+pub use starts::Starts;
+pub use tap::Tap;

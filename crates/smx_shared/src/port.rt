@@ -1,0 +1,194 @@
+//! The token of a client, with a seat on each lane.
+ghost use Rattle.std.specs.Prelude.{◌≡◌, true, false, ℕ, List, [], ◌∷◌, ◌++◌, ◌<◌, ◌≤◌, ◌^◌, length, slice_get, Some, IfOk, IfErr, OnOk, OnErr};
+ghost use Rattle.smx_lock.specs.Fronts.{Front};
+ghost use Rattle.smx_history.specs.declared.limits.Limits.{Limits};
+ghost use Rattle.smx_history.specs.declared.note.Note.{Note};
+ghost use Rattle.smx_history.specs.declared.note.Event.TheVariants.{Admit};
+ghost use Rattle.smx_history.specs.History.{note};
+ghost use Rattle.smx_shared.specs.Views.{locks_of};
+ghost use Rattle.smx_shared.specs.Serving.{CollectServes, Waited, Tried};
+ghost use Rattle.smx_shared.specs.Offers.{Accepted, accepted_by, offer_of, request_for};
+ghost use Rattle.smx_shared.specs.Ports.{IsPort, HasAccepted};
+ghost use Rattle.smx_shared.specs.Leaving.{Left, Retired};
+ghost use Rattle.smx_shared.specs.Submits.{OnLane, Submitted, Refuses};
+
+use crate::exchange::Exchange;
+use crate::fault::SubmitFault;
+use crate::lane_seat::LaneSeat;
+use crate::offer::Offer;
+use crate::retire::retire_all;
+use crate::submit::try_ring;
+use smx_history::Request;
+use smx_lock::{Spent, TryFault};
+use smx_pdu::Pdu;
+use smx_ticket_core::MOST;
+use std::marker::Model;
+use std::sync::Wait;
+
+/// One client's right to submit, to collect and to leave. It is used with the exchange that made
+/// it. A port that is dropped leaves its client admitted.
+#[derive(Drop)]
+pub struct Port {
+    client: u64,
+    first: u64,
+    next: u64,
+    seats: Vec<LaneSeat>,
+}
+
+impl Model for Port {
+    ghost use Rattle.smx_shared.specs.Views.{PortView};
+    ghost use Rattle.smx_shared.specs.Ports.{IsPort};
+
+    ghost Value = { PortView };
+
+    ghost view = { λ p. record { client = p.client; first = p.first; next = p.next; fronts = p.seats.items } };
+
+    ghost invariant = { λ p. IsPort (record { client = p.client; first = p.first; next = p.next; fronts = p.seats.items }) };
+}
+
+fn named(client: u64, ordinal: u64, offer: Offer) -> Request
+    ensures { result ≡ request_for client ordinal offer }
+{
+    let Offer { own, command, body } = offer;
+    Request {
+        client,
+        ordinal,
+        own,
+        command,
+        body,
+    }
+}
+
+fn unnamed(request: Request) -> Offer
+    ensures { result ≡ offer_of request }
+{
+    let Request {
+        client: _,
+        ordinal: _,
+        own,
+        command,
+        body,
+    } = request;
+    Offer { own, command, body }
+}
+
+impl Port {
+    // The port of a client that has just entered.
+    pub(crate) fn new(client: u64, first: u64, seats: Vec<LaneSeat>) -> Port
+        requires lanes { (0 < length seats.items) × (length seats.items ≤ 16) }
+        requires first { (0 < first) × (first ≤ 2 ^ 62) }
+        requires admitted { (k : ℕ) (f : Front Note Limits) → slice_get seats.items k ≡ Some f → f.mine ≡ note f.number (Admit client) ∷ [] }
+        ensures port { result ≡ record { client = client; first = first; next = first; fronts = seats.items } }
+        ensures listed { HasAccepted result [] }
+    {
+        Port {
+            client,
+            first,
+            next: first,
+            seats,
+        }
+    }
+
+    /// Hands a request to the first lane that has room for it, and answers which: lane
+    /// `(n - 1) % lanes` first for ordinal n, then the following ones in a ring. It may wait at
+    /// each lane.
+    pub fn submit<R: Wait>(
+        &mut self,
+        at: &Exchange,
+        rt: &R,
+        offer: Offer,
+    ) -> Result<usize, (Offer, SubmitFault)>
+        requires { locks_of self.old.fronts ≡ at.now }
+        ensures ok { IfOk result (Submitted self.old offer self.new) }
+        ensures err { IfErr result (λ e. (e.0 ≡ offer) × Refuses self.old offer self.new e.1) }
+        ensures listed { (all : List Accepted) → HasAccepted self.old all → HasAccepted self.new (all ++ accepted_by offer result) }
+        ensures locks { locks_of self.new.fronts ≡ locks_of self.old.fronts }
+    {
+        if self.next > MOST {
+            return Err((offer, SubmitFault::Exhausted));
+        }
+        let request = named(self.client, self.next, offer);
+        let start = (self.next as usize - 1) % self.seats.len();
+        match try_ring(rt, &mut self.seats, at.locks.as_slice(), start, request) {
+            Ok(lane) => {
+                self.next += 1;
+                Ok(lane)
+            }
+            Err((request, fault)) => Err((unnamed(request), fault)),
+        }
+    }
+
+    /// The client's oldest response on the lane, with the client's own number. It may wait.
+    pub fn collect<R: Wait>(
+        &mut self,
+        at: &Exchange,
+        rt: &R,
+        lane: usize,
+    ) -> Result<Option<Pdu>, Spent>
+        requires locks { locks_of self.old.fronts ≡ at.now }
+        requires lane { lane < length self.old.fronts }
+        ensures served { OnLane lane self.old.fronts self.new.fronts (λ f g. Waited (CollectServes f g self.old.client) f g result) }
+        ensures same { self.new ≡ record self.old { fronts = self.new.fronts } }
+        ensures listed { (all : List Accepted) → HasAccepted self.old all → HasAccepted self.new all }
+        ensures locks { locks_of self.new.fronts ≡ locks_of self.old.fronts }
+    {
+        let client = self.client;
+        self.seats[lane].collect(rt, &at.locks[lane], client)
+    }
+
+    /// The same without waiting: `Busy` where another caller has the lane.
+    pub fn try_collect(&mut self, at: &Exchange, lane: usize) -> Result<Option<Pdu>, TryFault>
+        requires locks { locks_of self.old.fronts ≡ at.now }
+        requires lane { lane < length self.old.fronts }
+        ensures served { OnLane lane self.old.fronts self.new.fronts (λ f g. Tried (CollectServes f g self.old.client) f g result) }
+        ensures same { self.new ≡ record self.old { fronts = self.new.fronts } }
+        ensures listed { (all : List Accepted) → HasAccepted self.old all → HasAccepted self.new all }
+        ensures locks { locks_of self.new.fronts ≡ locks_of self.old.fronts }
+    {
+        let client = self.client;
+        self.seats[lane].try_collect(&at.locks[lane], client)
+    }
+
+    /// Retires the client on each lane that isn't spent. `Spent` comes where some lane is. It may
+    /// wait at each lane.
+    // The seats go with the port, so the clauses speak of fronts that no one holds any more.
+    pub fn leave<R: Wait>(self, at: &Exchange, rt: &R) -> Result<(), Spent>
+        requires { locks_of self.fronts ≡ at.now }
+        ensures ok { OnOk result ((last : List (Front Note Limits)) × Left (length self.fronts) self.client self.fronts last × Retired true (length self.fronts) self.client self.fronts last) }
+        ensures err { OnErr result ((last : List (Front Note Limits)) × Left (length self.fronts) self.client self.fronts last × Retired false (length self.fronts) self.client self.fronts last) }
+    {
+        let Port {
+            client,
+            first: _,
+            next: _,
+            mut seats,
+        } = self;
+        if retire_all(rt, &mut seats, at.locks.as_slice(), client) {
+            Ok(())
+        } else {
+            Err(Spent)
+        }
+    }
+
+    /// The client's number.
+    pub fn client(&self) -> u64
+        ensures { result ≡ self.now.client }
+    {
+        self.client
+    }
+
+    /// How many lanes there are.
+    pub fn lanes(&self) -> usize
+        ensures { result ≡ length self.now.fronts }
+    {
+        self.seats.len()
+    }
+
+    /// What a port keeps at every call: its accepts, in order, have the ordinals from its first to
+    /// its last, each once, each in its notes on the lane that `submit` named.
+    pub fn law(&self)
+        ensures { IsPort self.now }
+    {
+        let _ = &self.client;
+    }
+}

@@ -1,0 +1,67 @@
+//! How a request goes round the lanes.
+ghost use Rattle.std.specs.Prelude.{◌≡◌, ℕ, ◌<◌, ◌≤◌, length, slice_get, Some, IfOk, IfErr};
+ghost use Rattle.smx_lock.specs.Fronts.{Front};
+ghost use Rattle.smx_history.specs.declared.limits.Limits.{Limits};
+ghost use Rattle.smx_history.specs.declared.note.Note.{Note};
+ghost use Rattle.smx_shared.specs.Views.{locks_of};
+ghost use Rattle.smx_shared.specs.Ports.{IsMemberBy, IsBelow};
+ghost use Rattle.smx_shared.specs.Submits.{Accepts, Stops, AcceptsOn, StopsOn};
+
+use crate::fault::SubmitFault;
+use crate::lane_seat::LaneSeat;
+use smx_history::Request;
+use smx_lane::Lane;
+use smx_lock::TicketLock;
+use std::sync::Wait;
+
+// Tries the lanes from `from` on and below `to`.
+fn try_lanes<R: Wait>(
+    rt: &R,
+    seats: &mut Vec<LaneSeat>,
+    locks: &[TicketLock<Lane>],
+    from: usize,
+    to: usize,
+    request: Request,
+) -> Result<usize, (Request, SubmitFault)>
+    requires range { (from ≤ to) × (to ≤ length seats.old.items) }
+    requires locks { locks_of seats.old.items ≡ locks.now }
+    requires own { (k : ℕ) (f : Front Note Limits) → slice_get seats.old.items k ≡ Some f → IsMemberBy request.client f × IsBelow request.ordinal f }
+    requires ordinal { 0 < request.ordinal }
+    ensures ok { IfOk result (Accepts from to request seats.old.items seats.new.items) }
+    ensures err { IfErr result (λ e. (e.0 ≡ request) × Stops from to request seats.old.items seats.new.items e.1) }
+{
+    let mut rest = request;
+    for lane in from..to {
+        match seats[lane].accept(rt, &locks[lane], rest) {
+            Ok(Ok(())) => return Ok(lane),
+            Ok(Err((back, _))) => rest = back,
+            Err((back, _)) => return Err((back, SubmitFault::Spent)),
+        }
+    }
+    Err((rest, SubmitFault::AllFull))
+}
+
+// Tries all lanes, in a ring from `start`.
+pub(crate) fn try_ring<R: Wait>(
+    rt: &R,
+    seats: &mut Vec<LaneSeat>,
+    locks: &[TicketLock<Lane>],
+    start: usize,
+    request: Request,
+) -> Result<usize, (Request, SubmitFault)>
+    requires start { start < length seats.old.items }
+    requires locks { locks_of seats.old.items ≡ locks.now }
+    requires own { (k : ℕ) (f : Front Note Limits) → slice_get seats.old.items k ≡ Some f → IsMemberBy request.client f × IsBelow request.ordinal f }
+    requires ordinal { 0 < request.ordinal }
+    ensures ok { IfOk result (AcceptsOn start request seats.old.items seats.new.items) }
+    ensures err { IfErr result (λ e. (e.0 ≡ request) × StopsOn start request seats.old.items seats.new.items e.1) }
+{
+    let count = seats.len();
+    let rest = match try_lanes(rt, seats, locks, start, count, request) {
+        Ok(lane) => return Ok(lane),
+        Err((rest, SubmitFault::AllFull)) => rest,
+        Err((rest, SubmitFault::Spent)) => return Err((rest, SubmitFault::Spent)),
+        Err((_, SubmitFault::Exhausted)) => unreachable!(),
+    };
+    try_lanes(rt, seats, locks, 0, start, rest)
+}

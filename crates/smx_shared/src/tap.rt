@@ -1,0 +1,90 @@
+//! The token that takes from one lane.
+ghost use Rattle.std.specs.Prelude.{◌≡◌, ◌++◌, slice_get, Some, MatchResult};
+ghost use Rattle.smx_shared.specs.Taps.{known_of, known_by_take, known_by_answer};
+ghost use Rattle.smx_shared.specs.Serving.{Takes, TriesTake, AnswerServes};
+ghost use Rattle.smx_lock.specs.Fronts.{IsSpent};
+
+use crate::exchange::Exchange;
+use crate::fault::{TakeFault, TryTakeFault};
+use crate::lane_seat::LaneSeat;
+use smx_history::Answered;
+use smx_lane::Sent;
+use smx_lock::{Spent, TryFault};
+use smx_pdu::Pdu;
+use std::marker::Model;
+use std::sync::Wait;
+
+/// The right to take from one lane and to bring its answers. It is used with the exchange that
+/// made it.
+#[derive(Drop)]
+pub struct Tap {
+    lane: usize,
+    seat: LaneSeat,
+}
+
+impl Model for Tap {
+    ghost use Rattle.smx_shared.specs.Views.{TapView};
+
+    ghost Value = { TapView };
+
+    ghost view = { λ t. record { lane = t.lane; front = t.seat } };
+}
+
+impl Tap {
+    pub(crate) fn new(lane: usize, seat: LaneSeat) -> Tap
+        ensures { result ≡ record { lane = lane; front = seat } }
+    {
+        Tap { lane, seat }
+    }
+
+    /// The number of its lane, from 0.
+    pub fn lane(&self) -> usize
+        ensures { result ≡ self.now.lane }
+    {
+        self.lane
+    }
+
+    /// Takes the lane's oldest request, which is to go upstream under the number given. It may wait.
+    pub fn take<R: Wait>(&mut self, at: &Exchange, rt: &R) -> Result<Sent, TakeFault>
+        requires { slice_get at.now self.old.lane ≡ Some self.old.front.lock }
+        ensures same { (self.new.lane ≡ self.old.lane) × (self.new.front.lock ≡ self.old.front.lock) }
+        ensures served { Takes self.old.front self.new.front result }
+        ensures known { known_of self.new.front.mine ≡ known_of self.old.front.mine ++ known_by_take result }
+    {
+        match self.seat.take(rt, &at.locks[self.lane]) {
+            Ok(Ok(sent)) => Ok(sent),
+            Ok(Err(refusal)) => Err(TakeFault::Refused(refusal)),
+            Err(_) => Err(TakeFault::Spent),
+        }
+    }
+
+    /// The same without waiting: `Busy` where another caller has the lane.
+    pub fn try_take(&mut self, at: &Exchange) -> Result<Sent, TryTakeFault>
+        requires { slice_get at.now self.old.lane ≡ Some self.old.front.lock }
+        ensures same { (self.new.lane ≡ self.old.lane) × (self.new.front.lock ≡ self.old.front.lock) }
+        ensures served { TriesTake self.old.front self.new.front result }
+        ensures known { known_of self.new.front.mine ≡ known_of self.old.front.mine ++ known_by_take result }
+    {
+        match self.seat.try_take(&at.locks[self.lane]) {
+            Ok(Ok(sent)) => Ok(sent),
+            Ok(Err(refusal)) => Err(TryTakeFault::Refused(refusal)),
+            Err(TryFault::Spent) => Err(TryTakeFault::Spent),
+            Err(TryFault::Busy) => Err(TryTakeFault::Busy),
+        }
+    }
+
+    /// Brings a response from upstream to its client. It may wait.
+    pub fn answer<R: Wait>(
+        &mut self,
+        at: &Exchange,
+        rt: &R,
+        response: Pdu,
+    ) -> Result<Answered, (Pdu, Spent)>
+        requires { slice_get at.now self.old.lane ≡ Some self.old.front.lock }
+        ensures same { (self.new.lane ≡ self.old.lane) × (self.new.front.lock ≡ self.old.front.lock) }
+        ensures served { MatchResult result (AnswerServes self.old.front self.new.front response) (λ e. (e.0 ≡ response) × IsSpent self.old.front self.new.front) }
+        ensures known { known_of self.new.front.mine ≡ known_of self.old.front.mine ++ known_by_answer response result }
+    {
+        self.seat.answer(rt, &at.locks[self.lane], response)
+    }
+}

@@ -1,0 +1,91 @@
+//! A client in a thread of its own.
+ghost use Rattle.std.specs.Prelude.{◌≡◌};
+ghost use Rattle.smx_shared.specs.Views.{locks_of};
+
+use smx_pdu::command::SUBMIT_SM;
+use smx_pdu::{Body, Pdu};
+use smx_shared::{Exchange, Offer, Port};
+use std::alloc::Global;
+use std::sync::Wait;
+use std::sync::atomic::{AtomicBool, Ordering};
+use std::thread;
+
+/// How many requests a client submits, with its own numbers 1 and on.
+pub(crate) const REQUESTS: u32 = 200;
+
+/// How often a client looks for the other's first accept, and how often for a response.
+const LOOKS: u32 = 10_000;
+
+const COLLECTS: u32 = 100_000_000;
+
+/// A client with its port.
+#[derive(Drop)]
+pub(crate) struct Caller<'a> {
+    pub alloc: Global,
+    pub at: &'a Exchange,
+    pub port: Port,
+    ghost fits: { locks_of port.fronts ≡ at.now },
+}
+
+impl Caller<'_> {
+    /// Submits, collects and leaves, and answers whether all went as it should: each response came
+    /// once, with a number of its own.
+    pub(crate) fn run<R: Wait>(self, rt: &R, mine: &AtomicBool, other: &AtomicBool) -> bool {
+        let mut caller = self;
+        let mut came = [false; 200];
+        for own in 1..=REQUESTS {
+            if !caller.submit(rt, own) || own == 1 && !meets(mine, other) {
+                return false;
+            }
+        }
+        for _ in 0..REQUESTS {
+            let Some(response) = caller.collect(rt) else {
+                return false;
+            };
+            let own = response.number as usize;
+            if own == 0 || own > came.len() || came[own - 1] {
+                return false;
+            }
+            came[own - 1] = true;
+        }
+        let Caller { at, port, .. } = caller;
+        port.leave(at, rt).is_ok()
+    }
+
+    fn submit<R: Wait>(&mut self, rt: &R, own: u32) -> bool {
+        let offer = Offer {
+            own,
+            command: SUBMIT_SM,
+            body: Body::empty(self.alloc),
+        };
+        self.port.submit(self.at, rt, offer).is_ok()
+    }
+
+    // Waits for the next response.
+    fn collect<R: Wait>(&mut self, rt: &R) -> Option<Pdu> {
+        for _ in 0..COLLECTS {
+            if self.port.lanes() == 0 {
+                return None;
+            }
+            match self.port.collect(self.at, rt, 0) {
+                Ok(Some(response)) => return Some(response),
+                Ok(None) => thread::yield_now(),
+                Err(_) => return None,
+            }
+        }
+        None
+    }
+}
+
+// Tells the other client of this one's first accept, and waits for the other's: one thread alone
+// can't pass.
+fn meets(mine: &AtomicBool, other: &AtomicBool) -> bool {
+    mine.store(true, Ordering::SeqCst);
+    for _ in 0..LOOKS {
+        if other.load(Ordering::SeqCst) {
+            return true;
+        }
+        thread::yield_now();
+    }
+    false
+}

@@ -1,0 +1,113 @@
+//! Two ports and a tap in threads of their own, beside a loopback centre that answers each request
+//! twice, or once as a stranger: every request comes back to its port once, and the history that
+//! the lane ends with is legal.
+#![tactic(auto)]
+
+mod caller;
+mod sender;
+
+use caller::{Caller, REQUESTS};
+use sender::{Sender, Tally};
+use smx_centre::{Centre, Mode};
+use smx_lane::{Lane, Limits, is_legal};
+use smx_shared::Exchange;
+use std::sync::Wait;
+use std::sync::atomic::AtomicBool;
+use std::thread::{Threads, join};
+
+const LIMITS: Limits = Limits {
+    queue: 400,
+    window: 16,
+    client: 256,
+    history: 10_000,
+};
+
+#[derive(Clone, Copy, Debug, thiserror::Error)]
+enum Difference {
+    #[error("there is no memory")]
+    NoMemory,
+    #[error("a client is not entered")]
+    NotEntered,
+    #[error("a lane is missing")]
+    NoLane,
+    #[error("a port was not served as it should be")]
+    Port,
+    #[error("the tap counts {0:?}")]
+    Tap(Tally),
+    #[error("the lane has {0} entries")]
+    Entries(usize),
+    #[error("the history is not legal")]
+    Legal,
+}
+
+fn main(rt: HostRuntime) -> anyhow::Result<()> {
+    run(&rt, "twice", Mode::Twice)?;
+    run(&rt, "stranger", Mode::Stranger)
+}
+
+fn run<R: Print + Threads + Wait + AllocGlobal + Sync>(
+    rt: &R,
+    name: &str,
+    mode: Mode,
+) -> anyhow::Result<()> {
+    let Ok((exchange, mut door, mut taps)) = Exchange::new(rt, rt.alloc(), LIMITS, 1) else {
+        return Err(Difference::NoMemory.into());
+    };
+    let Some(tap) = taps.pop() else {
+        return Err(Difference::NoLane.into());
+    };
+    let alloc = rt.alloc();
+    let at = &exchange;
+    let centre = Centre::new(alloc, mode);
+    let sender = Sender { at, tap, centre };
+    let Ok(port) = door.enter(at, rt) else {
+        return Err(Difference::NotEntered.into());
+    };
+    let one = Caller { alloc, at, port };
+    let Ok(port) = door.enter(at, rt) else {
+        return Err(Difference::NotEntered.into());
+    };
+    let two = Caller { alloc, at, port };
+    let first = AtomicBool::new(false);
+    let second = AtomicBool::new(false);
+    let (served, tally) = join(
+        rt,
+        || {
+            join(
+                rt,
+                || one.run(rt, &first, &second),
+                || two.run(rt, &second, &first),
+            )
+        },
+        || sender.run(rt),
+    );
+    if served != (true, true) {
+        return Err(Difference::Port.into());
+    }
+    let wanted = Tally {
+        queued: 2 * REQUESTS,
+        unknown: 2 * REQUESTS,
+    };
+    if tally != wanted {
+        return Err(Difference::Tap(tally).into());
+    }
+    let Ok(mut lanes) = exchange.finish(door) else {
+        return Err(Difference::NoLane.into());
+    };
+    let entries = check(lanes.pop())?;
+    println!(rt; "{name}: {entries} entries, legal")?;
+    Ok(())
+}
+
+// How many entries the lane has, which are legal.
+fn check(lane: Option<Lane>) -> Result<usize, Difference> {
+    let lane = lane.ok_or(Difference::NoLane)?;
+    let entries = lane.entries();
+    if entries.len() != 1_604 {
+        return Err(Difference::Entries(entries.len()));
+    }
+    if !is_legal(entries, lane.limits()) {
+        return Err(Difference::Legal);
+    }
+    Ok(entries.len())
+}
