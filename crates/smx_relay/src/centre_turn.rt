@@ -102,7 +102,7 @@ fn centre_end(
 }
 
 /// Octets of the centre. There is no text where there is no such lane.
-pub fn receive_back(
+pub(crate) fn receive_back(
     alloc: Global,
     state: &mut State,
     lane: u64,

@@ -102,7 +102,7 @@ fn client_end(
 }
 
 /// Octets of a client. There is no text where the client isn't known.
-pub fn receive_in(
+pub(crate) fn receive_in(
     alloc: Global,
     state: &mut State,
     client: u64,

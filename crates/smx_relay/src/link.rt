@@ -35,7 +35,7 @@ impl ClientLink {
     ghost use Rattle.smx_relay.specs.ClientTurn.{decides};
 
     /// The link of a client that is bound so, or is still to bind. It takes no memory.
-    pub fn new(alloc: Global, kind: Option<Kind>) -> ClientLink
+    pub(crate) fn new(alloc: Global, kind: Option<Kind>) -> ClientLink
         ensures { result ≡ new_link kind }
     {
         let session = match kind {
@@ -49,14 +49,14 @@ impl ClientLink {
     }
 
     /// Whether a bad length came.
-    pub fn has_failed(&self) -> bool
+    pub(crate) fn has_failed(&self) -> bool
         ensures { result ≡ has_failed self.now.stream }
     {
         self.framer.has_failed()
     }
 
     /// The PDUs that these octets complete.
-    pub fn receive(&mut self, alloc: Global, octets: &[u8]) -> Result<Vec<Pdu>, AllocError>
+    pub(crate) fn receive(&mut self, alloc: Global, octets: &[u8]) -> Result<Vec<Pdu>, AllocError>
         ensures stream { IfOk result (λ pdus. Receives self.old.stream octets.now pdus.items self.new.stream) }
         ensures session { self.new.session ≡ self.old.session }
     {
@@ -65,7 +65,7 @@ impl ClientLink {
 
     /// Decides a PDU.
     #[tactic(auto, unfolding(crate::specs::ClientTurn::decides))]
-    pub fn decide(&mut self, pdu: &Pdu, accounts: &[Account]) -> Result<Act, AllocError>
+    pub(crate) fn decide(&mut self, pdu: &Pdu, accounts: &[Account]) -> Result<Act, AllocError>
         ensures act { IfOk result (λ act. act ≡ (decides accounts.now self.old.session pdu.now).0) }
         ensures link { IfOk result (λ _. self.new ≡ record self.old { session = (decides accounts.now self.old.session pdu.now).1 }) }
     {
@@ -73,7 +73,7 @@ impl ClientLink {
     }
 
     /// Ends the session at a bad length, and gives what the client gets last.
-    pub fn end(&mut self) -> Pdu
+    pub(crate) fn end(&mut self) -> Pdu
         ensures answer { result ≡ undecoded }
         ensures link { self.new ≡ record self.old { session = Ended } }
     {
@@ -106,7 +106,7 @@ impl CentreLink {
     ghost use Rattle.smx_relay.specs.CentreTurn.{act_of, session_after};
 
     /// The link of a lane whose bind the centre has answered.
-    pub fn bound(alloc: Global) -> Result<CentreLink, AllocError>
+    pub(crate) fn bound(alloc: Global) -> Result<CentreLink, AllocError>
         ensures { IfOk result (λ link. link ≡ bound_centre) }
     {
         let system_id = Vec::from_slice(alloc, b"smx")?;
@@ -125,28 +125,28 @@ impl CentreLink {
     }
 
     /// Whether a bad length came.
-    pub fn has_failed(&self) -> bool
+    pub(crate) fn has_failed(&self) -> bool
         ensures { result ≡ has_failed self.now.stream }
     {
         self.framer.has_failed()
     }
 
     /// Whether the centre has unbound.
-    pub fn has_left(&self) -> bool
+    pub(crate) fn has_left(&self) -> bool
         ensures { result ≡ has_left self.now }
     {
         self.session.state() == UpstreamState::Ended
     }
 
     /// Whether the lane is down: the centre has unbound, or a bad length came.
-    pub fn is_down(&self) -> bool
+    pub(crate) fn is_down(&self) -> bool
         ensures { result ≡ is_down self.now }
     {
         self.has_left() || self.has_failed()
     }
 
     /// The PDUs that these octets complete.
-    pub fn receive(&mut self, alloc: Global, octets: &[u8]) -> Result<Vec<Pdu>, AllocError>
+    pub(crate) fn receive(&mut self, alloc: Global, octets: &[u8]) -> Result<Vec<Pdu>, AllocError>
         ensures stream { IfOk result (λ pdus. Receives self.old.stream octets.now pdus.items self.new.stream) }
         ensures session { self.new.session ≡ self.old.session }
     {
@@ -155,7 +155,7 @@ impl CentreLink {
 
     /// Decides a PDU. No script has moments.
     #[tactic(auto, unfolding(crate::specs::CentreTurn::act_of, crate::specs::CentreTurn::session_after))]
-    pub fn decide(&mut self, pdu: &Pdu) -> UpAct
+    pub(crate) fn decide(&mut self, pdu: &Pdu) -> UpAct
         ensures act { result ≡ act_of self.old.session pdu.now }
         ensures link { self.new ≡ record self.old { session = session_after self.old.session pdu.now } }
     {

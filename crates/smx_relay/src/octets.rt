@@ -19,13 +19,13 @@ impl Model for Octets {
 impl Octets {
     ghost use Rattle.std.specs.Prelude.{◌≡◌};
 
-    pub fn new(octets: Vec<u8>) -> Octets
+    pub(crate) fn new(octets: Vec<u8>) -> Octets
         ensures { result ≡ octets.items }
     {
         Octets { octets }
     }
 
-    pub fn as_slice(&self) -> &[u8]
+    pub(crate) fn as_slice(&self) -> &[u8]
         ensures { result.now ≡ self.now }
     {
         self.octets.as_slice()

@@ -8,7 +8,11 @@ use std::alloc::{AllocError, Global};
 
 /// Feeds octets, and hands out the PDUs that are whole then, up to a bad length. A stream that has
 /// failed isn't fed: its link is closed.
-pub fn receive(alloc: Global, framer: &mut Framer, octets: &[u8]) -> Result<Vec<Pdu>, AllocError>
+pub(crate) fn receive(
+    alloc: Global,
+    framer: &mut Framer,
+    octets: &[u8],
+) -> Result<Vec<Pdu>, AllocError>
     ensures { IfOk result (λ pdus. Receives framer.old.stream octets.now pdus.items framer.new.stream) }
 {
     let Ok(()) = framer.feed(octets) else {

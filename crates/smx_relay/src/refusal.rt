@@ -9,7 +9,7 @@ use smx_pdu::{Body, Pdu, read_destination, response_id};
 use std::alloc::Global;
 
 /// The answer to a request, a header with a status. It takes no memory.
-pub fn refusal(alloc: Global, command: u32, number: u32, status: u32) -> Pdu
+pub(crate) fn refusal(alloc: Global, command: u32, number: u32, status: u32) -> Pdu
     ensures { result ≡ refusal command number status }
 {
     Pdu {
@@ -21,7 +21,7 @@ pub fn refusal(alloc: Global, command: u32, number: u32, status: u32) -> Pdu
 }
 
 /// generic_nack of what couldn't be decoded (SMPP 3.4, section 4.3). It takes no memory.
-pub fn undecoded(alloc: Global) -> Pdu
+pub(crate) fn undecoded(alloc: Global) -> Pdu
     ensures { result ≡ undecoded }
 {
     Pdu {
@@ -34,7 +34,7 @@ pub fn undecoded(alloc: Global) -> Pdu
 
 /// The answer to a message, which is for no client (SMPP 3.4, section 4.6.2).
 #[tactic(auto, unfolding(crate::specs::Texts::message_refusal))]
-pub fn message_refusal(alloc: Global, message: &Pdu) -> Pdu
+pub(crate) fn message_refusal(alloc: Global, message: &Pdu) -> Pdu
     ensures { result ≡ message_refusal message.now }
 {
     let status = match read_destination(message.body.as_slice()) {
