@@ -8,7 +8,7 @@ use Rattle.smx_mo.specs.declared.mo_window.Waiting.{Waiting}
 use Rattle.smx_mo.specs.Window.{AreApart, without, answered}
 
 -- nothing is taken out where nothing waits under the number
-without-other : (number : ℕ) (ws : List Waiting) → All (λ w. w.given ≢ number) ws → without number ws ≡ ws
+pub without-other : (number : ℕ) (ws : List Waiting) → All (λ w. w.given ≢ number) ws → without number ws ≡ ws
 without-other number [] others = refl
 without-other number (w ∷ ws) others =
     let here : (w.given == number) ≡ false = ne_eqb w.given number (others 0 w (omega arith)) in

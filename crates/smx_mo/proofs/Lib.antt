@@ -9,3 +9,4 @@ pub mod Firsts
 pub mod Numbers
 pub mod Places
 pub mod Removing
+pub mod Routed

@@ -1,5 +1,6 @@
 -- Which client has the longest prefix of an address.
-use Rattle.std.specs.Prelude.{◌≡◌, ◌≤◌, ◌<◌, ◌++◌, ℕ, List, length, Contains, Option, Some, None}
+use Rattle.std.specs.Prelude.{◌≡◌, ◌≤◌, ◌<◌, ◌==◌, ◌&&◌, ◌||◌, ◌∷◌, ◌++◌, [], ℕ, Bool, List, length, filter, Contains, Option, Some, None, option_map, nat_eq, nat_lt, bytes_eq, if◌then◌else◌}
+use Rattle.std.specs.List.{list_any, starts_with}
 use Rattle.smx_mo.specs.declared.fault.RouteFault.{RouteFault}
 use Rattle.smx_mo.specs.declared.fault.RouteFault.TheVariants.{TooLong, Known, NoMemory}
 
@@ -27,6 +28,32 @@ pub record IsLongest (routes : List Route) (address : List ℕ) (r : Route) : Ty
 abbrev pub IsRouted : List Route → List ℕ → Option ℕ → Type 0
 IsRouted routes address (Some client) = (r : Route) × IsLongest routes address r × (r.client ≡ client)
 IsRouted routes address None = (r : Route) → Contains routes r → ¬ BeginsWith address r.prefix
+
+-- the route has the longer prefix, or one as long and the smaller client
+abbrev pub is_preferred : Route → Route → Bool
+is_preferred r s = nat_lt (length s.prefix) (length r.prefix) || ((length r.prefix == length s.prefix) && nat_lt r.client s.client)
+
+-- the route, or the one that is preferred to it
+abbrev pub preferred : Route → Option Route → Route
+preferred r None = r
+preferred r (Some s) = if is_preferred s r then s else r
+
+-- the route with the longest prefix, and of those with as long a prefix the one with the least client
+abbrev pub best : List Route → Option Route
+best [] = None
+best (r ∷ rs) = Some (preferred r (best rs))
+
+-- the client to which an address goes: that of the best route of those whose prefix begins the address
+abbrev pub routed : List Route → List ℕ → Option ℕ
+routed routes address = option_map (λ r. r.client) (best (filter (λ r. starts_with nat_eq address r.prefix) routes))
+
+-- the routes are one
+abbrev pub is_route : Route → Route → Bool
+is_route r s = bytes_eq r.prefix s.prefix && (r.client == s.client)
+
+-- the route is among them
+abbrev pub has_route : List Route → Route → Bool
+has_route routes r = list_any (is_route r) routes
 
 -- the row may be added
 abbrev pub IsNew : List Route → Route → Type 0

@@ -33,10 +33,11 @@ greatest = 0x7FFF_FFFF
 abbrev pub number_behind : ℕ → ℕ → ℕ
 number_behind last k = (last + k) % greatest + 1
 
--- the first number after the last one given under which no message waits
+-- the first number after the last one given under which no message waits, of one number for each place
 pub record IsNext (w : Window) (number : ℕ) : Type 0 where
   pub passed : ℕ
   pub is : number ≡ number_behind w.last passed
+  pub within : passed < w.places
   pub free : waits number w.waiting ≡ false
   pub others : (k : ℕ) → k < passed → waits (number_behind w.last k) w.waiting ≡ true
 

@@ -184,6 +184,7 @@ impl MoWindow {
             × (r.2 ≡ w.command)
             × (self.new ≡ record self.old { waiting = without w.given self.old.waiting })) }
         ensures one { OnSome result (length self.new.waiting + 1 ≡ length self.old.waiting) }
+        ensures apart { AreApart self.old.waiting }
         ensures none { IfNone result ((self.old.waiting ≡ []) × (self.new ≡ self.old)) }
     {
         let message = self.first()?;

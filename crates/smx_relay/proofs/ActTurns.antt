@@ -9,9 +9,10 @@ use Rattle.smx_session.specs.declared.act.Act.TheVariants as act
 use Rattle.smx_session.specs.declared.up_act.UpAct.{UpAct}
 use Rattle.smx_session.specs.declared.up_act.UpAct.TheVariants as up
 use Rattle.smx_relay.specs.declared.state.State.{State}
-use Rattle.smx_relay.specs.Texts.{pdu_line, to_client, closed_line, down_line, up_lane, message_refusal}
-use Rattle.smx_relay.specs.Relay.{Relay, all_left}
-use Rattle.smx_relay.specs.ClientTurn.{client_act, forward}
+use Rattle.smx_relay.specs.Texts.{pdu_line, to_client, closed_line, down_line, up_lane}
+use Rattle.smx_relay.specs.Relay.{Relay}
+use Rattle.smx_relay.specs.Messages.{answer_turn, leave_turn, message_turn}
+use Rattle.smx_relay.specs.ClientTurn.{client_act, followed_by, forward, hang_up}
 use Rattle.smx_relay.specs.CentreTurn.{centre_act, to_lane}
 use Rattle.smx_relay.specs.Agrees.{Agrees, Turned, Prints}
 
@@ -32,17 +33,17 @@ pub client_forwards : (c : ℕ) (p : Pdu) (a : Act) (s : Relay) (state : State) 
 unfolding client_act
 client_forwards c p a s state text is turned = client_by c p a act.Forward s state text is turned
 
-pub client_leaves : (c : ℕ) (p : Pdu) (a : Act) (answer : Pdu) (s : Relay) (state : State) (text : List ℕ) → a ≡ act.Leave answer → Agrees state (all_left c s) → text ≡ pdu_line (to_client c) answer → Turned (client_act c p a s) state text
+pub client_leaves : (c : ℕ) (p : Pdu) (a : Act) (answer : Pdu) (s : Relay) (state : State) (text : List ℕ) → a ≡ act.Leave answer → Turned (followed_by (pdu_line (to_client c) answer, s) (leave_turn c)) state text → Turned (client_act c p a s) state text
 unfolding client_act
-client_leaves c p a answer s state text is agrees e = client_by c p a (act.Leave answer) s state text is (record { text = e; left = agrees })
+client_leaves c p a answer s state text is turned = client_by c p a (act.Leave answer) s state text is turned
 
-pub client_hung_up : (c : ℕ) (p : Pdu) (a : Act) (answer : Pdu) (s : Relay) (state : State) (text : List ℕ) → a ≡ act.Hangup answer → Agrees state (all_left c s) → text ≡ pdu_line (to_client c) answer ++ closed_line c → Turned (client_act c p a s) state text
+pub client_hung_up : (c : ℕ) (p : Pdu) (a : Act) (answer : Pdu) (s : Relay) (state : State) (text : List ℕ) → a ≡ act.Hangup answer → Turned (hang_up c answer s) state text → Turned (client_act c p a s) state text
 unfolding client_act
-client_hung_up c p a answer s state text is agrees e = client_by c p a (act.Hangup answer) s state text is (record { text = e; left = agrees })
+client_hung_up c p a answer s state text is turned = client_by c p a (act.Hangup answer) s state text is turned
 
-pub client_answers_message : (c : ℕ) (p : Pdu) (a : Act) (number : ℕ) (s : Relay) (state : State) (text : List ℕ) → a ≡ act.MoAnswer number → Agrees state s → text ≡ [] → Turned (client_act c p a s) state text
+pub client_answers_message : (c : ℕ) (p : Pdu) (a : Act) (number : ℕ) (s : Relay) (state : State) (text : List ℕ) → a ≡ act.MoAnswer number → Turned (answer_turn c p s) state text → Turned (client_act c p a s) state text
 unfolding client_act
-client_answers_message c p a number s state text is agrees e = client_by c p a (act.MoAnswer number) s state text is (record { text = e; left = agrees })
+client_answers_message c p a number s state text is turned = client_by c p a (act.MoAnswer number) s state text is turned
 
 pub client_ignored : (c : ℕ) (p : Pdu) (a : Act) (s : Relay) (state : State) (text : List ℕ) → a ≡ act.Ignore → Agrees state s → text ≡ [] → Turned (client_act c p a s) state text
 unfolding client_act
@@ -61,10 +62,9 @@ pub centre_leaves : (i : ℕ) (p : Pdu) (a : UpAct) (answer : Pdu) (s : Relay) (
 unfolding centre_act
 centre_leaves i p a answer s state text is agrees e = centre_by i p a (up.Leave answer) s state text is (record { text = e; left = agrees })
 
-pub centre_refuses : (i : ℕ) (p : Pdu) (a : UpAct) (answer : Pdu) (s : Relay) (state : State) (text : List ℕ) → a ≡ up.Mo → answer ≡ message_refusal p → Agrees state s → text ≡ pdu_line (up_lane i) answer → Turned (centre_act i p a s) state text
+pub centre_messages : (i : ℕ) (p : Pdu) (a : UpAct) (s : Relay) (state : State) (text : List ℕ) → a ≡ up.Mo → Turned (message_turn i p s) state text → Turned (centre_act i p a s) state text
 unfolding centre_act
-centre_refuses i p a answer s state text is said agrees e =
-    centre_by i p a up.Mo s state text is (subst (λ (q : Pdu). Turned (pdu_line (up_lane i) q, s) state text) said (record { text = e; left = agrees }))
+centre_messages i p a s state text is turned = centre_by i p a up.Mo s state text is turned
 
 pub centre_up : (i : ℕ) (p : Pdu) (a : UpAct) (s : Relay) (state : State) (text : List ℕ) → a ≡ up.Up → Agrees state s → text ≡ [] → Turned (centre_act i p a s) state text
 unfolding centre_act

@@ -22,6 +22,8 @@ pub record IsBeginning (s : Relay) (state : State) (n : ℕ) : Type 0 where
   pub accounts : state.accounts.items ≡ s.accounts
   pub links : state.links.items ≡ s.links
   pub centres : state.centres.items ≡ replicate n bound_centre
+  pub places : state.places ≡ s.places
+  pub routes : state.routes ≡ s.routes
 
 abbrev pub Beginning : State → State → ℕ → Type 0
 Beginning old state n = (s : Relay) → Agrees old s → s.started ≡ false → IsBeginning s state n
@@ -30,8 +32,10 @@ none_made : (R : List Note → Content → Type 0) (hs : List (List Note)) (lane
 none_made R hs lanes e z = subst (λ xs. AllZip R xs lanes) e z
 
 pub beginning_start : (old new : State) → new.limits ≡ old.limits → new.count ≡ old.count → new.started ≡ true → new.clients.items ≡ old.clients.items → new.lanes.items ≡ old.lanes.items
-    → new.accounts.items ≡ old.accounts.items → new.links.items ≡ old.links.items → new.centres.items ≡ old.centres.items → Beginning old new 0
-beginning_start old new limits count started clients lanes accounts links centres s a un = record {
+    → new.accounts.items ≡ old.accounts.items → new.links.items ≡ old.links.items → new.centres.items ≡ old.centres.items → new.places ≡ old.places → new.routes ≡ old.routes → Beginning old new 0
+beginning_start old new limits count started clients lanes accounts links centres places routes s a un = record {
+  places = places ∙ a.links.places_are;
+  routes = routes ∙ a.links.routes_are;
   accounts = accounts ∙ a.links.accounts_are;
   links = links ∙ a.links.links_are;
   centres = centres ∙ a.links.centres_are ∙ a.links.none_yet un;
@@ -43,10 +47,12 @@ beginning_start old new limits count started clients lanes accounts links centre
 }
 
 pub beginning_more : (old v new : State) (n : ℕ) (lane : Content) (centre : CentreLink) → Beginning old v n → lane.limits ≡ v.limits → AgreesWith [] lane → centre ≡ bound_centre → new.limits ≡ v.limits → new.count ≡ v.count → new.started ≡ v.started → new.clients.items ≡ v.clients.items → new.lanes.items ≡ v.lanes.items ++ lane ∷ []
-    → new.accounts.items ≡ v.accounts.items → new.links.items ≡ v.links.items → new.centres.items ≡ v.centres.items ++ centre ∷ [] → Beginning old new (n + 1)
-beginning_more old v new n lane centre b is agrees bound limits count started clients lanes accounts links centres s a un =
+    → new.accounts.items ≡ v.accounts.items → new.links.items ≡ v.links.items → new.centres.items ≡ v.centres.items ++ centre ∷ [] → new.places ≡ v.places → new.routes ≡ v.routes → Beginning old new (n + 1)
+beginning_more old v new n lane centre b is agrees bound limits count started clients lanes accounts links centres places routes s a un =
     let x = b s a un in
     record {
+      places = places ∙ x.places;
+      routes = routes ∙ x.routes;
       accounts = accounts ∙ x.accounts;
       links = links ∙ x.links;
       centres = centres ∙ ap (λ (cs : List CentreLink). cs ++ centre ∷ []) x.centres ∙ ap (λ (k : CentreLink). replicate n bound_centre ++ k ∷ []) bound ∙ replicate_more {X = CentreLink} n bound_centre;
@@ -70,7 +76,7 @@ beginning_end old new n b all un s a =
       clients = x.clients;
       lanes = whole;
       none_yet = λ e. absurd (let z : true ≡ false = e in cc);
-      links = record { accounts_are = x.accounts; links_are = x.links; centres_are = centres; none_yet = λ e. absurd (let z : true ≡ false = e in cc) };
+      links = record { accounts_are = x.accounts; links_are = x.links; centres_are = centres; none_yet = λ e. absurd (let z : true ≡ false = e in cc); places_are = x.places; routes_are = x.routes };
     })
 
 -- lanes that were made stay

@@ -13,12 +13,12 @@ use Rattle.smx_session.specs.declared.kind.Kind.{Kind}
 use Rattle.smx_relay.specs.declared.state.State.{State}
 use Rattle.smx_relay.specs.Links.{ClientLink, new_link}
 use Rattle.smx_relay.specs.Texts.{text_line}
-use Rattle.smx_relay.specs.Relay.{Relay, last_of, entered, entered_and_left, client_turn, collect_text, collected, collect_turn, or_none}
+use Rattle.smx_relay.specs.Relay.{Relay, last_of, entered, entered_and_left, client_turn}
 use Rattle.smx_relay.specs.OnLane.{OnLane}
-use Rattle.smx_relay.specs.Agrees.{Agrees, HasLinks, Turned, Prints, AreOn, Enters, HaveEntered}
+use Rattle.smx_relay.specs.Agrees.{Agrees, HasLinks, Turned, AreOn, Enters, HaveEntered}
 use Rattle.smx_relay.proofs.Lanes.{zip-weaker}
 use Rattle.smx_relay.proofs.Entering.{refuses}
-use Rattle.smx_relay.proofs.Keeping.{KeepsSettings, kept_links}
+use Rattle.smx_relay.proofs.Keeping.{KeepsSettings}
 use Rattle.smx_relay.proofs.OwnNotes.{own_grows, grows_push}
 
 grown_lanes : (limits : Limits) (clients : List (Option ℕ)) (o : Option ℕ) (hs : List (List Note)) (lanes : List Content) → AreOn limits clients hs lanes → AreOn limits (clients ++ o ∷ []) hs lanes
@@ -29,15 +29,17 @@ place_within : (limits : Limits) (c i : ℕ) (hs : List (List Note)) → positio
 place_within limits c i hs e = let w = position-Some (refuses limits c) hs i [] e in w.0
 
 -- one link more
-more_links : (old new : State) (s : Relay) (kind : Option Kind) → Agrees old s → KeepsSettings old new → new.links.items ≡ old.links.items ++ new_link kind ∷ [] → HasLinks new s.accounts (s.links ++ new_link kind ∷ []) s.centres s.started
+more_links : (old new : State) (s : Relay) (kind : Option Kind) → Agrees old s → KeepsSettings old new → new.links.items ≡ old.links.items ++ new_link old.places kind ∷ [] → HasLinks new s.accounts (s.links ++ new_link s.places kind ∷ []) s.centres s.started s.places s.routes
 more_links old new s kind a keeps links = record {
   accounts_are = keeps.accounts ∙ a.links.accounts_are;
-  links_are = links ∙ ap (λ (ls : List ClientLink). ls ++ new_link kind ∷ []) a.links.links_are;
+  links_are = links ∙ ap (λ (ls : List ClientLink). ls ++ new_link old.places kind ∷ []) a.links.links_are ∙ ap (λ n. s.links ++ new_link n kind ∷ []) a.links.places_are;
   centres_are = keeps.centres ∙ a.links.centres_are;
   none_yet = a.links.none_yet;
+  places_are = keeps.places ∙ a.links.places_are;
+  routes_are = keeps.routes ∙ a.links.routes_are;
 }
 
-pub entered_all : (old new : State) (s : Relay) (kind : Option Kind) (c : ℕ) (text : List ℕ) → Agrees old s → c ≡ length old.clients.items → Enters s.limits s.clients s.histories c None new.lanes.items → KeepsSettings old new → new.clients.items ≡ old.clients.items ++ Some 0 ∷ [] → new.links.items ≡ old.links.items ++ new_link kind ∷ []
+pub entered_all : (old new : State) (s : Relay) (kind : Option Kind) (c : ℕ) (text : List ℕ) → Agrees old s → c ≡ length old.clients.items → Enters s.limits s.clients s.histories c None new.lanes.items → KeepsSettings old new → new.clients.items ≡ old.clients.items ++ Some 0 ∷ [] → new.links.items ≡ old.links.items ++ new_link old.places kind ∷ []
     → text ≡ text_line (codes "client " ++ decimal c) → Turned (client_turn s kind) new text
 entered_all old new s kind c text a is enters keeps clients links e =
     let c_is : c ≡ length s.clients = is ∙ ap length a.clients in
@@ -69,7 +71,7 @@ none_parted c i hs e = ap (λ xs. map (entered_and_left c) (take i xs) ++ drop i
 
 pub entered_none : (old : State) (mid : List Content) (new : State) (s : Relay) (kind : Option Kind) (c i : ℕ) (text : List ℕ) → Agrees old s → c ≡ length old.clients.items → Enters s.limits s.clients s.histories c (Some i) mid
     → ((limits : Limits) (clients : List (Option ℕ)) (some : List (List Note)) (others : List (List Note)) → length some ≡ i → AreOn limits clients (map (entered c) some ++ others) mid → AreOn limits clients (map (entered_and_left c) some ++ others) new.lanes.items)
-    → KeepsSettings old new → new.clients.items ≡ old.clients.items ++ None ∷ [] → new.links.items ≡ old.links.items ++ new_link kind ∷ [] → text ≡ text_line (codes "refused") → Turned (client_turn s kind) new text
+    → KeepsSettings old new → new.clients.items ≡ old.clients.items ++ None ∷ [] → new.links.items ≡ old.links.items ++ new_link old.places kind ∷ [] → text ≡ text_line (codes "refused") → Turned (client_turn s kind) new text
 entered_none old mid new s kind c i text a is enters leaves keeps clients links e =
     let c_is : c ≡ length s.clients = is ∙ ap length a.clients in
     let within = place_within s.limits c i s.histories enters.0 in
@@ -89,36 +91,6 @@ entered_none old mid new s kind c i text a is enters leaves keeps clients links 
       };
     })
 
-or_none-some : (c : ℕ) (text : List ℕ) → text ≢ [] → or_none c text ≡ text
-or_none-some c [] some = absurd (some refl)
-or_none-some c (x ∷ xs) some = refl
-
-collect_left : (old new : State) (s : Relay) (c : ℕ) → Agrees old s → AreOn s.limits s.clients (map (collected c) s.histories) new.lanes.items → KeepsSettings old new → new.clients.items ≡ old.clients.items → new.links.items ≡ old.links.items → Agrees new (record s { histories = map (collected c) s.histories })
-collect_left old new s c a on keeps clients links = record {
-  limits = keeps.limits ∙ a.limits;
-  count = keeps.count ∙ a.count;
-  started = keeps.started ∙ a.started;
-  clients = clients ∙ a.clients;
-  lanes = on;
-  none_yet = λ off. ap (map (collected c)) (a.none_yet off);
-  links = kept_links old new s.accounts s.links s.centres s.started keeps links a.links;
-}
-
--- the client collected this on all lanes
-pub record IsCollectedOn (s : Relay) (c : ℕ) (text : List ℕ) (lanes : List Content) : Type 0 where
-  pub text_is : text ≡ flat_map (collect_text c) s.histories
-  pub lanes_are : AreOn s.limits s.clients (map (collected c) s.histories) lanes
-
-pub collected_some : (old new : State) (s : Relay) (c n : ℕ) (text : Vec ℕ) → Agrees old s → last_of s.clients c ≡ Some n → IsCollectedOn s c text.items new.lanes.items → text.items ≢ [] → KeepsSettings old new → new.clients.items ≡ old.clients.items → new.links.items ≡ old.links.items
-    → Prints (collect_turn s c (last_of s.clients c)) new (Some text)
-collected_some old new s c n text a known is some keeps clients links =
-    rw known (record { text = sym (or_none-some c text.items some) ∙ ap (or_none c) is.text_is; left = collect_left old new s c a is.lanes_are keeps clients links })
-
-pub collected_none : (old new : State) (s : Relay) (c n : ℕ) (none : List ℕ) (text : Vec ℕ) → Agrees old s → last_of s.clients c ≡ Some n → IsCollectedOn s c none new.lanes.items → none ≡ [] → KeepsSettings old new → new.clients.items ≡ old.clients.items → new.links.items ≡ old.links.items
-    → text.items ≡ text_line (codes "none " ++ decimal c) → Prints (collect_turn s c (last_of s.clients c)) new (Some text)
-collected_none old new s c n none text a known is empty keeps clients links e =
-    rw known (record { text = e ∙ ap (or_none c) (sym empty ∙ is.text_is); left = collect_left old new s c a is.lanes_are keeps clients links })
-
 -- a client that is known, or not
 pub known_last : (old : State) (s : Relay) (c : ℕ) (o : Option ℕ) → Agrees old s → o ≡ last_of old.clients.items c → last_of s.clients c ≡ o
 known_last old s c o a is = sym (is ∙ ap (λ cs. last_of cs c) a.clients)
@@ -133,6 +105,3 @@ known_client old s c o a is some = let w = some_last o some in (w.0, known_last 
 pub none_last : (o : Option ℕ) → is_none o ≡ true → o ≡ None
 none_last None e = refl
 none_last (Some n) e = absurd (let z : false ≡ true = e in cc)
-
-pub collect_unknown : (old new : State) (s : Relay) (c : ℕ) (o : Option ℕ) → Agrees old s → o ≡ last_of old.clients.items c → is_none o ≡ true → Prints (collect_turn s c (last_of s.clients c)) new None
-collect_unknown old new s c o a is none = rw (known_last old s c o a is ∙ none_last o none) tt

@@ -1,13 +1,13 @@
 -- Octets of a client, by where their turn ends.
-use Rattle.std.proofs.Common.{◌≡◌, ◌++◌, ℕ, Bool, true, false, List, Option, Some, None, refl, sym, ap, subst, slice_get}
+use Rattle.std.proofs.Common.{◌≡◌, ◌++◌, ℕ, Bool, true, false, List, Option, Some, None, refl, sym, ap, ◌∙◌, subst, slice_get}
 use Rattle.std.specs.Global.{Vec}
 use Rattle.smx_pdu.specs.declared.pdu.Pdu.{Pdu}
 use Rattle.smx_frame.specs.Stream.{Stream}
 use Rattle.smx_relay.specs.declared.state.State.{State}
 use Rattle.smx_relay.specs.Texts.{closed_line}
 use Rattle.smx_relay.specs.Links.{ClientLink, Receives, has_failed}
-use Rattle.smx_relay.specs.Relay.{Relay, last_of}
-use Rattle.smx_relay.specs.ClientTurn.{InTurn, client_end, client_pdu, each_pdu, followed_by, with_link}
+use Rattle.smx_relay.specs.Relay.{Relay, last_of, with_link}
+use Rattle.smx_relay.specs.ClientTurn.{InTurn, client_end, client_pdu, each_pdu, followed_by}
 use Rattle.smx_relay.specs.Agrees.{Agrees, IsReached, MayPrint, Turned}
 use Rattle.smx_relay.proofs.Turning.{turned_then}
 use Rattle.smx_relay.proofs.Links.{IsLinked, linked}
@@ -31,9 +31,9 @@ in_open s c n octets k ps stream state text known at sound received turned =
     (Some (followed_by (each_pdu (client_pdu c) (with_link s c (record k { stream = stream })) ps) (client_end c (has_failed stream))), rw (known, at, sound) (ps, stream, received, refl), turned)
 
 -- the link's stream went on
-pub streamed : (old mid : State) (s : Relay) (c : ℕ) (k after : ClientLink) → Agrees old s → IsLinked old mid c after → after.session ≡ k.session → Agrees mid (with_link s c (record k { stream = after.stream }))
+pub streamed : (old mid : State) (s : Relay) (c : ℕ) (k after : ClientLink) → Agrees old s → IsLinked old mid c after → (after.session ≡ k.session) × (after.mailbox ≡ k.mailbox) → Agrees mid (with_link s c (record k { stream = after.stream }))
 streamed old mid s c k after a is same =
-    let whole : after ≡ record k { stream = after.stream } = ap (λ x. record { session = x; stream = after.stream }) same in
+    let whole : after ≡ record k { stream = after.stream } = ap (λ x. record { session = x; stream = after.stream; mailbox = after.mailbox }) same.0 ∙ ap (λ x. record { session = k.session; stream = after.stream; mailbox = x }) same.1 in
     subst (λ (l : ClientLink). Agrees mid (with_link s c l)) whole (linked old mid s c after a is)
 
 -- each PDU's turn, and then the end's

@@ -15,6 +15,9 @@ pub mod ClientTurns
 pub mod StateTurns
 pub mod Receiving
 pub mod Turning
+pub mod Messaging
+pub mod CollectTurns
+pub mod Routing
 pub mod Links
 pub mod ActTurns
 pub mod InTurns

@@ -1,7 +1,7 @@
 -- From each state a line may print something.
-use Rattle.std.proofs.Common.{◌≡◌, ℕ, Bool, true, false, List, Option, Some, None, refl, slice_get}
+use Rattle.std.proofs.Common.{◌≡◌, ℕ, Bool, true, false, List, ◌∷◌, Option, Some, None, refl, slice_get}
 use Rattle.smx_relay.specs.declared.command.Action.{Action}
-use Rattle.smx_relay.specs.declared.command.Action.TheVariants.{Client, In, Take, Back, Collect, History}
+use Rattle.smx_relay.specs.declared.command.Action.TheVariants.{Client, Prefix, In, Take, Back, Collect, History}
 use Rattle.smx_relay.specs.declared.command.Command.{Command}
 use Rattle.smx_relay.specs.declared.command.Command.TheVariants.{Skip, Set, Run}
 use Rattle.smx_relay.specs.Script.{command_of}
@@ -9,7 +9,9 @@ use Rattle.smx_relay.specs.Links.{ClientLink, CentreLink, has_failed, is_down}
 use Rattle.smx_relay.specs.Relay.{Relay, begun, last_of}
 use Rattle.smx_relay.specs.ClientTurn.{OnOpen, OnStream, OnLink, OnClient, InTurn}
 use Rattle.smx_relay.specs.CentreTurn.{OnUp, OnCentre, OnIndex, BackTurn}
-use Rattle.smx_relay.specs.Turns.{TakeTurn, Acts, Does, OnCommand, Lines}
+use Rattle.std.proofs.lemmas.List.Sorted.{IsPermutation-refl}
+use Rattle.smx_mo.specs.Routing.{Route, route}
+use Rattle.smx_relay.specs.Turns.{AddRoute, is_bad_route, RouteAt, RouteOf, RouteTurn, TakeTurn, Acts, Does, OnCommand, Lines}
 use Rattle.smx_relay.proofs.Receiving.{some_received}
 use Rattle.smx_relay.proofs.StateTurns.{some_free_on}
 
@@ -59,9 +61,26 @@ some_take s i =
     let u = some_free_on s i in
     (_, (u.0, u.1, refl))
 
+some_added : (s : Relay) (r : Route) (b : Bool) → Some_of (AddRoute s r b)
+some_added s r true = (None, refl)
+some_added s r false = (_, (r ∷ s.routes, IsPermutation-refl (r ∷ s.routes), refl))
+
+some_route_at : (s : Relay) (c : ℕ) (prefix : List ℕ) (o : Option ClientLink) → Some_of (RouteAt s c prefix o)
+some_route_at s c prefix None = (None, refl)
+some_route_at s c prefix (Some k) = some_added s (route prefix c) (is_bad_route s c prefix k)
+
+some_route_of : (s : Relay) (c : ℕ) (prefix : List ℕ) (o : Option ℕ) → Some_of (RouteOf s c prefix o)
+some_route_of s c prefix None = (None, refl)
+some_route_of s c prefix (Some last) = some_route_at s c prefix (slice_get s.links c)
+
+some_route : (s : Relay) (c : ℕ) (prefix : List ℕ) → Some_of (RouteTurn s c prefix)
+unfolding RouteTurn
+some_route s c prefix = some_route_of s c prefix (last_of s.clients c)
+
 some_act : (s : Relay) (action : Action) → Some_of (Acts s action)
 unfolding Acts
 some_act s (Client kind) = (_, refl)
+some_act s (Prefix c prefix) = some_route s c prefix
 some_act s (In c octets) = some_in s c octets
 some_act s (Take i) = some_take s i
 some_act s (Back i octets) = some_back s i octets

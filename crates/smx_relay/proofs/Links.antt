@@ -1,5 +1,5 @@
 -- Turns of one link, as turns of the whole state.
-use Rattle.std.proofs.Common.{◌≡◌, ◌<◌, ◌≤◌, ◌++◌, ℕ, Bool, true, false, List, [], length, map, set, get_or, refl, sym, ◌∙◌, ap, subst, Option, Some, None, slice_get, rules}
+use Rattle.std.proofs.Common.{◌≡◌, ◌<◌, ◌≤◌, ◌++◌, ℕ, Bool, true, false, List, [], length, map, filter, not, ◌==◌, set, get_or, refl, sym, ◌∙◌, ap, subst, Option, Some, None, slice_get, rules}
 use Rattle.std.proofs.lemmas.Option.{slice_get_past, slice_get_read}
 use Rattle.smx_pdu.specs.declared.pdu.Pdu.{Pdu}
 use Rattle.smx_session.specs.declared.act.Act.{Act}
@@ -9,8 +9,9 @@ use Rattle.smx_session.specs.Pdus.{undecoded}
 use Rattle.smx_relay.specs.declared.state.State.{State}
 use Rattle.smx_relay.specs.Links.{ClientLink, CentreLink, has_left}
 use Rattle.smx_relay.specs.Texts.{pdu_line, to_client, closed_line, up_lane, down_line}
-use Rattle.smx_relay.specs.Relay.{Relay, all_left, left}
-use Rattle.smx_relay.specs.ClientTurn.{with_link, client_act, client_pdu, client_pdu_at, client_end, client_end_at, decides}
+use Rattle.smx_mo.specs.Routing.{Route}
+use Rattle.smx_relay.specs.Relay.{Relay, all_left, left, with_link}
+use Rattle.smx_relay.specs.ClientTurn.{hang_up, client_act, client_pdu, client_pdu_at, client_end, client_end_at, decides}
 use Rattle.smx_relay.specs.CentreTurn.{with_centre, centre_act, centre_pdu, centre_pdu_at, centre_end, centre_end_at, act_of, session_after}
 use Rattle.smx_relay.specs.Agrees.{Agrees, HasLeft, IsReached, AreReached, Turned}
 use Rattle.smx_relay.proofs.Lanes.{written_back}
@@ -38,6 +39,8 @@ linked old new s c after a is = record {
     links_are = is.links ∙ ap (λ (ls : List ClientLink). set ls c after) a.links.links_are;
     centres_are = is.keeps.centres ∙ a.links.centres_are;
     none_yet = a.links.none_yet;
+    places_are = is.keeps.places ∙ a.links.places_are;
+    routes_are = is.keeps.routes ∙ a.links.routes_are;
   };
 }
 
@@ -76,27 +79,31 @@ pub client_end_some : (s : Relay) (c : ℕ) (k : ClientLink) → slice_get s.lin
 unfolding client_end
 client_end_some s c k at = ap (client_end_at c s) at
 
--- the lanes that a client left
-pub left_by_all : (old new : State) (s : Relay) (c : ℕ) → Agrees old s → HasLeft c old.lanes.items new.lanes.items → KeepsSettings old new → new.clients.items ≡ old.clients.items → new.links.items ≡ old.links.items → Agrees new (all_left c s)
-left_by_all old new s c a leaves keeps clients links = record {
+-- a client left the lanes, and its prefixes are gone
+pub left_by_all : (old new : State) (s : Relay) (c : ℕ) → Agrees old s → HasLeft c old.lanes.items new.lanes.items → KeepsSettings old (record new { routes = old.routes }) → new.clients.items ≡ old.clients.items → new.links.items ≡ old.links.items
+    → new.routes ≡ filter (λ r. not (r.client == c)) old.routes → Agrees new (all_left c s)
+left_by_all old new s c a leaves keeps clients links routes = record {
   limits = keeps.limits ∙ a.limits;
   count = keeps.count ∙ a.count;
   started = keeps.started ∙ a.started;
   clients = clients ∙ a.clients;
   lanes = leaves s.limits s.clients s.histories a.lanes;
   none_yet = λ off. ap (map (left c)) (a.none_yet off);
-  links = kept_links old new s.accounts s.links s.centres s.started keeps links a.links;
+  links = record {
+    accounts_are = keeps.accounts ∙ a.links.accounts_are;
+    links_are = links ∙ a.links.links_are;
+    centres_are = keeps.centres ∙ a.links.centres_are;
+    none_yet = a.links.none_yet;
+    places_are = keeps.places ∙ a.links.places_are;
+    routes_are = routes ∙ ap (λ (rs : List Route). filter (λ r. not (r.client == c)) rs) a.links.routes_are;
+  };
 }
 
 -- a client was hung up
-pub client_ended : (old mid new : State) (s : Relay) (c : ℕ) (k after : ClientLink) (answer : Pdu) (text : List ℕ) → Agrees old s → slice_get s.links c ≡ Some k → IsLinked old mid c after → after ≡ record k { session = Ended } → answer ≡ undecoded
-    → HasLeft c mid.lanes.items new.lanes.items → KeepsSettings mid new → new.clients.items ≡ mid.clients.items → new.links.items ≡ mid.links.items → text ≡ pdu_line (to_client c) answer ++ closed_line c → Turned (client_end c true s) new text
-client_ended old mid new s c k after answer text a at is link said leaves keeps clients links e =
-    let here : Agrees mid (with_link s c (record k { session = Ended })) = subst (λ (l : ClientLink). Agrees mid (with_link s c l)) link (linked old mid s c after a is) in
-    rw (client_end_some s c k at) (record {
-      text = e ∙ ap (λ (p : Pdu). pdu_line (to_client c) p ++ closed_line c) said;
-      left = left_by_all mid new (with_link s c (record k { session = Ended })) c here leaves keeps clients links;
-    })
+pub client_ended : (new : State) (s : Relay) (c : ℕ) (k after : ClientLink) (answer : Pdu) (text : List ℕ) → slice_get s.links c ≡ Some k → after ≡ record k { session = Ended } → answer ≡ undecoded → Turned (hang_up c answer (with_link s c after)) new text → Turned (client_end c true s) new text
+client_ended new s c k after answer text at link said turned =
+    let named : Turned (hang_up c undecoded (with_link s c after)) new text = subst (λ (p : Pdu). Turned (hang_up c p (with_link s c after)) new text) said turned in
+    rw (client_end_some s c k at) (subst (λ (l : ClientLink). Turned (hang_up c undecoded (with_link s c l)) new text) link named)
 
 pub lanes_reached : (old : State) → IsReached old → AreReached old.lanes.items
 lanes_reached old reached = (reached.0.limits, reached.0.clients, reached.0.histories, reached.1.lanes)
@@ -113,6 +120,8 @@ pub record IsCentre (old new : State) (i : ℕ) (after : CentreLink) : Type 0 wh
   pub count : new.count ≡ old.count
   pub started : new.started ≡ old.started
   pub accounts : new.accounts.items ≡ old.accounts.items
+  pub places : new.places ≡ old.places
+  pub routes : new.routes ≡ old.routes
 
 pub centred : (old new : State) (s : Relay) (i : ℕ) (after : CentreLink) → Agrees old s → IsCentre old new i after → Agrees new (with_centre s i after)
 centred old new s i after a is = record {
@@ -127,6 +136,8 @@ centred old new s i after a is = record {
     links_are = is.links ∙ a.links.links_are;
     centres_are = is.centres ∙ ap (λ (ls : List CentreLink). set ls i after) a.links.centres_are;
     none_yet = λ off. ap (λ (ls : List CentreLink). set ls i after) (a.links.none_yet off);
+    places_are = is.places ∙ a.links.places_are;
+    routes_are = is.routes ∙ a.links.routes_are;
   };
 }
 

@@ -75,6 +75,8 @@ pub record IsAccepted (old new : State) (c last at : ℕ) (r : Request) (lane af
   pub started : new.started ≡ old.started
   pub accounts : new.accounts.items ≡ old.accounts.items
   pub centres : new.centres.items ≡ old.centres.items
+  pub places : new.places ≡ old.places
+  pub routes : new.routes ≡ old.routes
   pub links : new.links.items ≡ old.links.items
 
 pub offered_some : (old new : State) (s : Relay) (c last at : ℕ) (o : Offer) (lane after : Content) (text : List ℕ) → Agrees old s → last_of old.clients.items c ≡ Some last → IsAccepted old new c last at (request_of c (last + 1) o) lane after
@@ -103,7 +105,7 @@ offered_some old new s c last at o lane after text a known is e =
         clients = is.clients ∙ ap (λ cs. set cs c (Some (last + 1))) a.clients;
         lanes = zipped;
         none_yet = λ off. ap (λ hs. set hs at longer) (a.none_yet off);
-        links = kept_links old new s.accounts s.links s.centres s.started (record { limits = is.limits; count = is.count; started = is.started; accounts = is.accounts; centres = is.centres }) is.links a.links;
+        links = kept_links old new s.accounts s.links s.centres s.started s.places s.routes (record { limits = is.limits; count = is.count; started = is.started; accounts = is.accounts; centres = is.centres; places = is.places; routes = is.routes }) is.links a.links;
       };
     })
 
@@ -121,6 +123,6 @@ offered_none old new s c last o p text a none lanes clients keeps links is e =
         clients = clients ∙ a.clients;
         lanes = rw lanes a.lanes;
         none_yet = a.none_yet;
-        links = kept_links old new s.accounts s.links s.centres s.started keeps links a.links;
+        links = kept_links old new s.accounts s.links s.centres s.started s.places s.routes keeps links a.links;
       };
     })

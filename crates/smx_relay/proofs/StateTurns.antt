@@ -54,7 +54,7 @@ lane_turned old new s i f h lane after text a is at on turns own =
         clients = is.clients ∙ a.clients;
         lanes = lanes;
         none_yet = λ off. ap (λ hs. set hs i (f h).1) (a.none_yet off);
-        links = kept_links old new s.accounts s.links s.centres s.started is.keeps is.links a.links;
+        links = kept_links old new s.accounts s.links s.centres s.started s.places s.routes is.keeps is.links a.links;
       };
     })
 

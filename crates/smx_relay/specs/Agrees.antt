@@ -7,18 +7,21 @@ use Rattle.smx_history.specs.declared.note.Note.{Note}
 use Rattle.smx_history.specs.Contents.{Content}
 use Rattle.smx_history.specs.Replies.{accept_refusal}
 use Rattle.smx_session.specs.Login.{Login}
+use Rattle.smx_mo.specs.Routing.{Route}
 use Rattle.smx_relay.specs.declared.state.State.{State}
 use Rattle.smx_relay.specs.Links.{ClientLink, CentreLink}
 use Rattle.smx_history.specs.Finding.{admit_refusal_after}
 use Rattle.smx_relay.specs.Relay.{Relay, entered, left}
 use Rattle.smx_relay.specs.OnLane.{OnLane}
 
--- the links are these, of which the lanes' are made with the lanes
-pub record HasLinks (state : State) (accounts : List Login) (links : List ClientLink) (centres : List CentreLink) (started : Bool) : Type 0 where
+-- the links are these, of which the lanes' are made with the lanes, and so are the routes to them
+pub record HasLinks (state : State) (accounts : List Login) (links : List ClientLink) (centres : List CentreLink) (started : Bool) (places : ℕ) (routes : List Route) : Type 0 where
   pub accounts_are : state.accounts.items ≡ accounts
   pub links_are : state.links.items ≡ links
   pub centres_are : state.centres.items ≡ centres
   pub none_yet : started ≡ false → centres ≡ []
+  pub places_are : state.places ≡ places
+  pub routes_are : state.routes ≡ routes
 
 pub record Agrees (state : State) (s : Relay) : Type 0 where
   pub limits : state.limits ≡ s.limits
@@ -27,7 +30,7 @@ pub record Agrees (state : State) (s : Relay) : Type 0 where
   pub clients : state.clients.items ≡ s.clients
   pub lanes : AllZip (OnLane s.limits s.clients) s.histories state.lanes.items
   pub none_yet : s.started ≡ false → s.histories ≡ []
-  pub links : HasLinks state s.accounts s.links s.centres s.started
+  pub links : HasLinks state s.accounts s.links s.centres s.started s.places s.routes
 
 -- the state stands for some histories
 abbrev pub IsReached : State → Type 0

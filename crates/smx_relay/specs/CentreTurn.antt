@@ -6,9 +6,10 @@ use Rattle.smx_session.specs.declared.up_act.UpAct.{UpAct}
 use Rattle.smx_session.specs.declared.up_act.UpAct.TheVariants.{Up, Failed, ToLane, Mo, Answer, Leave, Closed, Ignore}
 use Rattle.smx_session.specs.Pdus.{undecoded}
 use Rattle.smx_session.specs.Moments.{Upstream, act_on, after_pdu}
-use Rattle.smx_relay.specs.Texts.{pdu_line, up_lane, down_line, message_refusal}
+use Rattle.smx_relay.specs.Texts.{pdu_line, up_lane, down_line}
 use Rattle.smx_relay.specs.Links.{CentreLink, Receives, has_failed, has_left, is_down}
 use Rattle.smx_relay.specs.Relay.{Relay, on_lane, back_on}
+use Rattle.smx_relay.specs.Messages.{message_turn}
 use Rattle.smx_relay.specs.ClientTurn.{followed_by, each_pdu}
 
 -- what a session makes of a PDU, and the session after it
@@ -25,12 +26,12 @@ answer_centre i answer = pdu_line (up_lane i) answer
 abbrev pub to_lane : ℕ → Pdu → Relay → List ℕ × Relay
 to_lane i p s = unwrap_or (on_lane s i (back_on p)) ([], s)
 
--- what comes of a session's act: a response goes to the lane; until clients can be routed to, no message is for one
+-- what comes of a session's act: a response goes to the lane, and a message to a client
 unfoldable pub centre_act : ℕ → Pdu → UpAct → Relay → List ℕ × Relay
 centre_act i p Up s = ([], s)
 centre_act i p (Failed status) s = ([], s)
 centre_act i p ToLane s = to_lane i p s
-centre_act i p Mo s = (answer_centre i (message_refusal p), s)
+centre_act i p Mo s = message_turn i p s
 centre_act i p (Answer answer) s = (answer_centre i answer, s)
 centre_act i p (Leave answer) s = (answer_centre i answer ++ down_line i, s)
 centre_act i p Closed s = ([], s)

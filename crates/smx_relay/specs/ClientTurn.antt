@@ -14,7 +14,8 @@ use Rattle.smx_session.specs.ClientTable.{client_decides}
 use Rattle.smx_relay.specs.declared.offer.Offer.{Offer}
 use Rattle.smx_relay.specs.Texts.{pdu_line, to_client, closed_line}
 use Rattle.smx_relay.specs.Links.{ClientLink, Receives, has_failed}
-use Rattle.smx_relay.specs.Relay.{Relay, last_of, lane_for, in_turn_at, all_left}
+use Rattle.smx_relay.specs.Relay.{Relay, last_of, lane_for, in_turn_at, with_link}
+use Rattle.smx_relay.specs.Messages.{answer_turn, leave_turn}
 
 -- one turn, and then another
 abbrev pub followed_by : List ℕ × Relay → (Relay → List ℕ × Relay) → List ℕ × Relay
@@ -44,22 +45,23 @@ forward c p s = forward_at s c (offer_of p) (last_of s.clients c)
 abbrev pub answer_client : ℕ → Pdu → Relay → List ℕ × Relay
 answer_client c answer s = (pdu_line (to_client c) answer, s)
 
--- what comes of a session's act: a client that unbinds or is hung up leaves each lane
+-- a client that is hung up leaves
+abbrev pub hang_up : ℕ → Pdu → Relay → List ℕ × Relay
+hang_up c answer s = followed_by (pdu_line (to_client c) answer ++ closed_line c, s) (leave_turn c)
+
+-- what comes of a session's act
 unfoldable pub client_act : ℕ → Pdu → Act → Relay → List ℕ × Relay
 client_act c p (Answer answer) s = answer_client c answer s
 client_act c p (Bind kind account answer) s = answer_client c answer s
 client_act c p Forward s = forward c p s
-client_act c p (MoAnswer number) s = ([], s)
-client_act c p (Leave answer) s = answer_client c answer (all_left c s)
-client_act c p (Hangup answer) s = (pdu_line (to_client c) answer ++ closed_line c, all_left c s)
+client_act c p (MoAnswer number) s = answer_turn c p s
+client_act c p (Leave answer) s = followed_by (answer_client c answer s) (leave_turn c)
+client_act c p (Hangup answer) s = hang_up c answer s
 client_act c p Ignore s = ([], s)
 
 -- what a session in a state makes of a PDU
 unfoldable pub decides : List Login → ClientState → Pdu → Act × ClientState
 decides accounts state p = client_decides accounts state p
-
-abbrev pub with_link : Relay → ℕ → ClientLink → Relay
-with_link s c k = record s { links = set s.links c k }
 
 abbrev pub client_pdu_at : ℕ → Pdu → Relay → Option ClientLink → List ℕ × Relay
 client_pdu_at c p s None = ([], s)
@@ -72,7 +74,7 @@ client_pdu c p s = client_pdu_at c p s (slice_get s.links c)
 
 abbrev pub client_end_at : ℕ → Relay → Option ClientLink → List ℕ × Relay
 client_end_at c s None = ([], s)
-client_end_at c s (Some k) = (pdu_line (to_client c) undecoded ++ closed_line c, all_left c (with_link s c (record k { session = Ended })))
+client_end_at c s (Some k) = hang_up c undecoded (with_link s c (record k { session = Ended }))
 
 -- at a bad length the client is hung up
 unfoldable pub client_end : ℕ → Bool → Relay → List ℕ × Relay

@@ -2,6 +2,7 @@ pub mod Script
 pub mod Texts
 pub mod Links
 pub mod Relay
+pub mod Messages
 pub mod ClientTurn
 pub mod CentreTurn
 pub mod Turns

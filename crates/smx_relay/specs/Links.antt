@@ -4,16 +4,19 @@ use Rattle.smx_pdu.specs.declared.pdu.Pdu.{Pdu}
 use Rattle.smx_frame.specs.Stream.{Stream, Cuts, fault_at}
 use Rattle.smx_session.specs.declared.kind.Kind.{Kind}
 use Rattle.smx_session.specs.declared.client_state.ClientState.{ClientState}
-use Rattle.smx_session.specs.declared.client_state.ClientState.TheVariants.{Opened}
+use Rattle.smx_session.specs.declared.client_state.ClientState.TheVariants.{Opened, BoundTx, BoundRx, BoundTrx}
+use Rattle.smx_session.specs.declared.client_state.ClientState.TheVariants as client
 use Rattle.smx_session.specs.declared.upstream_state.UpstreamState.{UpstreamState}
 use Rattle.smx_session.specs.declared.upstream_state.UpstreamState.TheVariants.{Binding, Bound, Unbinding, Ended}
 use Rattle.smx_session.specs.ClientTable.{bound_state}
 use Rattle.smx_session.specs.Moments.{Upstream}
+use Rattle.smx_mailbox.specs.Mailbox.{Mailbox, new_mailbox}
 
--- a client's link: the state of its session, and the stream of its octets
+-- a client's link: the state of its session, the stream of its octets, and its messages
 pub record ClientLink : Type 0 where
   pub session : ClientState
   pub stream : Stream
+  pub mailbox : Mailbox
 
 -- a lane's link to the centre
 pub record CentreLink : Type 0 where
@@ -37,8 +40,16 @@ abbrev pub opening : Option Kind → ClientState
 opening None = Opened
 opening (Some kind) = bound_state kind
 
-abbrev pub new_link : Option Kind → ClientLink
-new_link kind = record { session = opening kind; stream = new_stream }
+abbrev pub new_link : ℕ → Option Kind → ClientLink
+new_link places kind = record { session = opening kind; stream = new_stream; mailbox = new_mailbox places }
+
+-- a client that is bound to receive
+abbrev pub may_receive : ClientState → Bool
+may_receive Opened = false
+may_receive BoundTx = false
+may_receive BoundRx = true
+may_receive BoundTrx = true
+may_receive client.Ended = false
 
 -- a lane is bound before the first line that is no setting; no script has moments
 abbrev pub bound_centre : CentreLink

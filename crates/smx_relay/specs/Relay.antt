@@ -1,5 +1,5 @@
 -- What each line of a script does and prints, over the histories of the lanes.
-use Rattle.std.specs.Prelude.{ℕ, ◌+◌, ◌%◌, Bool, true, false, List, [], ◌∷◌, ◌++◌, length, map, take, drop, set, replicate, position, codes, Option, Some, None, is_none, is_some, ◌||◌, nat_lt, nat_le, slice_get, if◌then◌else◌}
+use Rattle.std.specs.Prelude.{ℕ, ◌+◌, ◌%◌, Bool, true, false, List, [], ◌∷◌, ◌++◌, length, map, filter, not, ◌==◌, take, drop, set, replicate, position, codes, Option, Some, None, is_none, is_some, ◌||◌, nat_lt, nat_le, slice_get, if◌then◌else◌}
 use Rattle.std.specs.List.{flat_map, find, range_with_len}
 use Rattle.std.specs.Fmt.{decimal}
 use Rattle.smx_pdu.specs.declared.pdu.Pdu.{Pdu}
@@ -13,9 +13,10 @@ use Rattle.smx_history.specs.declared.note.Event.TheVariants as event
 use Rattle.smx_history.specs.History.{note, entries_of}
 use Rattle.smx_history.specs.Contents.{queue_after, window_after}
 use Rattle.smx_history.specs.Finding.{is_present, admit_refusal_after, refusal_after, place_answered, waiting_after}
+use Rattle.smx_mo.specs.Routing.{Route}
 use Rattle.smx_relay.specs.declared.offer.Offer.{Offer}
 use Rattle.smx_relay.specs.declared.command.Setting.{Setting}
-use Rattle.smx_relay.specs.declared.command.Setting.TheVariants.{Sizes, Lanes, Account}
+use Rattle.smx_relay.specs.declared.command.Setting.TheVariants.{Sizes, Lanes, Places, Account}
 use Rattle.smx_relay.specs.Links.{ClientLink, CentreLink, new_link, bound_centre}
 use Rattle.smx_relay.specs.Texts.{text_line, pdu_line, to_client, up_lane, refusal_of, upstream_of, entry_line}
 
@@ -23,6 +24,8 @@ pub record Relay : Type 0 where
   -- the sizes of each lane, and how many lanes there are to be
   pub limits : Limits
   pub count : ℕ
+  -- the places of each client's mailbox
+  pub places : ℕ
   -- who may bind
   pub accounts : List Login
   -- a line other than a setting was run
@@ -35,23 +38,28 @@ pub record Relay : Type 0 where
   pub clients : List (Option ℕ)
   -- the link of each client, by its number; that of a number that no client has is never used
   pub links : List ClientLink
+  -- the prefixes of the clients that messages go to
+  pub routes : List Route
 
 abbrev pub start : Relay
 start = record {
   limits = record { queue = 100; window = 10; client = 20; history = 10000 };
   count = 1;
+  places = 16;
   accounts = [];
   started = false;
   histories = [];
   centres = [];
   clients = None ∷ [];
-  links = new_link None ∷ [];
+  links = new_link 16 None ∷ [];
+  routes = [];
 }
 
 -- settings count up to the first other line
 abbrev pub set_turn : Relay → Setting → Option (List ℕ × Relay)
 set_turn s (Sizes limits) = if s.started then None else Some ([], record s { limits = limits })
 set_turn s (Lanes count) = if s.started then None else Some ([], record s { count = count })
+set_turn s (Places places) = if s.started then None else Some ([], record s { places = places })
 set_turn s (Account login) = if s.started || nat_le 256 (length s.accounts) then None else Some ([], record s { accounts = s.accounts ++ login ∷ [] })
 
 -- the lanes begin with the first line that is no setting
@@ -84,10 +92,10 @@ entered_and_left c h = (h ++ note 0 (event.Admit c) ∷ []) ++ note 0 (event.Ret
 
 abbrev pub client_turn_at : Relay → Option Kind → ℕ → Option ℕ → List ℕ × Relay
 client_turn_at s kind c None =
-    (text_line (codes "client " ++ decimal c), record s { histories = map (entered c) s.histories; clients = s.clients ++ Some 0 ∷ []; links = s.links ++ new_link kind ∷ [] })
+    (text_line (codes "client " ++ decimal c), record s { histories = map (entered c) s.histories; clients = s.clients ++ Some 0 ∷ []; links = s.links ++ new_link s.places kind ∷ [] })
 client_turn_at s kind c (Some i) = (
   text_line (codes "refused"),
-  record s { histories = map (entered_and_left c) (take i s.histories) ++ drop i s.histories; clients = s.clients ++ None ∷ []; links = s.links ++ new_link kind ∷ [] },
+  record s { histories = map (entered_and_left c) (take i s.histories) ++ drop i s.histories; clients = s.clients ++ None ∷ []; links = s.links ++ new_link s.places kind ∷ [] },
 )
 
 -- the next number is used up either way
@@ -98,8 +106,13 @@ client_turn s kind = client_turn_at s kind (length s.clients) (position (λ h. i
 abbrev pub left : ℕ → List Note → List Note
 left c h = if is_present c h then h ++ note 0 (event.Retire c) ∷ [] else h
 
+-- a client leaves each lane, and its prefixes go
 abbrev pub all_left : ℕ → Relay → Relay
-all_left c s = record s { histories = map (left c) s.histories }
+all_left c s = record s { histories = map (left c) s.histories; routes = filter (λ r. not (r.client == c)) s.routes }
+
+-- the link of a client is this from now on
+abbrev pub with_link : Relay → ℕ → ClientLink → Relay
+with_link s c k = record s { links = set s.links c k }
 
 abbrev pub request_of : ℕ → ℕ → Offer → Request
 request_of c n o = record { client = c; ordinal = n; own = o.own; command = o.command; body = o.body; forwarded = o.forwarded }
@@ -154,13 +167,9 @@ collect_text c h = flat_map (λ r. pdu_line (to_client c) r.pdu) (waiting_after 
 abbrev pub collected : ℕ → List Note → List Note
 collected c h = h ++ map (λ r. note 0 (event.Collect c r.ordinal)) (waiting_after h c)
 
-abbrev pub or_none : ℕ → List ℕ → List ℕ
-or_none c [] = text_line (codes "none " ++ decimal c)
-or_none c (octet ∷ octets) = octet ∷ octets
-
-abbrev pub collect_turn : Relay → ℕ → Option ℕ → Option (List ℕ × Relay)
-collect_turn s c None = None
-collect_turn s c (Some last) = Some (or_none c (flat_map (collect_text c) s.histories), record s { histories = map (collected c) s.histories })
+-- it does so on lane after lane
+abbrev pub collect_lanes : ℕ → Relay → List ℕ × Relay
+collect_lanes c s = (flat_map (collect_text c) s.histories, record s { histories = map (collected c) s.histories })
 
 unfoldable pub history_on : List Note → List ℕ × List Note
 history_on h = (flat_map entry_line (entries_of h), h)

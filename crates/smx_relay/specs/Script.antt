@@ -10,8 +10,8 @@ use Rattle.smx_session.specs.declared.kind.Kind.{Kind}
 use Rattle.smx_session.specs.declared.kind.Kind.TheVariants.{Tx, Rx, Trx}
 use Rattle.smx_relay.specs.declared.command.Command.{Command}
 use Rattle.smx_relay.specs.declared.command.Command.TheVariants.{Skip, Set, Run}
-use Rattle.smx_relay.specs.declared.command.Setting.TheVariants.{Sizes, Lanes, Account}
-use Rattle.smx_relay.specs.declared.command.Action.TheVariants.{Client, In, Take, Back, Collect, History}
+use Rattle.smx_relay.specs.declared.command.Setting.TheVariants.{Sizes, Lanes, Places, Account}
+use Rattle.smx_relay.specs.declared.command.Action.TheVariants.{Client, Prefix, In, Take, Back, Collect, History}
 
 -- lines end with a line feed, which the last may lack
 abbrev pub lines_of : List ℕ → List (List ℕ)
@@ -70,6 +70,7 @@ unfoldable pub pair_command : List ℕ → List ℕ → Option Command
 pair_command word what =
     if bytes_eq word (codes "client") then client_command (entry_of what)
     else if bytes_eq word (codes "lanes") then lanes_command (number_within 1 16 what)
+    else if bytes_eq word (codes "box") then places_command (number_within 1 256 what)
     else if bytes_eq word (codes "take") then take_command (number_of what)
     else if bytes_eq word (codes "collect") then collect_command (number_of what)
     else if bytes_eq word (codes "history") then history_command (number_of what)
@@ -82,6 +83,10 @@ pair_command word what =
     lanes_command : Option ℕ → Option Command
     lanes_command None = None
     lanes_command (Some n) = Some (Set (Lanes n))
+
+    places_command : Option ℕ → Option Command
+    places_command None = None
+    places_command (Some n) = Some (Set (Places n))
 
     take_command : Option ℕ → Option Command
     take_command None = None
@@ -106,9 +111,18 @@ back_command _ _ = None
 abbrev pub account_command : List ℕ → List ℕ → Option Command
 account_command id password = if is_text 15 id && is_text 8 password then Some (Set (Account (record { system_id = id; password = password }))) else None
 
+-- a word of printable ASCII, of at most 20 octets; one hyphen stands for no octet
+abbrev pub prefix_of : List ℕ → Option (List ℕ)
+prefix_of word = if is_text 20 word then Some (if bytes_eq word (codes "-") then [] else word) else None
+
+abbrev pub route_command : Option ℕ → Option (List ℕ) → Option Command
+route_command (Some client) (Some prefix) = Some (Run (Prefix client prefix))
+route_command _ _ = None
+
 unfoldable pub triple_command : List ℕ → List ℕ → List ℕ → Option Command
 triple_command word what other =
     if bytes_eq word (codes "account") then account_command what other
+    else if bytes_eq word (codes "route") then route_command (number_of what) (prefix_of other)
     else if bytes_eq word (codes "in") then in_command (number_of what) (octets_in other)
     else if bytes_eq word (codes "back") then back_command (number_of what) (octets_in other)
     else None

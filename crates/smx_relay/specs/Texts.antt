@@ -1,14 +1,12 @@
 -- The lines that a run prints.
-use Rattle.std.specs.Prelude.{ℕ, List, [], ◌∷◌, ◌++◌, codes, unwrap_or, Result, Ok, Err}
+use Rattle.std.specs.Prelude.{ℕ, List, [], ◌∷◌, ◌++◌, codes, unwrap_or}
 use Rattle.std.specs.Fmt.{decimal}
 use Rattle.hex.specs.Hex.{encode_lower}
 use Rattle.smx_pdu.specs.declared.pdu.Pdu.{Pdu}
 use Rattle.smx_pdu.specs.declared.command.TheConstants.{GENERIC_NACK}
-use Rattle.smx_pdu.specs.declared.status.TheConstants.{ESME_RINVCMDLEN, ESME_RMSGQFUL, ESME_RX_T_APPN}
-use Rattle.smx_pdu.specs.declared.body_fault.BodyFault.{BodyFault}
+use Rattle.smx_pdu.specs.declared.status.TheConstants.{ESME_RMSGQFUL}
 use Rattle.smx_pdu.specs.Pdu.{spelling}
 use Rattle.smx_pdu.specs.Command.{response_of}
-use Rattle.smx_pdu.specs.Reading.{destination_at}
 use Rattle.smx_history.specs.declared.entry.Kind.{Kind}
 use Rattle.smx_history.specs.declared.entry.Kind.TheVariants.{Admit, Accept, Take, Answer, Late, Collect, Retire}
 use Rattle.smx_history.specs.declared.entry.Entry.{Entry}
@@ -45,15 +43,6 @@ refusal command number status = record { command = unwrap_or (response_of comman
 -- the answer to a request that each lane refuses: the queue is full (SMPP 3.4, section 5.1.3)
 abbrev pub refusal_of : Offer → Pdu
 refusal_of o = refusal o.command o.own ESME_RMSGQFUL
-
--- no client is to be reached; or the message can't be read up to its destination
-abbrev pub message_status : Result (List ℕ) BodyFault → ℕ
-message_status (Ok destination) = ESME_RX_T_APPN
-message_status (Err e) = ESME_RINVCMDLEN
-
--- the answer to a message, which is for no client
-unfoldable pub message_refusal : Pdu → Pdu
-message_refusal p = refusal p.command p.number (message_status (destination_at p.body))
 
 -- a request as it goes upstream
 abbrev pub upstream_of : Request → ℕ → Pdu

@@ -1,14 +1,19 @@
 -- What a line may print and leave; none at a bad line.
-use Rattle.std.specs.Prelude.{◌≡◌, ℕ, List, [], Option, Some, None, slice_get}
+use Rattle.std.specs.Prelude.{◌≡◌, ◌++◌, ◌||◌, ℕ, Bool, true, false, not, nat_lt, List, [], ◌∷◌, length, IsPermutation, codes, Option, Some, None, slice_get}
+use Rattle.std.specs.Fmt.{decimal}
+use Rattle.smx_mo.specs.Routing.{Route, route, has_route}
 use Rattle.smx_history.specs.declared.note.Note.{Note}
 use Rattle.smx_history.specs.Finding.{IsFree}
 use Rattle.smx_relay.specs.declared.command.Command.{Command}
 use Rattle.smx_relay.specs.declared.command.Command.TheVariants.{Skip, Set, Run}
 use Rattle.smx_relay.specs.declared.command.Action.{Action}
-use Rattle.smx_relay.specs.declared.command.Action.TheVariants.{Client, In, Take, Back, Collect, History}
+use Rattle.smx_relay.specs.declared.command.Action.TheVariants.{Client, Prefix, In, Take, Back, Collect, History}
 use Rattle.smx_relay.specs.Script.{command_of}
-use Rattle.smx_relay.specs.Relay.{Relay, set_turn, begun, last_of, on_lane, take_on, client_turn, collect_turn, history_on}
-use Rattle.smx_relay.specs.ClientTurn.{InTurn}
+use Rattle.smx_relay.specs.Texts.{text_line}
+use Rattle.smx_relay.specs.Links.{ClientLink, may_receive}
+use Rattle.smx_relay.specs.Relay.{Relay, set_turn, begun, last_of, on_lane, take_on, client_turn, collect_lanes, history_on}
+use Rattle.smx_relay.specs.Messages.{send_turn}
+use Rattle.smx_relay.specs.ClientTurn.{InTurn, followed_by}
 use Rattle.smx_relay.specs.CentreTurn.{BackTurn, unless_down}
 
 -- the number is free on the lane, where there is such a lane
@@ -19,8 +24,41 @@ IsFreeOn s i u = (h : List Note) → slice_get s.histories i ≡ Some h → IsFr
 abbrev pub TakeTurn : Relay → ℕ → Option (List ℕ × Relay) → Type 0
 TakeTurn s i x = (u : ℕ) × IsFreeOn s i u × (x ≡ unless_down s i (on_lane s i (take_on s.limits u i)))
 
+abbrev pub AddRoute : Relay → Route → Bool → Option (List ℕ × Relay) → Type 0
+AddRoute s r true x = x ≡ None
+AddRoute s r false x = (rs : List Route) × IsPermutation (r ∷ s.routes) rs × (x ≡ Some ([], record s { routes = rs }))
+
+-- the client isn't bound to receive, the prefix is too long, or the pair is there
+abbrev pub is_bad_route : Relay → ℕ → List ℕ → ClientLink → Bool
+is_bad_route s c prefix k = not (may_receive k.session) || (nat_lt 64 (length prefix) || has_route s.routes (route prefix c))
+
+abbrev pub RouteAt : Relay → ℕ → List ℕ → Option ClientLink → Option (List ℕ × Relay) → Type 0
+RouteAt s c prefix None x = x ≡ None
+RouteAt s c prefix (Some k) x = AddRoute s (route prefix c) (is_bad_route s c prefix k) x
+
+abbrev pub RouteOf : Relay → ℕ → List ℕ → Option ℕ → Option (List ℕ × Relay) → Type 0
+RouteOf s c prefix None x = x ≡ None
+RouteOf s c prefix (Some last) x = RouteAt s c prefix (slice_get s.links c) x
+
+-- a client that is bound to receive has one prefix more
+unfoldable pub RouteTurn : Relay → ℕ → List ℕ → Option (List ℕ × Relay) → Type 0
+RouteTurn s c prefix x = RouteOf s c prefix (last_of s.clients c) x
+
+abbrev pub or_none : ℕ → List ℕ → List ℕ
+or_none c [] = text_line (codes "none " ++ decimal c)
+or_none c (octet ∷ octets) = octet ∷ octets
+
+abbrev pub said_or_none : ℕ → List ℕ × Relay → List ℕ × Relay
+said_or_none c x = (or_none c x.0, x.1)
+
+-- a client collects its responses, and then its messages
+abbrev pub collect_turn : Relay → ℕ → Option ℕ → Option (List ℕ × Relay)
+collect_turn s c None = None
+collect_turn s c (Some last) = Some (said_or_none c (followed_by (collect_lanes c s) (send_turn c)))
+
 unfoldable pub Acts : Relay → Action → Option (List ℕ × Relay) → Type 0
 Acts s (Client kind) x = x ≡ Some (client_turn s kind)
+Acts s (Prefix c prefix) x = RouteTurn s c prefix x
 Acts s (In c octets) x = InTurn s c octets x
 Acts s (Take i) x = TakeTurn s i x
 Acts s (Back i octets) x = BackTurn s i octets x

@@ -6,8 +6,9 @@ ghost use Rattle.smx_relay.specs.ClientTurn.{each_pdu};
 ghost use Rattle.smx_relay.specs.CentreTurn.{BackTurn, centre_act, centre_end, centre_pdu, to_lane};
 ghost use Rattle.smx_relay.specs.Agrees.{Agrees, MayPrint, Turned};
 
+use crate::messages::message;
 use crate::on_lane::back_on;
-use crate::refusal::{message_refusal, undecoded};
+use crate::refusal::undecoded;
 use crate::state::State;
 use crate::texts::{down_line, farewell_lines, up_line};
 use smx_pdu::Pdu;
@@ -37,7 +38,7 @@ fn centre_act(
 {
     match act {
         UpAct::ToLane => back(alloc, state, lane, pdu),
-        UpAct::Mo => up_line(alloc, lane, &message_refusal(alloc, &pdu)),
+        UpAct::Mo => message(alloc, state, lane, pdu),
         UpAct::Answer(answer) => up_line(alloc, lane, &answer),
         UpAct::Leave(answer) => farewell_lines(alloc, lane, &answer),
         UpAct::Up => Ok(Vec::new(alloc)),

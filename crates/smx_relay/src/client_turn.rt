@@ -1,16 +1,32 @@
 //! Octets of a client: its session decides each PDU.
 ghost use Rattle.std.specs.Prelude.{◌≡◌, IfOk};
 ghost use Rattle.smx_relay.specs.Relay.{Relay};
-ghost use Rattle.smx_relay.specs.ClientTurn.{InTurn, client_act, client_end, client_pdu, each_pdu};
+ghost use Rattle.smx_relay.specs.ClientTurn.{InTurn, client_act, client_end, client_pdu, each_pdu, hang_up};
 ghost use Rattle.smx_relay.specs.Agrees.{Agrees, IsReached, MayPrint, Turned};
 
-use crate::clients::{last_of, leave_all};
+use crate::clients::{last_of, leave};
+use crate::messages::answer;
 use crate::requests::forward;
 use crate::state::State;
 use crate::texts::{closed_line, hangup_lines, to_line};
 use smx_pdu::Pdu;
 use smx_session::Act;
 use std::alloc::{AllocError, Global};
+
+// A client that is hung up leaves.
+fn hang_up(
+    alloc: Global,
+    state: &mut State,
+    client: u64,
+    answer: &Pdu,
+) -> Result<Vec<u8>, AllocError>
+    requires { IsReached state.old }
+    ensures { (s : Relay) → Agrees state.old s → IfOk result (λ text. Turned (hang_up client answer.now s) state.new text.items) }
+{
+    let mut text = hangup_lines(alloc, client, answer)?;
+    text.extend_from_slice(&leave(alloc, state, client)?)?;
+    Ok(text)
+}
 
 // Does what a client's session says of a PDU.
 fn client_act(
@@ -32,14 +48,12 @@ fn client_act(
         } => to_line(alloc, client, &answer),
         Act::Forward => forward(alloc, state, client, pdu),
         Act::Leave(answer) => {
-            leave_all(&mut state.lanes, client);
-            to_line(alloc, client, &answer)
+            let mut text = to_line(alloc, client, &answer)?;
+            text.extend_from_slice(&leave(alloc, state, client)?)?;
+            Ok(text)
         }
-        Act::Hangup(answer) => {
-            leave_all(&mut state.lanes, client);
-            hangup_lines(alloc, client, &answer)
-        }
-        Act::MoAnswer { number: _ } => Ok(Vec::new(alloc)),
+        Act::Hangup(answer) => hang_up(alloc, state, client, &answer),
+        Act::MoAnswer { number: _ } => answer(alloc, state, client, pdu),
         Act::Ignore => Ok(Vec::new(alloc)),
     }
 }
@@ -97,8 +111,7 @@ fn client_end(
         return Ok(Vec::new(alloc));
     }
     let answer = state.links[at].end();
-    leave_all(&mut state.lanes, client);
-    hangup_lines(alloc, client, &answer)
+    hang_up(alloc, state, client, &answer)
 }
 
 /// Octets of a client. There is no text where the client isn't known.

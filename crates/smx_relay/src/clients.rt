@@ -3,10 +3,13 @@ ghost use Rattle.std.specs.Prelude.{◌≡◌, ℕ, List, ◌++◌, length, map,
 ghost use Rattle.std.specs.List.{flat_map};
 ghost use Rattle.smx_history.specs.declared.limits.Limits.{Limits};
 ghost use Rattle.smx_history.specs.declared.note.Note.{Note};
-ghost use Rattle.smx_relay.specs.Relay.{Relay, client_turn, collect_text, collect_turn, collected, entered, entered_and_left, last_of};
+ghost use Rattle.smx_relay.specs.Relay.{Relay, client_turn, collect_text, collected, entered, entered_and_left, last_of};
+ghost use Rattle.smx_relay.specs.Messages.{leave_turn};
+ghost use Rattle.smx_relay.specs.Turns.{collect_turn};
 ghost use Rattle.smx_relay.specs.Agrees.{Agrees, AreOn, AreReached, Enters, HasLeft, HaveEntered, IsReached, Prints, Turned};
 
 use crate::link::ClientLink;
+use crate::messages::{left_lines, send};
 use crate::on_lane::{CALLER, collect_on};
 use crate::state::State;
 use crate::texts::{client_line, none_line};
@@ -60,7 +63,7 @@ pub fn enter(alloc: Global, state: &mut State, kind: Option<Kind>) -> Result<Vec
     ensures { (s : Relay) → Agrees state.old s → IfOk result (λ text. Turned (client_turn s kind) state.new text.items) }
 {
     let client = state.clients.len() as u64;
-    state.links.push(ClientLink::new(alloc, kind))?;
+    state.links.push(ClientLink::new(alloc, kind, state.places)?)?;
     match admit_all(&mut state.lanes, client)? {
         None => {
             state.clients.push(Some(0))?;
@@ -74,14 +77,29 @@ pub fn enter(alloc: Global, state: &mut State, kind: Option<Kind>) -> Result<Vec
     }
 }
 
-/// The client leaves each lane where it is present.
-pub fn leave_all(lanes: &mut Vec<Lane>, client: u64)
+// The client leaves each lane where it is present.
+fn leave_all(lanes: &mut Vec<Lane>, client: u64)
     requires { AreReached lanes.old.items }
     ensures { HasLeft client lanes.old.items lanes.new.items }
 {
     for at in 0..lanes.len() {
         let _left = lanes[at].retire(CALLER, client);
     }
+}
+
+/// A client leaves each lane, its prefixes go, and each of its messages is answered.
+pub(crate) fn leave(alloc: Global, state: &mut State, client: u64) -> Result<Vec<u8>, AllocError>
+    requires { IsReached state.old }
+    ensures { (s : Relay) → Agrees state.old s → IfOk result (λ text. Turned (leave_turn client s) state.new text.items) }
+{
+    leave_all(&mut state.lanes, client);
+    state.routes.remove(client);
+    let at = client as usize;
+    if at >= state.links.len() {
+        return Ok(Vec::new(alloc));
+    }
+    let messages = state.links[at].empty()?;
+    left_lines(alloc, &messages)
 }
 
 // Collects on one lane after another what waits for the client.
@@ -108,7 +126,8 @@ pub fn collect(alloc: Global, state: &mut State, client: u64) -> Result<Option<V
     if last_of(&state.clients, client).is_none() {
         return Ok(None);
     }
-    let text = collect_all(alloc, &mut state.lanes, client)?;
+    let mut text = collect_all(alloc, &mut state.lanes, client)?;
+    text.extend_from_slice(&send(alloc, state, client)?)?;
     if text.is_empty() {
         return Ok(Some(none_line(alloc, client)?));
     }

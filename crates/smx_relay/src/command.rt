@@ -11,6 +11,8 @@ pub enum Setting {
     Sizes(Limits),
     /// The number of lanes, 1 to 16.
     Lanes(usize),
+    /// The places of each client's mailbox, 1 to 256.
+    Places(u32),
     /// A client that may bind.
     Account(Account),
 }
@@ -20,6 +22,8 @@ pub enum Setting {
 pub enum Action {
     /// A new client enters. It is bound so, or is still to bind.
     Client { kind: Option<Kind> },
+    /// Messages to destinations with this prefix go to a client.
+    Prefix { client: u64, prefix: Octets },
     /// Octets come from a client.
     In { client: u64, octets: Octets },
     /// The oldest request of a lane goes upstream.

@@ -9,6 +9,7 @@ mod end;
 mod engine;
 mod line;
 mod link;
+mod messages;
 mod octets;
 mod offer;
 mod on_lane;

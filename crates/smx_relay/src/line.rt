@@ -8,6 +8,7 @@ use crate::centre_turn::receive_back;
 use crate::client_turn::receive_in;
 use crate::clients::{collect, enter};
 use crate::command::{Action, Command};
+use crate::messages::route;
 use crate::on_lane::{history_on, take_on};
 use crate::script::read_command;
 use crate::settings::{begin, set};
@@ -56,6 +57,7 @@ fn run_action(
 {
     match action {
         Action::Client { kind } => Ok(Some(enter(alloc, state, kind)?)),
+        Action::Prefix { client, prefix } => route(alloc, state, client, prefix.as_slice()),
         Action::In { client, octets } => receive_in(alloc, state, client, octets.as_slice()),
         Action::Take { lane } => take(alloc, state, lane),
         Action::Back { lane, octets } => receive_back(alloc, state, lane, octets.as_slice()),

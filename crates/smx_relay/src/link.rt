@@ -1,13 +1,14 @@
 //! The links: what comes on them is cut into PDUs, which a session decides.
-ghost use Rattle.std.specs.Prelude.{◌≡◌, IfOk, Ok};
-ghost use Rattle.smx_relay.specs.Links.{Receives, has_failed, has_left, is_down, new_link, new_stream, bound_centre};
+ghost use Rattle.std.specs.Prelude.{◌≡◌, true, false, Some, None, IfOk, IfErr, IfSome, IfNone, OnOk, Ok};
+ghost use Rattle.smx_relay.specs.Links.{Receives, has_failed, has_left, is_down, may_receive, new_link, new_stream, bound_centre};
 
 use crate::receive::receive;
 use smx_frame::Framer;
+use smx_mailbox::{Mailbox, Message, Unanswered};
 use smx_pdu::command::{BIND_TRANSCEIVER, RESPONSE};
 use smx_pdu::status::ESME_ROK;
 use smx_pdu::{Body, Pdu};
-use smx_session::{Account, Act, ClientSession, Kind, UpAct, UpstreamSession, UpstreamState};
+use smx_session::{Account, Act, ClientSession, ClientState, Kind, UpAct, UpstreamSession, UpstreamState};
 use std::alloc::{AllocError, Global};
 use std::marker::Model;
 
@@ -19,6 +20,7 @@ const MAX_PDU: u32 = 65_536;
 pub struct ClientLink {
     session: ClientSession,
     framer: Framer,
+    mailbox: Mailbox,
 }
 
 impl Model for ClientLink {
@@ -26,25 +28,46 @@ impl Model for ClientLink {
 
     ghost Value = { ClientLink };
 
-    ghost view = { λ l. record { session = l.session; stream = l.framer.stream } };
+    ghost view = { λ l. record { session = l.session; stream = l.framer.stream; mailbox = l.mailbox } };
 }
 
 impl ClientLink {
     ghost use Rattle.smx_session.specs.declared.client_state.ClientState.TheVariants.{Ended};
     ghost use Rattle.smx_session.specs.Pdus.{undecoded};
     ghost use Rattle.smx_relay.specs.ClientTurn.{decides};
+    ghost use Rattle.smx_mo.specs.Window.{answered};
+    ghost use Rattle.smx_mo.specs.declared.mo_window.Waiting.{Waiting};
+    ghost use Rattle.smx_mailbox.specs.Mailbox.{with_message, is_full, sent, after_sent, settled, unanswered, emptied};
 
-    /// The link of a client that is bound so, or is still to bind. It takes no memory.
-    pub(crate) fn new(alloc: Global, kind: Option<Kind>) -> ClientLink
-        ensures { result ≡ new_link kind }
+    /// The link of a client that is bound so, or is still to bind, with a mailbox of 1 to 256 places.
+    pub(crate) fn new(
+        alloc: Global,
+        kind: Option<Kind>,
+        places: u32,
+    ) -> Result<ClientLink, AllocError>
+        ensures { IfOk result (λ link. link ≡ new_link places kind) }
     {
         let session = match kind {
             Some(kind) => ClientSession::bound(alloc, kind),
             None => ClientSession::new(alloc),
         };
-        ClientLink {
+        let Ok(mailbox) = Mailbox::new(alloc, places) else {
+            return Err(AllocError);
+        };
+        Ok(ClientLink {
             session,
             framer: Framer::new(alloc, MAX_PDU),
+            mailbox,
+        })
+    }
+
+    /// Whether the client is bound to receive.
+    pub(crate) fn may_receive(&self) -> bool
+        ensures { result ≡ may_receive self.now.session }
+    {
+        match self.session.state() {
+            ClientState::BoundRx | ClientState::BoundTrx => true,
+            ClientState::Opened | ClientState::BoundTx | ClientState::Ended => false,
         }
     }
 
@@ -58,7 +81,7 @@ impl ClientLink {
     /// The PDUs that these octets complete.
     pub(crate) fn receive(&mut self, alloc: Global, octets: &[u8]) -> Result<Vec<Pdu>, AllocError>
         ensures stream { IfOk result (λ pdus. Receives self.old.stream octets.now pdus.items self.new.stream) }
-        ensures session { self.new.session ≡ self.old.session }
+        ensures others { (self.new.session ≡ self.old.session) × (self.new.mailbox ≡ self.old.mailbox) }
     {
         receive(alloc, &mut self.framer, octets)
     }
@@ -81,6 +104,42 @@ impl ClientLink {
             Act::Hangup(answer) => answer,
             _ => unreachable!(),
         }
+    }
+
+    /// Puts a message into the client's mailbox, or hands it back where that is full.
+    pub(crate) fn put(&mut self, message: Message) -> Result<(), Message>
+        ensures ok { OnOk result ((is_full self.old.mailbox ≡ false) × (self.new ≡ record self.old { mailbox = with_message message self.old.mailbox })) }
+        ensures err { IfErr result (λ back. (is_full self.old.mailbox ≡ true) × (back ≡ message) × (self.new ≡ self.old)) }
+    {
+        self.mailbox.put(message)
+    }
+
+    /// The messages that the client is sent now.
+    pub(crate) fn send(&mut self) -> Result<Vec<Pdu>, AllocError>
+        ensures ok { IfOk result (λ pdus. pdus.items ≡ sent self.old.mailbox.window self.old.mailbox.waiting) }
+        ensures after { OnOk result (self.new ≡ record self.old { mailbox = after_sent self.old.mailbox.window self.old.mailbox.waiting }) }
+    {
+        self.mailbox.send()
+    }
+
+    /// The lane and the centre's number of the message that a response answers. It waits no longer.
+    pub(crate) fn settle(&mut self, number: u32, command: u32) -> Option<(usize, u32)>
+        ensures some { IfSome result (λ r. (w : Waiting)
+            × (answered number command self.old.mailbox.window.waiting ≡ Some w)
+            × (r.0 ≡ w.lane)
+            × (r.1 ≡ w.number)
+            × (self.new ≡ record self.old { mailbox = settled number self.old.mailbox })) }
+        ensures none { IfNone result ((answered number command self.old.mailbox.window.waiting ≡ None) × (self.new ≡ self.old)) }
+    {
+        self.mailbox.settle(number, command)
+    }
+
+    /// The messages that the client leaves without an answer.
+    pub(crate) fn empty(&mut self) -> Result<Vec<Unanswered>, AllocError>
+        ensures ok { IfOk result (λ messages. messages.items ≡ unanswered self.old.mailbox) }
+        ensures after { OnOk result (self.new ≡ record self.old { mailbox = emptied self.old.mailbox }) }
+    {
+        self.mailbox.empty()
     }
 }
 

@@ -1,9 +1,9 @@
 //! The command of a line.
 ghost use Rattle.std.specs.Prelude.{◌≡◌, IfOk};
-ghost use Rattle.smx_relay.specs.Script.{account_command, command_of, entry_of, limits_command, pair_command, triple_command};
+ghost use Rattle.smx_relay.specs.Script.{account_command, command_of, entry_of, limits_command, number_of, pair_command, prefix_of, route_command, triple_command};
 
 use crate::command::{Action, Command, Setting};
-use crate::words::{is_text, number, number_within, octets_in, parts_of};
+use crate::words::{is_text, number, number_within, octets_in, parts_of, prefix_of};
 use smx_history::Limits;
 use smx_session::{Account, Kind};
 use std::alloc::{AllocError, Global};
@@ -38,6 +38,10 @@ fn pair_command(word: &[u8], what: &[u8]) -> Option<Command>
         let lanes = number_within(1, 16, what)?;
         return Some(Command::Set(Setting::Lanes(lanes as usize)));
     }
+    if word == "box".as_bytes() {
+        let places = number_within(1, 256, what)?;
+        return Some(Command::Set(Setting::Places(places)));
+    }
     if word == "take".as_bytes() {
         let lane = number(what)?;
         return Some(Command::Run(Action::Take { lane }));
@@ -67,6 +71,19 @@ fn account_command(alloc: Global, id: &[u8], password: &[u8]) -> Result<Option<C
     Ok(Some(Command::Set(Setting::Account(account))))
 }
 
+// A prefix of a client.
+fn route_command(alloc: Global, client: &[u8], word: &[u8]) -> Result<Option<Command>, AllocError>
+    ensures { IfOk result (λ command. command ≡ route_command (number_of client.now) (prefix_of word.now)) }
+{
+    let Some(client) = number(client) else {
+        return Ok(None);
+    };
+    let Some(prefix) = prefix_of(alloc, word)? else {
+        return Ok(None);
+    };
+    Ok(Some(Command::Run(Action::Prefix { client, prefix })))
+}
+
 // A command of three words.
 #[tactic(auto, unfolding(crate::specs::Script::triple_command))]
 fn triple_command(
@@ -79,6 +96,9 @@ fn triple_command(
 {
     if word == "account".as_bytes() {
         return account_command(alloc, what, other);
+    }
+    if word == "route".as_bytes() {
+        return route_command(alloc, what, other);
     }
     let Some(place) = number(what) else {
         return Ok(None);

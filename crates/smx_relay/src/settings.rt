@@ -8,7 +8,11 @@ use crate::link::{CentreLink, ClientLink};
 use crate::state::State;
 use smx_history::Limits;
 use smx_lane::Lane;
+use smx_mo::Routes;
 use std::alloc::{AllocError, Global};
+
+/// The places of a mailbox, unless the script says how many.
+const PLACES: u32 = 16;
 
 /// The state before the first line.
 pub fn new_state(alloc: Global) -> Result<State, AllocError>
@@ -17,7 +21,7 @@ pub fn new_state(alloc: Global) -> Result<State, AllocError>
     let mut clients = Vec::new(alloc);
     clients.push(None)?;
     let mut links = Vec::new(alloc);
-    links.push(ClientLink::new(alloc, None))?;
+    links.push(ClientLink::new(alloc, None, PLACES)?)?;
     Ok(State {
         limits: Limits {
             queue: 100,
@@ -26,12 +30,14 @@ pub fn new_state(alloc: Global) -> Result<State, AllocError>
             history: 10_000,
         },
         count: 1,
+        places: PLACES,
         accounts: Vec::new(alloc),
         started: false,
         lanes: Vec::new(alloc),
         centres: Vec::new(alloc),
         clients,
         links,
+        routes: Routes::new(alloc),
     })
 }
 
@@ -52,6 +58,7 @@ pub fn set(
     match setting {
         Setting::Sizes(limits) => state.limits = limits,
         Setting::Lanes(count) => state.count = count,
+        Setting::Places(places) => state.places = places,
         Setting::Account(account) => {
             if state.accounts.len() >= MAX_ACCOUNTS {
                 return Ok(None);

@@ -3,6 +3,7 @@
 use crate::link::{CentreLink, ClientLink};
 use smx_history::Limits;
 use smx_lane::Lane;
+use smx_mo::Routes;
 use smx_session::Account;
 
 /// The settings, the lanes and the clients.
@@ -12,6 +13,8 @@ pub struct State {
     pub limits: Limits,
     /// How many lanes there are to be, 1 to 16.
     pub count: usize,
+    /// The places of each client's mailbox, 1 to 256.
+    pub places: u32,
     /// Who may bind.
     pub accounts: Vec<Account>,
     /// A line other than a setting was run, so the lanes are made.
@@ -23,4 +26,6 @@ pub struct State {
     pub clients: Vec<Option<u64>>,
     /// The link of each client, by its number; that of a number that no client has is never used.
     pub links: Vec<ClientLink>,
+    /// The prefixes of the clients that messages go to.
+    pub routes: Routes,
 }

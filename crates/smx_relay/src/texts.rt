@@ -46,10 +46,17 @@ pub fn to_line(alloc: Global, client: u64, pdu: &Pdu) -> Result<Vec<u8>, AllocEr
 pub fn up_line(alloc: Global, lane: u64, pdu: &Pdu) -> Result<Vec<u8>, AllocError>
     ensures { IfOk result (λ line. line.items ≡ pdu_line (up_lane lane) pdu.now) }
 {
-    let head = format!(in alloc; "up {lane} ")?;
     let mut line = Vec::new(alloc);
-    push_pdu(alloc, &mut line, head.as_bytes(), pdu)?;
+    push_up(alloc, &mut line, lane, pdu)?;
     Ok(line)
+}
+
+/// Writes at the end what goes upstream from a lane.
+pub fn push_up(alloc: Global, out: &mut Vec<u8>, lane: u64, pdu: &Pdu) -> Result<(), AllocError>
+    ensures { OnOk result (out.new.items ≡ out.old.items ++ pdu_line (up_lane lane) pdu.now) }
+{
+    let head = format!(in alloc; "up {lane} ")?;
+    push_pdu(alloc, out, head.as_bytes(), pdu)
 }
 
 /// What is printed of a bad line.
@@ -79,6 +86,13 @@ pub fn queued_line(alloc: Global, client: u64) -> Result<Vec<u8>, AllocError>
     ensures { IfOk result (λ line. line.items ≡ text_line (codes "queued " ++ decimal client)) }
 {
     Ok(format!(in alloc; "queued {client}\n")?.into_bytes())
+}
+
+/// What is printed of a message that waits for a client.
+pub fn message_line(alloc: Global, client: u64) -> Result<Vec<u8>, AllocError>
+    ensures { IfOk result (λ line. line.items ≡ text_line (codes "mo " ++ decimal client)) }
+{
+    Ok(format!(in alloc; "mo {client}\n")?.into_bytes())
 }
 
 /// What is printed of a client that enters.

@@ -1,7 +1,7 @@
 //! The parts of a line, and the numbers and octets that they spell.
 ghost use Rattle.std.specs.Prelude.{◌≡◌, ◌==◌, IfOk, map};
 ghost use Rattle.std.specs.List.{list_all, slice_split};
-ghost use Rattle.smx_relay.specs.Script.{is_printable, is_text, number_of, number_within, octets_in};
+ghost use Rattle.smx_relay.specs.Script.{is_printable, is_text, number_of, number_within, octets_in, prefix_of};
 
 use crate::octets::Octets;
 use std::alloc::{AllocError, Global};
@@ -72,4 +72,17 @@ pub fn is_text(most: usize, word: &[u8]) -> bool
     ensures { result ≡ is_text most word.now }
 {
     !word.is_empty() && word.len() <= most && are_printable(word)
+}
+
+/// The prefix that a word stands for: one hyphen is the empty one.
+pub fn prefix_of(alloc: Global, word: &[u8]) -> Result<Option<Octets>, AllocError>
+    ensures { IfOk result (λ prefix. prefix ≡ prefix_of word.now) }
+{
+    if !is_text(20, word) {
+        return Ok(None);
+    }
+    if word == "-".as_bytes() {
+        return Ok(Some(Octets::new(Vec::new(alloc))));
+    }
+    Ok(Some(Octets::new(Vec::from_slice(alloc, word)?)))
 }

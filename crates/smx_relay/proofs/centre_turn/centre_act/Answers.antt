@@ -1,15 +1,15 @@
 use Rattle.std.proofs.lemmas.Result.{IfOk-weaker}
-use Rattle.smx_relay.proofs.ActTurns.{centre_answers, centre_leaves, centre_refuses, centre_up, centre_failed, centre_closed, centre_ignored, centre_to_lane}
+use Rattle.smx_relay.proofs.ActTurns.{centre_answers, centre_leaves, centre_messages, centre_up, centre_failed, centre_closed, centre_ignored, centre_to_lane}
 use Rattle.smx_relay.proofs.centre_turn.centre_act.Goals as goal
 
 pub returns-in-ToLane : goal.returns-in-ToLane
 returns-in-ToLane c = λ s a. IfOk-weaker c.back.result _ _ (λ text t. centre_to_lane c.args.lane c.args.pdu c.args.act s c.back.new.state text.items c.in-ToLane.is t) (c.back.ensures s a)
 
 pub returns-in-Mo : goal.returns-in-Mo
-returns-in-Mo c = λ s a. IfOk-weaker c.up_line.result _ _ (λ text e. centre_refuses c.args.lane c.args.pdu c.args.act c.message_refusal.result s c.args.state.now text.items c.in-Mo.is c.message_refusal.ensures a e) c.up_line.ensures
+returns-in-Mo c = λ s a. IfOk-weaker c.message.result _ _ (λ text t. centre_messages c.args.lane c.args.pdu c.args.act s c.message.new.state text.items c.in-Mo.is t) (c.message.ensures s a)
 
 pub returns-in-Answer : goal.returns-in-Answer
-returns-in-Answer c = λ s a. IfOk-weaker c.up_line-in-Answer.result _ _ (λ text e. centre_answers c.args.lane c.args.pdu c.args.act c.in-Answer.answer s c.args.state.now text.items c.in-Answer.is a e) c.up_line-in-Answer.ensures
+returns-in-Answer c = λ s a. IfOk-weaker c.up_line.result _ _ (λ text e. centre_answers c.args.lane c.args.pdu c.args.act c.in-Answer.answer s c.args.state.now text.items c.in-Answer.is a e) c.up_line.ensures
 
 pub returns-in-Leave : goal.returns-in-Leave
 returns-in-Leave c = λ s a. IfOk-weaker c.farewell_lines.result _ _ (λ text e. centre_leaves c.args.lane c.args.pdu c.args.act c.in-Leave.answer s c.args.state.now text.items c.in-Leave.is a e) c.farewell_lines.ensures

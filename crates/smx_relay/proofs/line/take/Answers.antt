@@ -23,4 +23,4 @@ returns c = λ s a.
     let at = centre_at c.args.state.now s c.args.lane c.index.result.now a (omega arith) (search rules) in
     take_up s c.args.lane c.index.result.now _ (Some c.in_ok-take_on.field-0) at (sym c.is_down.ensures ∙ c.if-is_down.false)
     (takes_some c.args.state.now _ s c.args.lane c.index_mut.result.now c.take_on.new.lane c.in_ok-take_on.field-0 a
-    (record { within = omega arith; here = c.index_mut.ensures.value; lanes = refl; clients = refl; links = refl; keeps = record { limits = refl; count = refl; started = refl; accounts = refl; centres = refl } }) c.in_ok-take_on.ensures)
+    (record { within = omega arith; here = c.index_mut.ensures.value; lanes = refl; clients = refl; links = refl; keeps = record { limits = refl; count = refl; started = refl; accounts = refl; centres = refl; places = refl; routes = refl } }) c.in_ok-take_on.ensures)

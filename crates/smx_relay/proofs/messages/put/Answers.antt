@@ -1,0 +1,33 @@
+use Rattle.std.proofs.Common.{◌≡◌, arith, refl, subst}
+use Rattle.std.specs.Vec.{with_item}
+use Rattle.std.proofs.lemmas.Result.{IfOk-weaker}
+use Rattle.smx_pdu.specs.declared.status.TheConstants.{ESME_RMSGQFUL}
+use Rattle.smx_mailbox.specs.declared.message.Message.{Message}
+use Rattle.smx_relay.specs.Texts.{pdu_line, refusal, up_lane}
+use Rattle.smx_relay.proofs.Links.{link_at, no_link}
+use Rattle.smx_relay.proofs.Messaging.{link_same, put_nowhere, put_there, put_full}
+use Rattle.smx_relay.proofs.messages.put.Goals as goal
+
+pub returns-then-at-len : goal.returns-then-at-len
+returns-then-at-len c = λ s a. IfOk-weaker c.refuse.result _ _ (λ text e. put_nowhere s c.args.lane c.args.pdu c.args.client c.args.state.now text.items (no_link c.args.state.now s c.args.client a (omega arith)) a e) c.refuse.ensures
+
+pub returns-in-Ok : goal.returns-in-Ok
+returns-in-Ok c = λ s a.
+    let old = c.args.state.now in
+    let k = c.index_mut.result.now in
+    let after = c.put.new.self in
+    let new = record old { links = with_item old.links c.args.client after } in
+    let at = link_at old s c.args.client k a (omega arith) c.index_mut.ensures.value in
+    IfOk-weaker c.message_line.result _ _ (λ text e. put_there old new s c.args.lane c.args.pdu c.args.client k after text.items a at c.in-Ok.ensures.ok.0 (record { links = refl; lanes = refl; clients = refl; keeps = record { limits = refl; count = refl; started = refl; accounts = refl; centres = refl; places = refl; routes = refl } }) c.in-Ok.ensures.ok.1 e) c.message_line.ensures
+
+pub returns-in-Err : goal.returns-in-Err
+returns-in-Err c = λ s a.
+    let old = c.args.state.now in
+    let k = c.index_mut.result.now in
+    let after = c.put.new.self in
+    let new = record old { links = with_item old.links c.args.client after } in
+    let at = link_at old s c.args.client k a (omega arith) c.index_mut.ensures.value in
+    let back = c.in-Err.ensures.err in
+    let here = link_same old new s c.args.client k after a c.index_mut.ensures.value (record { links = refl; lanes = refl; clients = refl; keeps = record { limits = refl; count = refl; started = refl; accounts = refl; centres = refl; places = refl; routes = refl } }) back.2 in
+    IfOk-weaker c.refuse-in-Err.result _ _ (λ text e. put_full s c.args.lane c.args.pdu c.args.client k new text.items at back.0 here
+    (subst (λ (m : Message). text.items ≡ pdu_line (up_lane c.args.lane) (refusal m.pdu.command m.pdu.number ESME_RMSGQFUL)) back.1 e)) c.refuse-in-Err.ensures

@@ -1,0 +1,73 @@
+-- Messages of the centre: to which client they go, and how they are answered.
+use Rattle.std.specs.Prelude.{ℕ, ◌++◌, Bool, true, false, List, [], ◌∷◌, codes, Option, Some, None, Result, Ok, Err, slice_get}
+use Rattle.std.specs.List.{flat_map}
+use Rattle.std.specs.Fmt.{decimal}
+use Rattle.smx_pdu.specs.declared.pdu.Pdu.{Pdu}
+use Rattle.smx_pdu.specs.declared.body_fault.BodyFault.{BodyFault}
+use Rattle.smx_pdu.specs.declared.status.TheConstants.{ESME_RINVCMDLEN, ESME_RMSGQFUL, ESME_RX_T_APPN}
+use Rattle.smx_pdu.specs.Reading.{destination_at}
+use Rattle.smx_mo.specs.declared.mo_window.Waiting.{Waiting}
+use Rattle.smx_mo.specs.Window.{answered}
+use Rattle.smx_mo.specs.Routing.{routed}
+use Rattle.smx_mailbox.specs.declared.message.Unanswered.{Unanswered}
+use Rattle.smx_mailbox.specs.Mailbox.{with_message, is_full, sent, after_sent, settled, unanswered, emptied}
+use Rattle.smx_relay.specs.Texts.{text_line, pdu_line, to_client, up_lane, refusal}
+use Rattle.smx_relay.specs.Links.{ClientLink}
+use Rattle.smx_relay.specs.Relay.{Relay, with_link, all_left}
+
+-- a message that no client gets is answered with a status (SMPP 3.4, section 4.6.2)
+abbrev pub refuse : Relay → ℕ → Pdu → ℕ → List ℕ × Relay
+refuse s i p status = (pdu_line (up_lane i) (refusal p.command p.number status), s)
+
+abbrev pub put_with : Relay → ℕ → Pdu → ℕ → ClientLink → Bool → List ℕ × Relay
+put_with s i p c k true = refuse s i p ESME_RMSGQFUL
+put_with s i p c k false = (text_line (codes "mo " ++ decimal c), with_link s c (record k { mailbox = with_message (record { lane = i; pdu = p }) k.mailbox }))
+
+-- it waits in the client's mailbox, unless that is full
+abbrev pub put_at : Relay → ℕ → Pdu → ℕ → Option ClientLink → List ℕ × Relay
+put_at s i p c None = refuse s i p ESME_RX_T_APPN
+put_at s i p c (Some k) = put_with s i p c k (is_full k.mailbox)
+
+unfoldable pub put_to : Relay → ℕ → Pdu → Option ℕ → List ℕ × Relay
+put_to s i p None = refuse s i p ESME_RX_T_APPN
+put_to s i p (Some c) = put_at s i p c (slice_get s.links c)
+
+abbrev pub message_to : Relay → ℕ → Pdu → Result (List ℕ) BodyFault → List ℕ × Relay
+message_to s i p (Ok address) = put_to s i p (routed s.routes address)
+message_to s i p (Err e) = refuse s i p ESME_RINVCMDLEN
+
+-- a message of the centre goes to the client to which its destination is routed
+unfoldable pub message_turn : ℕ → Pdu → Relay → List ℕ × Relay
+message_turn i p s = message_to s i p (destination_at p.body)
+
+abbrev pub answer_with : Relay → ℕ → Pdu → ClientLink → Option Waiting → List ℕ × Relay
+answer_with s c p k None = ([], s)
+answer_with s c p k (Some w) = (pdu_line (up_lane w.lane) (record p { number = w.number }), with_link s c (record k { mailbox = settled p.number k.mailbox }))
+
+abbrev pub answer_at : Relay → ℕ → Pdu → Option ClientLink → List ℕ × Relay
+answer_at s c p None = ([], s)
+answer_at s c p (Some k) = answer_with s c p k (answered p.number p.command k.mailbox.window.waiting)
+
+-- a client's answer to a message that waits for it goes to the message's lane, under the centre's number
+unfoldable pub answer_turn : ℕ → Pdu → Relay → List ℕ × Relay
+answer_turn c p s = answer_at s c p (slice_get s.links c)
+
+-- the client has left
+abbrev pub left_line : Unanswered → List ℕ
+left_line u = pdu_line (up_lane u.lane) (refusal u.command u.number ESME_RX_T_APPN)
+
+abbrev pub empty_at : ℕ → Relay → Option ClientLink → List ℕ × Relay
+empty_at c s None = ([], s)
+empty_at c s (Some k) = (flat_map left_line (unanswered k.mailbox), with_link s c (record k { mailbox = emptied k.mailbox }))
+
+-- a client leaves each lane, and each of its messages is answered
+unfoldable pub leave_turn : ℕ → Relay → List ℕ × Relay
+leave_turn c s = empty_at c (all_left c s) (slice_get s.links c)
+
+abbrev pub send_at : ℕ → Relay → Option ClientLink → List ℕ × Relay
+send_at c s None = ([], s)
+send_at c s (Some k) = (flat_map (pdu_line (to_client c)) (sent k.mailbox.window k.mailbox.waiting), with_link s c (record k { mailbox = after_sent k.mailbox.window k.mailbox.waiting }))
+
+-- the client is sent the messages that its window has places for
+unfoldable pub send_turn : ℕ → Relay → List ℕ × Relay
+send_turn c s = send_at c s (slice_get s.links c)
