@@ -29,6 +29,8 @@ pub use engine::run;
 #[cfg(test)]
 mod fakes;
 #[cfg(test)]
+mod message_tests;
+#[cfg(test)]
 mod session_tests;
 #[cfg(test)]
 mod tests;
