@@ -6,6 +6,7 @@ mod figures;
 mod frame;
 mod lane;
 mod lock;
+mod shared;
 
 use std::env;
 
@@ -14,6 +15,7 @@ const USAGE: &str = "usage: smx_bench WORD
 lock    the ticket lock, alone and among threads, beside the toolchain's Mutex
 lane    rounds of accept, take, answer and collect on one lane
 frame   PDUs from a stream in pieces of four sizes
+shared  requests of several ports over shared lanes, with a tap for each lane
 ";
 
 fn main(rt: HostRuntime) -> anyhow::Result<()> {
@@ -22,6 +24,7 @@ fn main(rt: HostRuntime) -> anyhow::Result<()> {
         Some("lock") => lock::run(&rt),
         Some("lane") => lane::run(&rt),
         Some("frame") => frame::run(&rt),
+        Some("shared") => shared::run(&rt),
         _ => Ok(print!(rt; "{USAGE}")?),
     }
 }
