@@ -17,7 +17,7 @@ pub record Framing : Type 0 where
   pub stream : Stream
   pub room : ℕ
 
--- the fault of a bad length in a PDU's place
+-- the fault of a bad length in a PDU's place, where its four octets stand there
 unfoldable pub fault_at : ℕ → List ℕ → Option FrameFault
 fault_at max rest =
     if nat_lt (length rest) 4 then None

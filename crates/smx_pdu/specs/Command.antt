@@ -1,4 +1,5 @@
 -- Which commands have a response, and which a gateway passes on (SMPP 3.4, sections 4 and 5.1.2.1).
+-- The ids are the code's own constants: a test compares them with the numbers of table 5-1.
 use Rattle.std.specs.Prelude.{ℕ, Bool, List, [], ◌∷◌, ◌+◌, ◌||◌, Option, Some, None, ◌==◌, if◌then◌else◌}
 use Rattle.std.specs.List.{list_any}
 use Rattle.smx_pdu.specs.declared.command.TheConstants.{BIND_RECEIVER, BIND_TRANSMITTER, QUERY_SM, SUBMIT_SM, DELIVER_SM, UNBIND, REPLACE_SM, CANCEL_SM, BIND_TRANSCEIVER, ENQUIRE_LINK, SUBMIT_MULTI, DATA_SM, RESPONSE, GENERIC_NACK}

@@ -1,5 +1,5 @@
 //! The body of a bind (SMPP 3.4, sections 4.1.1, 4.1.3 and 4.1.5).
-ghost use Rattle.std.specs.Prelude.{◌≡◌, ◌+◌, ◌≤◌, ◌↔◌, ◌++◌, ℕ, List, length, drop, IsTrue, IfOk, IfErr, OnOk, OnErr, Ok, vec_len, vec_capacity};
+ghost use Rattle.std.specs.Prelude.{◌≡◌, ◌+◌, ◌<◌, ◌≤◌, ◌↔◌, ◌++◌, ℕ, List, length, drop, IsTrue, IfOk, IfErr, OnOk, OnErr, Ok, vec_len, vec_capacity};
 ghost use Rattle.smx_pdu.specs.Fields.{Holds, FirstFault, bind_fields, all_octets};
 ghost use Rattle.smx_pdu.specs.Reading.{BindFields, BindFits, said_by, in_order, bind_at, Gives};
 ghost use Rattle.smx_pdu.specs.declared.body_fault.BodyFault.{BodyFault};
@@ -111,6 +111,11 @@ pub fn write_bind(bind: &Bind<'_>, out: &mut Vec<u8>) -> Result<(), AllocError>
     requires { BindFits (said_by bind.now) }
     ensures ok { OnOk result (out.new.items ≡ out.old.items ++ all_octets bind_fields (in_order (said_by bind.now))) }
     ensures err { OnErr result (out.new.items ≡ out.old.items) }
+
+    // Memory is wanted only where there is no room for the body.
+    ensures memory { OnErr result (vec_capacity out.old < vec_len out.old
+        + (length bind.now.system_id.now + length bind.now.password.now + length bind.now.system_type.now
+        + length bind.now.address_range.now + 7)) }
 
     // What was written is read as the same bind, whatever follows it.
     ensures again { OnOk result ((more : List ℕ) → bind_at (drop (length out.old.items) out.new.items ++ more) ≡ Ok (said_by bind.now)) }

@@ -89,6 +89,9 @@ pub fn encode(pdu: &Pdu, out: &mut Vec<u8>) -> Result<(), AllocError>
     ensures ok { OnOk result (out.new.items ≡ out.old.items ++ spelling pdu.now) }
     ensures spells { OnOk result (Spells pdu.now (spelling pdu.now)) }
     ensures err { OnErr result (out.new.items ≡ out.old.items) }
+
+    // Memory is wanted only where there is no room for the PDU.
+    ensures memory { OnErr result (vec_capacity out.old < vec_len out.old + (16 + length pdu.now.body)) }
 {
     out.reserve(16 + pdu.body.len())?;
     append_pdu(pdu, out);

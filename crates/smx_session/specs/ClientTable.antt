@@ -89,7 +89,7 @@ client_cell row.MessageAnswer BoundTx = ignore
 client_cell row.MessageAnswer BoundRx = message_answer
 client_cell row.MessageAnswer BoundTrx = message_answer
 client_cell row.MessageAnswer Ended = ignore
--- any other response: no response is answered (2.6)
+-- any other response: only a request has a response (2.8)
 client_cell row.OtherResponse Opened = ignore
 client_cell row.OtherResponse BoundTx = ignore
 client_cell row.OtherResponse BoundRx = ignore

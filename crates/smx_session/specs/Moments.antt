@@ -25,6 +25,7 @@ pub record Upstream : Type 0 where
 abbrev pub moment : Upstream → ℕ → ℕ
 moment u now = max u.latest now
 
+-- the session once a moment is handed in
 abbrev pub at : Upstream → ℕ → Upstream
 at u now = record u { latest = moment u now }
 
@@ -96,6 +97,7 @@ farewell Bound = Some (request UNBIND unbind_number)
 farewell Unbinding = None
 farewell Ended = None
 
+-- and then its answer is waited for
 abbrev pub stopped : UpstreamState → UpstreamState
 stopped Binding = Binding
 stopped Bound = Unbinding

@@ -88,7 +88,7 @@ upstream_cell row.OtherBindAnswer Binding = ignore
 upstream_cell row.OtherBindAnswer Bound = ignore
 upstream_cell row.OtherBindAnswer Unbinding = ignore
 upstream_cell row.OtherBindAnswer Ended = ignore
--- any other response goes to the lane that sent the request (2.6)
+-- any other response goes to the lane that sent the request, which it names by its number (5.1.4)
 upstream_cell row.OtherResponse Binding = ignore
 upstream_cell row.OtherResponse Bound = to_lane
 upstream_cell row.OtherResponse Unbinding = to_lane

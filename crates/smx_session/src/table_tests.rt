@@ -61,10 +61,11 @@ fn client_in(alloc: Global, state: ClientState) -> ClientSession {
     }
 }
 
-fn assert_client_row(
+// What is done in each state with a PDU of this command is what its cell says.
+fn assert_client_cells(
     rt: &impl Abort,
     alloc: Global,
-    commands: &[u32],
+    command: u32,
     cells: [Cell; 5],
 ) -> Result<(), AllocError> {
     let states = [
@@ -74,62 +75,60 @@ fn assert_client_row(
         ClientState::BoundTrx,
         ClientState::Ended,
     ];
-    for command in commands {
-        let pdu = header(alloc, *command, 0, 7);
-        for (state, cell) in states.iter().zip(cells.iter()) {
-            let mut session = client_in(alloc, *state);
-            let act = session.on_pdu(&pdu, &[])?;
-            assert_eq!(rt; cell_of_act(&pdu, &act), *cell, "{command:x} in {state:?}");
-            let after = if *cell == Leave {
-                ClientState::Ended
-            } else {
-                *state
-            };
-            assert_eq!(rt; session.state(), after);
-        }
+    let pdu = header(alloc, command, 0, 7);
+    for (state, cell) in states.iter().zip(cells.iter()) {
+        let mut session = client_in(alloc, *state);
+        let act = session.on_pdu(&pdu, &[])?;
+        assert_eq!(rt; cell_of_act(&pdu, &act), *cell, "{command:x} in {state:?}");
+        let after = if *cell == Leave {
+            ClientState::Ended
+        } else {
+            *state
+        };
+        assert_eq!(rt; session.state(), after);
     }
     Ok(())
 }
 
-// Each row's cells in the states Opened, BoundTx, BoundRx, BoundTrx and Ended. The binds' bodies
+// Each command's cells in the states Opened, BoundTx, BoundRx, BoundTrx and Ended. The binds' bodies
 // are empty, so in Opened the first check refuses them.
 #[test]
 fn client_table(rt: HostRuntime) -> Result<(), Fail> {
-    let alloc = rt.alloc();
     let refused = Status(4);
     let bound = Status(5);
     let fine = Status(0);
-    assert_client_row(
-        &rt,
-        alloc,
-        &[1, 2, 9],
-        [Status(2), bound, bound, bound, refused],
-    )?;
-    let forwarded = [4, 0x21, 3, 8, 7, 0x103];
-    assert_client_row(
-        &rt,
-        alloc,
-        &forwarded,
-        [refused, Forward, refused, Forward, refused],
-    )?;
-    assert_client_row(&rt, alloc, &[5], [refused; 5])?;
-    assert_client_row(&rt, alloc, &[0x15], [fine, fine, fine, fine, refused])?;
-    assert_client_row(&rt, alloc, &[6], [refused, Leave, Leave, Leave, refused])?;
-    let answers = [0x8000_0005, 0x8000_0103, 0x8000_0000];
-    assert_client_row(
-        &rt,
-        alloc,
-        &answers,
-        [Ignore, Ignore, Message, Message, Ignore],
-    )?;
-    assert_client_row(
-        &rt,
-        alloc,
-        &[0x8000_0004, 0x8000_0006, 0xFFFF_FFFF],
-        [Ignore; 5],
-    )?;
-    assert_client_row(&rt, alloc, &[0xB, 0x102], [Ignore; 5])?;
-    assert_client_row(&rt, alloc, &[0, 0xA, 0xAA, 0x7FFF_FFFF], [Nack; 5])?;
+    let bind = [Status(2), bound, bound, bound, refused];
+    let forwarded = [refused, Forward, refused, Forward, refused];
+    let message_answer = [Ignore, Ignore, Message, Message, Ignore];
+    let table = [
+        (1, bind),
+        (2, bind),
+        (9, bind),
+        (4, forwarded),
+        (0x21, forwarded),
+        (3, forwarded),
+        (8, forwarded),
+        (7, forwarded),
+        (0x103, forwarded),
+        (5, [refused; 5]),
+        (0x15, [fine, fine, fine, fine, refused]),
+        (6, [refused, Leave, Leave, Leave, refused]),
+        (0x8000_0005, message_answer),
+        (0x8000_0103, message_answer),
+        (0x8000_0000, message_answer),
+        (0x8000_0004, [Ignore; 5]),
+        (0x8000_0006, [Ignore; 5]),
+        (0xFFFF_FFFF, [Ignore; 5]),
+        (0xB, [Ignore; 5]),
+        (0x102, [Ignore; 5]),
+        (0, [Nack; 5]),
+        (0xA, [Nack; 5]),
+        (0xAA, [Nack; 5]),
+        (0x7FFF_FFFF, [Nack; 5]),
+    ];
+    for (command, cells) in table {
+        assert_client_cells(&rt, rt.alloc(), command, cells)?;
+    }
     Ok(())
 }
 
@@ -182,10 +181,11 @@ fn upstream_in(
     Ok(session)
 }
 
-fn assert_upstream_row(
+// What is done in each state with a PDU of this command, status and number is what its cell says.
+fn assert_upstream_cells(
     rt: &impl Abort,
     alloc: Global,
-    pdus: &[(u32, u32, u32)],
+    pdu: (u32, u32, u32),
     cells: [Cell; 4],
 ) -> Result<(), AllocError> {
     let states = [
@@ -194,23 +194,22 @@ fn assert_upstream_row(
         UpstreamState::Unbinding,
         UpstreamState::Ended,
     ];
-    for (command, status, number) in pdus {
-        let pdu = header(alloc, *command, *status, *number);
-        for (state, cell) in states.iter().zip(cells.iter()) {
-            let mut session = upstream_in(rt, alloc, *state)?;
-            let act = session.on_pdu(&pdu, 0);
-            assert_eq!(rt;
-                cell_of_up_act(&pdu, &act),
-                *cell,
-                "{command:x} in {state:?}"
-            );
-            let after = match cell {
-                Up => UpstreamState::Bound,
-                Failed(_) | Leave | Closed => UpstreamState::Ended,
-                _ => *state,
-            };
-            assert_eq!(rt; session.state(), after);
-        }
+    let (command, status, number) = pdu;
+    let pdu = header(alloc, command, status, number);
+    for (state, cell) in states.iter().zip(cells.iter()) {
+        let mut session = upstream_in(rt, alloc, *state)?;
+        let act = session.on_pdu(&pdu, 0);
+        assert_eq!(rt;
+            cell_of_up_act(&pdu, &act),
+            *cell,
+            "{command:x} in {state:?}"
+        );
+        let after = match cell {
+            Up => UpstreamState::Bound,
+            Failed(_) | Leave | Closed => UpstreamState::Ended,
+            _ => *state,
+        };
+        assert_eq!(rt; session.state(), after);
     }
     Ok(())
 }
@@ -221,60 +220,64 @@ const ENQUIRY: u32 = 0x7fff_fffe;
 
 const UNBIND: u32 = 0x7fff_ffff;
 
-// Each row's cells in the states Binding, Bound, Unbinding and Ended: responses.
+// Each PDU's cells in the states Binding, Bound, Unbinding and Ended: responses.
 #[test]
 fn upstream_responses(rt: HostRuntime) -> Result<(), Fail> {
-    let alloc = rt.alloc();
     let nack = 0x8000_0000;
-    let row = [(0x8000_0009, 0, BIND)];
-    assert_upstream_row(&rt, alloc, &row, [Up, Ignore, Ignore, Ignore])?;
-    let row = [(0x8000_0009, 0xE, BIND), (nack, 0xE, BIND)];
-    assert_upstream_row(&rt, alloc, &row, [Failed(0xE), Ignore, Ignore, Ignore])?;
-    let row = [(nack, 0, BIND)];
-    assert_upstream_row(&rt, alloc, &row, [Failed(0), Ignore, Ignore, Ignore])?;
-    let row = [
-        (nack, 3, ENQUIRY),
-        (0x8000_0015, 0, ENQUIRY),
-        (0x8000_0015, 0, 1),
+    let refused = [Failed(0xE), Ignore, Ignore, Ignore];
+    let closed = [Ignore, Ignore, Closed, Ignore];
+    let to_lane = [Ignore, ToLane, ToLane, Ignore];
+    let table = [
+        ((0x8000_0009, 0, BIND), [Up, Ignore, Ignore, Ignore]),
+        ((0x8000_0009, 0xE, BIND), refused),
+        ((nack, 0xE, BIND), refused),
+        ((nack, 0, BIND), [Failed(0), Ignore, Ignore, Ignore]),
+        ((nack, 3, ENQUIRY), [Ignore; 4]),
+        ((0x8000_0015, 0, ENQUIRY), [Ignore; 4]),
+        ((0x8000_0015, 0, 1), [Ignore; 4]),
+        ((nack, 3, UNBIND), closed),
+        ((0x8000_0006, 0, UNBIND), closed),
+        ((0x8000_0006, 0, 1), closed),
+        ((0x8000_0001, 0, BIND), [Ignore; 4]),
+        ((0x8000_0002, 0, BIND), [Ignore; 4]),
+        ((0x8000_0009, 0, 1), [Ignore; 4]),
+        ((0x8000_0004, 0, 1), to_lane),
+        ((nack, 3, 1), to_lane),
+        ((0x8000_0004, 0, BIND), to_lane),
+        ((0xFFFF_FFFF, 0, 0), to_lane),
     ];
-    assert_upstream_row(&rt, alloc, &row, [Ignore; 4])?;
-    let row = [
-        (nack, 3, UNBIND),
-        (0x8000_0006, 0, UNBIND),
-        (0x8000_0006, 0, 1),
-    ];
-    assert_upstream_row(&rt, alloc, &row, [Ignore, Ignore, Closed, Ignore])?;
-    let row = [
-        (0x8000_0001, 0, BIND),
-        (0x8000_0002, 0, BIND),
-        (0x8000_0009, 0, 1),
-    ];
-    assert_upstream_row(&rt, alloc, &row, [Ignore; 4])?;
-    let row = [
-        (0x8000_0004, 0, 1),
-        (nack, 3, 1),
-        (0x8000_0004, 0, BIND),
-        (0xFFFF_FFFF, 0, 0),
-    ];
-    assert_upstream_row(&rt, alloc, &row, [Ignore, ToLane, ToLane, Ignore])?;
+    for (pdu, cells) in table {
+        assert_upstream_cells(&rt, rt.alloc(), pdu, cells)?;
+    }
     Ok(())
 }
 
 // The same: requests and what is neither.
 #[test]
 fn upstream_requests(rt: HostRuntime) -> Result<(), Fail> {
-    let alloc = rt.alloc();
     let refused = Status(4);
     let fine = Status(0);
-    let row = [(5, 0, 7), (0x103, 0, 7)];
-    assert_upstream_row(&rt, alloc, &row, [refused, Message, refused, refused])?;
-    assert_upstream_row(&rt, alloc, &[(0x15, 0, 7)], [fine, fine, fine, refused])?;
-    assert_upstream_row(&rt, alloc, &[(6, 0, 7)], [Leave, Leave, Leave, refused])?;
-    let row = [(1, 0, 7), (2, 0, 7), (9, 0, 7), (3, 0, 7)];
-    assert_upstream_row(&rt, alloc, &row, [refused; 4])?;
-    let row = [(4, 0, 7), (7, 0, 7), (8, 0, 7), (0x21, 0, 7)];
-    assert_upstream_row(&rt, alloc, &row, [refused; 4])?;
-    assert_upstream_row(&rt, alloc, &[(0xB, 0, 7), (0x102, 0, 7)], [Ignore; 4])?;
-    assert_upstream_row(&rt, alloc, &[(0, 0, 7), (0xAA, 0, 7)], [Nack; 4])?;
+    let message = [refused, Message, refused, refused];
+    let table = [
+        (5, message),
+        (0x103, message),
+        (0x15, [fine, fine, fine, refused]),
+        (6, [Leave, Leave, Leave, refused]),
+        (1, [refused; 4]),
+        (2, [refused; 4]),
+        (9, [refused; 4]),
+        (3, [refused; 4]),
+        (4, [refused; 4]),
+        (7, [refused; 4]),
+        (8, [refused; 4]),
+        (0x21, [refused; 4]),
+        (0xB, [Ignore; 4]),
+        (0x102, [Ignore; 4]),
+        (0, [Nack; 4]),
+        (0xAA, [Nack; 4]),
+    ];
+    for (command, cells) in table {
+        assert_upstream_cells(&rt, rt.alloc(), (command, 0, 7), cells)?;
+    }
     Ok(())
 }
