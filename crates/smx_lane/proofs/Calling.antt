@@ -1,5 +1,5 @@
 -- What each call says of its reply, and what a list of calls leaves.
-use Rattle.std.proofs.Common.{◌≡◌, ◌++◌, ◌∷◌, [], ℕ, List, Option, Some, None, Result, Ok, Err, IsSome, IfOk, OnOk, OnErr, MatchResult, refl, sym, ap, ◌∙◌, subst, append_assoc, slice_get}
+use Rattle.std.proofs.Common.{◌≡◌, ◌++◌, ◌∷◌, [], ℕ, List, Option, Some, None, Result, Ok, Err, IsSome, is_some, IfOk, OnOk, OnErr, MatchResult, refl, sym, ap, ◌∙◌, subst, append_assoc, slice_get}
 use Rattle.std.proofs.lemmas.List.{append-nil}
 use Rattle.smx_pdu.specs.declared.pdu.Pdu.{Pdu}
 use Rattle.smx_history.specs.declared.note.Note.{Note}
@@ -20,6 +20,7 @@ use Rattle.smx_lane.specs.declared.call.Call.{Call}
 use Rattle.smx_lane.specs.declared.call.Call.TheVariants as call
 use Rattle.smx_lane.specs.declared.call.Reply.{Reply}
 use Rattle.smx_lane.specs.declared.call.Reply.TheVariants as reply
+use Rattle.smx_lane.specs.Conditions.{IsOwn, IsNext}
 use Rattle.smx_lane.specs.Faults.{IsAdmitFault}
 use Rattle.smx_lane.specs.Calls.{GoesOn, IsReply, Ran}
 
@@ -35,10 +36,10 @@ pub admit_made : (old new : Content) (by c : ℕ) (r : Result (Unit {0}) AdmitFa
 admit_made old new by c (Ok x) told goes same = (note by (event.Admit c) ∷ [], (told, refl), goes)
 admit_made old new by c (Err e) told goes same = ([], (told, (refl, same)), stays old new same)
 
-pub accept_made : (old new : Content) (by : ℕ) (q : Request) (r : Result (Unit {0}) (Request × Refusal)) → MatchResult r (λ _. accept_refusal old q.client ≡ None) (λ e. (e.0 ≡ q) × (accept_refusal old q.client ≡ Some e.1))
+pub accept_made : (old new : Content) (by : ℕ) (q : Request) (r : Result (Unit {0}) (Request × Refusal)) → IsNext old by q.client q.ordinal → MatchResult r (λ _. accept_refusal old q.client ≡ None) (λ e. (e.0 ≡ q) × (accept_refusal old q.client ≡ Some e.1))
     → OnOk r (GoesOn old (note by (event.Accept q) ∷ []) new) → OnErr r (new ≡ old) → IsMade old (call.Accept by q) (reply.Accepted r) new
-accept_made old new by q (Ok x) told goes same = (note by (event.Accept q) ∷ [], (told, refl), goes)
-accept_made old new by q (Err e) told goes same = ([], (told.0, told.1, (refl, same)), stays old new same)
+accept_made old new by q (Ok x) kept told goes same = (note by (event.Accept q) ∷ [], (kept, told, refl), goes)
+accept_made old new by q (Err e) kept told goes same = ([], (kept, told.0, told.1, (refl, same)), stays old new same)
 
 pub take_made : (old new : Content) (by : ℕ) (r : Result Sent TakeRefusal) → MatchResult r (λ _. take_refusal old ≡ None) (λ e. take_refusal old ≡ Some e)
     → IfOk r (λ s. slice_get old.queue 0 ≡ Some s.request) → IfOk r (λ s. GoesOn old (note by (event.Take s.request.client s.request.ordinal s.upstream) ∷ []) new) → OnErr r (new ≡ old) → IsMade old (call.Take by) (reply.Taken r) new
@@ -46,18 +47,18 @@ take_made old new by (Ok s) told oldest goes same = (note by (event.Take s.reque
 take_made old new by (Err e) told oldest goes same = ([], (told, (refl, same)), stays old new same)
 
 pub answer_made : (old new : Content) (by : ℕ) (p : Pdu) (r : Answered) → IsAnswered old by p r new → IsMade old (call.Answer by p) (reply.Answered r) new
-answer_made old new by p (answered.Queued c) told = (note by (event.Answer told.0.client told.0.ordinal p) ∷ [], (told.0, told.2, told.3, refl), told.5)
+answer_made old new by p (answered.Queued c) told = (note by (event.Answer told.0.client told.0.ordinal p) ∷ [], (told.0, told.2, told.3, ap is_some told.4, refl), told.5)
 answer_made old new by p answered.Late told = (note by (event.Late told.0.client told.0.ordinal p.number p.command) ∷ [], (told.0, told.1, told.2, refl), told.3)
 answer_made old new by p (answered.Unknown back) told = ([], (told.0, told.1, (refl, told.2)), stays old new told.2)
 
-pub collect_made : (old new : Content) (by c : ℕ) (r : Option Pdu) → IsCollected old by c r new → IsMade old (call.Collect by c) (reply.Collected r) new
-collect_made old new by c (Some p) told = (note by (event.Collect c told.0.ordinal) ∷ [], (told.0, told.1, told.2, refl), told.3)
-collect_made old new by c None told = ([], (told.0, (refl, told.1)), stays old new told.1)
+pub collect_made : (old new : Content) (by c : ℕ) (r : Option Pdu) → IsOwn old by c → IsCollected old by c r new → IsMade old (call.Collect by c) (reply.Collected r) new
+collect_made old new by c (Some p) kept told = (note by (event.Collect c told.0.ordinal) ∷ [], (kept, told.0, told.1, told.2, refl), told.3)
+collect_made old new by c None kept told = ([], (kept, told.0, (refl, told.1)), stays old new told.1)
 
-pub retire_made : (old new : Content) (by c : ℕ) (r : Result (Unit {0}) NotAdmitted) → MatchResult r (λ _. IsSome (member_with c old.members)) (λ _. member_with c old.members ≡ None)
+pub retire_made : (old new : Content) (by c : ℕ) (r : Result (Unit {0}) NotAdmitted) → IsOwn old by c → MatchResult r (λ _. IsSome (member_with c old.members)) (λ _. member_with c old.members ≡ None)
     → OnOk r (GoesOn old (note by (event.Retire c) ∷ []) new) → OnErr r (new ≡ old) → IsMade old (call.Retire by c) (reply.Retired r) new
-retire_made old new by c (Ok x) told goes same = (note by (event.Retire c) ∷ [], refl, goes)
-retire_made old new by c (Err e) told goes same = ([], (told, (refl, same)), stays old new same)
+retire_made old new by c (Ok x) kept told goes same = (note by (event.Retire c) ∷ [], (kept, told, refl), goes)
+retire_made old new by c (Err e) kept told goes same = ([], (kept, told, (refl, same)), stays old new same)
 
 -- nothing was called
 pub ran_none : (old : Content) → Ran old [] [] [] old

@@ -1,5 +1,5 @@
 -- What a list of calls leaves, and what the calls answer.
-use Rattle.std.specs.Prelude.{◌≡◌, ◌++◌, ◌∷◌, [], List, Some, None, Ok, Err, slice_get}
+use Rattle.std.specs.Prelude.{◌≡◌, ◌++◌, ◌∷◌, [], List, Some, None, Ok, Err, IsSome, slice_get}
 use Rattle.std.specs.List.{find}
 use Rattle.smx_history.specs.declared.note.Note.{Note}
 use Rattle.smx_history.specs.declared.place.Place.{Place}
@@ -32,21 +32,21 @@ Keeps old (call.Collect by c) = IsOwn old by c
 Keeps old (call.Retire by c) = IsOwn old by c
 Keeps old _ = Unit {0}
 
--- the reply to a call on a lane with this content, its notes, and what the lane holds then
+-- the reply to a call on a lane with this content, its notes, and what the lane holds then; only a call that keeps to its condition is made
 abbrev pub IsReply : Content → Call → Reply → List Note → Content → Type 0
 IsReply old (call.Admit by c) (reply.Admitted (Ok _)) own new = (admit_refusal old c ≡ None) × (own ≡ note by (event.Admit c) ∷ [])
 IsReply old (call.Admit by c) (reply.Admitted (Err e)) own new = IsAdmitFault (admit_refusal old c) e × Stays old own new
-IsReply old (call.Accept by r) (reply.Accepted (Ok _)) own new = (accept_refusal old r.client ≡ None) × (own ≡ note by (event.Accept r) ∷ [])
-IsReply old (call.Accept by r) (reply.Accepted (Err e)) own new = (e.0 ≡ r) × (accept_refusal old r.client ≡ Some e.1) × Stays old own new
+IsReply old (call.Accept by r) (reply.Accepted (Ok _)) own new = IsNext old by r.client r.ordinal × (accept_refusal old r.client ≡ None) × (own ≡ note by (event.Accept r) ∷ [])
+IsReply old (call.Accept by r) (reply.Accepted (Err e)) own new = IsNext old by r.client r.ordinal × (e.0 ≡ r) × (accept_refusal old r.client ≡ Some e.1) × Stays old own new
 IsReply old (call.Take by) (reply.Taken (Ok s)) own new = (take_refusal old ≡ None) × (slice_get old.queue 0 ≡ Some s.request) × (own ≡ note by (event.Take s.request.client s.request.ordinal s.upstream) ∷ [])
 IsReply old (call.Take by) (reply.Taken (Err e)) own new = (take_refusal old ≡ Some e) × Stays old own new
-IsReply old (call.Answer by p) (reply.Answered (answered.Queued c)) own new = (q : Place) × (find (answers_place p) old.window ≡ Some q) × (q.client ≡ c) × (own ≡ note by (event.Answer q.client q.ordinal p) ∷ [])
+IsReply old (call.Answer by p) (reply.Answered (answered.Queued c)) own new = (q : Place) × (find (answers_place p) old.window ≡ Some q) × (q.client ≡ c) × IsSome (member_with c old.members) × (own ≡ note by (event.Answer q.client q.ordinal p) ∷ [])
 IsReply old (call.Answer by p) (reply.Answered answered.Late) own new = (q : Place) × (find (answers_place p) old.window ≡ Some q) × (member_with q.client old.members ≡ None) × (own ≡ note by (event.Late q.client q.ordinal p.number p.command) ∷ [])
 IsReply old (call.Answer by p) (reply.Answered (answered.Unknown back)) own new = (find (answers_place p) old.window ≡ None) × (back ≡ p) × Stays old own new
-IsReply old (call.Collect by c) (reply.Collected (Some p)) own new = (r : Response) × (oldest_in (member_with c old.members) ≡ Some r) × (r.pdu ≡ p) × (own ≡ note by (event.Collect c r.ordinal) ∷ [])
-IsReply old (call.Collect by c) (reply.Collected None) own new = (oldest_in (member_with c old.members) ≡ None) × Stays old own new
-IsReply old (call.Retire by c) (reply.Retired (Ok _)) own new = own ≡ note by (event.Retire c) ∷ []
-IsReply old (call.Retire by c) (reply.Retired (Err _)) own new = (member_with c old.members ≡ None) × Stays old own new
+IsReply old (call.Collect by c) (reply.Collected (Some p)) own new = IsOwn old by c × (r : Response) × (oldest_in (member_with c old.members) ≡ Some r) × (r.pdu ≡ p) × (own ≡ note by (event.Collect c r.ordinal) ∷ [])
+IsReply old (call.Collect by c) (reply.Collected None) own new = IsOwn old by c × (oldest_in (member_with c old.members) ≡ None) × Stays old own new
+IsReply old (call.Retire by c) (reply.Retired (Ok _)) own new = IsOwn old by c × IsSome (member_with c old.members) × (own ≡ note by (event.Retire c) ∷ [])
+IsReply old (call.Retire by c) (reply.Retired (Err _)) own new = IsOwn old by c × (member_with c old.members ≡ None) × Stays old own new
 IsReply old made reply.Unkept own new = ¬ (Keeps old made) × Stays old own new
 IsReply old _ _ own new = ⊥
 

@@ -135,6 +135,39 @@ fn retired_clients_get_nothing(rt: HostRuntime) -> Result<(), Fail> {
     Ok(())
 }
 
+// The calls of a list are made in order, but for those that don't keep to their conditions.
+#[test]
+fn lists_of_calls(rt: HostRuntime) -> Result<(), Fail> {
+    let mut lane = Lane::new(rt.alloc(), ROOMY)?;
+    let mut calls = Vec::new(rt.alloc());
+    calls.push(Call::Admit { by: 3, client: 1 })?;
+    for _ in 0..2 {
+        let request = submit(rt.alloc(), 1, 1);
+        calls.push(Call::Accept { by: 3, request })?;
+    }
+    calls.push(Call::Take { by: 9 })?;
+    let response = submitted(rt.alloc(), 1);
+    calls.push(Call::Answer { by: 9, response })?;
+    calls.push(Call::Collect { by: 9, client: 1 })?;
+    calls.push(Call::Collect { by: 3, client: 1 })?;
+    calls.push(Call::Retire { by: 3, client: 1 })?;
+    let replies = run_all(&mut lane, rt.alloc(), calls)?;
+    let made = [
+        matches!(replies.get(0), Some(Reply::Admitted(Ok(())))),
+        matches!(replies.get(1), Some(Reply::Accepted(Ok(())))),
+        matches!(replies.get(2), Some(Reply::Unkept)),
+        matches!(replies.get(3), Some(Reply::Taken(Ok(Sent { upstream: 1, .. })))),
+        matches!(replies.get(4), Some(Reply::Answered(Answered::Queued { client: 1 }))),
+        matches!(replies.get(5), Some(Reply::Unkept)),
+        matches!(replies.get(6), Some(Reply::Collected(Some(Pdu { number: 7, .. })))),
+        matches!(replies.get(7), Some(Reply::Retired(Ok(())))),
+    ];
+    assert_eq!(rt; made, [true; 8]);
+    assert_eq!(rt; replies.len(), 8);
+    assert_eq!(rt; lane.entries().len(), 6);
+    Ok(())
+}
+
 // Want of memory is said by name, and leaves the lane as it was: tools/refuse-memory refuses each
 // allocation in turn.
 #[test]

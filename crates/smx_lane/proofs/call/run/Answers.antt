@@ -5,7 +5,7 @@ pub returns-in-Admit-clause-reply : goal.returns-in-Admit-clause-reply
 returns-in-Admit-clause-reply c = rw c.in-Admit.is (admit_made c.args.lane.now _ _ _ c.admit.result c.admit.ensures.reply c.admit.ensures.agrees c.admit.ensures.err)
 
 pub returns-else-not-is_next-clause-reply : goal.returns-else-not-is_next-clause-reply
-returns-else-not-is_next-clause-reply c = rw c.in-Accept.is (accept_made c.args.lane.now _ _ _ c.accept.result c.accept.ensures.reply c.accept.ensures.agrees c.accept.ensures.err)
+returns-else-not-is_next-clause-reply c = rw c.in-Accept.is (accept_made c.args.lane.now _ _ _ c.accept.result (c.is_next.ensures.0 c.if-not-is_next.false) c.accept.ensures.reply c.accept.ensures.agrees c.accept.ensures.err)
 
 pub returns-in-Take-clause-reply : goal.returns-in-Take-clause-reply
 returns-in-Take-clause-reply c = rw c.in-Take.is (take_made c.args.lane.now _ _ c.take.result c.take.ensures.reply c.take.ensures.oldest c.take.ensures.agrees c.take.ensures.err)
@@ -14,7 +14,7 @@ pub returns-in-Answer-clause-reply : goal.returns-in-Answer-clause-reply
 returns-in-Answer-clause-reply c = rw c.in-Answer.is (answer_made c.args.lane.now _ _ _ c.answer.result c.answer.ensures.answered)
 
 pub returns-else-not-is_own-clause-reply : goal.returns-else-not-is_own-clause-reply
-returns-else-not-is_own-clause-reply c = rw c.in-Collect.is (collect_made c.args.lane.now _ _ _ c.collect.result c.collect.ensures.collected)
+returns-else-not-is_own-clause-reply c = rw c.in-Collect.is (collect_made c.args.lane.now _ _ _ c.collect.result (c.is_own.ensures.0 c.if-not-is_own.false) c.collect.ensures.collected)
 
 pub returns-else-not-is_own-2-clause-reply : goal.returns-else-not-is_own-2-clause-reply
-returns-else-not-is_own-2-clause-reply c = rw c.in-Retire.is (retire_made c.args.lane.now _ _ _ c.retire.result c.retire.ensures.reply c.retire.ensures.agrees c.retire.ensures.err)
+returns-else-not-is_own-2-clause-reply c = rw c.in-Retire.is (retire_made c.args.lane.now _ _ _ c.retire.result (c.is_own-in-Retire.ensures.0 c.if-not-is_own-2.false) c.retire.ensures.reply c.retire.ensures.agrees c.retire.ensures.err)
