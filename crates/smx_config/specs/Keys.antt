@@ -6,6 +6,7 @@ use Rattle.smx_config.specs.declared.number.Number.TheVariants.{Clients, Places,
 use Rattle.smx_config.specs.declared.text.Text.{Text}
 use Rattle.smx_config.specs.declared.text.Text.TheVariants.{Listen, Address, SystemId, Password, Prefix}
 
+-- the key as a file writes it
 abbrev pub number_key : Number → List ℕ
 number_key Clients = codes "clients"
 number_key Places = codes "box"
@@ -15,6 +16,7 @@ number_key Window = codes "window"
 number_key Client = codes "client"
 number_key History = codes "history"
 
+-- the least number that may stand at the key; silence is in milliseconds
 abbrev pub least_of : Number → ℕ
 least_of Clients = 1
 least_of Places = 1
@@ -24,6 +26,7 @@ least_of Window = 1
 least_of Client = 1
 least_of History = 1000
 
+-- the greatest
 abbrev pub most_of : Number → ℕ
 most_of Clients = 256
 most_of Places = 256
@@ -43,9 +46,11 @@ default_of Window = 10
 default_of Client = 20
 default_of History = 100000
 
+-- the number may stand at the key
 abbrev pub is_number : Number → ℕ → Bool
 is_number key n = nat_le (least_of key) n && nat_le n (most_of key)
 
+-- the key as a file writes it
 abbrev pub text_key : Text → List ℕ
 text_key Listen = codes "listen"
 text_key Address = codes "address"
@@ -80,5 +85,6 @@ may_have_zero Prefix = true
 abbrev pub has_zero : List ℕ → Bool
 has_zero s = list_any (λ b. b == 0) s
 
+-- the text may stand at the key
 abbrev pub is_text : Text → List ℕ → Bool
 is_text key s = (nat_le (fewest_of key) (length s) && nat_le (length s) (longest_of key)) && (may_have_zero key || not (has_zero s))

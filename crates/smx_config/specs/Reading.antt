@@ -21,6 +21,7 @@ abbrev pub number_within : Number → ℤ → Option ℕ
 number_within key (pos n) = if is_number key n then Some n else None
 number_within key (negsuc n) = None
 
+-- the number that a value is, where it may stand at the key
 abbrev pub number_of : Number → Data → Option ℕ
 number_of key d = option_and_then (number_within key) (as_integer d)
 
@@ -28,6 +29,7 @@ number_of key d = option_and_then (number_within key) (as_integer d)
 abbrev pub number_at : Number → Members → Option ℕ
 number_at key ms = option_map_or (number_of key) (get_member (number_key key) ms) (Some (default_of key))
 
+-- the text, where it may stand at the key
 abbrev pub text_within : Text → List ℕ → Option (List ℕ)
 text_within key s = if is_text key s then Some s else None
 

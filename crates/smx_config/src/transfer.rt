@@ -33,6 +33,8 @@ fn read_octets<R: Read>(alloc: Global, reader: &mut R) -> Result<Vec<u8>, FileFa
     ensures too_long { IsErrOf result FileFault.TooLong
         → IfSome (R.remaining reader.old) (λ file. MAX_FILE < length file) }
     ensures other { ¬ (IsErrOf result FileFault.NotUtf8) }
+    ensures failed { IsErrOf result FileFault.Failed → (front : List ℕ) × (length front ≤ MAX_FILE)
+        × Consumes (R.remaining reader.old) (R.remaining reader.new) front }
 {
     let mut text = Vec::new(alloc);
     let mut piece = [0u8; 4096];
@@ -61,6 +63,10 @@ pub fn read_text<R: Read>(alloc: Global, reader: &mut R) -> Result<String, FileF
         → IfSome (R.remaining reader.old) (λ file. MAX_FILE < length file) }
     ensures not_utf8 { IsErrOf result FileFault.NotUtf8
         → IfSome (R.remaining reader.old) (λ file. ¬ (IsUtf8 file)) }
+
+    // Where reading failed, no more was read before than a file may have.
+    ensures failed { IsErrOf result FileFault.Failed → (front : List ℕ) × (length front ≤ MAX_FILE)
+        × Consumes (R.remaining reader.old) (R.remaining reader.new) front }
 {
     let octets = read_octets(alloc, reader)?;
     match String::from_utf8(octets) {

@@ -22,6 +22,7 @@ sizes senders places = record { senders = senders; places = places }
 abbrev pub AreSizes : ℕ → ℕ → Type 0
 AreSizes senders places = ((0 < senders) × (senders ≤ 256)) × ((0 < places) × (places ≤ 256))
 
+-- counts a sender that is no longer open
 abbrev pub one_if_shut : Bool → ℕ
 one_if_shut true = 0
 one_if_shut false = 1

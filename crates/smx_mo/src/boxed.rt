@@ -1,5 +1,5 @@
 //! A new box.
-ghost use Rattle.std.specs.Prelude.{◌≡◌, ◌≢◌, ◌≤◌, ◌↔◌, [], length, vec_len, vec_capacity, IsTrue, IfOk, IfErr};
+ghost use Rattle.std.specs.Prelude.{◌≡◌, ◌≢◌, ◌≤◌, ◌⊎◌, ◌↔◌, [], length, vec_len, vec_capacity, IsTrue, IfOk, IfErr};
 ghost use Rattle.std.specs.Arc.{arc_value};
 ghost use Rattle.smx_ticket_core.specs.Machine.{most};
 ghost use Rattle.smx_lock.specs.Fronts.{first_front};
@@ -76,6 +76,10 @@ fn seat_all<T: Drop>(
     ensures count { IfOk result (λ all. length all.items ≡ senders) }
     ensures each { IfOk result (λ all. StandFrom 0 held.old.lock all.items) }
     ensures err { IfErr result (λ e. e ≢ BoxFault.BadSize) }
+
+    // `Spent` comes only where no seat is left, or where a seat beside the receiver's was there before.
+    ensures spent { IfErr result (λ e. e ≡ BoxFault.Spent →
+        (most ≤ held.new.seats) ⊎ (held.old.seats ≢ 1)) }
 {
     let mut all = room;
     for sender in 0..senders {

@@ -18,4 +18,5 @@ loop-sender-preserved g c =
       subst (StandFrom 0 c.args.held.now.lock) (sym pushed.items)
           (stand_more 0 c.loop-sender.sender c.args.held.now.lock c.loop-sender.all.items s inv.4 (let l = inv.2 in omega arith)
           (c.new-in-loop-sender.ensures.sender, c.new-in-loop-sender.ensures.put, lock)),
+      (let one_more = ap (λ z. z.seats) held in let before = inv.5 in omega arith),
     )
