@@ -8,3 +8,4 @@ pub mod Leaving
 pub mod Rounds
 pub mod Entering
 pub mod Making
+pub mod Ending

@@ -1,8 +1,6 @@
 //! The lanes, each under its lock.
 ghost use Rattle.std.specs.Prelude.{◌≡◌, ◌<◌, ◌≤◌, [], length, slice_get, vec_capacity, Some, All, IfOk, IfErr};
-ghost use Rattle.std.specs.List.{AllZip};
-ghost use Rattle.smx_lock.specs.Fronts.{IsLast};
-ghost use Rattle.smx_lane.specs.Kept.{limits_of, suits};
+ghost use Rattle.smx_shared.specs.Ending.{AreGiven, GivenBefore};
 ghost use Rattle.smx_shared.specs.Views.{locks_of};
 ghost use Rattle.smx_shared.specs.Making.{AreStarts, Opens, IsMakeFault};
 
@@ -90,12 +88,14 @@ impl Exchange {
     }
 
     /// Ends the lanes' locks and gives the lanes, in order. Each agrees with a history that begins
-    /// with all that the door had seen there.
-    // As of the lock's own `finish`, no clause says when `StateOut` comes. Tests show both answers.
+    /// with all that the door had seen there. `StateOut` names the first lane that was not in its
+    /// place.
+    // Of a lane that is named, `err` says that those before it were in their places. As of the lock's
+    // own `finish`, no clause says that this one was not: tests show both answers, and which lane.
     pub fn finish(self, door: Door) -> Result<Vec<Lane>, StateOut>
         requires { locks_of door.fronts ≡ self }
-        ensures ok { IfOk result (λ lanes. AllZip (IsLast limits_of suits) door.fronts lanes.items) }
-        ensures err { IfErr result (λ e. e.lane < length self) }
+        ensures ok { IfOk result (λ lanes. AreGiven door.fronts lanes.items) }
+        ensures err { IfErr result (λ e. (e.lane < length self) × GivenBefore e.lane door.fronts) }
     {
         let Exchange {
             locks,
@@ -116,8 +116,8 @@ fn finish_all(
     requires locks { locks_of seats.items ≡ locks.items }
     requires none { room.items ≡ [] }
     requires room { length locks.items ≤ vec_capacity room }
-    ensures ok { IfOk result (λ lanes. AllZip (IsLast limits_of suits) seats.items lanes.items) }
-    ensures err { IfErr result (λ e. e.lane < length locks.items) }
+    ensures ok { IfOk result (λ lanes. AreGiven seats.items lanes.items) }
+    ensures err { IfErr result (λ e. (e.lane < length locks.items) × GivenBefore e.lane seats.items) }
 {
     let mut lanes = room;
     let mut rest = locks.into_iter();

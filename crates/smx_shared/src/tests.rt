@@ -275,6 +275,55 @@ const CALLS: [(u64, Kind, u64); 10] = [
     (3, Kind::Collect, 2),
 ];
 
+// Lane 1 has no room for a client more where lane 0 still has: the second client is admitted on lane
+// 0, refused on lane 1, and so retired on lane 0.
+#[test]
+fn refused_client_leaves_again(rt: HostRuntime) -> Result<(), Fail> {
+    let limits = Limits {
+        queue: 300,
+        client: 256,
+        ..ROOMY
+    };
+    // Ordinal 2 tries lane 1 first.
+    let starts = Starts {
+        ordinal: 2,
+        ..Starts::FIRST
+    };
+    let Ok((exchange, mut door, _taps)) = Exchange::new_at(&rt, rt.alloc(), limits, 2, starts)
+    else {
+        panic!(rt; "there is memory")
+    };
+    let Ok(mut client) = enter(&rt, rt.alloc(), &exchange, &mut door) else {
+        panic!(rt; "there is room")
+    };
+    // An admit takes 2 of a lane's 1,000 entries and a request 4: 249 on lane 1 leave 2, 248 on lane
+    // 0 leave 6.
+    for own in 1..=497 {
+        assert_eq!(rt; client.submit(&rt, own), Ok(own as usize % 2));
+    }
+    let entered = enter(&rt, rt.alloc(), &exchange, &mut door).err();
+    assert_eq!(rt; entered, Some(EnterFault::HistoryFull));
+    drop(client);
+    let Ok(lanes) = exchange.finish(door) else {
+        panic!(rt; "a lane is out")
+    };
+    let members = [
+        [(Kind::Admit, 1), (Kind::Admit, 2), (Kind::Retire, 2)].as_slice(),
+        [(Kind::Admit, 1)].as_slice(),
+    ];
+    for (lane, wanted) in lanes.iter().zip(members) {
+        let entries = lane.entries().iter();
+        let calls = entries.filter(|entry| entry.kind != Kind::Accept);
+        assert!(rt;
+            calls
+                .map(|entry| (entry.kind, entry.client))
+                .eq(wanted.iter().copied())
+        );
+    }
+    assert_eq!(rt; lanes.len(), 2);
+    Ok(())
+}
+
 // Want of memory is said by name: tools/refuse-memory refuses each allocation in turn. A client that
 // finds none has left again the lanes that it entered, and its number is used up.
 #[test]
