@@ -156,10 +156,19 @@ fn lists_of_calls(rt: HostRuntime) -> Result<(), Fail> {
         matches!(replies.get(0), Some(Reply::Admitted(Ok(())))),
         matches!(replies.get(1), Some(Reply::Accepted(Ok(())))),
         matches!(replies.get(2), Some(Reply::Unkept)),
-        matches!(replies.get(3), Some(Reply::Taken(Ok(Sent { upstream: 1, .. })))),
-        matches!(replies.get(4), Some(Reply::Answered(Answered::Queued { client: 1 }))),
+        matches!(
+            replies.get(3),
+            Some(Reply::Taken(Ok(Sent { upstream: 1, .. })))
+        ),
+        matches!(
+            replies.get(4),
+            Some(Reply::Answered(Answered::Queued { client: 1 }))
+        ),
         matches!(replies.get(5), Some(Reply::Unkept)),
-        matches!(replies.get(6), Some(Reply::Collected(Some(Pdu { number: 7, .. })))),
+        matches!(
+            replies.get(6),
+            Some(Reply::Collected(Some(Pdu { number: 7, .. })))
+        ),
         matches!(replies.get(7), Some(Reply::Retired(Ok(())))),
     ];
     assert_eq!(rt; made, [true; 8]);
