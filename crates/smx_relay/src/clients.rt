@@ -63,7 +63,9 @@ pub fn enter(alloc: Global, state: &mut State, kind: Option<Kind>) -> Result<Vec
     ensures { (s : Relay) → Agrees state.old s → IfOk result (λ text. Turned (client_turn s kind) state.new text.items) }
 {
     let client = state.clients.len() as u64;
-    state.links.push(ClientLink::new(alloc, kind, state.places)?)?;
+    state
+        .links
+        .push(ClientLink::new(alloc, kind, state.places)?)?;
     match admit_all(&mut state.lanes, client)? {
         None => {
             state.clients.push(Some(0))?;

@@ -8,7 +8,9 @@ use smx_mailbox::{Mailbox, Message, Unanswered};
 use smx_pdu::command::{BIND_TRANSCEIVER, RESPONSE};
 use smx_pdu::status::ESME_ROK;
 use smx_pdu::{Body, Pdu};
-use smx_session::{Account, Act, ClientSession, ClientState, Kind, UpAct, UpstreamSession, UpstreamState};
+use smx_session::{
+    Account, Act, ClientSession, ClientState, Kind, UpAct, UpstreamSession, UpstreamState,
+};
 use std::alloc::{AllocError, Global};
 use std::marker::Model;
 
