@@ -1,6 +1,6 @@
 -- An accept takes a lane that agrees with a history to one that agrees with the longer history.
 use Rattle.smx_history.proofs.FitsAccept.{MayAccept, accepted_push, accepted_own, accepted_other, accept_fit}
-use Rattle.smx_history.proofs.Following.{IsLegal-next}
+use Rattle.smx_history.proofs.Shifting.{IsLegal-next, stored-push}
 use Rattle.std.proofs.Common.{◌≡◌, ◌<◌, ◌≤◌, ◌+◌, ◌==◌, ℕ, true, false, cond, List, [], ◌∷◌, ◌++◌, length, map, refl, sym, ◌∙◌, ap, arith, length-append, Some}
 use Rattle.std.specs.List.{AllZip}
 use Rattle.std.proofs.lemmas.List.{map-append, drop-append-le}
@@ -12,19 +12,19 @@ use Rattle.smx_history.specs.declared.request.Request.{Request}
 use Rattle.smx_history.specs.declared.note.Note.{Note}
 use Rattle.smx_history.specs.Prefixes.{AtEach}
 use Rattle.smx_history.specs.Entries.{accepts, takes, accepts_of, is_admitted, is_retired, present}
-use Rattle.smx_history.specs.Legal.{IsFifo, IsPaired, size}
-use Rattle.smx_history.specs.History.{entry_by, note, entries_of, requests, request_in}
+use Rattle.smx_history.specs.Legal.{IsFifo, IsPaired, owed}
+use Rattle.smx_history.specs.History.{entry_by, note, marks_of, entries_of, requests, request_in}
 use Rattle.smx_history.specs.Contents.{AgreesWith, IsMemberAfter, Content, Member}
 use Rattle.smx_history.specs.Replies.{with_row, accepted, member_with}
 use Rattle.smx_history.proofs.Refusals.{IsAllowed}
-use Rattle.smx_history.proofs.Reading.{entries_of-push, shown-kept, places-kept, length-requests, responses-other}
+use Rattle.smx_history.proofs.Reading.{entries_of-push, marks_of-push, shown-kept, places-kept, length-requests, responses-other}
 use Rattle.smx_history.proofs.Sizes.{length-queue, takes-le-accepts, size_agrees, found_admit, present_served}
 use Rattle.smx_history.proofs.Growing.{AtEachPrefix-whole, last_or-push}
 use Rattle.smx_history.proofs.Frames.{collects_of-other, admits-other, takes-other, unanswered-other, present-other, waiting-other}
 
--- a size grows by one entry, and by three for a request that is queued
-size-accepted : (es : List Entry) (by : ℕ) (r : Request) → length (takes es) ≤ length (accepts es) → size (es ++ entry_by by (Accept r) ∷ []) ≡ size es + 4
-size-accepted es by r le =
+-- what is owed grows by three for a request that is queued
+owed-accepted : (es : List Entry) (by : ℕ) (r : Request) → length (takes es) ≤ length (accepts es) → owed (es ++ entry_by by (Accept r) ∷ []) ≡ owed es + 3
+owed-accepted es by r le =
     let e = entry_by by (Accept r) in
     rw (unanswered-other es e refl refl, waiting-other es e refl refl refl refl, present-other es e refl refl, accepted_push es e refl, takes-other es e refl)
     (omega (arith, length-append es (e ∷ []), length-append (accepts es) (e ∷ [])))
@@ -43,7 +43,7 @@ member-accepted : (h : List Note) (by : ℕ) (r : Request) (a : Entry) (m : Memb
 member-accepted h by r a m paired same is =
     let es = entries_of h in
     let e = entry_by by (Accept r) in
-    let push = entries_of-push h (note by (Accept r)) in
+    let push = entries_of-push h (note by (Accept r)) e refl in
     let of : r.client ≡ a.client = sym same ∙ is.client in
     record {
       client = is.client;
@@ -57,7 +57,7 @@ member-accepted_other : (h : List Note) (by : ℕ) (r : Request) (a : Entry) (m 
 member-accepted_other h by r a m paired apart is =
     let es = entries_of h in
     let e = entry_by by (Accept r) in
-    let push = entries_of-push h (note by (Accept r)) in
+    let push = entries_of-push h (note by (Accept r)) e refl in
     let of : r.client ≡ a.client → ⊥ = λ same. apart (is.client ∙ sym same) in
     record {
       client = is.client;
@@ -73,7 +73,7 @@ requests-push h by r = filter_map-append (λ x. request_in x.event) h (note by (
 may_accept_at : (h : List Note) (v : Content) (by : ℕ) (r : Request) (m : Member) (admit : Entry) → AgreesWith h v → IsMemberAfter h admit m → is_admitted admit.by admit.client (entries_of h) ≡ true → is_retired admit.client (entries_of h) ≡ false → admit.client ≡ r.client → IsAllowed v m → m.last < r.ordinal → m.by ≡ by → MayAccept v.limits (entries_of h) (entry_by by (Accept r))
 may_accept_at h v by r m admit a is admitted here of ok above own =
     let es = entries_of h in
-    let fifo = AtEachPrefix-whole IsFifo es a.legal.fifo in
+    let fifo = AtEachPrefix-whole IsFifo es a.legal.rules.fifo in
     record {
       forwarded = r.forwarded;
       served = (sym (ap (λ b. is_admitted b admit.client es) (sym is.by ∙ own) ∙ ap (λ c. is_admitted by c es) of) ∙ admitted, ap (λ c. is_retired c es) (sym of) ∙ here);
@@ -95,17 +95,17 @@ AgreesWith-accepted h v by r m a found ok above own =
     let es = entries_of h in
     let e = entry_by by (Accept r) in
     let n = note by (Accept r) in
-    let fifo = AtEachPrefix-whole IsFifo es a.legal.fifo in
-    let push = entries_of-push h n in
+    let fifo = AtEachPrefix-whole IsFifo es a.legal.rules.fifo in
+    let push = entries_of-push h n e refl in
     record {
-      legal = rw push (IsLegal-next v.limits es e a.legal (accept_fit v.limits es e a.legal refl (may_accept h v by r m a found ok above own)) (omega (arith, size-accepted es by r (takes-le-accepts es fifo), size_agrees h v a.after, ok.history)));
+      legal = rw (marks_of-push h n e refl) (IsLegal-next v.limits (marks_of h) e a.legal (accept_fit v.limits es e a.legal.rules refl (may_accept h v by r m a found ok above own)) (omega (arith, owed-accepted es by r (takes-le-accepts es fifo), size_agrees h v a.after, ok.history)));
       after = record {
         queue = rw (push, takes-other es e refl, requests-push h by r, drop-append-le (length (takes es)) (requests h) (r ∷ []) (omega (arith, takes-le-accepts es fifo, length-requests h))) (ap (λ q. q ++ r ∷ []) a.after.queue);
         window = rw (push, unanswered-other es e refl refl, places-kept es (e ∷ []) fifo) a.after.window;
         members = rw (push, present-other es e refl refl)
             (zip-with_row (IsMemberAfter h) (IsMemberAfter (h ++ n ∷ [])) r.client (λ x. record x { last = r.ordinal; pending = x.pending + 1 })
-            (λ x y same is. member-accepted h by r x y a.legal.pairing same is) (λ x y apart is. member-accepted_other h by r x y a.legal.pairing apart is) (present es) v.members a.after.members);
+            (λ x y same is. member-accepted h by r x y a.legal.rules.pairing same is) (λ x y apart is. member-accepted_other h by r x y a.legal.rules.pairing apart is) (present es) v.members a.after.members);
         greatest = rw (push, admits-other es e refl) a.after.greatest;
-        entries = rw push (ap (λ xs. xs ++ e ∷ []) a.after.entries);
+        entries = rw (marks_of-push h n e refl, stored-push (marks_of h) e) (ap (λ xs. xs ++ e ∷ []) a.after.entries);
       };
     }

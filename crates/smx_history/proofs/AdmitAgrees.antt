@@ -1,7 +1,7 @@
 -- An admit takes a lane that agrees with a history to one that agrees with the longer history.
 use Rattle.smx_history.proofs.FitsAdmit.{admit_fit}
 use Rattle.smx_history.proofs.Presence.{present_admitted}
-use Rattle.smx_history.proofs.Following.{IsLegal-next}
+use Rattle.smx_history.proofs.Shifting.{IsLegal-next, stored-push}
 use Rattle.smx_history.proofs.SettleAgrees.{within-after}
 use Rattle.std.proofs.Common.{◌≡◌, ◌<◌, ◌≤◌, ◌+◌, ℕ, true, false, List, [], ◌∷◌, ◌++◌, length, map, refl, sym, ◌∙◌, ap, arith, sum_by, length-append, inl, inr, Some, None}
 use Rattle.std.specs.List.{AllByRecursion, AllZip}
@@ -14,11 +14,11 @@ use Rattle.smx_history.specs.declared.reply.AdmitRefusal.TheVariants.{Known, His
 use Rattle.smx_history.specs.Prefixes.{last_or}
 use Rattle.smx_history.specs.Entries.{is_admit, admits, present}
 use Rattle.smx_history.specs.Legal.{IsFifo}
-use Rattle.smx_history.specs.History.{entry_by, note, entries_of, responses}
+use Rattle.smx_history.specs.History.{entry_by, note, entries_of, responses, marks_of}
 use Rattle.smx_history.specs.Contents.{AgreesWith, IsAfter, IsMemberAfter, Content, Member, size_of}
 use Rattle.smx_history.specs.Room.{KeepsRoom, FitsBox}
 use Rattle.smx_history.specs.Replies.{admitted, new_row, admit_refusal, has_room}
-use Rattle.smx_history.proofs.Reading.{entries_of-push, length-responses, responses-other, places-kept, All-each}
+use Rattle.smx_history.proofs.Reading.{marks_of-push, entries_of-push, length-responses, responses-other, places-kept, All-each}
 use Rattle.smx_history.proofs.Growing.{filter_push, AtEachPrefix-whole, RiseAbove-push, last_or-push, All-push}
 use Rattle.smx_history.proofs.Frames.{takes-other, accepts_of-other, collects_of-other, unanswered-other}
 use Rattle.smx_history.proofs.TakeAgrees.{IsMemberAfter-other, zip-each, requests-other}
@@ -88,7 +88,7 @@ member-admitted h by c none =
     let es = entries_of h in
     let e = entry_by by (Admit c) in
     let n = note by (Admit c) in
-    let push = entries_of-push h n in
+    let push = entries_of-push h n e refl in
     let came : responses c (h ++ n ∷ []) ≡ [] =
     responses-other c h n refl ∙ empty_of (responses c h) (length-responses c h ∙ ap length none.answers) in
     record {
@@ -104,17 +104,17 @@ IsAfter-admitted h v by c a none =
     let es = entries_of h in
     let e = entry_by by (Admit c) in
     let n = note by (Admit c) in
-    let fifo = AtEachPrefix-whole IsFifo es a.legal.fifo in
-    let push = entries_of-push h n in
+    let fifo = AtEachPrefix-whole IsFifo es a.legal.rules.fifo in
+    let push = entries_of-push h n e refl in
     record {
       queue = rw (push, takes-other es e refl, requests-other h n refl) a.after.queue;
       window = rw (push, unanswered-other es e refl refl, places-kept es (e ∷ []) fifo) a.after.window;
       members = rw (push, present_admitted es e refl none.retired)
           (zip-push (IsMemberAfter (h ++ n ∷ [])) (present es) v.members e (new_row by c)
-          (zip-each (IsMemberAfter h) (IsMemberAfter (h ++ n ∷ [])) (λ x m is. IsMemberAfter-other h n x m refl refl refl a.legal.pairing is) (present es) v.members a.after.members)
+          (zip-each (IsMemberAfter h) (IsMemberAfter (h ++ n ∷ [])) (λ x m is. IsMemberAfter-other h n e x m refl refl refl refl a.legal.rules.pairing is) (present es) v.members a.after.members)
           (member-admitted h by c none));
       greatest = rw (push, filter_push (λ x. is_admit x.kind) es e refl, map-append (λ x. x.client) (admits es) (e ∷ []), last_or-push 0 (map (λ x. x.client) (admits es)) c) refl;
-      entries = rw push (ap (λ xs. xs ++ e ∷ []) a.after.entries);
+      entries = rw (marks_of-push h n e refl, stored-push (marks_of h) e) (ap (λ xs. xs ++ e ∷ []) a.after.entries);
     }
 
 -- an admit takes a lane that agrees with a history to one that agrees with the longer one
@@ -123,12 +123,12 @@ AgreesWith-admitted h v by c a k allowed =
     let es = entries_of h in
     let e = entry_by by (Admit c) in
     let n = note by (Admit c) in
-    let push = entries_of-push h n in
+    let push = entries_of-push h n e refl in
     let fresh = admit_fresh v c allowed in
     let above : last_or 0 (map (λ x. x.client) (admits es)) < c = omega (arith, fresh.above, a.after.greatest) in
-    let none = unseen c es a.legal.standing a.legal.pairing (none_admitted es c a.legal.membership.clients above) in
+    let none = unseen c es a.legal.rules.standing a.legal.rules.pairing (none_admitted es c a.legal.rules.membership.clients above) in
     let after = IsAfter-admitted h v by c a none in
     record {
-      legal = rw push (IsLegal-next v.limits es e a.legal (admit_fit v.limits es e a.legal refl (refl, refl, refl) above) (within-after h n (admitted v by c) after (KeepsRoom-admitted v by c k allowed)));
+      legal = rw (marks_of-push h n e refl) (IsLegal-next v.limits (marks_of h) e a.legal (admit_fit v.limits es e a.legal.rules refl (refl, refl, refl) above) (within-after h n e (admitted v by c) refl after (KeepsRoom-admitted v by c k allowed)));
       after = after;
     }

@@ -14,18 +14,18 @@ use Rattle.smx_pdu.specs.Command.{is_response_to}
 use Rattle.smx_history.specs.Prefixes.{AtEach}
 use Rattle.smx_history.specs.Entries.{is_admitted, answers_of, collects_of, is_retired, own_of, present}
 use Rattle.smx_history.specs.Legal.{IsFifo, IsPaired}
-use Rattle.smx_history.specs.History.{entry_by, note, entries_of, responses, response_in}
+use Rattle.smx_history.specs.History.{entry_by, note, entries_of, responses, response_in, marks_of}
 use Rattle.smx_history.specs.Contents.{AgreesWith, IsAfter, IsMemberAfter, Content, Member, shown}
 use Rattle.smx_history.specs.Room.{KeepsRoom}
 use Rattle.smx_history.specs.Replies.{answered, response_for, member_with}
 use Rattle.smx_history.proofs.Growing.{AtEachPrefix-whole, StartsWith-length}
 use Rattle.smx_history.proofs.Frames.{takes-other, accepts_of-other, collects_of-other, admits-other, present-other}
-use Rattle.smx_history.proofs.Reading.{entries_of-push, shown-kept, own_of-kept, length-responses}
+use Rattle.smx_history.proofs.Reading.{marks_of-push, entries_of-push, shown-kept, own_of-kept, length-responses}
 use Rattle.smx_history.proofs.Sizes.{found_admit, present_served}
 use Rattle.smx_history.proofs.AcceptAgrees.{zip-with_row}
 use Rattle.smx_history.proofs.TakeAgrees.{IsMemberAfter-other, requests-other}
 use Rattle.smx_history.proofs.FitsSettle.{settles_answer, answer_fit}
-use Rattle.smx_history.proofs.Following.{IsLegal-next}
+use Rattle.smx_history.proofs.Shifting.{IsLegal-next, stored-push}
 use Rattle.smx_history.proofs.SettleAgrees.{IsTaken, place_taken, place_answers, window-settled, within-after}
 
 responses-push : (c : ℕ) (h : List Note) (by n : ℕ) (p : Pdu) → responses c (h ++ note by (Answer c n p) ∷ []) ≡ responses c h ++ record { ordinal = n; pdu = p } ∷ []
@@ -38,7 +38,7 @@ member-answered : (h : List Note) (by : ℕ) (p : Pdu) (q : Place) (a : Entry) (
 member-answered h by p q a m fifo paired place same is =
     let es = entries_of h in
     let e = entry_by by (Answer q.client q.ordinal p) in
-    let push = entries_of-push h (note by (Answer q.client q.ordinal p)) in
+    let push = entries_of-push h (note by (Answer q.client q.ordinal p)) e refl in
     let of : q.client ≡ a.client = sym same ∙ is.client in
     let k = length (collects_of a.client es) in
     let le : k ≤ length (answers_of a.client es) =
@@ -70,19 +70,19 @@ IsAfter-answered h v by p q i a within is =
     let es = entries_of h in
     let e = entry_by by (Answer q.client q.ordinal p) in
     let n = note by (Answer q.client q.ordinal p) in
-    let fifo = AtEachPrefix-whole IsFifo es a.legal.fifo in
-    let push = entries_of-push h n in
+    let fifo = AtEachPrefix-whole IsFifo es a.legal.rules.fifo in
+    let push = entries_of-push h n e refl in
     let place = place_taken h v i q a within is in
     record {
       queue = rw (push, takes-other es e refl, requests-other h n refl) a.after.queue;
       window = rw push (window-settled h v e q i a (settles_answer e.kind refl) refl refl within is);
       members = rw (push, present-other es e refl refl)
           (zip-with_row (IsMemberAfter h) (IsMemberAfter (h ++ n ∷ [])) q.client (λ m. record m { waiting = m.waiting ++ response_for q p ∷ [] })
-          (λ x m same is. member-answered h by p q x m fifo a.legal.pairing place same is)
-          (λ x m apart is. IsMemberAfter-other h n x m refl refl (ap (λ b. cond b (Some (record { ordinal = q.ordinal; pdu = p })) None) (ne_eqb q.client x.client (λ of. apart (is.client ∙ sym of)))) a.legal.pairing is)
+          (λ x m same is. member-answered h by p q x m fifo a.legal.rules.pairing place same is)
+          (λ x m apart is. IsMemberAfter-other h n e x m refl refl refl (ap (λ b. cond b (Some (record { ordinal = q.ordinal; pdu = p })) None) (ne_eqb q.client x.client (λ of. apart (is.client ∙ sym of)))) a.legal.rules.pairing is)
           (present es) v.members a.after.members);
       greatest = rw (push, admits-other es e refl) a.after.greatest;
-      entries = rw push (ap (λ xs. xs ++ e ∷ []) a.after.entries);
+      entries = rw (marks_of-push h n e refl, stored-push (marks_of h) e) (ap (λ xs. xs ++ e ∷ []) a.after.entries);
     }
 
 -- an answer to a place whose client is present
@@ -96,6 +96,6 @@ AgreesWith-answered h v by p q i m a within is number command found room =
     let here : is_retired q.client es ≡ false = ap (λ c. is_retired c es) (sym w.3) ∙ w.2.1 in
     let p' = place_answers es q e (place_taken h v i q a within is) refl refl number command in
     record {
-      legal = rw (entries_of-push h n) (IsLegal-next v.limits es e a.legal (answer_fit v.limits es e a.legal refl p' here) (within-after h n (answered v by p q i) after room));
+      legal = rw (marks_of-push h n e refl) (IsLegal-next v.limits (marks_of h) e a.legal (answer_fit v.limits es e a.legal.rules refl p' here) (within-after h n e (answered v by p q i) refl after room));
       after = after;
     }

@@ -3,7 +3,7 @@ use Rattle.std.proofs.Common.{List, [], refl, arith, zero, suc}
 use Rattle.std.specs.List.{IsDistinct}
 use Rattle.smx_history.specs.declared.limits.Limits.{Limits}
 use Rattle.smx_history.specs.Prefixes.{AtEachPrefix, AtEach}
-use Rattle.smx_history.specs.Legal.{IsLegal, IsFifo, AreApart, IsBounded, IsWithin, HasForm, StandsWell, IsPaired}
+use Rattle.smx_history.specs.Legal.{IsLegal, KeepsRules, IsFifo, AreApart, IsBounded, IsWithin, HasForm, StandsWell, IsPaired}
 use Rattle.smx_history.specs.Contents.{AgreesWith}
 use Rattle.smx_history.specs.Room.{KeepsRoom, AreLimits}
 use Rattle.smx_history.specs.Replies.{empty}
@@ -20,8 +20,8 @@ unfolding IsDistinct
 apart-empty = tt
 
 -- no entries are legal
-pub IsLegal-empty : (limits : Limits) → IsLegal limits []
-IsLegal-empty limits = record {
+pub KeepsRules-empty : (limits : Limits) → KeepsRules limits []
+KeepsRules-empty limits = record {
   form = AtEach-empty (λ before e. HasForm e.kind e);
   fifo = AtEachPrefix-empty IsFifo (record { taken = refl; collected = λ c. refl });
   once = record { ordinals = λ c. tt; takes = λ c n. omega arith; settlings = λ c n. omega arith };
@@ -30,8 +30,10 @@ IsLegal-empty limits = record {
   pairing = AtEach-empty (λ before e. IsPaired e.kind before e);
   apart = AtEachPrefix-empty AreApart apart-empty;
   bounds = AtEachPrefix-empty (IsBounded limits) (record { queue = omega arith; window = omega arith; client = λ c gone. omega arith });
-  size = AtEachPrefix-empty (IsWithin limits) (omega arith);
 }
+
+pub IsLegal-empty : (limits : Limits) → IsLegal limits []
+IsLegal-empty limits = record { rules = KeepsRules-empty limits; size = AtEachPrefix-empty (IsWithin limits) (omega arith) }
 
 pub AgreesWith-new : (limits : Limits) → AgreesWith [] (empty limits)
 AgreesWith-new limits = record {

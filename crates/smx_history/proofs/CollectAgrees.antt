@@ -1,6 +1,6 @@
 -- A collect takes a lane that agrees with a history to one that agrees with the longer history.
 use Rattle.smx_history.proofs.FitsCollect.{collect_fit, collected_other, oldest_next}
-use Rattle.smx_history.proofs.Following.{IsLegal-next}
+use Rattle.smx_history.proofs.Shifting.{IsLegal-next, stored-push}
 use Rattle.smx_history.proofs.SettleAgrees.{within-after}
 use Rattle.std.proofs.Common.{◌≡◌, ◌≤◌, ◌+◌, ◌-◌, ◌==◌, ℕ, true, false, cond, ◌&&◌, List, [], ◌∷◌, ◌++◌, length, map, drop, refl, sym, ◌∙◌, ap, arith, length-append, Some, suc, zero, add-one}
 use Rattle.std.specs.List.{AllByRecursion, AllZip}
@@ -12,13 +12,13 @@ use Rattle.smx_history.specs.declared.note.Note.{Note}
 use Rattle.smx_history.specs.Prefixes.{AtEach, RiseAbove}
 use Rattle.smx_history.specs.Entries.{is_admitted, is_collect, answers_of, collects_of, is_retired, present}
 use Rattle.smx_history.specs.Legal.{IsFifo, IsPaired}
-use Rattle.smx_history.specs.History.{entry_by, note, entries_of, responses}
+use Rattle.smx_history.specs.History.{entry_by, note, entries_of, responses, marks_of}
 use Rattle.smx_history.specs.Contents.{AgreesWith, IsAfter, IsMemberAfter, Content, Member, shown}
 use Rattle.smx_history.specs.Room.{KeepsRoom}
 use Rattle.smx_history.specs.Replies.{collected, with_row, member_with}
 use Rattle.smx_history.proofs.Growing.{filter_push, AtEachPrefix-whole}
 use Rattle.smx_history.proofs.Frames.{takes-other, accepts_of-other, admits-other, present-other, unanswered-other}
-use Rattle.smx_history.proofs.Reading.{entries_of-push, shown-kept, responses_are_answers, responses-other, places-kept}
+use Rattle.smx_history.proofs.Reading.{marks_of-push, entries_of-push, shown-kept, responses_are_answers, responses-other, places-kept}
 use Rattle.smx_history.proofs.Sizes.{found_admit, present_served}
 use Rattle.smx_history.proofs.Keeping.{one_row}
 use Rattle.smx_history.specs.Legal.{IsServed}
@@ -57,7 +57,7 @@ member-collected : (h : List Note) (by c n : ℕ) (a : Entry) (m : Member) → A
 member-collected h by c n a m paired same some is =
     let es = entries_of h in
     let e = entry_by by (Collect c n) in
-    let push = entries_of-push h (note by (Collect c n)) in
+    let push = entries_of-push h (note by (Collect c n)) e refl in
     let of : c ≡ a.client = sym same ∙ is.client in
     let col : collects_of a.client (es ++ e ∷ []) ≡ collects_of a.client es ++ e ∷ [] =
     filter_push (λ x. is_collect x.kind && (x.client == a.client)) es e (eq-eqb c a.client of) in
@@ -78,7 +78,7 @@ member-collected_other : (h : List Note) (by c n : ℕ) (a : Entry) (m : Member)
 member-collected_other h by c n a m paired apart is =
     let es = entries_of h in
     let e = entry_by by (Collect c n) in
-    let push = entries_of-push h (note by (Collect c n)) in
+    let push = entries_of-push h (note by (Collect c n)) e refl in
     let col = collected_other a.client es e refl (λ of. apart (is.client ∙ sym of)) in
     record {
       client = is.client;
@@ -93,17 +93,17 @@ IsAfter-collected h v by c r m a rise found some =
     let es = entries_of h in
     let e = entry_by by (Collect c r.ordinal) in
     let n = note by (Collect c r.ordinal) in
-    let fifo = AtEachPrefix-whole IsFifo es a.legal.fifo in
-    let push = entries_of-push h n in
+    let fifo = AtEachPrefix-whole IsFifo es a.legal.rules.fifo in
+    let push = entries_of-push h n e refl in
     record {
       queue = rw (push, takes-other es e refl, requests-other h n refl) a.after.queue;
       window = rw (push, unanswered-other es e refl refl, places-kept es (e ∷ []) fifo) a.after.window;
       members = rw (push, present-other es e refl refl)
           (zip-with_known (IsMemberAfter h) (IsMemberAfter (h ++ n ∷ [])) (λ x. x.client ≡ c → x ≡ m) c (λ x. record x { pending = x.pending - 1; waiting = drop 1 x.waiting })
-          (λ x y same only is. member-collected h by c r.ordinal x y a.legal.pairing same (let y' = only same in omega (arith, ap (λ (z : Member). z.pending) y', some)) is)
-          (λ x y apart is. member-collected_other h by c r.ordinal x y a.legal.pairing apart is) (present es) v.members (one_row v.members c 0 m rise found) a.after.members);
+          (λ x y same only is. member-collected h by c r.ordinal x y a.legal.rules.pairing same (let y' = only same in omega (arith, ap (λ (z : Member). z.pending) y', some)) is)
+          (λ x y apart is. member-collected_other h by c r.ordinal x y a.legal.rules.pairing apart is) (present es) v.members (one_row v.members c 0 m rise found) a.after.members);
       greatest = rw (push, admits-other es e refl) a.after.greatest;
-      entries = rw push (ap (λ xs. xs ++ e ∷ []) a.after.entries);
+      entries = rw (marks_of-push h n e refl, stored-push (marks_of h) e) (ap (λ xs. xs ++ e ∷ []) a.after.entries);
     }
 
 AgreesWith-collected_at : (h : List Note) (v : Content) (by c : ℕ) (r : Response) (rest : List Response) (m : Member) (admit : Entry) → AgreesWith h v → IsMemberAfter h admit m → is_admitted admit.by admit.client (entries_of h) ≡ true → is_retired admit.client (entries_of h) ≡ false → admit.client ≡ c → m.by ≡ by → m.waiting ≡ r ∷ rest → IsAfter (h ++ note by (Collect c r.ordinal) ∷ []) (collected v by c r) → KeepsRoom (collected v by c r) → AgreesWith (h ++ note by (Collect c r.ordinal) ∷ []) (collected v by c r)
@@ -111,13 +111,13 @@ AgreesWith-collected_at h v by c r rest m admit a is admitted here of own waits 
     let es = entries_of h in
     let e = entry_by by (Collect c r.ordinal) in
     let n = note by (Collect c r.ordinal) in
-    let push = entries_of-push h n in
+    let push = entries_of-push h n e refl in
     let wait : r ∷ rest ≡ drop (length (collects_of c es)) (map (shown es c) (responses c h)) =
     sym waits ∙ is.waiting ∙ ap (λ d. drop (length (collects_of d es)) (map (shown es d) (responses d h))) of in
     let next = ordinals_next h c r rest wait in
     let served : IsServed es e = (sym (ap (λ b. is_admitted b admit.client es) (sym is.by ∙ own) ∙ ap (λ d. is_admitted by d es) of) ∙ admitted, ap (λ d. is_retired d es) (sym of) ∙ here) in
     record {
-      legal = rw push (IsLegal-next v.limits es e a.legal (collect_fit v.limits es e a.legal refl (refl, refl) served (oldest_next es e (map (λ (x : Response). x.ordinal) rest) next)) (within-after h n (collected v by c r) after room));
+      legal = rw (marks_of-push h n e refl) (IsLegal-next v.limits (marks_of h) e a.legal (collect_fit v.limits es e a.legal.rules refl (refl, refl) served (oldest_next es e (map (λ (x : Response). x.ordinal) rest) next)) (within-after h n e (collected v by c r) refl after room));
       after = after;
     }
 

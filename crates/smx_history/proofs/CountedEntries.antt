@@ -9,7 +9,7 @@ use Rattle.smx_history.specs.declared.limits.Limits.{Limits}
 use Rattle.smx_history.specs.declared.totals.Totals.{Totals}
 use Rattle.smx_history.specs.Prefixes.{RiseAbove}
 use Rattle.smx_history.specs.Entries.{is_admit, is_accept, is_take, is_answer, is_collect, is_retire, is_settling, admits, accepts, takes, answers_of, collects_of, unanswered, present}
-use Rattle.smx_history.specs.Legal.{IsLegal, IsFifo, StandsWell, waiting}
+use Rattle.smx_history.specs.Legal.{KeepsRules, IsFifo, StandsWell, waiting}
 use Rattle.smx_history.specs.Checks.{Fits, Counted, takes_as}
 use Rattle.smx_history.proofs.Growing.{last_or-push, AtEachPrefix-whole}
 use Rattle.smx_history.proofs.Counts.{count_by-push}
@@ -31,7 +31,7 @@ waits_kept : (es : List Entry) (e x : Entry) → is_answer e.kind ≡ false → 
 unfolding waits
 waits_kept es e x n c = ap (λ xs. length xs - length (collects_of x.client (es ++ e ∷ []))) (answers_of-other x.client es e n) ∙ ap (λ xs. length (answers_of x.client es) - length xs) (collects_of-other x.client es e c)
 
-pub counted_admit : (limits : Limits) (t : Totals) (es : List Entry) (e : Entry) → IsLegal limits es → Counted es t → Fits limits es e → e.kind ≡ kind.Admit → Counted (es ++ e ∷ []) (record t { greatest = e.client; present = t.present + 1 })
+pub counted_admit : (limits : Limits) (t : Totals) (es : List Entry) (e : Entry) → KeepsRules limits es → Counted es t → Fits limits es e → e.kind ≡ kind.Admit → Counted (es ++ e ∷ []) (record t { greatest = e.client; present = t.present + 1 })
 unfolding waits
 counted_admit limits t es e legal counted fits k =
     let above = RiseAbove-end 0 (map (λ x. x.client) (admits es)) e.client (subst (λ (xs : List ℕ). RiseAbove 0 xs) (clients_admitted es e k) fits.membership.clients) in
@@ -50,7 +50,7 @@ counted_admit limits t es e legal counted fits k =
       present = rw push (omega (arith, length-append (present es) (e ∷ []), counted.present));
     }
 
-pub counted_accept : (limits : Limits) (t : Totals) (es : List Entry) (e : Entry) → IsLegal limits es → Counted es t → e.kind ≡ kind.Accept → Counted (es ++ e ∷ []) (record t { queued = t.queued + 1 })
+pub counted_accept : (limits : Limits) (t : Totals) (es : List Entry) (e : Entry) → KeepsRules limits es → Counted es t → e.kind ≡ kind.Accept → Counted (es ++ e ∷ []) (record t { queued = t.queued + 1 })
 counted_accept limits t es e legal counted k =
     let fifo = AtEachPrefix-whole IsFifo es legal.fifo in
     record {
@@ -69,7 +69,7 @@ queued_before limits es e fits k =
     let le = takes-le-accepts (es ++ e ∷ []) fits.fifo in
     omega (arith, le, ap length (takes_push es e k), ap length (accepts-other es e (ap is_accept k)), length-append (takes es) (e ∷ []))
 
-pub counted_take : (limits : Limits) (t : Totals) (es : List Entry) (e : Entry) → IsLegal limits es → Counted es t → Fits limits es e → e.kind ≡ kind.Take → Counted (es ++ e ∷ []) (record t { taken = t.taken + 1; queued = t.queued - 1; unanswered = t.unanswered + 1 })
+pub counted_take : (limits : Limits) (t : Totals) (es : List Entry) (e : Entry) → KeepsRules limits es → Counted es t → Fits limits es e → e.kind ≡ kind.Take → Counted (es ++ e ∷ []) (record t { taken = t.taken + 1; queued = t.queued - 1; unanswered = t.unanswered + 1 })
 counted_take limits t es e legal counted fits k =
     let push = unanswered_taken es e k (untaken_unsettled es e.client e.ordinal legal.pairing (taken_first limits es e fits k)) in
     let more = queued_before limits es e fits k in
@@ -108,7 +108,7 @@ collect_waits es e x k fifo =
           omega (arith, n, c, none)
     ]
 
-pub collect_waiting : (limits : Limits) (es : List Entry) (e : Entry) → IsLegal limits es → Fits limits es e → e.kind ≡ kind.Collect → waiting es ≡ waiting (es ++ e ∷ []) + 1
+pub collect_waiting : (limits : Limits) (es : List Entry) (e : Entry) → KeepsRules limits es → Fits limits es e → e.kind ≡ kind.Collect → waiting es ≡ waiting (es ++ e ∷ []) + 1
 unfolding waits
 collect_waiting limits es e legal fits k =
     let served : StandsWell kind.Collect es e = rw k at fits.standing in
@@ -117,7 +117,7 @@ collect_waiting limits es e legal fits k =
     ∙ ap (λ n. sum_by (waits (es ++ e ∷ [])) (present es) + n) once
     ∙ ap (λ us. sum_by (waits (es ++ e ∷ [])) us + 1) (sym (present-other es e (ap is_admit k) (ap is_retire k)))
 
-pub counted_collect : (limits : Limits) (t : Totals) (es : List Entry) (e : Entry) → IsLegal limits es → Counted es t → Fits limits es e → e.kind ≡ kind.Collect → Counted (es ++ e ∷ []) (record t { waiting = t.waiting - 1 })
+pub counted_collect : (limits : Limits) (t : Totals) (es : List Entry) (e : Entry) → KeepsRules limits es → Counted es t → Fits limits es e → e.kind ≡ kind.Collect → Counted (es ++ e ∷ []) (record t { waiting = t.waiting - 1 })
 counted_collect limits t es e legal counted fits k =
     record {
       numbers = numbers_kept es e (ap is_take k) (ap is_settling k) counted.numbers;
@@ -134,7 +134,7 @@ pub record Leaves (es : List Entry) (e : Entry) : Type 0 where
   pub waiting : waiting (es ++ e ∷ []) + (length (answers_of e.client es) - length (collects_of e.client es)) ≡ waiting es
   pub present : length (present (es ++ e ∷ [])) + 1 ≡ length (present es)
 
-pub leaves : (limits : Limits) (es : List Entry) (e : Entry) → IsLegal limits es → Fits limits es e → e.kind ≡ kind.Retire → Leaves es e
+pub leaves : (limits : Limits) (es : List Entry) (e : Entry) → KeepsRules limits es → Fits limits es e → e.kind ≡ kind.Retire → Leaves es e
 unfolding waits
 leaves limits es e legal fits k =
     let served : StandsWell kind.Retire es e = rw k at fits.standing in
@@ -149,7 +149,7 @@ leaves limits es e legal fits k =
       present = let l = length_without (λ (a : Entry). a.client == e.client) (present es) in omega (arith, l, once, ap length push);
     }
 
-pub counted_retire : (limits : Limits) (t : Totals) (es : List Entry) (e : Entry) (n : ℕ) → IsLegal limits es → Counted es t → Fits limits es e → e.kind ≡ kind.Retire → n ≡ length (answers_of e.client es) - length (collects_of e.client es) → Counted (es ++ e ∷ []) (record t { waiting = t.waiting - n; present = t.present - 1 })
+pub counted_retire : (limits : Limits) (t : Totals) (es : List Entry) (e : Entry) (n : ℕ) → KeepsRules limits es → Counted es t → Fits limits es e → e.kind ≡ kind.Retire → n ≡ length (answers_of e.client es) - length (collects_of e.client es) → Counted (es ++ e ∷ []) (record t { waiting = t.waiting - n; present = t.present - 1 })
 counted_retire limits t es e n legal counted fits k is =
     let gone = leaves limits es e legal fits k in
     record {

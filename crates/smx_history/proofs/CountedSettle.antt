@@ -9,7 +9,7 @@ use Rattle.smx_history.specs.declared.entry.Kind.TheVariants as kind
 use Rattle.smx_history.specs.declared.limits.Limits.{Limits}
 use Rattle.smx_history.specs.declared.totals.Totals.{Totals}
 use Rattle.smx_history.specs.Entries.{is_admit, is_accept, is_take, is_answer, is_collect, is_retire, is_settling, has_name, takes, answers_of, collects_of, is_retired, is_settled, unanswered, present, is_accepted}
-use Rattle.smx_history.specs.Legal.{IsLegal, IsFifo, StandsWell, IsPaired, Answers, waiting}
+use Rattle.smx_history.specs.Legal.{KeepsRules, IsFifo, StandsWell, IsPaired, Answers, waiting}
 use Rattle.smx_history.specs.Checks.{Fits, Counted, takes_as, settlings_as}
 use Rattle.smx_history.proofs.Growing.{filter_push, filter_other, AtEachPrefix-whole}
 use Rattle.smx_history.proofs.Counts.{count_by-filter, count_split, count_by-push, any_count}
@@ -50,7 +50,7 @@ pub record IsOne (es : List Entry) (e : Entry) : Type 0 where
   pub named : count_by (has_name e.client e.ordinal) (unanswered es) ≡ 1
   pub numbered : (u : ℕ) → count_by (λ x. (x.number == u) && has_name e.client e.ordinal x) (unanswered es) ≡ cond (e.number == u) 1 0
 
-is_one : (limits : Limits) (es : List Entry) (e : Entry) → IsLegal limits es → Answers es e → IsOne es e
+is_one : (limits : Limits) (es : List Entry) (e : Entry) → KeepsRules limits es → Answers es e → IsOne es e
 is_one limits es e legal p =
     let c = e.client in
     let n = e.ordinal in
@@ -90,7 +90,7 @@ pub record Closes (es : List Entry) (e : Entry) : Type 0 where
   pub numbers : (u : ℕ) → count_by (λ x. x.number == u) (unanswered es) + settlings_as u es ≡ takes_as u es → count_by (λ x. x.number == u) (unanswered (es ++ e ∷ [])) + settlings_as u (es ++ e ∷ []) ≡ takes_as u (es ++ e ∷ [])
   pub fewer : length (unanswered (es ++ e ∷ [])) + 1 ≡ length (unanswered es)
 
-pub closes : (limits : Limits) (es : List Entry) (e : Entry) → IsLegal limits es → Settles e.kind → Answers es e → Closes es e
+pub closes : (limits : Limits) (es : List Entry) (e : Entry) → KeepsRules limits es → Settles e.kind → Answers es e → Closes es e
 closes limits es e legal s p =
     let named : Entry → Bool = has_name e.client e.ordinal in
     let one = is_one limits es e legal p in
@@ -124,7 +124,7 @@ answer_waits es e x k fifo =
     ]
 
 -- a client with an accept was admitted
-pub accepted_admitted : (limits : Limits) (es : List Entry) (c n : ℕ) → IsLegal limits es → is_accepted c n es ≡ true → list_any (λ e. is_admit e.kind && (e.client == c)) es ≡ true
+pub accepted_admitted : (limits : Limits) (es : List Entry) (c n : ℕ) → KeepsRules limits es → is_accepted c n es ≡ true → list_any (λ e. is_admit e.kind && (e.client == c)) es ≡ true
 accepted_admitted limits es c n legal there =
     elim (cases_Bool (list_any (λ e. is_admit e.kind && (e.client == c)) es)) [
       | inl some ↦ some
@@ -136,7 +136,7 @@ accepted_admitted limits es c n legal there =
           absurd (omega (arith, some, length-filter (λ x. is_accept x.kind && (x.client == c)) es, ap length empty.accepts))
     ]
 
-answer_waiting : (limits : Limits) (es : List Entry) (e : Entry) → IsLegal limits es → Answers es e → is_retired e.client es ≡ false → e.kind ≡ kind.Answer → waiting (es ++ e ∷ []) ≡ waiting es + 1
+answer_waiting : (limits : Limits) (es : List Entry) (e : Entry) → KeepsRules limits es → Answers es e → is_retired e.client es ≡ false → e.kind ≡ kind.Answer → waiting (es ++ e ∷ []) ≡ waiting es + 1
 answer_waiting limits es e legal p here k =
     let once = present_once es e.client legal.membership (accepted_admitted limits es e.client e.ordinal legal p.accepted) here in
     let f : Entry → ℕ = λ x. length (answers_of x.client (es ++ e ∷ [])) - length (collects_of x.client (es ++ e ∷ [])) in
@@ -148,7 +148,7 @@ answer_waiting limits es e legal p here k =
 pub answers_by : (limits : Limits) (es : List Entry) (e : Entry) → Fits limits es e → (e.kind ≡ kind.Answer → Answers es e) × (e.kind ≡ kind.Late → Answers es e)
 answers_by limits es e fits = (λ k. subst (λ (x : Kind). IsPaired x es e) k fits.pairing, λ k. subst (λ (x : Kind). IsPaired x es e) k fits.pairing)
 
-pub counted_answer : (limits : Limits) (t : Totals) (es : List Entry) (e : Entry) → IsLegal limits es → Counted es t → Fits limits es e → e.kind ≡ kind.Answer → Counted (es ++ e ∷ []) (record t { unanswered = t.unanswered - 1; waiting = t.waiting + 1 })
+pub counted_answer : (limits : Limits) (t : Totals) (es : List Entry) (e : Entry) → KeepsRules limits es → Counted es t → Fits limits es e → e.kind ≡ kind.Answer → Counted (es ++ e ∷ []) (record t { unanswered = t.unanswered - 1; waiting = t.waiting + 1 })
 counted_answer limits t es e legal counted fits k =
     let p = (answers_by limits es e fits).0 k in
     let closed = closes limits es e legal (settles_answer e.kind k) p in
@@ -164,7 +164,7 @@ counted_answer limits t es e legal counted fits k =
       present = rw (present-other es e (ap is_admit k) (ap is_retire k)) counted.present;
     }
 
-pub counted_late : (limits : Limits) (t : Totals) (es : List Entry) (e : Entry) → IsLegal limits es → Counted es t → Fits limits es e → e.kind ≡ kind.Late → Counted (es ++ e ∷ []) (record t { unanswered = t.unanswered - 1 })
+pub counted_late : (limits : Limits) (t : Totals) (es : List Entry) (e : Entry) → KeepsRules limits es → Counted es t → Fits limits es e → e.kind ≡ kind.Late → Counted (es ++ e ∷ []) (record t { unanswered = t.unanswered - 1 })
 counted_late limits t es e legal counted fits k =
     let p = (answers_by limits es e fits).1 k in
     let closed = closes limits es e legal (settles_late e.kind k) p in

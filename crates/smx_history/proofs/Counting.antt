@@ -1,5 +1,5 @@
 -- What an entry changes in the totals of a list.
-use Rattle.std.proofs.Common.{◌≡◌, ◌≤◌, ◌+◌, ◌*◌, ◌==◌, ℕ, Bool, true, false, not, ◌&&◌, cond, List, [], ◌∷◌, ◌++◌, length, map, filter, refl, ◌∙◌, ap, arith, inl, inr, count_by, sum_by, suc}
+use Rattle.std.proofs.Common.{Some, ◌≡◌, ◌≤◌, ◌+◌, ◌*◌, ◌==◌, ℕ, Bool, true, false, not, ◌&&◌, cond, List, [], ◌∷◌, ◌++◌, length, map, filter, refl, ◌∙◌, ap, arith, inl, inr, count_by, sum_by, suc}
 use Rattle.std.specs.List.{list_any, AllByRecursion}
 use Rattle.std.proofs.lemmas.List.Sums.{sum_by-cons, length-filter}
 use Rattle.std.proofs.lemmas.List.Filters.{sum_by-filter_both}
@@ -17,7 +17,7 @@ use Rattle.smx_history.proofs.Frames.{unanswered-other}
 use Rattle.smx_history.proofs.Reading.{All-filtered, All-from_get}
 use Rattle.smx_history.proofs.Taking.{any_weaker}
 use Rattle.smx_history.proofs.Counts.{length_part}
-use Rattle.smx_history.proofs.Following.{IsLegal-within}
+use Rattle.smx_history.proofs.Shifting.{unshifted-within}
 use Rattle.std.proofs.lemmas.List.{length-map}
 
 pub count_agree : {X : Type 0} (p q : X → Bool) → ((x : X) → p x ≡ q x) → (xs : List X) → count_by p xs ≡ count_by q xs
@@ -109,7 +109,7 @@ pub numbers_kept : (es : List Entry) (e : Entry) → is_take e.kind ≡ false �
 numbers_kept es e t s h u = omega (arith, h u, takes_as-other u es e t, settlings_as-other u es e s, ap (count_by (λ x. x.number == u)) (unanswered-other es e t s))
 
 -- the totals of a legal list are no greater than its limit
-pub totals_within : (limits : Limits) (es : List Entry) (t : Totals) → IsLegal limits es → Counted es t → (t.taken ≤ limits.history) × (length es + 3 * t.queued + 2 * t.unanswered + t.waiting + t.present ≤ limits.history)
+pub totals_within : (limits : Limits) (es : List Entry) (t : Totals) → IsLegal limits (map Some es) → Counted es t → (t.taken ≤ limits.history) × (length es + 3 * t.queued + 2 * t.unanswered + t.waiting + t.present ≤ limits.history)
 totals_within limits es t legal counted =
-    let within = IsLegal-within limits es legal in
+    let within = unshifted-within limits es legal in
     (omega (arith, within, counted.taken, length_part (λ (x : Entry). is_take x.kind) es), omega (arith, within, counted.queued, counted.unanswered, counted.waiting, counted.present))

@@ -17,8 +17,8 @@ use Rattle.smx_history.specs.declared.reply.Refusal.TheVariants.{NotAdmitted, Cl
 use Rattle.smx_pdu.specs.Command.{is_response_to}
 use Rattle.smx_history.specs.Prefixes.{SameCounts}
 use Rattle.smx_history.specs.Entries.{is_collect, is_take, is_settling, is_settled, has_name, takes, accepts_of, collects_of, present, unanswered, is_admitted, is_retired}
-use Rattle.smx_history.specs.Legal.{AreApart, IsLegal, IsPaired}
-use Rattle.smx_history.specs.History.{entries_of, entry_by, note, responses}
+use Rattle.smx_history.specs.Legal.{AreApart, IsLegal, KeepsRules, IsPaired}
+use Rattle.smx_history.specs.History.{entries_of, entry_by, note, responses, marks_of}
 use Rattle.smx_history.specs.Contents.{AgreesWith, IsAfter, IsMemberAfter, Content, Member, place_of, shown, window_after, queue_after, greatest_after, size_of}
 use Rattle.smx_history.specs.Answering.{oldest_in}
 use Rattle.smx_history.specs.Replies.{member_with, accept_refusal, refusal_for, admit_refusal, take_refusal, answers_place, has_room}
@@ -28,7 +28,7 @@ use Rattle.smx_history.proofs.Sizes.{size_agrees, found_admit, present_served, l
 use Rattle.smx_history.proofs.Growing.{AtEachPrefix-whole, AtEach-last, filter_push}
 use Rattle.smx_history.proofs.Taking.{not_settled}
 use Rattle.smx_history.proofs.Frames.{present-other, is_settled-other}
-use Rattle.smx_history.proofs.Reading.{entries_of-push, responses-other, shown-kept}
+use Rattle.smx_history.proofs.Reading.{marks_of-push, entries_of-push, responses-other, shown-kept}
 use Rattle.smx_history.proofs.Numbers.{had-le-length, had_more}
 
 -- a row is found exactly where a client has one
@@ -187,7 +187,7 @@ few_numbers n (e ∷ us) h = at (e.number == n) refl (few_numbers n us h.1)
 
 few_places : (h : List Note) (v : Content) (n : ℕ) → AgreesWith h v → count_by (λ (q : Place). q.upstream == n) (window_after h) ≤ 1
 few_places h v n a =
-    omega (arith, count_by-map (λ (q : Place). q.upstream == n) (place_of (entries_of h)) (unanswered (entries_of h)), few_numbers n (unanswered (entries_of h)) (AtEachPrefix-whole AreApart (entries_of h) a.legal.apart))
+    omega (arith, count_by-map (λ (q : Place). q.upstream == n) (place_of (entries_of h)) (unanswered (entries_of h)), few_numbers n (unanswered (entries_of h)) (AtEachPrefix-whole AreApart (entries_of h) a.legal.rules.apart))
 
 -- a place with the number is that place
 only_place : (xs ys : List Place) (n : ℕ) (q y : Place) (test : Place → Bool) → SameCounts xs ys → count_by (λ (x : Place). x.upstream == n) xs ≤ 1 → find test xs ≡ Some q → q.upstream ≡ n → find test ys ≡ Some y → y.upstream ≡ n → y ≡ q
@@ -228,11 +228,11 @@ waiting-collected h v by c n a =
     let es = entries_of h in
     let e = entry_by by (Collect c n) in
     let x = note by (Collect c n) in
-    let push = entries_of-push h x in
+    let push = entries_of-push h x e refl in
     let count : length (collects_of c (es ++ e ∷ [])) ≡ length (collects_of c es) + 1 =
     ap length (filter_push (λ y. is_collect y.kind && (y.client == c)) es e (eq-eqb c c refl)) ∙ length-append (collects_of c es) (e ∷ []) in
     let box = map (shown es c) (responses c h) in
-    rw (push, present-other es e refl refl, count, responses-other c h x refl, shown-kept c h (e ∷ []) a.legal.pairing)
+    rw (push, present-other es e refl refl, count, responses-other c h x refl, shown-kept c h (e ∷ []) a.legal.rules.pairing)
     (at (list_any (λ a. a.client == c) (present es)) (length (collects_of c es)) box)
   where
     more : {X : Type 0} (k : ℕ) (xs : List X) → drop (k + 1) xs ≡ drop 1 (drop k xs)
@@ -290,15 +290,15 @@ any_mapped p f [] = refl
 any_mapped p f (x ∷ xs) = ap (λ b. p (f x) || b) (any_mapped p f xs)
 
 -- the number of a take that the history may have was free
-pub taken_free : (h : List Note) (new : Content) (by c n u : ℕ) → IsLegal new.limits (entries_of h) → AgreesWith (h ++ note by (Take c n u) ∷ []) new → IsFree h u
+pub taken_free : (h : List Note) (new : Content) (by c n u : ℕ) → IsLegal new.limits (marks_of h) → AgreesWith (h ++ note by (Take c n u) ∷ []) new → IsFree h u
 taken_free h new by c n u before a =
     let es = entries_of h in
     let e = entry_by by (Take c n u) in
-    let legal : IsLegal new.limits (es ++ e ∷ []) = subst (λ xs. IsLegal new.limits xs) (entries_of-push h (note by (Take c n u))) a.legal in
+    let legal : KeepsRules new.limits (es ++ e ∷ []) = subst (λ xs. KeepsRules new.limits xs) (entries_of-push h (note by (Take c n u)) e refl) a.legal.rules in
     let named : Entry → Bool = λ x. is_take x.kind && has_name c n x in
     let one : ◌≡◌ {A = ℕ} (cond (named e) 1 0) 1 = ap {B = ℕ} (λ b. cond b 1 0) (and_from (is_take e.kind) (has_name c n e) refl (and_from _ _ (eq-eqb c c refl) (eq-eqb n n refl))) in
     let none = count_none_any named es (omega (arith, legal.once.takes c n, count_by-push named es e, one)) in
-    let unsettled = not_settled c n es before.pairing (none_taken (λ x. is_take x.kind) (has_name c n) es none) in
+    let unsettled = not_settled c n es before.rules.pairing (none_taken (λ x. is_take x.kind) (has_name c n) es none) in
     let grown = unanswered-more es e refl refl unsettled in
     let apart = last_apart (unanswered es) e (subst (λ xs. IsDistinct nat_eq (map (λ x. x.number) xs)) grown (AtEachPrefix-whole AreApart (es ++ e ∷ []) legal.apart)) in
     let range = AtEach-last (λ earlier x. IsPaired x.kind earlier x) es e legal.pairing in

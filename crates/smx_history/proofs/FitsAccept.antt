@@ -9,7 +9,7 @@ use Rattle.smx_history.specs.declared.limits.Limits.{Limits}
 use Rattle.smx_history.specs.declared.totals.Totals.{Totals}
 use Rattle.smx_history.specs.Prefixes.{RiseAbove, last_or}
 use Rattle.smx_history.specs.Entries.{is_admit, is_accept, is_take, is_answer, is_collect, is_retire, is_settling, name_of, accepts, takes, accepts_of, collects_of}
-use Rattle.smx_history.specs.Legal.{IsLegal, IsFifo, AreApart, IsBounded, HasForm, StandsWell, IsServed}
+use Rattle.smx_history.specs.Legal.{KeepsRules, IsFifo, AreApart, IsBounded, HasForm, StandsWell, IsServed}
 use Rattle.smx_history.specs.Checks.{Fits, Counted, accept_fits}
 use Rattle.smx_history.proofs.Growing.{filter_push, filter_other, AtEachPrefix-whole, RiseAbove-push, StartsWith-more}
 use Rattle.smx_history.proofs.Frames.{takes-other, answers_of-other, collects_of-other, is_retired-other, unanswered-other}
@@ -38,7 +38,7 @@ pub record MayAccept (limits : Limits) (es : List Entry) (e : Entry) : Type 0 wh
   pub queue : length (accepts es) < length (takes es) + limits.queue
   pub client : length (accepts_of e.client es) < length (collects_of e.client es) + limits.client
 
-passes_from : (limits : Limits) (t : Totals) (es : List Entry) (e : Entry) → IsLegal limits es → Counted es t → accept_fits limits.queue limits.client t es e ≡ true → MayAccept limits es e
+passes_from : (limits : Limits) (t : Totals) (es : List Entry) (e : Entry) → KeepsRules limits es → Counted es t → accept_fits limits.queue limits.client t es e ≡ true → MayAccept limits es e
 passes_from limits t es e legal counted test =
     let a = and_parts _ _ test in
     let b = and_parts _ _ a.0 in
@@ -55,14 +55,14 @@ passes_from limits t es e legal counted test =
       client = ltb-true _ _ a.1;
     }
 
-passes_to : (limits : Limits) (t : Totals) (es : List Entry) (e : Entry) → IsLegal limits es → Counted es t → MayAccept limits es e → accept_fits limits.queue limits.client t es e ≡ true
+passes_to : (limits : Limits) (t : Totals) (es : List Entry) (e : Entry) → KeepsRules limits es → Counted es t → MayAccept limits es e → accept_fits limits.queue limits.client t es e ≡ true
 passes_to limits t es e legal counted p =
     let all = rise_last 0 (map (λ x. x.ordinal) (accepts_of e.client es)) (legal.once.ordinals e.client) in
     let reached = below_last (λ (x : Entry). x.ordinal) (λ x. is_accept x.kind && (x.client == e.client)) e.ordinal (last_or 0 (map (λ x. x.ordinal) (accepts_of e.client es))) es p.rises all.1 in
     let queue : t.queued < limits.queue = omega (arith, p.queue, counted.queued, takes-le-accepts es (AtEachPrefix-whole IsFifo es legal.fifo)) in
     and_from _ _ (and_from _ _ (and_from _ _ (and_from _ _ (and_from _ _ p.forwarded (and_from _ _ p.served.0 (ap not p.served.1))) (lt-ltb _ _ (omega (arith, p.rises)))) (ap not reached)) (lt-ltb _ _ queue)) (lt-ltb _ _ p.client)
 
-pub accept_fit : (limits : Limits) (es : List Entry) (e : Entry) → IsLegal limits es → e.kind ≡ kind.Accept → MayAccept limits es e → Fits limits es e
+pub accept_fit : (limits : Limits) (es : List Entry) (e : Entry) → KeepsRules limits es → e.kind ≡ kind.Accept → MayAccept limits es e → Fits limits es e
 accept_fit limits es e legal k p =
     let fifo = AtEachPrefix-whole IsFifo es legal.fifo in
     let was = AtEachPrefix-whole (IsBounded limits) es legal.bounds in
@@ -111,6 +111,6 @@ accept_from limits es e k fits =
       client = omega (arith, client, length-append (accepts_of e.client es) (e ∷ []));
     }
 
-pub accept_iff : (limits : Limits) (t : Totals) (es : List Entry) (e : Entry) (b : Bool) → IsLegal limits es → Counted es t → e.kind ≡ kind.Accept → b ≡ accept_fits limits.queue limits.client t es e → (b ≡ true) ↔ Fits limits es e
+pub accept_iff : (limits : Limits) (t : Totals) (es : List Entry) (e : Entry) (b : Bool) → KeepsRules limits es → Counted es t → e.kind ≡ kind.Accept → b ≡ accept_fits limits.queue limits.client t es e → (b ≡ true) ↔ Fits limits es e
 accept_iff limits t es e b legal counted k is =
     (λ h. accept_fit limits es e legal k (passes_from limits t es e legal counted (sym is ∙ h)), λ fits. is ∙ passes_to limits t es e legal counted (accept_from limits es e k fits))

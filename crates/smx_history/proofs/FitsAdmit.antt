@@ -8,7 +8,7 @@ use Rattle.smx_history.specs.declared.limits.Limits.{Limits}
 use Rattle.smx_history.specs.declared.totals.Totals.{Totals}
 use Rattle.smx_history.specs.Prefixes.{RiseAbove, last_or}
 use Rattle.smx_history.specs.Entries.{is_admit, is_accept, is_take, is_answer, is_collect, is_retire, is_settling, admits}
-use Rattle.smx_history.specs.Legal.{IsLegal, IsFifo, AreApart, IsBounded, HasForm}
+use Rattle.smx_history.specs.Legal.{KeepsRules, IsFifo, AreApart, IsBounded, HasForm}
 use Rattle.smx_history.specs.Checks.{Fits, Counted, admit_fits}
 use Rattle.smx_history.proofs.Growing.{filter_push, AtEachPrefix-whole, RiseAbove-push}
 use Rattle.smx_history.proofs.Frames.{accepts-other, takes-other, accepts_of-other, collects_of-other, is_retired-other, unanswered-other}
@@ -26,7 +26,7 @@ bounds_kept limits es e a t s c r h = record {
 pub clients_admitted : (es : List Entry) (e : Entry) → e.kind ≡ kind.Admit → map (λ x. x.client) (admits (es ++ e ∷ [])) ≡ map (λ x. x.client) (admits es) ++ e.client ∷ []
 clients_admitted es e k = ap (map (λ (x : Entry). x.client)) (filter_push (λ x. is_admit x.kind) es e (ap is_admit k)) ∙ map-append (λ x. x.client) (admits es) (e ∷ [])
 
-pub admit_fit : (limits : Limits) (es : List Entry) (e : Entry) → IsLegal limits es → e.kind ≡ kind.Admit → HasForm kind.Admit e → last_or 0 (map (λ x. x.client) (admits es)) < e.client → Fits limits es e
+pub admit_fit : (limits : Limits) (es : List Entry) (e : Entry) → KeepsRules limits es → e.kind ≡ kind.Admit → HasForm kind.Admit e → last_or 0 (map (λ x. x.client) (admits es)) < e.client → Fits limits es e
 admit_fit limits es e legal k form above =
     record {
       form = HasForm-by e kind.Admit k form;
@@ -42,7 +42,7 @@ admit_fit limits es e legal k form above =
       bounds = bounds_kept limits es e (ap is_accept k) (ap is_take k) (ap is_settling k) (ap is_collect k) (ap is_retire k) (AtEachPrefix-whole (IsBounded limits) es legal.bounds);
     }
 
-admit_to : (limits : Limits) (t : Totals) (es : List Entry) (e : Entry) → IsLegal limits es → Counted es t → e.kind ≡ kind.Admit → admit_fits t e ≡ true → Fits limits es e
+admit_to : (limits : Limits) (t : Totals) (es : List Entry) (e : Entry) → KeepsRules limits es → Counted es t → e.kind ≡ kind.Admit → admit_fits t e ≡ true → Fits limits es e
 admit_to limits t es e legal counted k test =
     let a = and_parts _ _ test in
     let b = and_parts _ _ a.0 in
@@ -55,5 +55,5 @@ admit_from limits t es e counted k fits =
     let above = RiseAbove-end 0 (map (λ x. x.client) (admits es)) e.client (subst (λ (xs : List ℕ). RiseAbove 0 xs) (clients_admitted es e k) fits.membership.clients) in
     and_from _ _ (and_from _ _ (eq-eqb e.ordinal 0 form.0) (and_from _ _ (eq-eqb e.number 0 form.1) (eq-eqb e.command 0 form.2))) (lt-ltb t.greatest e.client (omega (arith, above, counted.greatest)))
 
-pub admit_iff : (limits : Limits) (t : Totals) (es : List Entry) (e : Entry) (b : Bool) → IsLegal limits es → Counted es t → e.kind ≡ kind.Admit → b ≡ admit_fits t e → (b ≡ true) ↔ Fits limits es e
+pub admit_iff : (limits : Limits) (t : Totals) (es : List Entry) (e : Entry) (b : Bool) → KeepsRules limits es → Counted es t → e.kind ≡ kind.Admit → b ≡ admit_fits t e → (b ≡ true) ↔ Fits limits es e
 admit_iff limits t es e b legal counted k is = (λ h. admit_to limits t es e legal counted k (sym is ∙ h), λ fits. is ∙ admit_from limits t es e counted k fits)

@@ -11,7 +11,7 @@ use Rattle.smx_history.specs.declared.entry.Kind.TheVariants as kind
 use Rattle.smx_history.specs.declared.limits.Limits.{Limits}
 use Rattle.smx_history.specs.Prefixes.{StartsWith}
 use Rattle.smx_history.specs.Entries.{is_admit, is_accept, is_take, is_answer, is_collect, is_retire, is_settling, answers_of, collects_of, is_retired}
-use Rattle.smx_history.specs.Legal.{IsLegal, IsFifo, IsMembership, IsServed, AreApart, IsBounded, HasForm, StandsWell}
+use Rattle.smx_history.specs.Legal.{KeepsRules, IsFifo, IsMembership, IsServed, AreApart, IsBounded, HasForm, StandsWell}
 use Rattle.smx_history.specs.Checks.{Fits, collect_fits, retire_fits, is_oldest}
 use Rattle.smx_history.proofs.Growing.{filter_push, filter_other, AtEachPrefix-whole}
 use Rattle.smx_history.proofs.Counts.{none_count}
@@ -80,7 +80,7 @@ test_oldest : (es : List Entry) (e : Entry) → IsOldest es e → is_oldest es e
 unfolding IsOldest
 test_oldest es e oldest = some_numbered (slice_get (answers_of e.client es) (length (collects_of e.client es))) e.ordinal (oldest_is es e ∙ oldest)
 
-pub collect_fit : (limits : Limits) (es : List Entry) (e : Entry) → IsLegal limits es → e.kind ≡ kind.Collect → HasForm kind.Collect e → IsServed es e → IsOldest es e → Fits limits es e
+pub collect_fit : (limits : Limits) (es : List Entry) (e : Entry) → KeepsRules limits es → e.kind ≡ kind.Collect → HasForm kind.Collect e → IsServed es e → IsOldest es e → Fits limits es e
 collect_fit limits es e legal k form served oldest =
     let was = AtEachPrefix-whole (IsBounded limits) es legal.bounds in
     record {
@@ -102,7 +102,7 @@ collect_fit limits es e legal k form served oldest =
       };
     }
 
-pub collect_iff : (limits : Limits) (es : List Entry) (e : Entry) (b : Bool) → IsLegal limits es → e.kind ≡ kind.Collect → b ≡ collect_fits es e → (b ≡ true) ↔ Fits limits es e
+pub collect_iff : (limits : Limits) (es : List Entry) (e : Entry) (b : Bool) → KeepsRules limits es → e.kind ≡ kind.Collect → b ≡ collect_fits es e → (b ≡ true) ↔ Fits limits es e
 collect_iff limits es e b legal k is = (
   λ h.
       let a = and_parts _ _ (sym is ∙ h) in
@@ -126,7 +126,7 @@ retires_more es e k none h d =
           omega (arith, count_other (λ x. is_retire x.kind && (x.client == d)) es e (ap (λ b. b && (e.client == d)) (ap is_retire k) ∙ ne_eqb e.client d apart), h.retires d)
     ]
 
-pub retire_fit : (limits : Limits) (es : List Entry) (e : Entry) → IsLegal limits es → e.kind ≡ kind.Retire → HasForm kind.Retire e → IsServed es e → Fits limits es e
+pub retire_fit : (limits : Limits) (es : List Entry) (e : Entry) → KeepsRules limits es → e.kind ≡ kind.Retire → HasForm kind.Retire e → IsServed es e → Fits limits es e
 retire_fit limits es e legal k form served =
     let was = AtEachPrefix-whole (IsBounded limits) es legal.bounds in
     record {
@@ -147,7 +147,7 @@ retire_fit limits es e legal k form served =
       };
     }
 
-pub retire_iff : (limits : Limits) (es : List Entry) (e : Entry) (b : Bool) → IsLegal limits es → e.kind ≡ kind.Retire → b ≡ retire_fits es e → (b ≡ true) ↔ Fits limits es e
+pub retire_iff : (limits : Limits) (es : List Entry) (e : Entry) (b : Bool) → KeepsRules limits es → e.kind ≡ kind.Retire → b ≡ retire_fits es e → (b ≡ true) ↔ Fits limits es e
 retire_iff limits es e b legal k is = (
   λ h.
       let a = and_parts _ _ (sym is ∙ h) in

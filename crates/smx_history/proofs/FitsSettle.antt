@@ -10,7 +10,7 @@ use Rattle.smx_history.specs.declared.entry.Kind.{Kind}
 use Rattle.smx_history.specs.declared.entry.Kind.TheVariants as kind
 use Rattle.smx_history.specs.declared.limits.Limits.{Limits}
 use Rattle.smx_history.specs.Entries.{is_admit, is_accept, is_take, is_answer, is_collect, is_retire, is_settling, has_name, takes, answers_of, collects_of, is_retired, is_settled, unanswered}
-use Rattle.smx_history.specs.Legal.{IsLegal, IsFifo, IsOnce, AreApart, IsBounded, StandsWell, IsPaired, Answers}
+use Rattle.smx_history.specs.Legal.{KeepsRules, IsFifo, IsOnce, AreApart, IsBounded, StandsWell, IsPaired, Answers}
 use Rattle.smx_history.specs.Checks.{Fits, settle_fits, answer_fits, late_fits}
 use Rattle.smx_history.proofs.Growing.{AtEachPrefix-whole, StartsWith-more}
 use Rattle.smx_history.proofs.Counts.{none_count}
@@ -90,7 +90,7 @@ record FitsBut (limits : Limits) (es : List Entry) (e : Entry) : Type 0 where
   apart : AreApart (es ++ e ∷ [])
   bounds : IsBounded limits (es ++ e ∷ [])
 
-settle_but : (limits : Limits) (es : List Entry) (e : Entry) → IsLegal limits es → Settles e.kind → Answers es e → FitsBut limits es e
+settle_but : (limits : Limits) (es : List Entry) (e : Entry) → KeepsRules limits es → Settles e.kind → Answers es e → FitsBut limits es e
 settle_but limits es e legal s p =
     let fifo = AtEachPrefix-whole IsFifo es legal.fifo in
     let was = AtEachPrefix-whole (IsBounded limits) es legal.bounds in
@@ -114,7 +114,7 @@ settle_but limits es e legal s p =
       };
     }
 
-pub answer_fit : (limits : Limits) (es : List Entry) (e : Entry) → IsLegal limits es → e.kind ≡ kind.Answer → Answers es e → is_retired e.client es ≡ false → Fits limits es e
+pub answer_fit : (limits : Limits) (es : List Entry) (e : Entry) → KeepsRules limits es → e.kind ≡ kind.Answer → Answers es e → is_retired e.client es ≡ false → Fits limits es e
 answer_fit limits es e legal k p here =
     let s = settles_answer e.kind k in
     let but = settle_but limits es e legal s p in
@@ -129,7 +129,7 @@ answer_fit limits es e legal k p here =
       bounds = but.bounds;
     }
 
-pub late_fit : (limits : Limits) (es : List Entry) (e : Entry) → IsLegal limits es → e.kind ≡ kind.Late → Answers es e → is_retired e.client es ≡ true → Fits limits es e
+pub late_fit : (limits : Limits) (es : List Entry) (e : Entry) → KeepsRules limits es → e.kind ≡ kind.Late → Answers es e → is_retired e.client es ≡ true → Fits limits es e
 late_fit limits es e legal k p gone =
     let s = settles_late e.kind k in
     let but = settle_but limits es e legal s p in
@@ -144,7 +144,7 @@ late_fit limits es e legal k p gone =
       bounds = but.bounds;
     }
 
-pub answer_iff : (limits : Limits) (es : List Entry) (e : Entry) (b : Bool) → IsLegal limits es → e.kind ≡ kind.Answer → b ≡ answer_fits es e → (b ≡ true) ↔ Fits limits es e
+pub answer_iff : (limits : Limits) (es : List Entry) (e : Entry) (b : Bool) → KeepsRules limits es → e.kind ≡ kind.Answer → b ≡ answer_fits es e → (b ≡ true) ↔ Fits limits es e
 answer_iff limits es e b legal k is = (
   λ h. let w = and_parts _ _ (sym is ∙ h) in answer_fit limits es e legal k (settle_from es e w.0) (not-true _ w.1),
   λ fits.
@@ -153,7 +153,7 @@ answer_iff limits es e b legal k is = (
       is ∙ and_from _ _ (settle_to es e paired) (ap not standing),
 )
 
-pub late_iff : (limits : Limits) (es : List Entry) (e : Entry) (b : Bool) → IsLegal limits es → e.kind ≡ kind.Late → b ≡ late_fits es e → (b ≡ true) ↔ Fits limits es e
+pub late_iff : (limits : Limits) (es : List Entry) (e : Entry) (b : Bool) → KeepsRules limits es → e.kind ≡ kind.Late → b ≡ late_fits es e → (b ≡ true) ↔ Fits limits es e
 late_iff limits es e b legal k is = (
   λ h. let w = and_parts _ _ (sym is ∙ h) in late_fit limits es e legal k (settle_from es e w.0) w.1,
   λ fits.

@@ -12,7 +12,7 @@ use Rattle.smx_history.specs.declared.limits.Limits.{Limits}
 use Rattle.smx_history.specs.declared.totals.Totals.{Totals}
 use Rattle.smx_history.specs.Prefixes.{AtEach, StartsWith}
 use Rattle.smx_history.specs.Entries.{is_admit, is_accept, is_take, is_answer, is_collect, is_retire, is_settling, name_of, has_name, accepts, takes, is_settled, unanswered}
-use Rattle.smx_history.specs.Legal.{IsLegal, IsFifo, AreApart, IsBounded, HasForm, IsPaired}
+use Rattle.smx_history.specs.Legal.{KeepsRules, IsFifo, AreApart, IsBounded, HasForm, IsPaired}
 use Rattle.smx_history.specs.Checks.{Fits, Counted, take_fits, is_taken, takes_as, settlings_as}
 use Rattle.smx_history.proofs.Growing.{filter_push, AtEachPrefix-whole}
 use Rattle.smx_history.proofs.Counts.{none_count, count_none_any}
@@ -98,7 +98,7 @@ takes_once es e k none few c n =
           omega (arith, count_other (λ x. is_take x.kind && has_name c n x) es e (and_right (is_take e.kind) (has_name c n e) apart), few c n)
     ]
 
-pub take_fit : (limits : Limits) (es : List Entry) (e : Entry) → IsLegal limits es → e.kind ≡ kind.Take → MayTake limits es e → Fits limits es e
+pub take_fit : (limits : Limits) (es : List Entry) (e : Entry) → KeepsRules limits es → e.kind ≡ kind.Take → MayTake limits es e → Fits limits es e
 take_fit limits es e legal k p =
     let fifo = AtEachPrefix-whole IsFifo es legal.fifo in
     let was = AtEachPrefix-whole (IsBounded limits) es legal.bounds in
@@ -133,7 +133,7 @@ taken_first limits es e fits k =
     count_none_any (λ x. is_take x.kind && has_name e.client e.ordinal x) es
     (omega (arith, few, count_one (λ x. is_take x.kind && has_name e.client e.ordinal x) es e (and_from _ _ (ap is_take k) (own_name e))))
 
-take_from : (limits : Limits) (es : List Entry) (e : Entry) → IsLegal limits es → e.kind ≡ kind.Take → Fits limits es e → MayTake limits es e
+take_from : (limits : Limits) (es : List Entry) (e : Entry) → KeepsRules limits es → e.kind ≡ kind.Take → Fits limits es e → MayTake limits es e
 take_from limits es e legal k fits =
     let form : HasForm kind.Take e = rw k at fits.form in
     let paired : IsPaired kind.Take es e = rw k at fits.pairing in
@@ -154,6 +154,6 @@ take_from limits es e legal k fits =
       window = omega (arith, window, length-append (unanswered es) (e ∷ []));
     }
 
-pub take_iff : (limits : Limits) (t : Totals) (es : List Entry) (e : Entry) (b : Bool) → IsLegal limits es → Counted es t → e.kind ≡ kind.Take → b ≡ take_fits limits t es e → (b ≡ true) ↔ Fits limits es e
+pub take_iff : (limits : Limits) (t : Totals) (es : List Entry) (e : Entry) (b : Bool) → KeepsRules limits es → Counted es t → e.kind ≡ kind.Take → b ≡ take_fits limits t es e → (b ≡ true) ↔ Fits limits es e
 take_iff limits t es e b legal counted k is =
     (λ h. take_fit limits es e legal k (passes_from limits t es e counted (sym is ∙ h)), λ fits. is ∙ passes_to limits t es e counted (take_from limits es e legal k fits))

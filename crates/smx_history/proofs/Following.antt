@@ -6,7 +6,7 @@ use Rattle.smx_history.specs.declared.entry.Entry.{Entry}
 use Rattle.smx_history.specs.declared.limits.Limits.{Limits}
 use Rattle.smx_history.specs.Prefixes.{RiseAbove}
 use Rattle.smx_history.specs.Entries.{is_admit, is_accept, is_take, is_retire, is_settling, has_name, admits, accepts_of}
-use Rattle.smx_history.specs.Legal.{IsLegal, IsFifo, IsOnce, IsMembership, AreApart, IsBounded, IsWithin, HasForm, StandsWell, IsPaired}
+use Rattle.smx_history.specs.Legal.{KeepsRules, IsFifo, IsOnce, IsMembership, AreApart, IsBounded, HasForm, StandsWell, IsPaired}
 use Rattle.smx_history.specs.Checks.{Fits}
 use Rattle.smx_history.proofs.Growing.{AtEach-push, AtEach-init, AtEach-last, AtEachPrefix-push, AtEachPrefix-init, AtEachPrefix-whole}
 use Rattle.smx_history.proofs.Counts.{count_by-push}
@@ -33,8 +33,8 @@ IsMembership-init es e h = record {
 }
 
 -- without its last entry a legal list is legal
-pub IsLegal-init : (limits : Limits) (es : List Entry) (e : Entry) → IsLegal limits (es ++ e ∷ []) → IsLegal limits es
-IsLegal-init limits es e h = record {
+pub KeepsRules-init : (limits : Limits) (es : List Entry) (e : Entry) → KeepsRules limits (es ++ e ∷ []) → KeepsRules limits es
+KeepsRules-init limits es e h = record {
   form = AtEach-init (λ before x. HasForm x.kind x) es e h.form;
   fifo = AtEachPrefix-init IsFifo es e h.fifo;
   once = IsOnce-init es e h.once;
@@ -43,17 +43,16 @@ IsLegal-init limits es e h = record {
   pairing = AtEach-init (λ before x. IsPaired x.kind before x) es e h.pairing;
   apart = AtEachPrefix-init AreApart es e h.apart;
   bounds = AtEachPrefix-init (IsBounded limits) es e h.bounds;
-  size = AtEachPrefix-init (IsWithin limits) es e h.size;
 }
 
 -- what a legal list begins with is legal
-pub IsLegal-start : (limits : Limits) (xs ys : List Entry) → IsLegal limits (xs ++ ys) → IsLegal limits xs
-IsLegal-start limits xs [] h = subst (λ (zs : List Entry). IsLegal limits zs) (append-nil xs) h
-IsLegal-start limits xs (y ∷ ys) h =
-    IsLegal-init limits xs y (IsLegal-start limits (xs ++ y ∷ []) ys (subst (λ (zs : List Entry). IsLegal limits zs) (sym (append_assoc xs (y ∷ []) ys)) h))
+pub KeepsRules-start : (limits : Limits) (xs ys : List Entry) → KeepsRules limits (xs ++ ys) → KeepsRules limits xs
+KeepsRules-start limits xs [] h = subst (λ (zs : List Entry). KeepsRules limits zs) (append-nil xs) h
+KeepsRules-start limits xs (y ∷ ys) h =
+    KeepsRules-init limits xs y (KeepsRules-start limits (xs ++ y ∷ []) ys (subst (λ (zs : List Entry). KeepsRules limits zs) (sym (append_assoc xs (y ∷ []) ys)) h))
 
-pub IsLegal-fits : (limits : Limits) (es : List Entry) (e : Entry) → IsLegal limits (es ++ e ∷ []) → Fits limits es e
-IsLegal-fits limits es e h = record {
+pub KeepsRules-fits : (limits : Limits) (es : List Entry) (e : Entry) → KeepsRules limits (es ++ e ∷ []) → Fits limits es e
+KeepsRules-fits limits es e h = record {
   form = AtEach-last (λ before x. HasForm x.kind x) es e h.form;
   fifo = AtEachPrefix-whole IsFifo (es ++ e ∷ []) h.fifo;
   once = h.once;
@@ -64,11 +63,8 @@ IsLegal-fits limits es e h = record {
   bounds = AtEachPrefix-whole (IsBounded limits) (es ++ e ∷ []) h.bounds;
 }
 
-pub IsLegal-within : (limits : Limits) (es : List Entry) → IsLegal limits es → IsWithin limits es
-IsLegal-within limits es h = AtEachPrefix-whole (IsWithin limits) es h.size
-
-pub IsLegal-next : (limits : Limits) (es : List Entry) (e : Entry) → IsLegal limits es → Fits limits es e → IsWithin limits (es ++ e ∷ []) → IsLegal limits (es ++ e ∷ [])
-IsLegal-next limits es e h fits within = record {
+pub KeepsRules-next : (limits : Limits) (es : List Entry) (e : Entry) → KeepsRules limits es → Fits limits es e → KeepsRules limits (es ++ e ∷ [])
+KeepsRules-next limits es e h fits = record {
   form = AtEach-push (λ before x. HasForm x.kind x) es e h.form fits.form;
   fifo = AtEachPrefix-push IsFifo es e h.fifo fits.fifo;
   once = fits.once;
@@ -77,5 +73,4 @@ IsLegal-next limits es e h fits within = record {
   pairing = AtEach-push (λ before x. IsPaired x.kind before x) es e h.pairing fits.pairing;
   apart = AtEachPrefix-push AreApart es e h.apart fits.apart;
   bounds = AtEachPrefix-push (IsBounded limits) es e h.bounds fits.bounds;
-  size = AtEachPrefix-push (IsWithin limits) es e h.size within;
 }

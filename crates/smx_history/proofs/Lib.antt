@@ -35,3 +35,7 @@ pub mod CountedEntries
 pub mod CountedSettle
 pub mod Steps
 pub mod Finding
+pub mod Shifting
+pub mod ShiftAgrees
+pub mod Joining
+pub mod Unchanged

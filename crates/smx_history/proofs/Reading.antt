@@ -1,5 +1,5 @@
 -- Notes and their entries; which requests the names in a legal history have.
-use Rattle.std.proofs.Common.{◌≡◌, ◌==◌, ℕ, Bool, true, false, cond, not, ◌||◌, ◌&&◌, List, [], ◌∷◌, ◌++◌, length, map, take, drop, refl, sym, ◌∙◌, ap, subst, Some, None, slice_get, filter, zero, suc}
+use Rattle.std.proofs.Common.{◌≡◌, ◌==◌, ℕ, Bool, true, false, cond, not, ◌||◌, ◌&&◌, List, [], ◌∷◌, ◌++◌, length, map, take, drop, refl, sym, ◌∙◌, ap, subst, Option, Some, None, slice_get, filter, zero, suc}
 use Rattle.std.specs.List.{list_any, AllByRecursion, cons_option}
 use Rattle.std.proofs.lemmas.List.{append-nil, length-map, take-append-drop, map-append}
 use Rattle.std.proofs.lemmas.List.Elements.{filter_map-append}
@@ -16,22 +16,26 @@ use Rattle.smx_history.specs.declared.response.Response.{Response}
 use Rattle.smx_history.specs.Prefixes.{AtEach, first_or}
 use Rattle.smx_history.specs.Entries.{is_accept, is_answer, Name, name_of, has_name, accepts, takes, answers_of, is_accepted, unanswered, own_of, command_of, is_settled}
 use Rattle.smx_history.specs.Legal.{IsFifo, IsPaired}
-use Rattle.smx_history.specs.History.{entry_by, entry_of, entries_of, requests, request_in, responses, response_in}
+use Rattle.smx_history.specs.History.{entry_by, entry_in, marks_of, entries_of, requests, request_in, responses, response_in}
 use Rattle.smx_history.specs.Contents.{place_of, shown}
 use Rattle.smx_history.proofs.Growing.{any_kept}
+use Rattle.smx_history.specs.Shifts.{noted}
+use Rattle.smx_history.proofs.Shifting.{noted-push}
+use Rattle.std.specs.Option.{option_map}
 
 -- an accept without the one who made it
 abbrev pub unsigned : Entry → Entry
 unsigned e = record e { by = 0 }
 
-requests-cons : (by : ℕ) (event : Event) (h : List Note) → map (λ r. entry_by 0 (Accept r)) (requests h) ≡ map unsigned (accepts (entries_of h)) → map (λ r. entry_by 0 (Accept r)) (cons_option (request_in event) (requests h)) ≡ map unsigned (accepts (entry_by by event ∷ entries_of h))
-requests-cons by (Admit c) h same = same
-requests-cons by (Accept r) h same = ap (λ es. entry_by 0 (Accept r) ∷ es) same
-requests-cons by (Take c n u) h same = same
-requests-cons by (Answer c n p) h same = same
-requests-cons by (Late c n u k) h same = same
-requests-cons by (Collect c n) h same = same
-requests-cons by (Retire c) h same = same
+requests-cons : (by : ℕ) (event : Option Event) (h : List Note) → map (λ r. entry_by 0 (Accept r)) (requests h) ≡ map unsigned (accepts (entries_of h)) → map (λ r. entry_by 0 (Accept r)) (cons_option (request_in event) (requests h)) ≡ map unsigned (accepts (cons_option (option_map (entry_by by) event) (entries_of h)))
+requests-cons by None h same = same
+requests-cons by (Some (Admit c)) h same = same
+requests-cons by (Some (Accept r)) h same = ap (λ es. entry_by 0 (Accept r) ∷ es) same
+requests-cons by (Some (Take c n u)) h same = same
+requests-cons by (Some (Answer c n p)) h same = same
+requests-cons by (Some (Late c n u k)) h same = same
+requests-cons by (Some (Collect c n)) h same = same
+requests-cons by (Some (Retire c)) h same = same
 
 -- the requests are those of the accepts
 pub requests_are_accepts : (h : List Note) → map (λ r. entry_by 0 (Accept r)) (requests h) ≡ map unsigned (accepts (entries_of h))
@@ -42,18 +46,19 @@ pub length-requests : (h : List Note) → length (requests h) ≡ length (accept
 length-requests h =
     sym (length-map (requests h) (λ r. entry_by 0 (Accept r))) ∙ ap length (requests_are_accepts h) ∙ length-map (accepts (entries_of h)) unsigned
 
-responses-cons : (c by : ℕ) (event : Event) (h : List Note) → map (λ r. r.ordinal) (responses c h) ≡ map (λ e. e.ordinal) (answers_of c (entries_of h)) → map (λ r. r.ordinal) (cons_option (response_in c event) (responses c h)) ≡ map (λ e. e.ordinal) (answers_of c (entry_by by event ∷ entries_of h))
-responses-cons c by (Admit d) h same = same
-responses-cons c by (Accept r) h same = same
-responses-cons c by (Take d n u) h same = same
-responses-cons c by (Answer d n p) h same =
+responses-cons : (c by : ℕ) (event : Option Event) (h : List Note) → map (λ r. r.ordinal) (responses c h) ≡ map (λ e. e.ordinal) (answers_of c (entries_of h)) → map (λ r. r.ordinal) (cons_option (response_in c event) (responses c h)) ≡ map (λ e. e.ordinal) (answers_of c (cons_option (option_map (entry_by by) event) (entries_of h)))
+responses-cons c by None h same = same
+responses-cons c by (Some (Admit d)) h same = same
+responses-cons c by (Some (Accept r)) h same = same
+responses-cons c by (Some (Take d n u)) h same = same
+responses-cons c by (Some (Answer d n p)) h same =
     elim (d == c) as (λ b. map (λ r. r.ordinal) (cons_option (cond b (Some (record { ordinal = n; pdu = p })) None) (responses c h)) ≡ map (λ e. e.ordinal) (cond b (entry_by by (Answer d n p) ∷ answers_of c (entries_of h)) (answers_of c (entries_of h)))) [
       | true ↦ ap (λ ns. n ∷ ns) same
       | false ↦ same
     ]
-responses-cons c by (Late d n u k) h same = same
-responses-cons c by (Collect d n) h same = same
-responses-cons c by (Retire d) h same = same
+responses-cons c by (Some (Late d n u k)) h same = same
+responses-cons c by (Some (Collect d n)) h same = same
+responses-cons c by (Some (Retire d)) h same = same
 
 -- the responses of a client are those of its answers
 pub responses_are_answers : (c : ℕ) (h : List Note) → map (λ r. r.ordinal) (responses c h) ≡ map (λ e. e.ordinal) (answers_of c (entries_of h))
@@ -149,8 +154,17 @@ own_of-kept c n es more h = first-kept (λ e. is_accept e.kind && has_name c n e
 pub command_of-kept : (c n : ℕ) (es more : List Entry) → is_accepted c n es ≡ true → command_of c n (es ++ more) ≡ command_of c n es
 command_of-kept c n es more h = first-kept (λ e. is_accept e.kind && has_name c n e) (λ e. e.command) es more h
 
-pub entries_of-push : (h : List Note) (note : Note) → entries_of (h ++ note ∷ []) ≡ entries_of h ++ entry_of note ∷ []
-entries_of-push h note = map-append entry_of h (note ∷ [])
+-- a note with an entry is one more mark
+pub marks_of-push : (h : List Note) (n : Note) (e : Entry) → entry_in n ≡ Some e → marks_of (h ++ n ∷ []) ≡ marks_of h ++ Some e ∷ []
+marks_of-push h n e is = map-append entry_in h (n ∷ []) ∙ ap (λ mark. marks_of h ++ mark ∷ []) is
+
+-- and one more entry
+pub entries_of-push : (h : List Note) (n : Note) (e : Entry) → entry_in n ≡ Some e → entries_of (h ++ n ∷ []) ≡ entries_of h ++ e ∷ []
+entries_of-push h n e is = ap noted (marks_of-push h n e is) ∙ noted-push (marks_of h) e
+
+-- the entries of notes and further notes
+pub entries_of-append : (g h : List Note) → entries_of (g ++ h) ≡ entries_of g ++ entries_of h
+entries_of-append g h = ap noted (map-append entry_in g h) ∙ filter_map-append (λ mark. mark) (marks_of g) (marks_of h)
 
 -- a response that came was to a request that was accepted
 pub responses_accepted : (c : ℕ) (h : List Note) → AtEach (λ before e. IsPaired e.kind before e) (entries_of h) → AllByRecursion (λ (r : Response). is_accepted c r.ordinal (entries_of h) ≡ true) (responses c h)

@@ -1,7 +1,7 @@
 -- A retire takes a lane that agrees with a history to one that agrees with the longer history.
 use Rattle.smx_history.proofs.FitsCollect.{retire_fit}
 use Rattle.smx_history.proofs.Presence.{present_retired}
-use Rattle.smx_history.proofs.Following.{IsLegal-next}
+use Rattle.smx_history.proofs.Shifting.{IsLegal-next, stored-push}
 use Rattle.smx_history.proofs.SettleAgrees.{within-after}
 use Rattle.smx_history.proofs.Counts.{length_part}
 use Rattle.std.proofs.Common.{◌≡◌, ◌<◌, ◌≤◌, ◌+◌, ◌==◌, ℕ, Bool, true, false, cond, not, List, [], ◌∷◌, ◌++◌, length, map, refl, sym, ◌∙◌, ap, arith, filter, sum_by, length-append, Some}
@@ -13,11 +13,11 @@ use Rattle.smx_history.specs.declared.note.Note.{Note}
 use Rattle.smx_history.specs.Prefixes.{RiseAbove}
 use Rattle.smx_history.specs.Entries.{is_retired, is_admitted, present}
 use Rattle.smx_history.specs.Legal.{IsFifo, IsServed}
-use Rattle.smx_history.specs.History.{entry_by, note, entries_of}
+use Rattle.smx_history.specs.History.{entry_by, note, entries_of, marks_of}
 use Rattle.smx_history.specs.Contents.{AgreesWith, IsAfter, IsMemberAfter, Content, Member}
 use Rattle.smx_history.specs.Room.{KeepsRoom, FitsBox}
 use Rattle.smx_history.specs.Replies.{retired, without, member_with}
-use Rattle.smx_history.proofs.Reading.{entries_of-push, places-kept, All-kept}
+use Rattle.smx_history.proofs.Reading.{marks_of-push, entries_of-push, places-kept, All-kept}
 use Rattle.smx_history.proofs.Sizes.{found_admit, present_served}
 use Rattle.smx_history.proofs.Growing.{AtEachPrefix-whole}
 use Rattle.smx_history.proofs.Frames.{takes-other, admits-other, unanswered-other}
@@ -90,16 +90,16 @@ IsAfter-retired h v by c a =
     let es = entries_of h in
     let e = entry_by by (Retire c) in
     let n = note by (Retire c) in
-    let fifo = AtEachPrefix-whole IsFifo es a.legal.fifo in
-    let push = entries_of-push h n in
+    let fifo = AtEachPrefix-whole IsFifo es a.legal.rules.fifo in
+    let push = entries_of-push h n e refl in
     record {
       queue = rw (push, takes-other es e refl, requests-other h n refl) a.after.queue;
       window = rw (push, unanswered-other es e refl refl, places-kept es (e ∷ []) fifo) a.after.window;
       members = rw (push, present_retired es e refl)
-          (zip-each (IsMemberAfter h) (IsMemberAfter (h ++ n ∷ [])) (λ x y is. IsMemberAfter-other h n x y refl refl refl a.legal.pairing is)
+          (zip-each (IsMemberAfter h) (IsMemberAfter (h ++ n ∷ [])) (λ x y is. IsMemberAfter-other h n e x y refl refl refl refl a.legal.rules.pairing is)
           (filter (λ x. not (x.client == c)) (present es)) (without c v.members) (zip-without h c (present es) v.members a.after.members));
       greatest = rw (push, admits-other es e refl) a.after.greatest;
-      entries = rw push (ap (λ xs. xs ++ e ∷ []) a.after.entries);
+      entries = rw (marks_of-push h n e refl, stored-push (marks_of h) e) (ap (λ xs. xs ++ e ∷ []) a.after.entries);
     }
 
 AgreesWith-retired_at : (h : List Note) (v : Content) (by c : ℕ) (m : Member) (admit : Entry) → AgreesWith h v → IsMemberAfter h admit m → is_admitted admit.by admit.client (entries_of h) ≡ true → is_retired admit.client (entries_of h) ≡ false → admit.client ≡ c → m.by ≡ by → KeepsRoom (retired v by c) → AgreesWith (h ++ note by (Retire c) ∷ []) (retired v by c)
@@ -107,12 +107,12 @@ AgreesWith-retired_at h v by c m admit a is admitted here of own room =
     let es = entries_of h in
     let e = entry_by by (Retire c) in
     let n = note by (Retire c) in
-    let push = entries_of-push h n in
+    let push = entries_of-push h n e refl in
     let after = IsAfter-retired h v by c a in
     let not_yet : is_retired c es ≡ false = ap (λ d. is_retired d es) (sym of) ∙ here in
     let served : IsServed es e = (sym (ap (λ b. is_admitted b admit.client es) (sym is.by ∙ own) ∙ ap (λ d. is_admitted by d es) of) ∙ admitted, not_yet) in
     record {
-      legal = rw push (IsLegal-next v.limits es e a.legal (retire_fit v.limits es e a.legal refl (refl, refl, refl) served) (within-after h n (retired v by c) after room));
+      legal = rw (marks_of-push h n e refl) (IsLegal-next v.limits (marks_of h) e a.legal (retire_fit v.limits es e a.legal.rules refl (refl, refl, refl) served) (within-after h n e (retired v by c) refl after room));
       after = after;
     }
 

@@ -1,5 +1,5 @@
 -- An answer, in time or late, takes the place that it answers out of the window.
-use Rattle.std.proofs.Common.{◌≡◌, ◌<◌, ◌≤◌, ◌==◌, ℕ, Bool, true, false, not, ◌&&◌, List, [], ◌∷◌, ◌++◌, length, map, get_or, refl, sym, ◌∙◌, ap, arith, filter, count_by}
+use Rattle.std.proofs.Common.{Some, ◌+◌, ◌≡◌, ◌<◌, ◌≤◌, ◌==◌, ℕ, Bool, true, false, not, ◌&&◌, List, [], ◌∷◌, ◌++◌, length, map, get_or, refl, sym, ◌∙◌, ap, arith, filter, count_by}
 use Rattle.std.specs.List.{list_any, AllByRecursion, remove}
 use Rattle.std.proofs.lemmas.List.Sums.{length-filter}
 use Rattle.std.proofs.lemmas.Bool.{eq-eqb, eqb-true, and_parts, and_from, not-true}
@@ -9,13 +9,15 @@ use Rattle.smx_history.specs.declared.note.Note.{Note}
 use Rattle.smx_pdu.specs.Command.{is_response_to}
 use Rattle.smx_history.specs.Prefixes.{SameCounts}
 use Rattle.smx_history.specs.Entries.{is_accepted, is_take, has_name, takes, unanswered, own_of, command_of, is_settled}
-use Rattle.smx_history.specs.Legal.{IsFifo, IsWithin, Answers, size}
-use Rattle.smx_history.specs.History.{entry_of, entries_of}
+use Rattle.smx_history.specs.Legal.{IsFifo, Answers, size, owed}
+use Rattle.smx_history.specs.Shifts.{stored}
+use Rattle.smx_history.proofs.Shifting.{size-push}
+use Rattle.smx_history.specs.History.{entry_in, entries_of, marks_of}
 use Rattle.smx_history.specs.Contents.{AgreesWith, IsAfter, Content, place_of, size_of, window_after}
 use Rattle.smx_history.specs.Room.{KeepsRoom}
 use Rattle.smx_history.proofs.Growing.{AtEachPrefix-whole}
 use Rattle.smx_history.proofs.Counts.{remove_only, filter-map, All-same, count_by-map, count_by-filter, count-filter-le}
-use Rattle.smx_history.proofs.Reading.{entries_of-push, own_of-kept, command_of-kept, map_agree, All-each, All-kept, All-from_get, All-filtered, any_at, takes_accepted}
+use Rattle.smx_history.proofs.Reading.{marks_of-push, own_of-kept, command_of-kept, map_agree, All-each, All-kept, All-from_get, All-filtered, any_at, takes_accepted}
 use Rattle.smx_history.proofs.Sizes.{size_agrees}
 use Rattle.smx_history.proofs.Taking.{filter-and}
 use Rattle.smx_history.proofs.FitsSettle.{Settles, unanswered_settled}
@@ -63,7 +65,7 @@ taken_from es q h =
 pub place_taken : (h : List Note) (v : Content) (i : ℕ) (q : Place) → AgreesWith h v → i < length v.window → q ≡ get_or v.window i q → IsTaken (entries_of h) q
 place_taken h v i q a within is =
     let es = entries_of h in
-    let fifo = AtEachPrefix-whole IsFifo es a.legal.fifo in
+    let fifo = AtEachPrefix-whole IsFifo es a.legal.rules.fifo in
     let none : list_any (λ x. not (is_taken es x)) (window_after h) ≡ false =
     any_map_none (unanswered es) (taken_places es fifo) in
     taken_from es q (All-same (is_taken es) (window_after h) v.window a.after.window none i q within is)
@@ -96,7 +98,7 @@ few_named h v c n same once =
 pub window-settled : (h : List Note) (v : Content) (e : Entry) (q : Place) (i : ℕ) → AgreesWith h v → Settles e.kind → q.client ≡ e.client → q.ordinal ≡ e.ordinal → i < length v.window → q ≡ get_or v.window i q → SameCounts (map (place_of (entries_of h ++ e ∷ [])) (unanswered (entries_of h ++ e ∷ []))) (remove v.window i)
 window-settled h v e q i a settles of named' within is =
     let es = entries_of h in
-    let fifo = AtEachPrefix-whole IsFifo es a.legal.fifo in
+    let fifo = AtEachPrefix-whole IsFifo es a.legal.rules.fifo in
     let named : Place → Bool = λ x. (x.client == e.client) && (x.ordinal == e.ordinal) in
     let left = filter (λ t. not (has_name e.client e.ordinal t)) (unanswered es) in
     let kept : map (place_of (es ++ e ∷ [])) left ≡ map (place_of es) left =
@@ -108,14 +110,12 @@ window-settled h v e q i a settles of named' within is =
     let places : map (place_of (es ++ e ∷ [])) (unanswered (es ++ e ∷ [])) ≡ filter (λ x. not (named x)) (window_after h) =
     ap (map (place_of (es ++ e ∷ []))) (unanswered_settled es e settles) ∙ kept ∙ sym (filter-map (λ x. not (named x)) (place_of es) (unanswered es)) in
     let few : count_by named v.window ≤ 1 =
-    few_named h v e.client e.ordinal (a.after.window named) (a.legal.once.takes e.client e.ordinal) in
+    few_named h v e.client e.ordinal (a.after.window named) (a.legal.rules.once.takes e.client e.ordinal) in
     λ test.
     remove_only named v.window i q within is (and_from _ _ (eq-eqb q.client e.client of) (eq-eqb q.ordinal e.ordinal named')) few test
     ∙ count_by-filter test (λ x. not (named x)) v.window ∙ a.after.window (λ x. test x && not (named x))
     ∙ sym (count_by-filter test (λ x. not (named x)) (window_after h)) ∙ ap (count_by test) (sym places)
 
 -- the size after a call, from what the lane keeps room for
-pub within-after : (h : List Note) (n : Note) (v : Content) → IsAfter (h ++ n ∷ []) v → KeepsRoom v → IsWithin v.limits (entries_of h ++ entry_of n ∷ [])
-within-after h n v after room =
-    let size' : size (entries_of h ++ entry_of n ∷ []) ≡ size_of v = ap size (sym (entries_of-push h n)) ∙ size_agrees (h ++ n ∷ []) v after in
-    omega (arith, size', room.size)
+pub within-after : (h : List Note) (n : Note) (e : Entry) (v : Content) → entry_in n ≡ Some e → IsAfter (h ++ n ∷ []) v → KeepsRoom v → length (stored (marks_of h)) + 1 + owed (entries_of h ++ e ∷ []) ≤ v.limits.history
+within-after h n e v is after room = omega (arith, size-push (marks_of h) e, ap size (marks_of-push h n e is), size_agrees (h ++ n ∷ []) v after, room.size)

@@ -9,7 +9,7 @@ use Rattle.smx_history.specs.declared.entry.Entry.{Entry}
 use Rattle.smx_history.specs.declared.note.Note.{Note}
 use Rattle.smx_history.specs.Entries.{is_admit, admits, accepts, takes, answers_of, collects_of, is_admitted, is_retired, unanswered, present, name_of}
 use Rattle.smx_history.specs.Legal.{IsFifo, size}
-use Rattle.smx_history.specs.History.{entries_of, requests, responses}
+use Rattle.smx_history.specs.History.{entries_of, marks_of, requests, responses}
 use Rattle.smx_history.specs.Contents.{IsAfter, IsMemberAfter, Content, Member, size_of, shown, place_of, window_after}
 use Rattle.smx_history.specs.Replies.{member_with}
 use Rattle.smx_history.proofs.Growing.{StartsWith-length}
@@ -51,10 +51,10 @@ waiting-zip h (a ∷ us) (m ∷ ms) z =
     ∙ sym (sum_by-cons (λ a. length (answers_of a.client (entries_of h)) - length (collects_of a.client (entries_of h))) a us)
 
 -- the size of a history is that of what the lane holds
-pub size_agrees : (h : List Note) (v : Content) → IsAfter h v → size (entries_of h) ≡ size_of v
+pub size_agrees : (h : List Note) (v : Content) → IsAfter h v → size (marks_of h) ≡ size_of v
 size_agrees h v a =
     let w = waiting-zip h (present (entries_of h)) v.members a.members in
-    rw (← length-queue h v a, ← length-window h v a, ← length-members h v a, ← ap length a.entries, ← w) refl
+    rw (← length-queue h v a, ← length-window h v a, ← length-members h v a, ← ap length a.entries, ← w) (omega arith)
 
 -- the admit of a row that was found
 pub found_admit : (P : Entry → Type 0) (h : List Note) (c : ℕ) (m : Member) (us : List Entry) (ms : List Member) → AllZip (IsMemberAfter h) us ms → AllByRecursion P us → member_with c ms ≡ Some m → (a : Entry) × IsMemberAfter h a m × P a × (a.client ≡ c)

@@ -2,7 +2,7 @@
 use Rattle.std.specs.Option.{option_map}
 use Rattle.std.proofs.lemmas.Option.{slice_get-map}
 use Rattle.smx_history.proofs.FitsTake.{MayTake, takes_push, unanswered_taken, take_fit}
-use Rattle.smx_history.proofs.Following.{IsLegal-next, IsLegal-within}
+use Rattle.smx_history.proofs.Shifting.{IsLegal-next, IsLegal-within, stored-push}
 use Rattle.smx_history.proofs.Parts.{count_numbered}
 use Rattle.smx_history.proofs.Taking.{any-and}
 use Rattle.std.proofs.Common.{slice_get, zero, ◌≡◌, ◌<◌, ◌≤◌, ◌+◌, ◌==◌, ℕ, Bool, true, false, cond, ◌||◌, ◌&&◌, List, [], ◌∷◌, ◌++◌, length, map, take, drop, refl, sym, ◌∙◌, ap, subst, arith, filter, length-append, length-drop, nat_eq, Some, None, suc}
@@ -18,13 +18,13 @@ use Rattle.smx_history.specs.declared.place.Place.{Place}
 use Rattle.smx_history.specs.declared.note.Note.{Note}
 use Rattle.smx_history.specs.Prefixes.{AtEach, RiseAbove, first_or}
 use Rattle.smx_history.specs.Entries.{is_accept, is_collect, has_name, name_of, Name, accepts, takes, unanswered, own_of, command_of, is_settled, present}
-use Rattle.smx_history.specs.Legal.{IsFifo, IsOnce, IsPaired, size}
-use Rattle.smx_history.specs.History.{entry_by, entry_of, note, entries_of, requests, request_in, response_in}
+use Rattle.smx_history.specs.Legal.{IsFifo, IsOnce, IsPaired, owed}
+use Rattle.smx_history.specs.History.{entry_by, entry_in, note, marks_of, entries_of, requests, request_in, response_in}
 use Rattle.smx_history.specs.Contents.{AgreesWith, IsMemberAfter, Content, Member, place_of, window_after}
 use Rattle.smx_history.specs.Replies.{taken, place_for}
 use Rattle.smx_history.proofs.Growing.{filter_other, AtEachPrefix-whole}
 use Rattle.smx_history.proofs.Frames.{accepts-other, accepts_of-other, collects_of-other, admits-other, present-other, waiting-other}
-use Rattle.smx_history.proofs.Reading.{requests_are_accepts, unsigned, entries_of-push, places-kept, shown-kept, responses-other, All-to_map, All-of_map}
+use Rattle.smx_history.proofs.Reading.{requests_are_accepts, unsigned, entries_of-push, marks_of-push, places-kept, shown-kept, responses-other, All-to_map, All-of_map}
 use Rattle.smx_history.proofs.Sizes.{length-window}
 use Rattle.smx_history.proofs.Taking.{drop-split, drop-next, filter-and, none_before, filter_none, not_settled}
 
@@ -93,8 +93,8 @@ next_name es r y zs next =
     front_of zero (x ∷ xs) h = cc
     front_of (suc n) (x ∷ xs) h = front_of n xs h
 
-size-taken : (es : List Entry) (by : ℕ) (r : Request) (u : ℕ) → is_settled r.client r.ordinal es ≡ false → length (takes es) < length (accepts es) → size (es ++ entry_by by (Take r.client r.ordinal u) ∷ []) ≡ size es
-size-taken es by r u none lt =
+owed-taken : (es : List Entry) (by : ℕ) (r : Request) (u : ℕ) → is_settled r.client r.ordinal es ≡ false → length (takes es) < length (accepts es) → owed (es ++ entry_by by (Take r.client r.ordinal u) ∷ []) + 1 ≡ owed es
+owed-taken es by r u none lt =
     let e = entry_by by (Take r.client r.ordinal u) in
     rw (unanswered_taken es e refl none, waiting-other es e refl refl refl refl, present-other es e refl refl, accepts-other es e refl, takes_push es e refl)
     (omega (arith, length-append es (e ∷ []), length-append (takes es) (e ∷ []), length-append (unanswered es) (e ∷ [])))
@@ -110,11 +110,10 @@ named_next es r y zs next once =
     ∙ ap (λ xs. xs ++ filter (has_name r.client r.ordinal) (y ∷ zs)) (filter_none (has_name r.client r.ordinal) (take n (accepts es)) (before_next es r y zs next once))
     ∙ ap (λ b. cond b (y ∷ filter (has_name r.client r.ordinal) zs) (filter (has_name r.client r.ordinal) zs)) here
 
-pub IsMemberAfter-other : (h : List Note) (n : Note) (a : Entry) (m : Member) → is_accept (entry_of n).kind ≡ false → is_collect (entry_of n).kind ≡ false → response_in a.client n.event ≡ None → AtEach (λ before e. IsPaired e.kind before e) (entries_of h) → IsMemberAfter h a m → IsMemberAfter (h ++ n ∷ []) a m
-IsMemberAfter-other h n a m accept collect none paired is =
+pub IsMemberAfter-other : (h : List Note) (n : Note) (e a : Entry) (m : Member) → entry_in n ≡ Some e → is_accept e.kind ≡ false → is_collect e.kind ≡ false → response_in a.client n.event ≡ None → AtEach (λ before e. IsPaired e.kind before e) (entries_of h) → IsMemberAfter h a m → IsMemberAfter (h ++ n ∷ []) a m
+IsMemberAfter-other h n e a m entry accept collect none paired is =
     let es = entries_of h in
-    let e = entry_of n in
-    let push = entries_of-push h n in
+    let push = entries_of-push h n e entry in
     record {
       client = is.client;
       by = is.by;
@@ -158,10 +157,10 @@ AgreesWith-taken_at h v by r rest u y zs next a front room positive within free 
     let es = entries_of h in
     let e = entry_by by (Take r.client r.ordinal u) in
     let n = note by (Take r.client r.ordinal u) in
-    let fifo = AtEachPrefix-whole IsFifo es a.legal.fifo in
-    let push = entries_of-push h n in
-    let unsettled = not_settled r.client r.ordinal es a.legal.pairing (no_take es r y zs next fifo a.legal.once) in
-    let named = named_next es r y zs next a.legal.once in
+    let fifo = AtEachPrefix-whole IsFifo es a.legal.rules.fifo in
+    let push = entries_of-push h n e refl in
+    let unsettled = not_settled r.client r.ordinal es a.legal.rules.pairing (no_take es r y zs next fifo a.legal.rules.once) in
+    let named = named_next es r y zs next a.legal.rules.once in
     let own : own_of r.client r.ordinal (es ++ e ∷ []) ≡ r.own =
     ap (λ xs. first_or 0 (map (λ x. x.number) xs)) (filter_other (λ x. is_accept x.kind && has_name r.client r.ordinal x) es e refl ∙ named) ∙ next.own in
     let command : command_of r.client r.ordinal (es ++ e ∷ []) ≡ r.command =
@@ -170,7 +169,7 @@ AgreesWith-taken_at h v by r rest u y zs next a front room positive within free 
     let numbers : list_any (λ k. nat_eq k u) (map (λ x. x.number) (unanswered es)) ≡ false =
     ap (list_any (λ k. nat_eq k u)) (sym (places_numbers es (unanswered es))) ∙ any-map (λ k. nat_eq k u) (λ (p : Place). p.upstream) (window_after h)
     ∙ any-same (λ (p : Place). p.upstream == u) (window_after h) v.window a.after.window free in
-    let none = no_take es r y zs next fifo a.legal.once in
+    let none = no_take es r y zs next fifo a.legal.rules.once in
     let may : MayTake v.limits es e = record {
       command = refl;
       positive = positive;
@@ -183,14 +182,14 @@ AgreesWith-taken_at h v by r rest u y zs next a front room positive within free 
     let window : map (place_of (es ++ e ∷ [])) (unanswered es ++ e ∷ []) ≡ window_after h ++ place_for r u ∷ [] =
     map-append (place_of (es ++ e ∷ [])) (unanswered es) (e ∷ []) ∙ ap (λ xs. xs ++ place_of (es ++ e ∷ []) e ∷ []) (places-kept es (e ∷ []) fifo) ∙ ap (λ x. window_after h ++ x ∷ []) place in
     record {
-      legal = rw push (IsLegal-next v.limits es e a.legal (take_fit v.limits es e a.legal refl may) (let was = IsLegal-within v.limits es a.legal in omega (arith, size-taken es by r u unsettled (next-lt es r y zs next), was)));
+      legal = rw (marks_of-push h n e refl) (IsLegal-next v.limits (marks_of h) e a.legal (take_fit v.limits es e a.legal.rules refl may) (let was = IsLegal-within v.limits (marks_of h) a.legal in omega (arith, owed-taken es by r u unsettled (next-lt es r y zs next), was)));
       after = record {
         queue = rw (push, takes_push es e refl, requests-other h n refl) (queue_taken (length (takes es)) (takes es) e v.queue (requests h) r rest refl front a.after.queue);
         window = rw (push, unanswered_taken es e refl unsettled, window) (SameCounts-push (window_after h) v.window (place_for r u) a.after.window);
         members = rw (push, present-other es e refl refl)
-            (zip-each (IsMemberAfter h) (IsMemberAfter (h ++ n ∷ [])) (λ x m is. IsMemberAfter-other h n x m refl refl refl a.legal.pairing is) (present es) v.members a.after.members);
+            (zip-each (IsMemberAfter h) (IsMemberAfter (h ++ n ∷ [])) (λ x m is. IsMemberAfter-other h n e x m refl refl refl refl a.legal.rules.pairing is) (present es) v.members a.after.members);
         greatest = rw (push, admits-other es e refl) a.after.greatest;
-        entries = rw push (ap (λ xs. xs ++ e ∷ []) a.after.entries);
+        entries = rw (marks_of-push h n e refl, stored-push (marks_of h) e) (ap (λ xs. xs ++ e ∷ []) a.after.entries);
       };
     }
 

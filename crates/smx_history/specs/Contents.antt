@@ -10,7 +10,7 @@ use Rattle.smx_history.specs.Entries.{admits, takes, accepts_of, collects_of, un
 use Rattle.smx_history.specs.Legal.{IsLegal}
 use Rattle.smx_history.specs.declared.place.Place.{Place}
 use Rattle.smx_history.specs.declared.response.Response.{Response}
-use Rattle.smx_history.specs.History.{entries_of, requests, responses}
+use Rattle.smx_history.specs.History.{entries_of, marks_of, stored_of, requests, responses}
 
 -- a client that was admitted and has not retired
 pub record Member : Type 0 where
@@ -68,11 +68,11 @@ pub record IsAfter (h : List Note) (content : Content) : Type 0 where
   pub window : SameCounts (window_after h) content.window
   pub members : AllZip (IsMemberAfter h) (present (entries_of h)) content.members
   pub greatest : content.greatest ≡ greatest_after h
-  pub entries : content.entries ≡ entries_of h
+  pub entries : content.entries ≡ stored_of h
 
 -- the history is legal, and the content is what it leaves
 pub record AgreesWith (h : List Note) (content : Content) : Type 0 where
-  pub legal : IsLegal content.limits (entries_of h)
+  pub legal : IsLegal content.limits (marks_of h)
   pub after : IsAfter h content
 
 -- entries, and what may still follow from what is there

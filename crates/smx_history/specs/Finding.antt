@@ -14,7 +14,7 @@ use Rattle.smx_history.specs.declared.reply.TakeRefusal.{TakeRefusal}
 use Rattle.smx_history.specs.declared.reply.TakeRefusal.TheVariants.{QueueEmpty, WindowFull}
 use Rattle.smx_history.specs.Entries.{accepts_of, collects_of, present}
 use Rattle.smx_history.specs.Legal.{size}
-use Rattle.smx_history.specs.History.{entries_of, responses}
+use Rattle.smx_history.specs.History.{marks_of, entries_of, responses}
 use Rattle.smx_history.specs.Contents.{shown, queue_after, window_after, greatest_after}
 use Rattle.smx_history.specs.Replies.{answers_place}
 
@@ -28,7 +28,7 @@ pending_after h c = length (accepts_of c (entries_of h)) - length (collects_of c
 
 -- there is room for one more accept or admit, and all that follows from it
 abbrev pub has_room_after : Limits → List Note → Bool
-has_room_after limits h = nat_le (size (entries_of h) + 4) limits.history
+has_room_after limits h = nat_le (size (marks_of h) + 4) limits.history
 
 -- the first reason to refuse to admit the client
 unfoldable pub admit_refusal_after : Limits → List Note → ℕ → Option AdmitRefusal

@@ -7,6 +7,8 @@ use Rattle.smx_history.specs.declared.entry.Entry.{Entry}
 use Rattle.smx_history.specs.declared.request.Request.{Request}
 use Rattle.smx_history.specs.declared.note.Note.{Note}
 use Rattle.smx_history.specs.declared.response.Response.{Response}
+use Rattle.std.specs.Option.{option_map}
+use Rattle.smx_history.specs.Shifts.{noted, stored}
 
 -- the entry of an event
 abbrev pub entry_by : ℕ → Event → Entry
@@ -18,17 +20,25 @@ entry_by by (Late c n u k) = record { kind = kind.Late; by = by; client = c; ord
 entry_by by (Collect c n) = record { kind = kind.Collect; by = by; client = c; ordinal = n; number = 0; command = 0 }
 entry_by by (Retire c) = record { kind = kind.Retire; by = by; client = c; ordinal = 0; number = 0; command = 0 }
 
--- a note without bodies and statuses
-abbrev pub entry_of : Note → Entry
-entry_of note = entry_by note.by note.event
+-- a note without bodies and statuses; a shift has no entry
+abbrev pub entry_in : Note → Option Entry
+entry_in note = option_map (entry_by note.by) note.event
 
--- what a lane stores of a history
+-- the entries, and where a shift stands between them
+abbrev pub marks_of : List Note → List (Option Entry)
+marks_of h = map entry_in h
+
+-- the entries of a history, over all shifts
 abbrev pub entries_of : List Note → List Entry
-entries_of h = map entry_of h
+entries_of h = noted (marks_of h)
+
+-- what a lane stores of a history: the entries after the last shift
+abbrev pub stored_of : List Note → List Entry
+stored_of h = stored (marks_of h)
 
 -- the request that an event accepts
-abbrev pub request_in : Event → Option Request
-request_in (Accept r) = Some r
+abbrev pub request_in : Option Event → Option Request
+request_in (Some (Accept r)) = Some r
 request_in _ = None
 
 -- the requests that were accepted, in order, bodies included
@@ -36,8 +46,8 @@ abbrev pub requests : List Note → List Request
 requests h = filter_map (λ note. request_in note.event) h
 
 -- the response to a request of the client that an event brings in time
-abbrev pub response_in : ℕ → Event → Option Response
-response_in c (Answer d n p) = if d == c then Some (record { ordinal = n; pdu = p }) else None
+abbrev pub response_in : ℕ → Option Event → Option Response
+response_in c (Some (Answer d n p)) = if d == c then Some (record { ordinal = n; pdu = p }) else None
 response_in c _ = None
 
 -- the responses that came for a client in time, as they came
@@ -46,4 +56,8 @@ responses c h = filter_map (λ note. response_in c note.event) h
 
 -- an event of that caller
 abbrev pub note : ℕ → Event → Note
-note by event = record { by = by; event = event }
+note by event = record { by = by; event = Some event }
+
+-- a shift that that caller made
+abbrev pub shift : ℕ → Note
+shift by = record { by = by; event = None }

@@ -1,11 +1,12 @@
 -- Which lists of entries a lane may have.
-use Rattle.std.specs.Prelude.{◌≡◌, ◌+◌, ◌-◌, ◌*◌, ◌≤◌, ◌<◌, ◌==◌, ◌&&◌, ℕ, true, false, List, length, map, sum_by, count_by, nat_eq}
+use Rattle.std.specs.Prelude.{◌≡◌, ◌+◌, ◌-◌, ◌*◌, ◌≤◌, ◌<◌, ◌==◌, ◌&&◌, ℕ, true, false, List, length, map, sum_by, count_by, nat_eq, Option}
 use Rattle.std.specs.List.{list_any, IsDistinct}
 use Rattle.smx_history.specs.declared.entry.Kind.{Kind}
 use Rattle.smx_history.specs.declared.entry.Kind.TheVariants.{Admit, Accept, Take, Answer, Late, Collect, Retire}
 use Rattle.smx_history.specs.declared.entry.Entry.{Entry}
 use Rattle.smx_history.specs.declared.limits.Limits.{Limits}
 use Rattle.smx_pdu.specs.Command.{is_forwarded, is_response_to}
+use Rattle.smx_history.specs.Shifts.{noted, stored}
 use Rattle.smx_history.specs.Prefixes.{AtEachPrefix, AtEach, StartsWith, RiseAbove}
 use Rattle.smx_history.specs.Entries.{is_take, is_settling, is_retire, name_of, has_name, admits, accepts, takes, accepts_of, answers_of, collects_of, is_retired, is_admitted, is_accepted, is_settled, unanswered, command_of, present}
 
@@ -74,14 +75,14 @@ queued es = length (accepts es) - length (takes es)
 abbrev pub waiting : List Entry → ℕ
 waiting es = sum_by (λ a. length (answers_of a.client es) - length (collects_of a.client es)) (present es)
 
--- the entries that are stored
-abbrev pub stored : List Entry → ℕ
-stored es = length es
-
--- what is stored, and room for all that may still follow: a queued request has its take, its answer and its response to come,
+-- room for all that may still follow: a queued request has its take, its answer and its response to come,
 -- a taken one its answer and its response, a response that waits its collect, and a present client its retire
-abbrev pub size : List Entry → ℕ
-size es = stored es + 3 * queued es + 2 * length (unanswered es) + waiting es + length (present es)
+abbrev pub owed : List Entry → ℕ
+owed es = 3 * queued es + 2 * length (unanswered es) + waiting es + length (present es)
+
+-- what is stored since the last shift, and what is owed by all that was noted
+abbrev pub size : List (Option Entry) → ℕ
+size marks = length (stored marks) + owed (noted marks)
 
 -- what is queued, in the window and of one present client at one time keeps to the limits
 pub record IsBounded (limits : Limits) (es : List Entry) : Type 0 where
@@ -90,11 +91,11 @@ pub record IsBounded (limits : Limits) (es : List Entry) : Type 0 where
   pub client : (c : ℕ) → is_retired c es ≡ false → length (accepts_of c es) ≤ length (collects_of c es) + limits.client
 
 -- and so does the size
-abbrev pub IsWithin : Limits → List Entry → Type 0
-IsWithin limits es = size es ≤ limits.history
+abbrev pub IsWithin : Limits → List (Option Entry) → Type 0
+IsWithin limits marks = size marks ≤ limits.history
 
--- a legal list of entries: each is the entry of some note, and the list keeps the rules of Fifo, Once, Membership (by two fields), Pairing (by two) and Bounds (by two)
-pub record IsLegal (limits : Limits) (es : List Entry) : Type 0 where
+-- what all entries keep to, over all shifts: each is the entry of some note, and the list keeps the rules of Fifo, Once, Membership (by two fields), Pairing (by two) and Bounds
+pub record KeepsRules (limits : Limits) (es : List Entry) : Type 0 where
   pub form : AtEach (λ before e. HasForm e.kind e) es
   pub fifo : AtEachPrefix IsFifo es
   pub once : IsOnce es
@@ -103,4 +104,8 @@ pub record IsLegal (limits : Limits) (es : List Entry) : Type 0 where
   pub pairing : AtEach (λ before e. IsPaired e.kind before e) es
   pub apart : AtEachPrefix AreApart es
   pub bounds : AtEachPrefix (IsBounded limits) es
-  pub size : AtEachPrefix (IsWithin limits) es
+
+-- a legal history: all entries keep the rules, and at each moment the size since the last shift is within the limit
+pub record IsLegal (limits : Limits) (marks : List (Option Entry)) : Type 0 where
+  pub rules : KeepsRules limits (noted marks)
+  pub size : AtEachPrefix (IsWithin limits) marks

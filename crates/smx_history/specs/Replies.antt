@@ -132,3 +132,7 @@ collected v by c r = record v {
   members = with_row c (λ m. record m { pending = m.pending - 1; waiting = drop 1 m.waiting }) v.members;
   entries = v.entries ++ entry_by by (Collect c r.ordinal) ∷ [];
 }
+
+-- what a shift leaves: the entries were handed out
+abbrev pub turned : Content → Content
+turned v = record v { entries = [] }

@@ -1,7 +1,7 @@
 //! The plain check of a finished history.
-ghost use Rattle.std.specs.Prelude.{◌≡◌, ◌≤◌, ◌+◌, ◌-◌, ◌*◌, ◌<◌, ◌^◌, ◌↔◌, [], ◌∷◌, ◌++◌, ◌&&◌, IsTrue, not, length};
+ghost use Rattle.std.specs.Prelude.{◌≡◌, ◌≤◌, ◌+◌, ◌-◌, ◌*◌, ◌<◌, ◌^◌, ◌↔◌, [], ◌∷◌, ◌++◌, ◌&&◌, IsTrue, Some, map, not, length};
 ghost use Rattle.smx_history.specs.Entries.{is_retired, answers_of, collects_of};
-ghost use Rattle.smx_history.specs.Legal.{IsFifo, IsLegal, size};
+ghost use Rattle.smx_history.specs.Legal.{IsFifo, IsLegal};
 ghost use Rattle.smx_history.specs.Checks.{Counted, Fits, is_bare, is_served, is_next, is_response, is_oldest, admit_fits, accept_fits, take_fits, settle_fits, answer_fits, late_fits, collect_fits, retire_fits};
 
 use crate::entry::{Entry, Kind};
@@ -122,7 +122,7 @@ fn retire_fits(before: &[Entry], entry: Entry) -> bool
 // Whether the entry may follow, but for the size.
 fn fits(limits: Limits, totals: Totals, before: &[Entry], entry: Entry) -> bool
     requires small { limits.history < 2 ^ 32 }
-    requires legal { IsLegal limits before.now }
+    requires legal { IsLegal limits (map Some before.now) }
     requires counted { Counted before.now totals }
     ensures { IsTrue result ↔ Fits limits before.now entry }
 {
@@ -148,7 +148,7 @@ fn waiting_of(before: &[Entry], client: u64) -> usize
 // The totals with one entry more.
 fn after(limits: Limits, totals: Totals, before: &[Entry], entry: Entry) -> Totals
     requires small { limits.history < 2 ^ 32 }
-    requires legal { IsLegal limits before.now }
+    requires legal { IsLegal limits (map Some before.now) }
     requires counted { Counted before.now totals }
     requires fits { Fits limits before.now entry }
     ensures counted { Counted (before.now ++ entry ∷ []) result }
@@ -210,7 +210,7 @@ fn history_of(limits: Limits) -> u32
 /// Whether the entries are those of a legal history under the limits: the history of a lane with
 /// these limits that began with no entry. The time grows with the square of the number of entries.
 pub fn is_legal(entries: &[Entry], limits: Limits) -> bool
-    ensures { IsTrue result ↔ IsLegal limits entries.now }
+    ensures { IsTrue result ↔ IsLegal limits (map Some entries.now) }
 {
     let history = history_of(limits);
     let mut totals = Totals::none();

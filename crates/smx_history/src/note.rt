@@ -38,9 +38,10 @@ pub enum Event {
     },
 }
 
-/// An event, and the number of the caller whose it is.
+/// An event, and the number of the caller whose it is. A note without an event is a shift: the entries stored so far
+/// were handed out, and the lane goes on with none.
 #[derive(Drop)]
 pub struct Note {
     pub by: u64,
-    pub event: Event,
+    pub event: Option<Event>,
 }

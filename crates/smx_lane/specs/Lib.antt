@@ -5,3 +5,4 @@ pub mod Inside
 pub mod Kept
 pub mod Members
 pub mod Roster
+pub mod Turning

@@ -15,5 +15,7 @@ impl Kept for Lane {
 
     ghost fixed = { limits_of };
 
+    ghost some_fixed = { record { queue = 0; window = 0; client = 0; history = 0 } };
+
     ghost agrees = { suits };
 }

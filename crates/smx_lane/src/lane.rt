@@ -8,6 +8,7 @@ ghost use Rattle.smx_lane.specs.Faults.{IsLaneFault};
 mod clients;
 mod requests;
 mod responses;
+mod shifts;
 
 use crate::fault::LaneFault;
 use crate::roster::Roster;

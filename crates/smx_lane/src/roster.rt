@@ -57,6 +57,11 @@ impl Roster {
         }
     }
 
+    // Where rows and boxes come from.
+    pub(crate) fn alloc(&self) -> Global {
+        self.alloc
+    }
+
     // How many clients there are.
     pub(crate) fn len(&self) -> usize
         ensures { result ≡ length self.now.members }

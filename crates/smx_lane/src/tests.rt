@@ -194,3 +194,51 @@ fn refused_memory(rt: HostRuntime) {
         }
     }
 }
+
+#[test]
+fn turned_lanes_go_on(rt: HostRuntime) -> Result<(), Fail> {
+    let mut lane = Lane::new(rt.alloc(), ROOMY)?;
+    assert_eq!(rt; lane.admit(0, 1), Ok(()));
+    let mut rounds = 0;
+    for ordinal in 1..1_000 {
+        if !lane.is_next(0, 1, ordinal) {
+            break;
+        }
+        let Ok(()) = lane.accept(0, submit(rt.alloc(), 1, ordinal)) else {
+            break;
+        };
+        let Ok(sent) = lane.take(0) else {
+            break;
+        };
+        lane.answer(0, submitted(rt.alloc(), sent.upstream));
+        if !lane.is_own(0, 1) {
+            break;
+        }
+        lane.collect(0, 1);
+        rounds += 1;
+    }
+    assert_eq!(rt; rounds, 249);
+    let first = lane.turn_over(0, 1)?;
+    assert_eq!(rt; first.map(|entries| entries.len()), Some(997));
+    for ordinal in 1_000..2_000 {
+        if !lane.is_next(0, 1, ordinal) {
+            break;
+        }
+        let Ok(()) = lane.accept(0, submit(rt.alloc(), 1, ordinal)) else {
+            break;
+        };
+        let Ok(sent) = lane.take(0) else {
+            break;
+        };
+        lane.answer(0, submitted(rt.alloc(), sent.upstream));
+        if !lane.is_own(0, 1) {
+            break;
+        }
+        lane.collect(0, 1);
+        rounds += 1;
+    }
+    assert_eq!(rt; rounds, 498);
+    assert_eq!(rt; lane.entries().len(), 996);
+    assert!(rt; lane.turn_over(0, 997)?.is_none());
+    Ok(())
+}

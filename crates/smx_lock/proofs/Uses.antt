@@ -1,5 +1,5 @@
 -- The moves in the form in which the calls need them.
-use Rattle.std.proofs.Common.{◌≡◌, ◌≢◌, ℕ, ◌+◌, ◌<◌, ◌≤◌, ◌==◌, eqb, false, List, [], ◌∷◌, ◌++◌, refl, sym, ap, ◌∙◌, subst, Option, Some, None}
+use Rattle.std.proofs.Common.{true, ◌≡◌, ◌≢◌, ℕ, ◌+◌, ◌<◌, ◌≤◌, ◌==◌, eqb, false, List, [], ◌∷◌, ◌++◌, refl, sym, ap, ◌∙◌, subst, Option, Some, None}
 use Rattle.std.specs.Prelude.{All}
 use mathlib.Core.Option.{none}
 use mathlib.Core.List.{IsPrefix}
@@ -34,7 +34,7 @@ some_none : {A : Type 0} (a : A) → Some a ≡ None → ⊥
 some_none a e = absurd (cc)
 
 module _ {S N F : Type 0} (writer : N → ℕ) (fixed_of : S → F) (suits : S → List N → Type 0) where
-  pub makes : (first : ℕ) (fixed : F) (x : Case S) (slots : List (Option (Case S))) → slots ≡ Some x ∷ [] → first ≤ most → suits x.value [] → fixed_of x.value ≡ fixed → x.seats ≡ 1
+  pub makes : (first : ℕ) (fixed : F) (x : Case S) (slots : List (Option (Case S))) → slots ≡ Some x ∷ [] → first ≤ most → suits x.value.value [] → fixed_of x.value.value ≡ fixed → x.seats ≡ 1
       → Ruled writer fixed_of suits first fixed (opening (first ∷ first ∷ []) slots (newcomer fixed))
   makes first fixed x slots is low agrees made one = subst (λ l. Ruled writer fixed_of suits first fixed (opening (first ∷ first ∷ []) l (newcomer fixed))) (sym is)
       (opens writer fixed_of suits first fixed x low record { agrees = agrees; fixed_is = made; seats_is = one })
@@ -44,13 +44,13 @@ module _ {S N F : Type 0} (writer : N → ℕ) (fixed_of : S → F) (suits : S �
   draws_at first fixed n id me v x is left_over = draws writer fixed_of suits first fixed n id me x (ap (λ (m : Seated S N F). m.0.caller) is) left_over
 
   pub puts_back : (first : ℕ) (fixed : F) (n id : ℕ) (me : Seated S N F) (v : View N F) (t : ℕ) (x : Case S) (new : List N) → me ≡ (v, (0, Some x) ∷ []) → v.caller ≡ Holding t → All (λ k. writer k ≡ v.number) new
-      → suits x.value (v.seen ++ new) → fixed_of x.value ≡ v.fixed → x.seats ≡ v.seats → Allows (Ruled writer fixed_of suits first fixed) n id me 1 (λ _. t + 1) (λ _. released new (step n 1 (t + 1) 0 none) me)
+      → suits x.value.value (v.seen ++ new) → fixed_of x.value.value ≡ v.fixed → x.seats ≡ v.seats → Allows (Ruled writer fixed_of suits first fixed) n id me 1 (λ _. t + 1) (λ _. released new (step n 1 (t + 1) 0 none) me)
   puts_back first fixed n id me v t x new is holding all agrees made count = subst (λ (m : Seated S N F). Allows (Ruled writer fixed_of suits first fixed) n id m 1 (λ _. t + 1) (λ _. released new (step n 1 (t + 1) 0 none) m)) (sym is)
       (leaves writer fixed_of suits first fixed n id (v, (0, Some x) ∷ []) t x new holding refl all record { agrees = agrees; fixed_is = made; seats_is = count })
 
-  pub free_after : (me : Seated S N F) (v : View N F) (new : List N) → me ≡ (left v new, []) → notes_of writer v.number v.seen ≡ v.mine → All (λ k. writer k ≡ v.number) new → (k : ℕ) → k ≡ v.number → IsFree writer me k false
-  free_after me v new is own all k e = subst (λ (m : Seated S N F). IsFree writer m k false) (sym is)
-      record { number_is = e; empty = refl; caller = refl; own = filter-append (λ k. writer k == v.number) v.seen new ∙ ap (λ l. notes_of writer v.number v.seen ++ l) (own_all writer v.number new all) ∙ ap (λ l. l ++ new) own }
+  pub free_after : (me : Seated S N F) (v : View N F) (new : List N) → me ≡ (left v new, []) → notes_of writer v.number v.seen ≡ v.mine → All (λ k. writer k ≡ v.number) new → v.is_seat ≡ true → (k : ℕ) → k ≡ v.number → IsFree writer me k false
+  free_after me v new is own all stands k e = subst (λ (m : Seated S N F). IsFree writer m k false) (sym is)
+      record { number_is = e; empty = refl; caller = refl; stands = stands; own = filter-append (λ k. writer k == v.number) v.seen new ∙ ap (λ l. notes_of writer v.number v.seen ++ l) (own_all writer v.number new all) ∙ ap (λ l. l ++ new) own }
 
   -- the value came out of the slot, and the hold stands
   pub record Out (m me : Seated S N F) (t : ℕ) (r : Case S) : Type 0 where
@@ -78,17 +78,19 @@ module _ {S N F : Type 0} (writer : N → ℕ) (fixed_of : S → F) (suits : S �
     number_is = e;
     slot = refl;
     caller = o.caller;
+    stands = o.found.stands;
     below = o.below;
     seats_is = o.found.value.seats_is;
     some_seat = subst (λ (k : ℕ). me.0.number < k) (sym o.found.value.seats_is) o.found.some_seat;
+    few = subst (λ (j : ℕ). j ≤ most) (sym o.found.value.seats_is) o.found.few;
     no_others = λ k le. o.found.no_others k (subst (λ (j : ℕ). j ≤ k) o.found.value.seats_is le);
     own = o.found.own;
   }
 
   -- what a hold begins with, as the caller sees it
-  pub finds : (id id' : TableId) (v : View N F) (m me after : Seated S N F) (t : ℕ) (r : Case S) → id' ≡ id → (c : Caller) → m.0 ≡ turned v c → Out m me t r → after ≡ (me.0, (0, None) ∷ rest me.1) → Finds writer fixed_of suits (front_of id v) (hold_of id' after.0 r.value)
+  pub finds : (id id' : TableId) (v : View N F) (m me after : Seated S N F) (t : ℕ) (r : Case S) → id' ≡ id → (c : Caller) → m.0 ≡ turned v c → Out m me t r → after ≡ (me.0, (0, None) ∷ rest me.1) → Finds writer fixed_of suits (front_of id v) (hold_of id' after.0 r.value.value)
   finds id id' v m me after t r same c from o is = let f = o.found in
-      subst (λ (z : TableId × View N F). Finds writer fixed_of suits (front_of id v) (hold_of z.0 z.1 r.value)) (λ k. (sym same k, ap (λ (z : Seated S N F). z.0) (sym is) k)) record {
+      subst (λ (z : TableId × View N F). Finds writer fixed_of suits (front_of id v) (hold_of z.0 z.1 r.value.value)) (λ k. (sym same k, ap (λ (z : Seated S N F). z.0) (sym is) k)) record {
         lock = ap (λ x. record { table = id; fixed = x }) (f.made_with ∙ ap (λ (z : View N F). z.fixed) from);
         number = f.number ∙ ap (λ (z : View N F). z.number) from;
         one_seat = f.some_seat;
@@ -96,12 +98,16 @@ module _ {S N F : Type 0} (writer : N → ℕ) (fixed_of : S → F) (suits : S �
         mine = f.mine ∙ ap (λ (z : View N F). z.mine) from;
         own = f.own;
         rises = subst (λ (z : View N F). z.last < ticket me.0.caller) from f.rises;
+        counts = subst (λ (z : View N F). z.seats ≤ me.0.seats) from f.counts;
+        no_others = f.no_others;
+        alone = subst (λ (z : View N F). z.seats ≡ 1 → me.0.seen ≡ z.mine) from f.alone;
+        stays_alone = subst (λ (z : View N F). z.seats ≡ 1 → me.0.seats ≡ 1) from f.stays_alone;
         agrees = f.value.agrees;
         fixed = f.value.fixed_is;
       }
 
   pub free_guest : (me : Seated S N F) (v : View N F) → me ≡ (guest v, []) → notes_of writer v.seats v.seen ≡ [] → (k : ℕ) → k ≡ v.seats → IsFree writer me k false
-  free_guest me v is own k e = subst (λ (m : Seated S N F). IsFree writer m k false) (sym is) record { number_is = e; empty = refl; caller = refl; own = own }
+  free_guest me v is own k e = subst (λ (m : Seated S N F). IsFree writer m k false) (sym is) record { number_is = e; empty = refl; caller = refl; stands = refl; own = own }
 
   pub last_one : (f : Front N F) (id : TableId) (v : View N F) (x : S) (fixed : F) → f ≡ front_of id v → (h : (h : List N) × IsPrefix v.seen h × suits x h × (fixed_of x ≡ fixed)) → f.lock.fixed ≡ fixed → IsLast fixed_of suits f x
   last_one f id v x fixed is h same = ((h.0, subst (λ (z : Front N F). IsPrefix z.seen h.0) (sym is) h.1, h.2), h.3 ∙ sym same)

@@ -19,6 +19,8 @@ pub trait Kept: Drop {
     ghost writer: { Self.Note → ℕ };
     // The part of the value that never changes.
     ghost fixed: { Self → Self.Fixed };
+    // Some such part.
+    ghost some_fixed: { Self.Fixed };
     // With which lists of notes the value agrees.
     ghost agrees: { Self → List Self.Note → Type 0 };
 }

@@ -1,12 +1,13 @@
 //! The lock and its calls.
 ghost use Rattle.std.specs.Prelude.{◌≡◌, ◌≤◌, ◌<◌, ◌⊎◌, List, [], ◌∷◌, IfOk, IfErr, IfSome, IsSome};
+ghost use mathlib.Core.List.{IsPrefix};
 ghost use Rattle.smx_ticket_core.specs.Machine.{most};
 ghost use Rattle.smx_ticket_core.specs.declared.callers.Caller.TheVariants.{Idle, Waiting};
 ghost use Rattle.smx_lock.specs.Fronts.{front_of, first_front, Finds, IsSpent, MayLeave, after_hold, host_hold, guest_front, IsLast, Refused};
 
 use crate::faults::{Spent, StateOut, TryFault};
 use crate::kept::{Kept, Noted, Told};
-use crate::plays::{Draw, Leave, Look, ReadNext, ReadServing, TryDraw, Turns, Twin};
+use crate::plays::{Compare, Draw, Leave, Look, Meet, ReadNext, ReadServing, Tell, TryDraw, Turns, Twin};
 use crate::tokens::{Held, LockSeat};
 use crate::views::{Case, Opening, View};
 use atomic_table::{Seat, Table};
@@ -64,6 +65,13 @@ impl<S: Kept> TicketLock<S> {
         let opened = Snapshot::of(&value);
         let about = Opening { first, opened };
         let mut slots = Vec::new(alloc);
+        let value = match Box::new(alloc, value) {
+            Ok(value) => value,
+            Err(failed) => {
+                slots.destroy_empty();
+                return Err((failed.value, AllocError));
+            }
+        };
         if let Err(failed) = slots.push(Some(Case { value, seats: 1 })) {
             slots.destroy_empty();
             return Err((taken(failed.value), AllocError));
@@ -246,7 +254,7 @@ impl<S: Kept> TicketLock<S> {
         ensures room { IfOk result (λ _. held.old.seats < most) }
         ensures host { IfOk result (λ _. held.new ≡ host_hold held.old) }
         ensures guest { IfOk result (λ f. f ≡ guest_front held.old) }
-        ensures spent { IfErr result (λ _. most ≤ held.old.seats) }
+        ensures spent { IfErr result (λ _. held.old.seats ≡ most) }
         ensures unchanged { IfErr result (λ _. held.new ≡ held.old) }
     {
         if held.seats >= MOST {
@@ -256,6 +264,33 @@ impl<S: Kept> TicketLock<S> {
         held.seats += 1;
         let seat = self.table.shared.split_seat::<Twin>(&mut held.seat);
         Ok(LockSeat::free(seat, number))
+    }
+
+    /// Two seats of one lock have seen one history: what one has seen begins with what the other has.
+    /// At run time it is three loads.
+    pub fn compare(&self, a: &mut LockSeat<S>, b: &mut LockSeat<S>)
+        requires a { a.old.lock ≡ self.now }
+        requires b { b.old.lock ≡ self.now }
+        ensures same { (a.new ≡ a.old) × (b.new ≡ b.old) }
+        ensures one_history { IsPrefix a.old.seen b.old.seen ⊎ IsPrefix b.old.seen a.old.seen }
+    {
+        let table = &self.table.shared;
+        let message = table.split_seat::<Tell>(&mut a.seat);
+        table.join_seat::<Meet<S>>(&mut b.seat, message);
+        table.load::<Compare>(&mut b.seat, 0);
+    }
+
+    /// What a hold found begins with what any seat of the lock has seen.
+    pub fn compare_held(&self, held: &mut Held<S>, seat: &mut LockSeat<S>)
+        requires held { held.old.lock ≡ self.now }
+        requires seat { seat.old.lock ≡ self.now }
+        ensures same { (held.new ≡ held.old) × (seat.new ≡ seat.old) }
+        ensures one_history { IsPrefix seat.old.seen held.old.found }
+    {
+        let table = &self.table.shared;
+        let message = table.split_seat::<Tell>(&mut seat.seat);
+        table.join_seat::<Meet<S>>(&mut held.seat, message);
+        table.load::<Compare>(&mut held.seat, 0);
     }
 
     /// Ends the lock and gives its value. `StateOut` comes where a drawn ticket was not served to
@@ -277,7 +312,7 @@ impl<S: Kept> TicketLock<S> {
             return Err(StateOut);
         }
         match slot {
-            Some(Case { value, .. }) => Ok(value),
+            Some(Case { value, .. }) => Ok(Box::into_inner(value)),
             None => unreachable!(),
         }
     }
@@ -286,10 +321,10 @@ impl<S: Kept> TicketLock<S> {
 // The value of a slot that has one.
 fn taken<S>(slot: Option<Case<S>>) -> S
     requires { IsSome slot }
-    ensures { IfSome slot (λ c. result ≡ c.value) }
+    ensures { IfSome slot (λ c. result ≡ c.value.value) }
 {
     match slot {
-        Some(Case { value, .. }) => value,
+        Some(Case { value, .. }) => Box::into_inner(value),
         None => unreachable!(),
     }
 }

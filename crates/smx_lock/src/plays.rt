@@ -1,9 +1,9 @@
 //! The rule that the table keeps, and what each atomic step tells the seat that takes it.
-ghost use Rattle.smx_lock.specs.Rule.{Ruled, newcomer, host, guest, read_next, drew, looked, released, read_serving, tried};
+ghost use Rattle.smx_lock.specs.Rule.{Ruled, newcomer, host, guest, told, gone, meeting, compared, read_next, drew, looked, released, read_serving, tried};
 
 use crate::kept::{Kept, Noted};
 use crate::views::{Case, Opening, View};
-use atomic_table::{Play, Split, TableRule};
+use atomic_table::{Join, Play, Split, TableRule};
 use std::marker::PhantomData;
 
 /// The rule of the lock.
@@ -68,4 +68,31 @@ impl<N, F> Split<View<N, F>> for Twin {
     ghost left = { host };
 
     ghost right = { guest };
+}
+
+/// A seat tells what it has seen.
+pub struct Tell;
+
+impl<N, F> Split<View<N, F>> for Tell {
+    ghost left = { λ v. v };
+
+    ghost right = { told };
+}
+
+/// A seat is told what another has seen.
+pub struct Meet<S> {
+    marker: PhantomData<S>,
+}
+
+impl<S: Kept> Join<View<S::Note, S::Fixed>> for Meet<S> {
+    ghost both = { meeting };
+
+    ghost spent = { gone S.some_fixed };
+}
+
+/// The seat compares what it was told with what it has seen.
+pub struct Compare;
+
+impl<S, N, F> Play<Option<Case<S>>, View<N, F>> for Compare {
+    ghost then = { compared };
 }

@@ -3,6 +3,7 @@
 use crate::kept::Kept;
 use crate::views::{Case, View};
 use atomic_table::Seat;
+use std::alloc::Global;
 use std::marker::Model;
 
 /// The right to take part in a lock, between two holds. A seat that is dropped stays in the count.
@@ -70,7 +71,7 @@ impl<S: Kept> LockSeat<S> {
 /// `TicketLock::release_told` spend it, and code that lets it go does not compile.
 pub struct Held<S: Kept> {
     pub(crate) seat: Seat<Option<Case<S>>, View<S::Note, S::Fixed>>,
-    pub(crate) value: S,
+    pub(crate) value: Box<S, Global>,
     pub(crate) number: u64,
     pub(crate) ticket: u64,
     // The count of seats.
@@ -82,7 +83,7 @@ impl<S: Kept> Model for Held<S> {
 
     ghost Value = { Hold S S.Note S.Fixed };
 
-    ghost view = { λ h. hold_of h.seat.table_id h.seat.me.0 h.value };
+    ghost view = { λ h. hold_of h.seat.table_id h.seat.me.0 h.value.value };
 
     ghost invariant = { λ h. IsHold S.writer h.seat.me h.number h.ticket h.seats };
 }
@@ -104,7 +105,7 @@ impl<S: Kept> Held<S> {
     pub fn value(&self) -> &S
         ensures { result.now ≡ self.now.value }
     {
-        &self.value
+        &*self.value
     }
 
     /// The locked value, to change. When the borrow ends, the hold has what was written last.
@@ -112,6 +113,6 @@ impl<S: Kept> Held<S> {
         ensures* writes_back { sem 𝓛 (Lends (the_row S.row S.Note.row S.Fixed.row S.Kept) S.row self.entry result (holding self.old)) }
         ensures value { result.now ≡ self.old.value }
     {
-        &mut self.value
+        &mut *self.value
     }
 }

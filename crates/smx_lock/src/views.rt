@@ -8,7 +8,7 @@ use std::snapshot::Snapshot;
 /// The value in its place, beside the count of seats.
 #[derive(Drop)]
 pub struct Case<S> {
-    pub value: S,
+    pub value: Box<S, Global>,
     pub seats: u64,
 }
 
@@ -26,6 +26,10 @@ pub struct View<N, F> {
     // One more than the ticket of the last hold that ended, 0 before.
     pub last: u64,
     pub fixed: F,
+    // What another seat had seen, as that seat told.
+    pub met: LinkedList<N, Global>,
+    // Else it is a message of a seat, or what is left of one.
+    pub is_seat: bool,
 }
 
 /// Where both words start, and the value that the lock was made with.

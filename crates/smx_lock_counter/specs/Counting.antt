@@ -36,7 +36,7 @@ deed_of false amount = Nothing
 
 -- the front of no seat; an adder never shows it between two calls
 abbrev pub blank : Front Added ℕ
-blank = record { lock = record { table = record { words = 0; slots = 0; views_name = 0; atom = 0; block = 0; offset = 0; slot_names = [] }; fixed = 0 }; caller = Idle; number = 0; seen = []; mine = []; last = 0 }
+blank = record { lock = record { table = record { words = 0; slots = 0; views_name = 0; atom = 0; block = 0; offset = 0; slot_names = [] }; fixed = 0 }; caller = Idle; number = 0; seen = []; mine = []; last = 0; seats = 0 }
 
 abbrev pub front_in : Option (Front Added ℕ) → Front Added ℕ
 front_in (Some f) = f

@@ -44,6 +44,8 @@ impl Kept for Counter {
 
     ghost fixed = { λ c. c.limit };
 
+    ghost some_fixed = { 0 };
+
     ghost agrees = { λ c h. c.count ≡ total h };
 }
 

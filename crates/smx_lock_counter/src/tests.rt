@@ -28,6 +28,32 @@ fn one_seat_reads_what_it_added(rt: HostRuntime) -> Result<(), Fail> {
     Ok(())
 }
 
+#[test]
+fn two_seats_are_compared(rt: HostRuntime) -> Result<(), Fail> {
+    let Ok((lock, seat)) = TicketLock::new(rt.alloc(), Counter::new(10)) else {
+        panic!(rt; "no memory")
+    };
+    let Ok(mut held) = lock.acquire(&rt, seat) else {
+        panic!(rt; "spent")
+    };
+    let Ok(mut other) = lock.split(&mut held) else {
+        panic!(rt; "spent")
+    };
+    lock.compare_held(&mut held, &mut other);
+    let mut seat = lock.release_told(held, &Deed::Nothing);
+    lock.compare(&mut seat, &mut other);
+    lock.compare(&mut other, &mut seat);
+    let mut adder = Adder::new(other);
+    assert_eq!(rt; adder.add(&rt, &lock, 2), Ok(true));
+    let mut other = adder.into_seat();
+    lock.compare(&mut seat, &mut other);
+    let Ok(counter) = lock.finish(seat) else {
+        panic!(rt; "the value is out")
+    };
+    assert_eq!(rt; counter.count, 2);
+    Ok(())
+}
+
 fn add_many<R: Wait>(
     rt: &R,
     lock: &TicketLock<Counter>,

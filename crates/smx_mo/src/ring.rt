@@ -20,11 +20,13 @@ impl<T: Drop> Kept for Ring<T> {
 
     type Fixed = Sizes;
 
-    ghost use Rattle.smx_mo.specs.Boxes.{writer, sizes_of, suits};
+    ghost use Rattle.smx_mo.specs.Boxes.{writer, sizes, sizes_of, suits};
 
     ghost writer = { writer };
 
     ghost fixed = { sizes_of };
+
+    ghost some_fixed = { sizes 0 0 };
 
     ghost agrees = { suits };
 }

@@ -7,7 +7,7 @@ use Rattle.smx_pdu.specs.declared.pdu.Pdu.{Pdu}
 use Rattle.smx_history.specs.declared.note.Note.{Note}
 use Rattle.smx_history.specs.declared.note.Event.TheVariants.{Collect}
 use Rattle.smx_history.specs.declared.response.Response.{Response}
-use Rattle.smx_history.specs.History.{note, entries_of, entry_of}
+use Rattle.smx_history.specs.History.{note, entries_of, entry_by}
 use Rattle.smx_history.specs.Contents.{AgreesWith, Content, Member}
 use Rattle.smx_history.specs.Replies.{member_with}
 use Rattle.smx_history.specs.Answering.{IsCollected}
@@ -102,7 +102,7 @@ IsFed v = (h : List Note) × AgreesWith h v × AreOurs h
 pub fed_more : (c : ℕ) (v new : Content) (p : Pdu) → IsCollected v 0 c (Some p) new → IsFed v → IsFed new
 fed_more c v new p got fed =
     let n = note 0 (Collect c got.0.ordinal) in
-    (fed.0 ++ n ∷ [], got.3 fed.0 fed.1, subst (AllByRecursion (λ e. e.by ≡ 0)) (sym (entries_of-push fed.0 n)) (All-push (λ e. e.by ≡ 0) (entries_of fed.0) (entry_of n) fed.2 refl))
+    (fed.0 ++ n ∷ [], got.3 fed.0 fed.1, subst (AllByRecursion (λ e. e.by ≡ 0)) (sym (entries_of-push fed.0 n (entry_by 0 (Collect c got.0.ordinal)) refl)) (All-push (λ e. e.by ≡ 0) (entries_of fed.0) (entry_by 0 (Collect c got.0.ordinal)) fed.2 refl))
 
 pub box_smaller : (c : ℕ) (v new : Content) (p : Pdu) → IsCollected v 0 c (Some p) new → IsFed v → length (box_of (member_with c new.members)) < length (box_of (member_with c v.members))
 box_smaller c v new p got fed =

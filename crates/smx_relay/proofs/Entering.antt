@@ -13,7 +13,7 @@ use Rattle.smx_history.specs.declared.note.Event.TheVariants.{Admit, Retire}
 use Rattle.smx_history.specs.declared.reply.AdmitRefusal.{AdmitRefusal}
 use Rattle.smx_history.specs.Prefixes.{RiseAbove, last_or}
 use Rattle.smx_history.specs.Entries.{admits, present, is_admit}
-use Rattle.smx_history.specs.Legal.{IsLegal, StandsWell, IsPaired}
+use Rattle.smx_history.specs.Legal.{KeepsRules, StandsWell, IsPaired}
 use Rattle.smx_history.specs.History.{note, entry_by, entries_of}
 use Rattle.smx_history.specs.Contents.{AgreesWith, Content, Member}
 use Rattle.smx_history.specs.Replies.{admit_refusal, member_with}
@@ -157,8 +157,8 @@ pub entered_present : (h : List Note) (v : Content) (c : ℕ) → AgreesWith (en
 entered_present h v c a =
     let es = entries_of h in
     let e = entry_by 0 (Admit c) in
-    let push = entries_of-push h (note 0 (Admit c)) in
-    let legal : IsLegal v.limits (es ++ e ∷ []) = subst (IsLegal v.limits) push a.legal in
+    let push = entries_of-push h (note 0 (Admit c)) e refl in
+    let legal : KeepsRules v.limits (es ++ e ∷ []) = subst (KeepsRules v.limits) push a.legal.rules in
     let grown : map (λ x. x.client) (admits (es ++ e ∷ [])) ≡ map (λ x. x.client) (admits es) ++ c ∷ [] =
     ap (map (λ x. x.client)) (filter_push (λ x. is_admit x.kind) es e refl) ∙ map_push (λ (x : Entry). x.client) (admits es) e in
     let rise = rise_split 0 (map (λ x. x.client) (admits es)) c (subst (RiseAbove 0) grown legal.membership.clients) in

@@ -10,7 +10,7 @@ use Rattle.smx_history.specs.declared.reply.Answered.TheVariants.{Queued, Late, 
 use Rattle.smx_history.specs.declared.reply.TakeRefusal.{TakeRefusal}
 use Rattle.smx_history.specs.declared.reply.TakeRefusal.TheVariants.{QueueEmpty, WindowFull}
 use Rattle.smx_history.specs.Legal.{IsLegal}
-use Rattle.smx_history.specs.History.{note, entries_of}
+use Rattle.smx_history.specs.History.{marks_of, note, entries_of}
 use Rattle.smx_history.specs.Contents.{AgreesWith, Content, queue_after, window_after}
 use Rattle.smx_history.specs.Replies.{take_refusal}
 use Rattle.smx_history.specs.Answering.{IsAnswered}
@@ -61,7 +61,7 @@ pub took : (h : List Note) (old new : Content) (at u : ℕ) (r : Request) (text 
 unfolding take_on
 took h old new at u r text a taken front goes limits e =
     let longer = goes h a in
-    let free = taken_free h new 0 r.client r.ordinal u (subst (λ l. IsLegal l (entries_of h)) (sym limits) a.legal) longer in
+    let free = taken_free h new 0 r.client r.ordinal u (subst (λ l. IsLegal l (marks_of h)) (sym limits) a.legal) longer in
     let there = first_of_queue old.queue r front in
     let queue : queue_after h ≡ r ∷ there.0 = sym a.after.queue ∙ there.1 in
     let room : nat_lt (length (window_after h)) old.limits.window ≡ true = lt-ltb (length (window_after h)) old.limits.window (omega (arith, window_length h old a, (takable old).takes taken)) in

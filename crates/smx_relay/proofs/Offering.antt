@@ -8,7 +8,7 @@ use Rattle.smx_history.specs.declared.limits.Limits.{Limits}
 use Rattle.smx_history.specs.declared.request.Request.{Request}
 use Rattle.smx_history.specs.declared.note.Note.{Note}
 use Rattle.smx_history.specs.declared.note.Event.TheVariants.{Accept}
-use Rattle.smx_history.specs.History.{note}
+use Rattle.smx_history.specs.History.{entry_by, note}
 use Rattle.smx_history.specs.Contents.{AgreesWith, Content}
 use Rattle.smx_history.specs.Finding.{refusal_after}
 use Rattle.smx_history.proofs.Finding.{refusal_same}
@@ -90,7 +90,7 @@ offered_some old new s c last at o lane after text a known is e =
     let last_is : last_of s.clients c ≡ Some last = ap (λ cs. last_of cs c) (sym a.clients) ∙ known in
     let clients = set s.clients c (Some (last + 1)) in
     let grows = grows_set s.clients c last last_is in
-    let own = own_push clients h (note 0 (Accept (request_of c (last + 1) o))) (own_grows s.clients clients h grows there.2.own)
+    let own = own_push clients h (note 0 (Accept (request_of c (last + 1) o))) (entry_by 0 (Accept (request_of c (last + 1) o))) refl (own_grows s.clients clients h grows there.2.own)
     (record { by = refl; known = λ accept. omega (arith, ap (λ x. unwrap_or x 0) (last_set s.clients c last (last + 1) last_is)) }) in
     let on : OnLane s.limits clients longer after = record { agrees = is.goes h there.2.agrees; limits_are = is.limits_kept ∙ there.2.limits_are; own = own } in
     let weaker = zip-weaker R (OnLane s.limits clients) (λ g v x. record { agrees = x.agrees; limits_are = x.limits_are; own = own_grows s.clients clients g grows x.own }) s.histories old.lanes.items a.lanes in

@@ -14,17 +14,17 @@ use Rattle.smx_history.specs.declared.response.Response.{Response}
 use Rattle.smx_history.specs.declared.note.Note.{Note}
 use Rattle.smx_history.specs.declared.place.Place.{Place}
 use Rattle.smx_history.specs.Entries.{is_accept}
-use Rattle.smx_history.specs.History.{entry_of, entries_of, note}
+use Rattle.smx_history.specs.History.{entry_in, entries_of, note}
 use Rattle.smx_history.specs.Contents.{queue_after}
 use Rattle.smx_history.specs.Finding.{is_present, place_answered, waiting_after}
 use Rattle.smx_history.proofs.Growing.{All-push}
-use Rattle.smx_history.proofs.Reading.{entries_of-push, All-each}
+use Rattle.smx_history.proofs.Reading.{entries_of-push, entries_of-append, All-each}
 use Rattle.smx_relay.specs.Relay.{last_of, last_in, take_with, take_on, back_to, back_on, collected, entered, entered_and_left}
 use Rattle.smx_relay.specs.OnLane.{IsOwn, AreOwn}
 use Rattle.smx_relay.proofs.Collecting.{collects}
 
-pub own_push : (clients : List (Option ℕ)) (h : List Note) (n : Note) → AreOwn clients h → IsOwn clients (entry_of n) → AreOwn clients (h ++ n ∷ [])
-own_push clients h n own is = subst (AllByRecursion (IsOwn clients)) (sym (entries_of-push h n)) (All-push (IsOwn clients) (entries_of h) (entry_of n) own is)
+pub own_push : (clients : List (Option ℕ)) (h : List Note) (n : Note) (e : Entry) → entry_in n ≡ Some e → AreOwn clients h → IsOwn clients e → AreOwn clients (h ++ n ∷ [])
+own_push clients h n e entry own is = subst (AllByRecursion (IsOwn clients)) (sym (entries_of-push h n e entry)) (All-push (IsOwn clients) (entries_of h) e own is)
 
 -- an entry of the one caller that is no accept
 own_other : (clients : List (Option ℕ)) (e : Entry) → e.by ≡ 0 → is_accept e.kind ≡ false → IsOwn clients e
@@ -32,7 +32,7 @@ own_other clients e by other = record { by = by; known = λ accept. absurd (let 
 
 own_take_with : (clients : List (Option ℕ)) (u i : ℕ) (h : List Note) (queue : List Request) (room : Bool) → AreOwn clients h → AreOwn clients (take_with u i h queue room).1
 own_take_with clients u i h [] room own = own
-own_take_with clients u i h (r ∷ rs) true own = own_push clients h _ own (own_other clients _ refl refl)
+own_take_with clients u i h (r ∷ rs) true own = own_push clients h _ _ refl own (own_other clients _ refl refl)
 own_take_with clients u i h (r ∷ rs) false own = own
 
 pub own_take : (clients : List (Option ℕ)) (limits : Limits) (u i : ℕ) (h : List Note) → AreOwn clients h → AreOwn clients (take_on limits u i h).1
@@ -44,8 +44,8 @@ own_back_to clients p h None own = own
 own_back_to clients p h (Some q) own = at (is_present q.client h)
   where
     at : (b : Bool) → AreOwn clients (cond {A = List ℕ × List Note} b (text_line (codes "queued " ++ decimal q.client), h ++ note 0 (event.Answer q.client q.ordinal p) ∷ []) (text_line (codes "late"), h ++ note 0 (event.Late q.client q.ordinal p.number p.command) ∷ [])).1
-    at true = own_push clients h _ own (own_other clients _ refl refl)
-    at false = own_push clients h _ own (own_other clients _ refl refl)
+    at true = own_push clients h _ _ refl own (own_other clients _ refl refl)
+    at false = own_push clients h _ _ refl own (own_other clients _ refl refl)
 
 pub own_back : (clients : List (Option ℕ)) (p : Pdu) (h : List Note) → AreOwn clients h → AreOwn clients (back_on p h).1
 unfolding back_on
@@ -63,16 +63,16 @@ own_collects clients c (r ∷ rs) = (own_other clients _ refl refl, own_collects
 pub own_collected : (clients : List (Option ℕ)) (c : ℕ) (h : List Note) → AreOwn clients h → AreOwn clients (collected c h)
 unfolding collects
 own_collected clients c h own =
-    subst (AllByRecursion (IsOwn clients)) (sym (map-append entry_of h (collects c (waiting_after h c)))) (All-append (IsOwn clients) (entries_of h) (entries_of (collects c (waiting_after h c))) own (own_collects clients c (waiting_after h c)))
+    subst (AllByRecursion (IsOwn clients)) (sym (entries_of-append h (collects c (waiting_after h c)))) (All-append (IsOwn clients) (entries_of h) (entries_of (collects c (waiting_after h c))) own (own_collects clients c (waiting_after h c)))
 
 pub own_entered : (clients : List (Option ℕ)) (c : ℕ) (h : List Note) → AreOwn clients h → AreOwn clients (entered c h)
-own_entered clients c h own = own_push clients h _ own (own_other clients _ refl refl)
+own_entered clients c h own = own_push clients h _ _ refl own (own_other clients _ refl refl)
 
 pub own_left : (clients : List (Option ℕ)) (c : ℕ) (h : List Note) → AreOwn clients (entered c h) → AreOwn clients (entered_and_left c h)
-own_left clients c h own = own_push clients (entered c h) _ own (own_other clients _ refl refl)
+own_left clients c h own = own_push clients (entered c h) _ _ refl own (own_other clients _ refl refl)
 
 pub own_retired : (clients : List (Option ℕ)) (c : ℕ) (h : List Note) → AreOwn clients h → AreOwn clients (h ++ note 0 (event.Retire c) ∷ [])
-own_retired clients c h own = own_push clients h _ own (own_other clients _ refl refl)
+own_retired clients c h own = own_push clients h _ _ refl own (own_other clients _ refl refl)
 
 -- where last ordinals only grow, what was own is own
 pub record Grows (old new : List (Option ℕ)) : Type 0 where

@@ -10,7 +10,7 @@ use Rattle.smx_history.specs.declared.request.Request.{Request}
 use Rattle.smx_history.specs.declared.place.Place.{Place}
 use Rattle.smx_history.specs.declared.note.Note.{Note}
 use Rattle.smx_history.specs.declared.note.Event.TheVariants as event
-use Rattle.smx_history.specs.History.{note, entries_of}
+use Rattle.smx_history.specs.History.{note, entries_of, stored_of}
 use Rattle.smx_history.specs.Contents.{queue_after, window_after}
 use Rattle.smx_history.specs.Finding.{is_present, admit_refusal_after, refusal_after, place_answered, waiting_after}
 use Rattle.smx_mo.specs.Routing.{Route}
@@ -172,4 +172,4 @@ abbrev pub collect_lanes : ℕ → Relay → List ℕ × Relay
 collect_lanes c s = (flat_map (collect_text c) s.histories, record s { histories = map (collected c) s.histories })
 
 unfoldable pub history_on : List Note → List ℕ × List Note
-history_on h = (flat_map entry_line (entries_of h), h)
+history_on h = (flat_map entry_line (stored_of h), h)

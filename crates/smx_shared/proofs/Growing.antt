@@ -15,7 +15,8 @@ use Rattle.smx_history.specs.declared.note.Note.{Note}
 use Rattle.smx_history.specs.declared.request.Request.{Request}
 use Rattle.smx_history.specs.declared.note.Event.TheVariants as event
 use Rattle.smx_history.specs.Entries.{is_admit, is_retire, is_admitted, is_retired}
-use Rattle.smx_history.specs.History.{entries_of, entry_of, note, request_in, requests}
+use Rattle.smx_history.proofs.Reading.{entries_of-append}
+use Rattle.smx_history.specs.History.{entries_of, note, request_in, requests}
 use Rattle.smx_history.proofs.Growing.{any_kept}
 use Rattle.smx_shared.specs.Views.{PortView, locks_of}
 use Rattle.smx_shared.specs.Offers.{Accepted, requests_on, request_for}
@@ -105,7 +106,7 @@ lane_grows c n lane named old new f g ns at is number mine stays own others with
 }
 
 entries_more : (a b : List Note) → entries_of (a ++ b) ≡ entries_of a ++ entries_of b
-entries_more a b = map-append entry_of a b
+entries_more a b = entries_of-append a b
 
 none_both : (a b : Bool) → a ≡ false → b ≡ false → (a || b) ≡ false
 none_both true b h g = cc

@@ -2,12 +2,12 @@
 use Rattle.std.proofs.Common.{rules, ◌≡◌, ℕ, List, [], ◌∷◌, ◌++◌, sym, refl, ap, ◌∙◌, subst, arith, Some, None, slice_get, length, ◌-◌, length-append}
 use Rattle.std.specs.Prelude.{All}
 use Rattle.std.proofs.lemmas.List.{append-nil}
-use Rattle.smx_lock.specs.Rule.{notes_of}
-use Rattle.smx_lock.specs.Fronts.{Front, Hold, MayLeave, Finds, Serves, after_hold, holding}
+use Rattle.smx_lock.specs.Fronts.{Front, Hold, MayLeave, Finds, Serves, after_hold, host_hold, holding}
+use Rattle.smx_lock.proofs.Serving.{serves_hold, serves_split}
 use Rattle.smx_history.specs.declared.limits.Limits.{Limits}
 use Rattle.smx_history.specs.declared.note.Note.{Note}
 use Rattle.smx_history.specs.declared.note.Event.{Event}
-use Rattle.smx_history.specs.History.{note, entries_of}
+use Rattle.smx_history.specs.History.{note, shift, marks_of, stored_of, entry_by}
 use Rattle.smx_history.specs.Legal.{IsLegal}
 use Rattle.smx_history.specs.Contents.{Content, AgreesWith}
 use Rattle.smx_lane.specs.Kept.{writer, limits_of, suits}
@@ -18,8 +18,10 @@ use Rattle.smx_history.specs.declared.entry.Entry.{Entry}
 use Rattle.smx_history.specs.declared.note.Event.TheVariants as event
 use Rattle.smx_history.specs.declared.reply.Answered.TheVariants.{Queued, Late}
 use Rattle.smx_history.specs.Answering.{IsAnswered, IsCollected}
-use Rattle.smx_history.specs.History.{entry_of}
-use Rattle.smx_history.proofs.Reading.{entries_of-push}
+use Rattle.smx_history.specs.History.{entry_in}
+use Rattle.smx_history.specs.Shifts.{stored}
+use Rattle.smx_history.proofs.Shifting.{stored-push}
+use Rattle.smx_history.proofs.Reading.{marks_of-push}
 use Rattle.smx_shared.specs.Serving.{OneHold, AnswerServes, CollectServes}
 
 -- a lane that agrees with one more note of the holder may be put back
@@ -30,6 +32,14 @@ may h w e limits same agrees = record { own = one h.number e; agrees = agrees; f
     one : (k : ℕ) (e : Event) → All (λ (x : Note). writer x ≡ k) (note k e ∷ [])
     one k e = search rules
 
+-- and so may one that agrees with one more shift
+pub may_turn : (h : Hold Content Note Limits) (w : Content) → h.value.limits ≡ h.lock.fixed → w.limits ≡ h.value.limits
+    → AgreesWith (h.found ++ shift h.number ∷ []) w → MayLeave writer limits_of suits (holding h w) (shift h.number ∷ [])
+may_turn h w limits same agrees = record { own = one h.number; agrees = agrees; fixed = same ∙ limits }
+  where
+    one : (k : ℕ) → All (λ (x : Note). writer x ≡ k) (shift k ∷ [])
+    one k = search rules
+
 -- and so may one that nothing was done with
 pub may_nothing : (h : Hold Content Note Limits) (w : Content) → h.value.limits ≡ h.lock.fixed → w ≡ h.value
     → AgreesWith h.found h.value → MayLeave writer limits_of suits (holding h w) []
@@ -39,24 +49,24 @@ may_nothing h w limits same agrees = record {
   fixed = ap limits_of same ∙ limits;
 }
 
-pub served : (f g : Front Note Limits) (h : Hold Content Note Limits) (w : Content) (new : List Note) → Finds writer limits_of suits f h
-    → w.limits ≡ h.value.limits → AgreesWith (h.found ++ new) w → g ≡ after_hold (holding h w) new → OneHold f g h.found new h.value
-served f g h w new found same agrees is = record {
-  serves = subst (λ (z : Front Note Limits). Serves writer f z h.found new) (sym is) record {
-    lock = found.lock;
-    number = found.number;
-    caller = refl;
-    begins = found.begins;
-    own = subst (λ k. notes_of writer k h.found ≡ f.mine) found.number (found.own ∙ found.mine);
-    seen = refl;
-    mine = ap (λ l. l ++ new) found.mine;
-    rises = found.rises;
-  };
+one_hold : (f g : Front Note Limits) (h : Hold Content Note Limits) (w : Content) (new : List Note) → Finds writer limits_of suits f h
+    → w.limits ≡ h.value.limits → AgreesWith (h.found ++ new) w → Serves writer f g h.found new → OneHold f g h.found new h.value
+one_hold f g h w new found same agrees serves = record {
+  serves = serves;
   agrees = found.agrees;
   limits = found.fixed ∙ ap (λ l. l.fixed) found.lock;
-  legal = subst (λ (z : Front Note Limits). IsLegal f.lock.fixed (entries_of z.seen)) (sym is)
-      (subst (λ l. IsLegal l (entries_of (h.found ++ new))) (same ∙ found.fixed ∙ ap (λ l. l.fixed) found.lock) agrees.legal);
+  legal = subst (λ l. IsLegal f.lock.fixed (marks_of l)) (sym serves.seen)
+      (subst (λ l. IsLegal l (marks_of (h.found ++ new))) (same ∙ found.fixed ∙ ap (λ l. l.fixed) found.lock) agrees.legal);
 }
+
+pub served : (f g : Front Note Limits) (h : Hold Content Note Limits) (w : Content) (new : List Note) → Finds writer limits_of suits f h
+    → w.limits ≡ h.value.limits → AgreesWith (h.found ++ new) w → g ≡ after_hold (holding h w) new → OneHold f g h.found new h.value
+served f g h w new found same agrees is = one_hold f g h w new found same agrees (serves_hold writer limits_of suits f g h new found is)
+
+-- a hold that made a seat and no note
+pub served_split : (f g : Front Note Limits) (h : Hold Content Note Limits) → Finds writer limits_of suits f h → g ≡ after_hold (host_hold h) [] → OneHold f g h.found [] h.value
+served_split f g h found is =
+    one_hold f g h h.value [] found refl (subst (λ l. AgreesWith l h.value) (sym (append-nil h.found)) found.agrees) (serves_split writer limits_of suits f g h [] found is)
 
 -- the note under the seat's number, as its front has it
 pub served_note : (f g : Front Note Limits) (h : Hold Content Note Limits) (w : Content) (e : Event) → Finds writer limits_of suits f h
@@ -64,6 +74,12 @@ pub served_note : (f g : Front Note Limits) (h : Hold Content Note Limits) (w : 
     → OneHold f g h.found (note f.number e ∷ []) h.value
 served_note f g h w e found same agrees is =
     subst (λ k. OneHold f g h.found (note k e ∷ []) h.value) found.number (served f g h w (note h.number e ∷ []) found same agrees is)
+
+pub served_turn : (f g : Front Note Limits) (h : Hold Content Note Limits) (w : Content) → Finds writer limits_of suits f h
+    → w.limits ≡ h.value.limits → AgreesWith (h.found ++ shift h.number ∷ []) w → g ≡ after_hold (holding h w) (shift h.number ∷ [])
+    → OneHold f g h.found (shift f.number ∷ []) h.value
+served_turn f g h w found same agrees is =
+    subst (λ k. OneHold f g h.found (shift k ∷ []) h.value) found.number (served f g h w (shift h.number ∷ []) found same agrees is)
 
 pub served_nothing : (f g : Front Note Limits) (h : Hold Content Note Limits) (w : Content) → Finds writer limits_of suits f h
     → w ≡ h.value → g ≡ after_hold (holding h w) [] → OneHold f g h.found [] h.value
@@ -79,21 +95,21 @@ at_end xs x =
     ap (slice_get (xs ++ x ∷ [])) n ∙ slice_get-get_or (xs ++ x ∷ []) (length xs) x (omega (arith, length-append xs (x ∷ []))) ∙ ap Some (get_or-append_seam xs x [] x)
 
 -- the last entry of a lane is that of the last note
-last_at : (h : List Note) (n : Note) (w : Content) → AgreesWith (h ++ n ∷ []) w → slice_get w.entries (length w.entries - 1) ≡ Some (entry_of n)
-last_at h n w a = ap (λ es. slice_get es (length es - 1)) (a.after.entries ∙ entries_of-push h n) ∙ at_end (entries_of h) (entry_of n)
+last_at : (h : List Note) (n : Note) (x : Entry) (w : Content) → entry_in n ≡ Some x → AgreesWith (h ++ n ∷ []) w → slice_get w.entries (length w.entries - 1) ≡ Some x
+last_at h n x w is a = ap (λ es. slice_get es (length es - 1)) (a.after.entries ∙ ap stored (marks_of-push h n x is) ∙ stored-push (marks_of h) x) ∙ at_end (stored_of h) x
 
-last_is : (h : List Note) (n : Note) (w : Content) (e : Entry) → AgreesWith (h ++ n ∷ []) w → slice_get w.entries (length w.entries - 1) ≡ Some e → e ≡ entry_of n
-last_is h n w e a last = some_same e (entry_of n) (sym last ∙ last_at h n w a)
+last_is : (h : List Note) (n : Note) (x : Entry) (w : Content) (e : Entry) → entry_in n ≡ Some x → AgreesWith (h ++ n ∷ []) w → slice_get w.entries (length w.entries - 1) ≡ Some e → e ≡ x
+last_is h n x w e is a last = some_same e x (sym last ∙ last_at h n x w is a)
 
-pub no_last : (h : List Note) (n : Note) (w : Content) → AgreesWith (h ++ n ∷ []) w → slice_get w.entries (length w.entries - 1) ≡ None → ⊥
-no_last h n w a last = let here = last_at h n w a in cc
+pub no_last : (h : List Note) (n : Note) (x : Entry) (w : Content) → entry_in n ≡ Some x → AgreesWith (h ++ n ∷ []) w → slice_get w.entries (length w.entries - 1) ≡ None → ⊥
+no_last h n x w is a last = let here = last_at h n x w is a in cc
 
 pub queued_may : (h : Hold Content Note Limits) (p s : Pdu) (c : ℕ) (w : Content) (e : Entry) → s ≡ p → h.value.limits ≡ h.lock.fixed → AgreesWith h.found h.value
     → IsAnswered h.value h.number p (Queued c) w → w.limits ≡ h.value.limits → slice_get w.entries (length w.entries - 1) ≡ Some e
     → MayLeave writer limits_of suits (holding h w) (note h.number (event.Answer c e.ordinal s) ∷ [])
 queued_may h p s c w e is limits agrees ans same last =
     let left = ans.5 h.found agrees in
-    let at = last_is h.found (note h.number (event.Answer ans.0.client ans.0.ordinal p)) w e left last in
+    let at = last_is h.found (note h.number (event.Answer ans.0.client ans.0.ordinal p)) (entry_by h.number (event.Answer ans.0.client ans.0.ordinal p)) w e refl left last in
     let named : event.Answer c e.ordinal s ≡ event.Answer ans.0.client ans.0.ordinal p = ap (λ d. event.Answer d e.ordinal s) (sym ans.3) ∙ ap (λ n. event.Answer ans.0.client n s) (ap (λ x. x.ordinal) at) ∙ ap (event.Answer ans.0.client ans.0.ordinal) is in
     may h w (event.Answer c e.ordinal s) limits same (subst (λ v. AgreesWith (h.found ++ note h.number v ∷ []) w) (sym named) left)
 
@@ -102,7 +118,7 @@ pub queued_serves : (f g : Front Note Limits) (h : Hold Content Note Limits) (p 
     → g ≡ after_hold (holding h w) (note h.number (event.Answer c e.ordinal s) ∷ []) → AnswerServes f g p (Queued c)
 queued_serves f g h p s c w e found is ans same last after =
     let left = ans.5 h.found found.agrees in
-    let at = last_is h.found (note h.number (event.Answer ans.0.client ans.0.ordinal p)) w e left last in
+    let at = last_is h.found (note h.number (event.Answer ans.0.client ans.0.ordinal p)) (entry_by h.number (event.Answer ans.0.client ans.0.ordinal p)) w e refl left last in
     let named : event.Answer c e.ordinal s ≡ event.Answer ans.0.client ans.0.ordinal p = ap (λ d. event.Answer d e.ordinal s) (sym ans.3) ∙ ap (λ n. event.Answer ans.0.client n s) (ap (λ x. x.ordinal) at) ∙ ap (event.Answer ans.0.client ans.0.ordinal) is in (
       h.found,
       h.value,
@@ -119,7 +135,7 @@ pub late_may : (h : Hold Content Note Limits) (p s : Pdu) (w : Content) (e : Ent
     → MayLeave writer limits_of suits (holding h w) (note h.number (event.Late e.client e.ordinal s.number s.command) ∷ [])
 late_may h p s w e is limits agrees ans same last =
     let left = ans.3 h.found agrees in
-    let at = last_is h.found (note h.number (event.Late ans.0.client ans.0.ordinal p.number p.command)) w e left last in
+    let at = last_is h.found (note h.number (event.Late ans.0.client ans.0.ordinal p.number p.command)) (entry_by h.number (event.Late ans.0.client ans.0.ordinal p.number p.command)) w e refl left last in
     let named : event.Late e.client e.ordinal s.number s.command ≡ event.Late ans.0.client ans.0.ordinal p.number p.command = ap (λ x. event.Late x.client x.ordinal s.number s.command) at ∙ ap (λ z. event.Late ans.0.client ans.0.ordinal z.number z.command) is in
     may h w (event.Late e.client e.ordinal s.number s.command) limits same (subst (λ v. AgreesWith (h.found ++ note h.number v ∷ []) w) (sym named) left)
 
@@ -128,7 +144,7 @@ pub late_serves : (f g : Front Note Limits) (h : Hold Content Note Limits) (p s 
     → g ≡ after_hold (holding h w) (note h.number (event.Late e.client e.ordinal s.number s.command) ∷ []) → AnswerServes f g p Late
 late_serves f g h p s w e found is ans same last after =
     let left = ans.3 h.found found.agrees in
-    let at = last_is h.found (note h.number (event.Late ans.0.client ans.0.ordinal p.number p.command)) w e left last in
+    let at = last_is h.found (note h.number (event.Late ans.0.client ans.0.ordinal p.number p.command)) (entry_by h.number (event.Late ans.0.client ans.0.ordinal p.number p.command)) w e refl left last in
     let named : event.Late e.client e.ordinal s.number s.command ≡ event.Late ans.0.client ans.0.ordinal p.number p.command = ap (λ x. event.Late x.client x.ordinal s.number s.command) at ∙ ap (λ z. event.Late ans.0.client ans.0.ordinal z.number z.command) is in (
       h.found,
       h.value,
@@ -143,7 +159,7 @@ pub collected_may : (h : Hold Content Note Limits) (c : ℕ) (p : Pdu) (w : Cont
     → MayLeave writer limits_of suits (holding h w) (note h.number (event.Collect c e.ordinal) ∷ [])
 collected_may h c p w e limits agrees col same last =
     let left = col.3 h.found agrees in
-    let at = last_is h.found (note h.number (event.Collect c col.0.ordinal)) w e left last in
+    let at = last_is h.found (note h.number (event.Collect c col.0.ordinal)) (entry_by h.number (event.Collect c col.0.ordinal)) w e refl left last in
     let named : event.Collect c e.ordinal ≡ event.Collect c col.0.ordinal = ap (λ x. event.Collect c x.ordinal) at in
     may h w (event.Collect c e.ordinal) limits same (subst (λ v. AgreesWith (h.found ++ note h.number v ∷ []) w) (sym named) left)
 
@@ -152,7 +168,7 @@ pub collected_serves : (f g : Front Note Limits) (h : Hold Content Note Limits) 
     → g ≡ after_hold (holding h w) (note h.number (event.Collect c e.ordinal) ∷ []) → CollectServes f g c (Some p)
 collected_serves f g h c p w e found col same last after =
     let left = col.3 h.found found.agrees in
-    let at = last_is h.found (note h.number (event.Collect c col.0.ordinal)) w e left last in
+    let at = last_is h.found (note h.number (event.Collect c col.0.ordinal)) (entry_by h.number (event.Collect c col.0.ordinal)) w e refl left last in
     let named : event.Collect c e.ordinal ≡ event.Collect c col.0.ordinal = ap (λ x. event.Collect c x.ordinal) at in (
       h.found,
       h.value,

@@ -1,5 +1,5 @@
 -- What the calls of a tap let its caller know.
-use Rattle.std.proofs.Common.{◌≡◌, List, [], ◌∷◌, ◌++◌, Result, Ok, Err, sym, ◌∙◌, ap, inl, inr}
+use Rattle.std.proofs.Common.{◌≡◌, ℕ, Option, Some, None, List, [], ◌∷◌, ◌++◌, Result, Ok, Err, sym, ◌∙◌, ap, inl, inr}
 use Rattle.std.specs.Prelude.{MatchResult}
 use Rattle.std.proofs.lemmas.List.{append-nil}
 use Rattle.std.proofs.lemmas.List.Elements.{filter_map-append}
@@ -15,7 +15,9 @@ use Rattle.smx_shared.specs.declared.fault.TakeFault as take_fault
 use Rattle.smx_shared.specs.declared.fault.TakeFault.TheVariants as takes
 use Rattle.smx_shared.specs.declared.fault.TryTakeFault as try_fault
 use Rattle.smx_shared.specs.declared.fault.TryTakeFault.TheVariants as tries
-use Rattle.smx_shared.specs.Serving.{Takes, TriesTake, AnswerServes}
+use Rattle.smx_shared.specs.Serving.{Takes, TriesTake, AnswerServes, TurnServes, TurnsBy}
+use Rattle.std.specs.Option.{option_map}
+use Rattle.smx_history.specs.declared.entry.Entry.{Entry}
 use Rattle.smx_shared.specs.Taps.{Queued, known, known_of, known_by_take, known_by_answer}
 
 more : (f g : Front Note Limits) (ns : List Note) → g.mine ≡ f.mine ++ ns → known_of g.mine ≡ known_of f.mine ++ known_of ns
@@ -47,3 +49,15 @@ answers_known f g p (Ok (answered.Queued c)) h = more f g _ h.4.serves.mine ∙ 
 answers_known f g p (Ok answered.Late) h = more f g _ h.3.serves.mine
 answers_known f g p (Ok (answered.Unknown back)) h = more f g [] h.2.serves.mine
 answers_known f g p (Err e) h = spent_same f g h.1
+
+-- a shift is no note of a request
+turned_known : (f g : Front Note Limits) (least : ℕ) (list : Option (List Entry)) → TurnServes f g least list → known_of g.mine ≡ known_of f.mine
+turned_known f g least (Some es) h = more f g _ h.2.serves.mine ∙ append-nil (known_of f.mine)
+turned_known f g least None h = more f g [] h.2.serves.mine ∙ append-nil (known_of f.mine)
+
+pub turns_known : {V E : Type 0} (entries : V → List Entry) (f g : Front Note Limits) (least : ℕ) (r : Result (Option V) E) → TurnsBy entries f g least r → known_of g.mine ≡ known_of f.mine
+turns_known entries f g least (Ok list) h = turned_known f g least (option_map entries list) h
+turns_known entries f g least (Err e) h = more f g [] h.2.serves.mine ∙ append-nil (known_of f.mine)
+
+pub turn_spent_known : (f g : Front Note Limits) → IsSpent f g → known_of g.mine ≡ known_of f.mine
+turn_spent_known f g s = spent_same f g s ∙ append-nil (known_of f.mine)

@@ -8,6 +8,7 @@ use Rattle.smx_history.specs.declared.limits.Limits.{Limits}
 use Rattle.smx_history.specs.declared.note.Note.{Note}
 use Rattle.smx_shared.specs.Views.{TapView, locks_of}
 use Rattle.smx_shared.specs.Making.{AreLocks, Tapped}
+use Rattle.smx_shared.specs.Serving.{SplitServes}
 use Rattle.smx_shared.proofs.Lists.{All-both}
 
 pub locks_none : (limits : Limits) → AreLocks 0 limits []
@@ -50,3 +51,11 @@ pub tapped_firsts : (lanes : ℕ) (locks : List (LockId Limits)) (seats new : Li
 tapped_firsts lanes locks seats new taps is count tapped =
     subst (λ n. Tapped n (map (first_front {N = Note} {F = Limits}) locks) new taps) (length-map locks (first_front {N = Note} {F = Limits}) ∙ count)
     (subst (λ fs. Tapped (length fs) fs new taps) is tapped)
+
+-- a tap's first history is empty, since the seat that made it was alone
+pub tap_empty : (l : LockId Limits) (g s : Front Note Limits) → SplitServes (first_front l) g s → s.seen ≡ []
+tap_empty l g s split = split.5 ∙ split.2.serves.alone refl
+
+-- and so is the door's then
+pub door_empty : (l : LockId Limits) (g s : Front Note Limits) → SplitServes (first_front l) g s → g.seen ≡ []
+door_empty l g s split = split.2.serves.seen ∙ ap (λ h. h ++ []) (split.2.serves.alone refl)

@@ -1,5 +1,6 @@
 -- A seat's own notes tell what the lane has of the client that it admitted.
 use Rattle.std.proofs.Common.{◌≡◌, ◌<◌, ◌≤◌, ◌==◌, ℕ, Bool, true, false, cond, not, ◌||◌, ◌&&◌, List, [], ◌∷◌, ◌++◌, map, take, drop, refl, sym, ◌∙◌, ap, subst, arith, filter, slice_get, Option, Some, None, nat_le, length, if◌then◌else◌}
+use Rattle.std.specs.Option.{option_map}
 use Rattle.std.specs.List.{list_any, AllByRecursion, AllZip, cons_option}
 use Rattle.std.proofs.lemmas.List.{take-append-drop}
 use Rattle.std.proofs.lemmas.List.Elements.{filter_agree}
@@ -17,7 +18,7 @@ use Rattle.smx_history.specs.declared.reply.Refusal.TheVariants.{NotAdmitted, Cl
 use Rattle.smx_history.specs.Prefixes.{AtEach, RiseAbove, last_or}
 use Rattle.smx_history.specs.Entries.{is_admit, is_accept, is_retire, admits, accepts, accepts_of, is_admitted, is_retired, present}
 use Rattle.smx_history.specs.Legal.{IsMembership, StandsWell}
-use Rattle.smx_history.specs.History.{entry_by, entry_of, entries_of, request_in, requests}
+use Rattle.smx_history.specs.History.{entry_by, entries_of, request_in, requests}
 use Rattle.smx_history.specs.Contents.{Content, Member, AgreesWith, IsMemberAfter}
 use Rattle.smx_lane.specs.Kept.{writer, limits_of, suits}
 use Rattle.smx_history.specs.Replies.{member_with, refusal_for, accept_refusal, has_room}
@@ -42,7 +43,19 @@ by_is by (event.Retire c) = refl
 
 -- the entries of a seat are those of its notes
 pub own_entries : (k : ℕ) (h : List Note) → filter (λ e. e.by == k) (entries_of h) ≡ entries_of (notes_of writer k h)
-own_entries k h = filter-map (λ e. e.by == k) entry_of h ∙ ap entries_of (filter_agree (λ n. (entry_of n).by == k) (λ n. writer n == k) (λ n. ap (λ b. b == k) (by_is n.by n.event)) h)
+own_entries k [] = refl
+own_entries k (n ∷ h) = own_entries_at n.event (n.by == k) refl (own_entries k h)
+  where
+    own_entry : (x : Entry) (es rest : List Entry) (b : Bool) → (x.by == k) ≡ b → filter (λ e. e.by == k) es ≡ rest → filter (λ e. e.by == k) (x ∷ es) ≡ cond b (x ∷ rest) rest
+    own_entry x es rest true is same = rw is (ap (λ ys. x ∷ ys) same)
+    own_entry x es rest false is same = rw is same
+
+    own_entries_at : (o : Option Event) (b : Bool) → (n.by == k) ≡ b → filter (λ e. e.by == k) (entries_of h) ≡ entries_of (notes_of writer k h)
+        → filter (λ e. e.by == k) (cons_option (option_map (entry_by n.by) o) (entries_of h)) ≡ entries_of (cond b (record { by = n.by; event = o } ∷ notes_of writer k h) (notes_of writer k h))
+    own_entries_at None true is same = same
+    own_entries_at None false is same = same
+    own_entries_at (Some e) true is same = own_entry (entry_by n.by e) (entries_of h) (entries_of (notes_of writer k h)) true (ap (λ b. b == k) (by_is n.by e) ∙ is) same
+    own_entries_at (Some e) false is same = own_entry (entry_by n.by e) (entries_of h) (entries_of (notes_of writer k h)) false (ap (λ b. b == k) (by_is n.by e) ∙ is) same
 
 any_filter : {X : Type 0} (p q : X → Bool) (xs : List X) → list_any (λ x. p x && q x) xs ≡ list_any q (filter p xs)
 any_filter p q [] = refl
@@ -162,15 +175,16 @@ below_entries : (n : ℕ) (h : List Note) → AllByRecursion (λ r. r.ordinal < 
 below_entries n [] all = tt
 below_entries n (m ∷ h) all = below_at m.event all (below_entries n h)
   where
-    below_at : (e : Event) → AllByRecursion (λ r. r.ordinal < n) (cons_option (request_in e) (requests h)) → (AllByRecursion (λ r. r.ordinal < n) (requests h) → AllByRecursion (λ (x : Entry). x.ordinal < n) (accepts (entries_of h)))
-        → AllByRecursion (λ (x : Entry). x.ordinal < n) (accepts (entry_by m.by e ∷ entries_of h))
-    below_at (event.Accept r) b later = (b.0, later b.1)
-    below_at (event.Admit c) b later = later b
-    below_at (event.Take c o u) b later = later b
-    below_at (event.Answer c o p) b later = later b
-    below_at (event.Late c o u k) b later = later b
-    below_at (event.Collect c o) b later = later b
-    below_at (event.Retire c) b later = later b
+    below_at : (e : Option Event) → AllByRecursion (λ r. r.ordinal < n) (cons_option (request_in e) (requests h)) → (AllByRecursion (λ r. r.ordinal < n) (requests h) → AllByRecursion (λ (x : Entry). x.ordinal < n) (accepts (entries_of h)))
+        → AllByRecursion (λ (x : Entry). x.ordinal < n) (accepts (cons_option (option_map (entry_by m.by) e) (entries_of h)))
+    below_at (Some (event.Accept r)) b later = (b.0, later b.1)
+    below_at (Some (event.Admit c)) b later = later b
+    below_at (Some (event.Take c o u)) b later = later b
+    below_at (Some (event.Answer c o p)) b later = later b
+    below_at (Some (event.Late c o u k)) b later = later b
+    below_at (Some (event.Collect c o)) b later = later b
+    below_at (Some (event.Retire c)) b later = later b
+    below_at None b later = later b
 
 -- the client's row is of the seat that admitted it, and its last ordinal is below n
 pub own_rows : (f : Front Note Limits) (h : Hold Content Note Limits) (c n : ℕ) → Finds writer limits_of suits f h → IsMemberBy c f → IsBelow n f → 0 < n
@@ -181,13 +195,13 @@ own_rows f h c n found member below pos =
     let mine : filter (λ e. e.by == h.number) es ≡ entries_of f.mine = own_entries h.number h.found ∙ ap entries_of (found.own ∙ found.mine) in
     let admitted : is_admitted h.number c es ≡ true = any_in_filter (λ e. e.by == h.number) (λ e. is_admit e.kind && ((e.client == c) && (e.by == h.number))) es
     (ap (is_admitted h.number c) mine ∙ ap (λ k. is_admitted k c (entries_of f.mine)) found.number ∙ member.admitted) in
-    let all : AllByRecursion (λ (e : Entry). e.ordinal < n) (accepts_of c es) = accepts_own (λ e. e.ordinal < n) es c h.number a.legal.membership a.legal.standing admitted
+    let all : AllByRecursion (λ (e : Entry). e.ordinal < n) (accepts_of c es) = accepts_own (λ e. e.ordinal < n) es c h.number a.legal.rules.membership a.legal.rules.standing admitted
     (subst (λ xs. AllByRecursion (λ (e : Entry). e.ordinal < n) (accepts xs)) (sym mine) (below_entries n f.mine below)) in
     zip_rows (λ e. (is_admitted e.by e.client es ≡ true) × (is_retired e.client es ≡ false)) (λ m. m.client ≡ c → (m.last < n) × (m.by ≡ h.number)) h.found
     (λ e m served after of.
     let same : e.client ≡ c = sym after.client ∙ of in (
       subst (λ l. l < n) (sym (after.last ∙ ap (λ d. last_or 0 (map (λ x. x.ordinal) (accepts_of d es))) same)) (last_below n 0 (accepts_of c es) pos all),
-      after.by ∙ server es c h.number e.by a.legal.membership admitted (ap (λ d. is_admitted e.by d es) (sym same) ∙ served.0),
+      after.by ∙ server es c h.number e.by a.legal.rules.membership admitted (ap (λ d. is_admitted e.by d es) (sym same) ∙ served.0),
     ))
     (present es) h.value.members (present_served es) a.after.members
 
@@ -201,7 +215,7 @@ own_rows_by f h c found member =
     let admitted : is_admitted h.number c es ≡ true = any_in_filter (λ e. e.by == h.number) (λ e. is_admit e.kind && ((e.client == c) && (e.by == h.number))) es
     (ap (is_admitted h.number c) mine ∙ ap (λ k. is_admitted k c (entries_of f.mine)) found.number ∙ member.admitted) in
     zip_rows (λ e. (is_admitted e.by e.client es ≡ true) × (is_retired e.client es ≡ false)) (λ m. m.client ≡ c → m.by ≡ h.number) h.found
-    (λ e m served after of. after.by ∙ server es c h.number e.by a.legal.membership admitted (ap (λ d. is_admitted e.by d es) (sym (sym after.client ∙ of)) ∙ served.0))
+    (λ e m served after of. after.by ∙ server es c h.number e.by a.legal.rules.membership admitted (ap (λ d. is_admitted e.by d es) (sym (sym after.client ∙ of)) ∙ served.0))
     (present es) h.value.members (present_served es) a.after.members
 
 not_admitted : (v : Content) (m : Member) → refusal_for v (Some m) ≡ Some NotAdmitted → ⊥
@@ -231,7 +245,7 @@ row_there f h c found member none =
     let mine : filter (λ e. e.by == h.number) es ≡ entries_of f.mine = own_entries h.number h.found ∙ ap entries_of (found.own ∙ found.mine) in
     let admitted : is_admitted h.number c es ≡ true = any_in_filter (λ e. e.by == h.number) (λ e. is_admit e.kind && ((e.client == c) && (e.by == h.number))) es
     (ap (is_admitted h.number c) mine ∙ ap (λ k. is_admitted k c (entries_of f.mine)) found.number ∙ member.admitted) in
-    let here : is_retired c es ≡ false = stays_own es c h.number a.legal.membership a.legal.standing admitted (ap (is_retired c) mine ∙ member.stays) in
+    let here : is_retired c es ≡ false = stays_own es c h.number a.legal.rules.membership a.legal.rules.standing admitted (ap (is_retired c) mine ∙ member.stays) in
     both_ways (is_present c h.found) (absent h.found h.value c a none) (present_in es c h.number admitted here)
 
 -- so a request of the client isn't refused for want of one

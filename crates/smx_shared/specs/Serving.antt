@@ -1,6 +1,9 @@
 -- One hold of a lane's lock serves one call.
-use Rattle.std.specs.Prelude.{◌≡◌, ◌≢◌, ◌⊎◌, ℕ, List, [], ◌∷◌, Option, Some, None, Result, Ok, Err, slice_get}
+use Rattle.std.specs.Prelude.{◌≡◌, ◌≢◌, ◌⊎◌, ◌+◌, ◌<◌, ◌≤◌, length, ℕ, List, [], ◌∷◌, Option, Some, None, Result, Ok, Err, slice_get}
 use Rattle.std.specs.List.{find}
+use Rattle.std.specs.Option.{option_map}
+use Rattle.smx_ticket_core.specs.Machine.{most}
+use Rattle.smx_lock.specs.Rule.{notes_of}
 use Rattle.smx_lock.specs.Fronts.{Front, Serves, IsSpent, Refused}
 use Rattle.smx_lock.specs.declared.faults.Spent.{Spent}
 use Rattle.smx_lock.specs.declared.faults.TryFault.{TryFault}
@@ -22,9 +25,12 @@ use Rattle.smx_history.specs.declared.reply.Answered.{Answered}
 use Rattle.smx_history.specs.declared.reply.Answered.TheVariants.{Queued, Late, Unknown}
 use Rattle.smx_shared.specs.declared.fault.TakeFault as take_fault
 use Rattle.smx_shared.specs.declared.fault.TakeFault.TheVariants as takes
+use Rattle.smx_shared.specs.declared.fault.TurnFault as turn_fault
+use Rattle.smx_shared.specs.declared.fault.TurnFault.TheVariants as turns
 use Rattle.smx_shared.specs.declared.fault.TryTakeFault as try_fault
 use Rattle.smx_shared.specs.declared.fault.TryTakeFault.TheVariants as tries
-use Rattle.smx_history.specs.History.{note, entries_of}
+use Rattle.smx_history.specs.History.{note, shift, marks_of, stored_of}
+use Rattle.smx_history.specs.declared.entry.Entry.{Entry}
 use Rattle.smx_lane.specs.Kept.{writer}
 use Rattle.smx_history.specs.Legal.{IsLegal}
 use Rattle.smx_history.specs.Contents.{Content, Member, AgreesWith}
@@ -36,7 +42,7 @@ pub record OneHold (f g : Front Note Limits) (found new : List Note) (v : Conten
   pub serves : Serves writer f g found new
   pub agrees : AgreesWith found v
   pub limits : v.limits ≡ f.lock.fixed
-  pub legal : IsLegal f.lock.fixed (entries_of g.seen)
+  pub legal : IsLegal f.lock.fixed (marks_of g.seen)
 
 -- the lane's own reply, said of a lane that agrees with the history found
 abbrev pub TakeServes : Front Note Limits → Front Note Limits → Result Sent TakeRefusal → Type 0
@@ -96,10 +102,30 @@ AdmitServes f g c (Err e) = (found : List Note) × (v : Content) × OneHold f g 
 abbrev pub RetireServes : Front Note Limits → Front Note Limits → ℕ → Type 0
 RetireServes f g c = (found : List Note) × (v : Content) × OneHold f g found (note f.number (event.Retire c) ∷ []) v
 
--- one hold made a seat, which has seen what it found
+-- one hold handed out what was stored since the last shift, or found fewer than the least and changed nothing
+abbrev pub TurnServes : Front Note Limits → Front Note Limits → ℕ → Option (List Entry) → Type 0
+TurnServes f g least (Some es) = (found : List Note) × (v : Content) × OneHold f g found (shift f.number ∷ []) v × (least ≤ length v.entries) × (es ≡ stored_of found)
+TurnServes f g least None = (found : List Note) × (v : Content) × OneHold f g found [] v × (length v.entries < least)
+
+-- one hold found no memory for the new list, and changed nothing
+abbrev pub StaysServes : Front Note Limits → Front Note Limits → Type 0
+StaysServes f g = (found : List Note) × (v : Content) × OneHold f g found [] v
+
+-- what a turn answers, of lists that show these entries
+abbrev pub TurnsBy : {V E : Type 0} → (V → List Entry) → Front Note Limits → Front Note Limits → ℕ → Result (Option V) E → Type 0
+TurnsBy entries f g least (Ok list) = TurnServes f g least (option_map entries list)
+TurnsBy entries f g least (Err _) = StaysServes f g
+
+-- one hold made a seat, which has seen what it found, under a number above its own that no seat had
 abbrev pub SplitServes : Front Note Limits → Front Note Limits → Front Note Limits → Type 0
 SplitServes f g s = (found : List Note) × (v : Content) × OneHold f g found [] v × (s.lock ≡ f.lock) × (s.caller ≡ Idle) × (s.seen ≡ found) × (s.mine ≡ []) × (s.last ≡ 0)
+    × (s.number + 1 ≡ g.seats) × (s.seats ≡ g.seats) × (f.number < s.number) × (notes_of writer s.number found ≡ [])
 
--- no seat was made: every ticket was drawn, or one hold found every number given
+-- no seat was made: every ticket was drawn, or one hold found that 2^62 seats were made
 abbrev pub SplitFails : Front Note Limits → Front Note Limits → Type 0
-SplitFails f g = IsSpent f g ⊎ ((found : List Note) × (v : Content) × OneHold f g found [] v)
+SplitFails f g = IsSpent f g ⊎ ((found : List Note) × (v : Content) × OneHold f g found [] v × (g.seats ≡ most))
+
+-- why no entries were handed out
+abbrev pub IsTurnFault : Front Note Limits → Front Note Limits → turn_fault.TurnFault → Type 0
+IsTurnFault f g turns.Spent = IsSpent f g
+IsTurnFault f g turns.NoMemory = StaysServes f g

@@ -14,10 +14,10 @@ pub data Known : Type 0 where
   Queued : (client : ℕ) → (response : Pdu) → Known
   CameLate : (upstream command : ℕ) → Known
 
-abbrev pub known : Event → Option Known
-known (event.Take c n u) = Some (Took c u)
-known (event.Answer c n p) = Some (Queued c p)
-known (event.Late c n u k) = Some (CameLate u k)
+abbrev pub known : Option Event → Option Known
+known (Some (event.Take c n u)) = Some (Took c u)
+known (Some (event.Answer c n p)) = Some (Queued c p)
+known (Some (event.Late c n u k)) = Some (CameLate u k)
 known _ = None
 
 -- what is known of these notes, in order

@@ -5,9 +5,9 @@ use Rattle.smx_lock.specs.Fronts.{LockId, Front}
 use Rattle.smx_history.specs.declared.limits.Limits.{Limits}
 use Rattle.smx_history.specs.declared.note.Note.{Note}
 use Rattle.smx_history.specs.declared.note.Event.TheVariants as event
-use Rattle.smx_history.specs.History.{note}
+use Rattle.smx_history.specs.History.{note, shift}
 use Rattle.smx_shared.specs.declared.did.Did.{Did}
-use Rattle.smx_shared.specs.declared.did.Did.TheVariants.{Admitting, Accepting, Taking, Answering, BeingLate, Collecting, Retiring, Nothing}
+use Rattle.smx_shared.specs.declared.did.Did.TheVariants.{Admitting, Accepting, Taking, Answering, BeingLate, Collecting, Retiring, Turning, Nothing}
 
 -- the notes that the seat of the number k makes
 abbrev pub notes_told : Did → ℕ → List Note
@@ -18,6 +18,7 @@ notes_told (Answering c n p) k = note k (event.Answer c n p.value) ∷ []
 notes_told (BeingLate c n p) k = note k (event.Late c n p.value.number p.value.command) ∷ []
 notes_told (Collecting c n) k = note k (event.Collect c n) ∷ []
 notes_told (Retiring c) k = note k (event.Retire c) ∷ []
+notes_told Turning k = shift k ∷ []
 notes_told Nothing k = []
 
 -- a tap: its lane, and the front of its seat there
@@ -36,7 +37,7 @@ abbrev pub locks_of : List (Front Note Limits) → List (LockId Limits)
 locks_of fs = map (λ f. f.lock) fs
 
 abbrev pub blank : Front Note Limits
-blank = record { lock = record { table = record { words = 0; slots = 0; views_name = 0; atom = 0; block = 0; offset = 0; slot_names = [] }; fixed = record { queue = 0; window = 0; client = 0; history = 0 } }; caller = Idle; number = 0; seen = []; mine = []; last = 0 }
+blank = record { lock = record { table = record { words = 0; slots = 0; views_name = 0; atom = 0; block = 0; offset = 0; slot_names = [] }; fixed = record { queue = 0; window = 0; client = 0; history = 0 } }; caller = Idle; number = 0; seen = []; mine = []; last = 0; seats = 0 }
 
 abbrev pub front_in : Option (Front Note Limits) → Front Note Limits
 front_in (Some f) = f

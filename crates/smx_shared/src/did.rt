@@ -16,6 +16,7 @@ pub(crate) enum Did {
     BeingLate(u64, u64, Snapshot<Pdu>),
     Collecting(u64, u64),
     Retiring(u64),
+    Turning,
     Nothing,
 }
 

@@ -54,6 +54,17 @@ pub enum SubmitFault {
     AllFull,
 }
 
+/// Why no entries are handed out.
+#[derive(Clone, Copy, Debug, PartialEq, Eq, Error)]
+pub enum TurnFault {
+    /// Every ticket was drawn.
+    #[error("every ticket was drawn")]
+    Spent,
+    /// There is no memory for the new list.
+    #[error("no memory for a new list of entries")]
+    NoMemory,
+}
+
 /// Why nothing is taken.
 #[derive(Clone, Copy, Debug, PartialEq, Eq, Error)]
 pub enum TakeFault {

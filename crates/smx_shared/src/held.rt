@@ -8,13 +8,14 @@ ghost use Rattle.smx_history.specs.Contents.{AgreesWith};
 ghost use Rattle.smx_history.specs.Replies.{accept_refusal, member_with};
 ghost use Rattle.smx_lane.specs.Conditions.{IsOwn, IsNext};
 ghost use Rattle.smx_lane.specs.Kept.{writer, limits_of, suits};
-ghost use Rattle.smx_shared.specs.Serving.{TakeServes, AnswerServes, AcceptServes, CollectServes, AdmitServes, RetireServes};
+ghost use Rattle.smx_shared.specs.Serving.{TurnsBy, TakeServes, AnswerServes, AcceptServes, CollectServes, AdmitServes, RetireServes};
 
 use crate::did::Did;
-use smx_history::{Answered, Refusal, Request, TakeRefusal};
+use smx_history::{Answered, Entry, Refusal, Request, TakeRefusal};
 use smx_lane::{AdmitFault, Lane, Sent};
 use smx_lock::{Held, LockSeat, TicketLock};
 use smx_pdu::Pdu;
+use std::alloc::AllocError;
 use std::snapshot::Snapshot;
 
 // Takes in a hold, and ends it.
@@ -73,6 +74,27 @@ pub(crate) fn answer_held(
             lock.release_told(held, &Did::Nothing),
             Answered::Unknown(back),
         ),
+    }
+}
+
+// Hands out the entries in a hold, and ends it.
+pub(crate) fn turn_held(
+    lock: &TicketLock<Lane>,
+    from: Held<Lane>,
+    least: usize,
+) -> (LockSeat<Lane>, Result<Option<Vec<Entry>>, AllocError>)
+    requires lock { from.lock ≡ lock.now }
+    requires agrees { AgreesWith from.found from.value }
+    requires limits { from.value.limits ≡ from.lock.fixed }
+    ensures lock { result.0.lock ≡ from.lock }
+    ensures served { (f : Front Note Limits) → Finds writer limits_of suits f from → TurnsBy (λ es. es.items) f result.0 least result.1 }
+{
+    let mut held = from;
+    let by = held.number();
+    match held.value_mut().turn_over(by, least) {
+        Ok(Some(entries)) => (lock.release_told(held, &Did::Turning), Ok(Some(entries))),
+        Ok(None) => (lock.release_told(held, &Did::Nothing), Ok(None)),
+        Err(error) => (lock.release_told(held, &Did::Nothing), Err(error)),
     }
 }
 

@@ -1,15 +1,16 @@
 //! A seat on one lane. Each call is served by one hold of the lane's lock.
 ghost use Rattle.std.specs.Prelude.{◌≡◌, ◌<◌, MatchResult};
 ghost use Rattle.smx_lock.specs.Fronts.{IsSpent};
-ghost use Rattle.smx_shared.specs.Serving.{TakeServes, AnswerServes, AcceptServes, CollectServes, AdmitServes, RetireServes, SplitServes, SplitFails, Waited, Tried};
+ghost use Rattle.smx_shared.specs.Serving.{TurnsBy, TakeServes, AnswerServes, AcceptServes, CollectServes, AdmitServes, RetireServes, SplitServes, SplitFails, Waited, Tried};
 ghost use Rattle.smx_shared.specs.Ports.{IsMemberBy, IsBelow};
 
 use crate::did::Did;
-use crate::held::{accept_held, admit_held, answer_held, collect_held, retire_held, take_held};
-use smx_history::{Answered, Refusal, Request, TakeRefusal};
+use crate::held::{accept_held, admit_held, answer_held, collect_held, retire_held, take_held, turn_held};
+use smx_history::{Answered, Entry, Refusal, Request, TakeRefusal};
 use smx_lane::{AdmitFault, Lane, Sent};
 use smx_lock::{LockSeat, Spent, TicketLock, TryFault};
 use smx_pdu::Pdu;
+use std::alloc::AllocError;
 use std::marker::Model;
 use std::sync::Wait;
 
@@ -253,6 +254,32 @@ impl LaneSeat {
         match lock.acquire(rt, seat) {
             Ok(held) => {
                 let (seat, reply) = take_held(lock, held);
+                self.seat = Some(seat);
+                Ok(reply)
+            }
+            Err((seat, spent)) => {
+                self.seat = Some(seat);
+                Err(spent)
+            }
+        }
+    }
+
+    pub(crate) fn turn_over<R: Wait>(
+        &mut self,
+        rt: &R,
+        lock: &TicketLock<Lane>,
+        least: usize,
+    ) -> Result<Result<Option<Vec<Entry>>, AllocError>, Spent>
+        requires { self.old.lock ≡ lock.now }
+        ensures lock { self.new.lock ≡ self.old.lock }
+        ensures served { Waited (TurnsBy (λ es. es.items) self.old self.new least) self.old self.new result }
+    {
+        let Some(seat) = self.seat.take() else {
+            unreachable!()
+        };
+        match lock.acquire(rt, seat) {
+            Ok(held) => {
+                let (seat, reply) = turn_held(lock, held, least);
                 self.seat = Some(seat);
                 Ok(reply)
             }

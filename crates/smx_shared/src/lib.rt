@@ -26,7 +26,7 @@ mod tests;
 
 pub use door::Door;
 pub use exchange::Exchange;
-pub use fault::{EnterFault, MakeFault, StateOut, SubmitFault, TakeFault, TryTakeFault};
+pub use fault::{EnterFault, MakeFault, StateOut, SubmitFault, TakeFault, TryTakeFault, TurnFault};
 pub use offer::Offer;
 pub use port::Port;
 pub use starts::Starts;

@@ -1,16 +1,18 @@
 //! The token that takes from one lane.
 ghost use Rattle.std.specs.Prelude.{◌≡◌, ◌++◌, slice_get, Some, MatchResult};
+ghost use Rattle.std.specs.Option.{option_map};
 ghost use Rattle.smx_shared.specs.Taps.{known_of, known_by_take, known_by_answer};
-ghost use Rattle.smx_shared.specs.Serving.{Takes, TriesTake, AnswerServes};
+ghost use Rattle.smx_shared.specs.Serving.{TurnServes, IsTurnFault, Takes, TriesTake, AnswerServes};
 ghost use Rattle.smx_lock.specs.Fronts.{IsSpent};
 
 use crate::exchange::Exchange;
-use crate::fault::{TakeFault, TryTakeFault};
+use crate::fault::{TakeFault, TurnFault, TryTakeFault};
 use crate::lane_seat::LaneSeat;
-use smx_history::Answered;
+use smx_history::{Answered, Entry};
 use smx_lane::Sent;
 use smx_lock::{Spent, TryFault};
 use smx_pdu::Pdu;
+use std::alloc::AllocError;
 use std::marker::Model;
 use std::sync::Wait;
 
@@ -70,6 +72,26 @@ impl Tap {
             Ok(Err(refusal)) => Err(TryTakeFault::Refused(refusal)),
             Err(TryFault::Spent) => Err(TryTakeFault::Spent),
             Err(TryFault::Busy) => Err(TryTakeFault::Busy),
+        }
+    }
+
+    /// Hands out the entries that the lane stored since its last shift, where they are at least so many; the lane goes on
+    /// with none. It may wait.
+    pub fn turn_over<R: Wait>(
+        &mut self,
+        at: &Exchange,
+        rt: &R,
+        least: usize,
+    ) -> Result<Option<Vec<Entry>>, TurnFault>
+        requires { slice_get at.now self.old.lane ≡ Some self.old.front.lock }
+        ensures same { (self.new.lane ≡ self.old.lane) × (self.new.front.lock ≡ self.old.front.lock) }
+        ensures served { MatchResult result (λ o. TurnServes self.old.front self.new.front least (option_map (λ es. es.items) o)) (IsTurnFault self.old.front self.new.front) }
+        ensures known { known_of self.new.front.mine ≡ known_of self.old.front.mine }
+    {
+        match self.seat.turn_over(rt, &at.locks[self.lane], least) {
+            Ok(Ok(entries)) => Ok(entries),
+            Ok(Err(AllocError)) => Err(TurnFault::NoMemory),
+            Err(_) => Err(TurnFault::Spent),
         }
     }
 

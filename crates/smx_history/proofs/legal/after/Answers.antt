@@ -2,6 +2,7 @@ use Rattle.std.proofs.Common.{arith}
 use Rattle.smx_history.specs.Legal.{IsFifo}
 use Rattle.smx_history.proofs.Growing.{AtEachPrefix-whole}
 use Rattle.smx_history.proofs.Counting.{totals_within}
+use Rattle.smx_history.proofs.Shifting.{unshifted-rules}
 use Rattle.smx_history.proofs.CountedEntries.{counted_admit, counted_accept, counted_take, counted_collect, counted_retire, collect_waiting, leaves}
 use Rattle.smx_history.proofs.CountedSettle.{counted_answer, counted_late, closes, answers_by}
 use Rattle.smx_history.proofs.FitsSettle.{settles_answer, settles_late}
@@ -19,7 +20,7 @@ overflow_add-result-in-Take-2 c = let w = totals_within c.args.limits c.args.bef
 pub overflow_sub-result-in-Answer : goal.overflow_sub-result-in-Answer
 overflow_sub-result-in-Answer c =
     let p = (answers_by c.args.limits c.args.before.now c.args.entry c.requires.fits).0 c.in-Answer.is in
-    let closed = closes c.args.limits c.args.before.now c.args.entry c.requires.legal (settles_answer c.args.entry.kind c.in-Answer.is) p in
+    let closed = closes c.args.limits c.args.before.now c.args.entry (unshifted-rules c.args.limits c.args.before.now c.requires.legal) (settles_answer c.args.entry.kind c.in-Answer.is) p in
     omega (arith, closed.fewer, c.requires.counted.unanswered)
 
 pub overflow_add-result-in-Answer : goal.overflow_add-result-in-Answer
@@ -28,47 +29,47 @@ overflow_add-result-in-Answer c = let w = totals_within c.args.limits c.args.bef
 pub overflow_sub-result-in-Late : goal.overflow_sub-result-in-Late
 overflow_sub-result-in-Late c =
     let p = (answers_by c.args.limits c.args.before.now c.args.entry c.requires.fits).1 c.in-Late.is in
-    let closed = closes c.args.limits c.args.before.now c.args.entry c.requires.legal (settles_late c.args.entry.kind c.in-Late.is) p in
+    let closed = closes c.args.limits c.args.before.now c.args.entry (unshifted-rules c.args.limits c.args.before.now c.requires.legal) (settles_late c.args.entry.kind c.in-Late.is) p in
     omega (arith, closed.fewer, c.requires.counted.unanswered)
 
 pub overflow_sub-result-in-Collect : goal.overflow_sub-result-in-Collect
 overflow_sub-result-in-Collect c =
-    let less = collect_waiting c.args.limits c.args.before.now c.args.entry c.requires.legal c.requires.fits c.in-Collect.is in
+    let less = collect_waiting c.args.limits c.args.before.now c.args.entry (unshifted-rules c.args.limits c.args.before.now c.requires.legal) c.requires.fits c.in-Collect.is in
     omega (arith, less, c.requires.counted.waiting)
 
 pub waiting_of-requires : goal.waiting_of-requires
-waiting_of-requires c = AtEachPrefix-whole IsFifo c.args.before.now c.requires.legal.fifo
+waiting_of-requires c = AtEachPrefix-whole IsFifo c.args.before.now (unshifted-rules c.args.limits c.args.before.now c.requires.legal).fifo
 
 pub overflow_sub-result-in-Retire : goal.overflow_sub-result-in-Retire
 overflow_sub-result-in-Retire c =
-    let gone = leaves c.args.limits c.args.before.now c.args.entry c.requires.legal c.requires.fits c.in-Retire.is in
+    let gone = leaves c.args.limits c.args.before.now c.args.entry (unshifted-rules c.args.limits c.args.before.now c.requires.legal) c.requires.fits c.in-Retire.is in
     omega (arith, gone.waiting, c.requires.counted.waiting, c.waiting_of.ensures)
 
 pub overflow_sub-result-in-Retire-2 : goal.overflow_sub-result-in-Retire-2
 overflow_sub-result-in-Retire-2 c =
-    let gone = leaves c.args.limits c.args.before.now c.args.entry c.requires.legal c.requires.fits c.in-Retire.is in
+    let gone = leaves c.args.limits c.args.before.now c.args.entry (unshifted-rules c.args.limits c.args.before.now c.requires.legal) c.requires.fits c.in-Retire.is in
     omega (arith, gone.present, c.requires.counted.present)
 
 pub returns-in-Admit-clause-counted : goal.returns-in-Admit-clause-counted
-returns-in-Admit-clause-counted c = counted_admit c.args.limits c.args.totals c.args.before.now c.args.entry c.requires.legal c.requires.counted c.requires.fits c.in-Admit.is
+returns-in-Admit-clause-counted c = counted_admit c.args.limits c.args.totals c.args.before.now c.args.entry (unshifted-rules c.args.limits c.args.before.now c.requires.legal) c.requires.counted c.requires.fits c.in-Admit.is
 
 pub returns-in-Accept-clause-counted : goal.returns-in-Accept-clause-counted
-returns-in-Accept-clause-counted c = counted_accept c.args.limits c.args.totals c.args.before.now c.args.entry c.requires.legal c.requires.counted c.in-Accept.is
+returns-in-Accept-clause-counted c = counted_accept c.args.limits c.args.totals c.args.before.now c.args.entry (unshifted-rules c.args.limits c.args.before.now c.requires.legal) c.requires.counted c.in-Accept.is
 
 pub returns-in-Take-clause-counted : goal.returns-in-Take-clause-counted
-returns-in-Take-clause-counted c = counted_take c.args.limits c.args.totals c.args.before.now c.args.entry c.requires.legal c.requires.counted c.requires.fits c.in-Take.is
+returns-in-Take-clause-counted c = counted_take c.args.limits c.args.totals c.args.before.now c.args.entry (unshifted-rules c.args.limits c.args.before.now c.requires.legal) c.requires.counted c.requires.fits c.in-Take.is
 
 pub returns-in-Answer-clause-counted : goal.returns-in-Answer-clause-counted
-returns-in-Answer-clause-counted c = counted_answer c.args.limits c.args.totals c.args.before.now c.args.entry c.requires.legal c.requires.counted c.requires.fits c.in-Answer.is
+returns-in-Answer-clause-counted c = counted_answer c.args.limits c.args.totals c.args.before.now c.args.entry (unshifted-rules c.args.limits c.args.before.now c.requires.legal) c.requires.counted c.requires.fits c.in-Answer.is
 
 pub returns-in-Late-clause-counted : goal.returns-in-Late-clause-counted
-returns-in-Late-clause-counted c = counted_late c.args.limits c.args.totals c.args.before.now c.args.entry c.requires.legal c.requires.counted c.requires.fits c.in-Late.is
+returns-in-Late-clause-counted c = counted_late c.args.limits c.args.totals c.args.before.now c.args.entry (unshifted-rules c.args.limits c.args.before.now c.requires.legal) c.requires.counted c.requires.fits c.in-Late.is
 
 pub returns-in-Collect-clause-counted : goal.returns-in-Collect-clause-counted
-returns-in-Collect-clause-counted c = counted_collect c.args.limits c.args.totals c.args.before.now c.args.entry c.requires.legal c.requires.counted c.requires.fits c.in-Collect.is
+returns-in-Collect-clause-counted c = counted_collect c.args.limits c.args.totals c.args.before.now c.args.entry (unshifted-rules c.args.limits c.args.before.now c.requires.legal) c.requires.counted c.requires.fits c.in-Collect.is
 
 pub returns-in-Retire-clause-counted : goal.returns-in-Retire-clause-counted
-returns-in-Retire-clause-counted c = counted_retire c.args.limits c.args.totals c.args.before.now c.args.entry c.waiting_of.result c.requires.legal c.requires.counted c.requires.fits c.in-Retire.is c.waiting_of.ensures
+returns-in-Retire-clause-counted c = counted_retire c.args.limits c.args.totals c.args.before.now c.args.entry c.waiting_of.result (unshifted-rules c.args.limits c.args.before.now c.requires.legal) c.requires.counted c.requires.fits c.in-Retire.is c.waiting_of.ensures
 
 pub overflow_add-result-in-Accept : goal.overflow_add-result-in-Accept
 overflow_add-result-in-Accept c = let w = totals_within c.args.limits c.args.before.now c.args.totals c.requires.legal c.requires.counted in omega (arith, w.1, c.requires.small)

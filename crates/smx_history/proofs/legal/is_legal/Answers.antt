@@ -1,7 +1,8 @@
 use Rattle.std.proofs.Common.{◌∙◌, sym, arith, refl, take}
 use Rattle.std.proofs.lemmas.Bool.{false≢true}
 use Rattle.smx_history.proofs.Beginning.{IsLegal-empty}
-use Rattle.smx_history.proofs.Following.{IsLegal-fits}
+use Rattle.smx_history.proofs.Following.{KeepsRules-fits}
+use Rattle.smx_history.proofs.Shifting.{unshifted-rules}
 use Rattle.smx_history.proofs.Steps.{legal_step, counted_step, legal_prefix, legal_end, size_counted, within_counted, totals_small}
 use Rattle.smx_history.proofs.legal.is_legal.Goals as goal
 
@@ -20,7 +21,7 @@ fits-requires-clause-small c = omega (arith, c.history_of-history.ensures, c.his
 pub returns-then-not-fits : goal.returns-then-not-fits
 returns-then-not-fits c = (
   λ h. absurd (false≢true h),
-  λ legal. sym c.if-not-fits.true ∙ c.fits.ensures.1 (IsLegal-fits c.args.limits (take c.loop-at.at c.args.entries.now) _ (legal_prefix c.args.limits c.args.entries.now c.loop-at.at _ c.loop-at-test.true legal)),
+  λ legal. sym c.if-not-fits.true ∙ c.fits.ensures.1 (KeepsRules-fits c.args.limits (take c.loop-at.at c.args.entries.now) _ (unshifted-rules c.args.limits _ (legal_prefix c.args.limits c.args.entries.now c.loop-at.at _ c.loop-at-test.true legal))),
 )
 
 pub after-totals-requires-clause-small : goal.after-totals-requires-clause-small

@@ -1,5 +1,5 @@
-use Rattle.std.proofs.Common.{sym, ◌∙◌}
-use Rattle.smx_history.specs.History.{note}
+use Rattle.std.proofs.Common.{refl, sym, ◌∙◌}
+use Rattle.smx_history.specs.History.{entry_by, note}
 use Rattle.smx_history.specs.declared.note.Event.TheVariants as event
 use Rattle.smx_shared.proofs.Holding.{queued_may, queued_serves, late_may, late_serves, no_last}
 use Rattle.smx_shared.proofs.held.answer_held.Goals as goal
@@ -15,7 +15,7 @@ pub unreachable-requires-in_default-last_entry : goal.unreachable-requires-in_de
 unreachable-requires-in_default-last_entry c =
     let ans = rw (c.value_mut.ensures.value, c.number-by.ensures) at (c.in-Late.ensures.answered) in
     let last = rw c.value-in-Late.ensures at (sym c.last_entry-in-Late.ensures ∙ c.in_default-last_entry.is) in
-    no_last c.args.from.found (note c.args.from.number (event.Late ans.0.client ans.0.ordinal c.args.response.number c.args.response.command)) c.answer.new.self (ans.3 c.args.from.found c.requires.agrees) last
+    no_last c.args.from.found (note c.args.from.number (event.Late ans.0.client ans.0.ordinal c.args.response.number c.args.response.command)) (entry_by c.args.from.number (event.Late ans.0.client ans.0.ordinal c.args.response.number c.args.response.command)) c.answer.new.self refl (ans.3 c.args.from.found c.requires.agrees) last
 
 pub release_told-requires-in-Late-clause-notes : goal.release_told-requires-in-Late-clause-notes
 release_told-requires-in-Late-clause-notes c =
@@ -42,4 +42,4 @@ pub unreachable-requires : goal.unreachable-requires
 unreachable-requires c =
     let ans = rw (c.value_mut.ensures.value, c.number-by.ensures) at (c.in-Queued.ensures.answered) in
     let last = rw c.value.ensures at (sym c.last_entry.ensures ∙ c.in_default.is) in
-    no_last c.args.from.found (note c.args.from.number (event.Answer ans.0.client ans.0.ordinal c.args.response)) c.answer.new.self (ans.5 c.args.from.found c.requires.agrees) last
+    no_last c.args.from.found (note c.args.from.number (event.Answer ans.0.client ans.0.ordinal c.args.response)) (entry_by c.args.from.number (event.Answer ans.0.client ans.0.ordinal c.args.response)) c.answer.new.self refl (ans.5 c.args.from.found c.requires.agrees) last

@@ -1,6 +1,6 @@
-use Rattle.std.proofs.Common.{sym, ◌∙◌}
+use Rattle.std.proofs.Common.{refl, sym, ◌∙◌}
 use Rattle.smx_history.specs.declared.note.Event.TheVariants as event
-use Rattle.smx_history.specs.History.{note}
+use Rattle.smx_history.specs.History.{entry_by, note}
 use Rattle.smx_shared.proofs.Holding.{collected_may, collected_serves, no_last}
 use Rattle.smx_shared.proofs.held.collect_held.Goals as goal
 
@@ -22,4 +22,4 @@ pub unreachable-requires : goal.unreachable-requires
 unreachable-requires c =
     let col = rw (c.value_mut.ensures.value, c.number-by.ensures) at (c.in-Some.ensures.collected) in
     let last = rw c.value.ensures at (sym c.last_entry.ensures ∙ c.in_default.is) in
-    no_last c.args.from.found (note c.args.from.number (event.Collect c.args.client col.0.ordinal)) c.collect.new.self (col.3 c.args.from.found c.requires.agrees) last
+    no_last c.args.from.found (note c.args.from.number (event.Collect c.args.client col.0.ordinal)) (entry_by c.args.from.number (event.Collect c.args.client col.0.ordinal)) c.collect.new.self refl (col.3 c.args.from.found c.requires.agrees) last

@@ -16,4 +16,4 @@ store-requires g c = let held = c.held.inside in let may = subst (λ h. MayLeave
 pub free-requires : goal.free-requires
 free-requires g c = let held = c.held.inside in let may = subst (λ h. MayLeave g.S.Kept.writer g.S.Kept.fixed g.S.Kept.agrees h g.M.Noted.notes) (sym c.held.view_is) c.requires.notes in
     free_after g.S.Kept.writer g.S.Kept.fixed g.S.Kept.agrees _ held.seat.me.0 g.M.Noted.notes
-    (c.store.ensures.2 ∙ ap (λ m. (left m.0 g.M.Noted.notes, rest m.1)) (c.exchange.ensures.3 ∙ ap (λ l. (held.seat.me.0, (0, Some record { value = held.value; seats = held.seats }) ∷ rest l)) c.held.invariant.slot)) c.held.invariant.own may.own _ c.held.invariant.number_is
+    (c.store.ensures.2 ∙ ap (λ m. (left m.0 g.M.Noted.notes, rest m.1)) (c.exchange.ensures.3 ∙ ap (λ l. (held.seat.me.0, (0, Some record { value = held.value; seats = held.seats }) ∷ rest l)) c.held.invariant.slot)) c.held.invariant.own may.own c.held.invariant.stands _ c.held.invariant.number_is

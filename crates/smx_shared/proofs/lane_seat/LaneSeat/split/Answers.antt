@@ -1,8 +1,10 @@
-use Rattle.std.proofs.Common.{refl, ◌∙◌, ap, subst, []}
+use Rattle.std.proofs.Common.{sym, ◌∙◌, ◌+◌, ◌<◌, ap, subst, [], arith}
+use Rattle.smx_lock.specs.Rule.{notes_of}
+use Rattle.smx_lane.specs.Kept.{writer}
 use Rattle.smx_lock.specs.Fronts.{after_hold}
 use Rattle.smx_shared.specs.Views.{front_in}
 use Rattle.smx_shared.specs.Serving.{SplitServes}
-use Rattle.smx_shared.proofs.Holding.{served_nothing}
+use Rattle.smx_shared.proofs.Holding.{served_split}
 use Rattle.smx_shared.proofs.lane_seat.LaneSeat.split.Goals as goal
 
 pub returns-in-Ok-split-clause-served : goal.returns-in-Ok-split-clause-served
@@ -10,14 +12,19 @@ returns-in-Ok-split-clause-served g c =
     let is = ap front_in c.in-Some.ensures.value ∙ c.self.view_is in
     let h = c.in-Ok.held in
     let found = c.in-Ok.ensures.found in
+    let left = c.release_told.ensures ∙ ap (λ x. after_hold x []) c.in-Ok-split.ensures.host in
     let guest = c.new.ensures ∙ c.in-Ok-split.ensures.guest in
     subst (λ f. SplitServes f c.release_told.result c.new.result) is (
       h.found,
       h.value,
-      served_nothing c.in-Some.seat c.release_told.result h h.value found refl (c.release_told.ensures ∙ ap (λ x. after_hold x []) c.in-Ok-split.ensures.host),
+      served_split c.in-Some.seat c.release_told.result h found left,
       ap (λ z. z.lock) guest ∙ found.lock,
       ap (λ z. z.caller) guest,
       ap (λ z. z.seen) guest,
       ap (λ z. z.mine) guest,
       ap (λ z. z.last) guest,
+      ap (λ z. z.number + 1) guest ∙ sym (ap (λ z. z.seats) left),
+      ap (λ z. z.seats) guest ∙ sym (ap (λ z. z.seats) left),
+      subst (λ k. c.in-Some.seat.number < k) (sym (ap (λ z. z.number) guest)) (subst (λ k. k < h.seats) found.number found.one_seat),
+      ap (λ z. notes_of writer z.number h.found) guest ∙ found.no_others h.seats (omega arith),
     )

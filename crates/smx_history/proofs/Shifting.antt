@@ -1,0 +1,94 @@
+-- Histories that grow by an entry or by a shift.
+use Rattle.std.proofs.Common.{◌≡◌, ◌≤◌, ◌+◌, List, [], ◌∷◌, ◌++◌, length, map, refl, sym, ◌∙◌, ap, subst, arith, length-append, append_assoc, Option, Some, None}
+use Rattle.std.proofs.lemmas.List.{append-nil, map-append}
+use Rattle.std.proofs.lemmas.List.Elements.{filter_map-append}
+use Rattle.smx_history.specs.declared.entry.Entry.{Entry}
+use Rattle.smx_history.specs.declared.limits.Limits.{Limits}
+use Rattle.smx_history.specs.Shifts.{noted, since, stored}
+use Rattle.smx_history.specs.Legal.{IsLegal, KeepsRules, IsWithin, size, owed}
+use Rattle.smx_history.specs.Prefixes.{AtEachPrefix}
+use Rattle.smx_history.specs.Checks.{Fits}
+use Rattle.smx_history.proofs.Growing.{AtEachPrefix-push, AtEachPrefix-init, AtEachPrefix-whole}
+use Rattle.smx_history.proofs.Following.{KeepsRules-next, KeepsRules-start}
+
+since-append : (es : List Entry) (xs ys : List (Option Entry)) → since es (xs ++ ys) ≡ since (since es xs) ys
+since-append es [] ys = refl
+since-append es (None ∷ xs) ys = since-append [] xs ys
+since-append es (Some e ∷ xs) ys = since-append (es ++ e ∷ []) xs ys
+
+pub stored-push : (marks : List (Option Entry)) (e : Entry) → stored (marks ++ Some e ∷ []) ≡ stored marks ++ e ∷ []
+stored-push marks e = since-append [] marks (Some e ∷ [])
+
+pub stored-shift : (marks : List (Option Entry)) → stored (marks ++ None ∷ []) ≡ []
+stored-shift marks = since-append [] marks (None ∷ [])
+
+pub noted-push : (marks : List (Option Entry)) (e : Entry) → noted (marks ++ Some e ∷ []) ≡ noted marks ++ e ∷ []
+noted-push marks e = filter_map-append (λ mark. mark) marks (Some e ∷ [])
+
+pub noted-shift : (marks : List (Option Entry)) → noted (marks ++ None ∷ []) ≡ noted marks
+noted-shift marks = filter_map-append (λ mark. mark) marks (None ∷ []) ∙ append-nil (noted marks)
+
+-- an entry is one more that is stored, and changes what is owed
+pub size-push : (marks : List (Option Entry)) (e : Entry) → size (marks ++ Some e ∷ []) ≡ length (stored marks) + 1 + owed (noted marks ++ e ∷ [])
+size-push marks e = rw (stored-push marks e, noted-push marks e) (omega (arith, length-append (stored marks) (e ∷ [])))
+
+-- after a shift the size is what is owed
+pub size-shift : (marks : List (Option Entry)) → size (marks ++ None ∷ []) ≡ owed (noted marks)
+size-shift marks = rw (stored-shift marks, noted-shift marks) (omega arith)
+
+pub IsLegal-within : (limits : Limits) (marks : List (Option Entry)) → IsLegal limits marks → IsWithin limits marks
+IsLegal-within limits marks h = AtEachPrefix-whole (IsWithin limits) marks h.size
+
+-- one entry more is legal where it fits and the size keeps to the limit
+pub IsLegal-next : (limits : Limits) (marks : List (Option Entry)) (e : Entry) → IsLegal limits marks → Fits limits (noted marks) e → length (stored marks) + 1 + owed (noted marks ++ e ∷ []) ≤ limits.history → IsLegal limits (marks ++ Some e ∷ [])
+IsLegal-next limits marks e h fits within = record {
+  rules = rw (noted-push marks e) (KeepsRules-next limits (noted marks) e h.rules fits);
+  size = AtEachPrefix-push (IsWithin limits) marks (Some e) h.size (omega (arith, size-push marks e, within));
+}
+
+-- and a shift always
+pub IsLegal-shift : (limits : Limits) (marks : List (Option Entry)) → IsLegal limits marks → IsLegal limits (marks ++ None ∷ [])
+IsLegal-shift limits marks h = record {
+  rules = rw (noted-shift marks) h.rules;
+  size = AtEachPrefix-push (IsWithin limits) marks None h.size (let was = IsLegal-within limits marks h in omega (arith, size-shift marks, was));
+}
+
+AtEachPrefix-start : {X : Type 0} (P : List X → Type 0) (xs ys : List X) → AtEachPrefix P (xs ++ ys) → AtEachPrefix P xs
+AtEachPrefix-start {X} P xs [] h = subst (λ (zs : List X). AtEachPrefix P zs) (append-nil xs) h
+AtEachPrefix-start {X} P xs (y ∷ ys) h =
+    AtEachPrefix-init P xs y (AtEachPrefix-start P (xs ++ y ∷ []) ys (subst (λ (zs : List X). AtEachPrefix P zs) (sym (append_assoc xs (y ∷ []) ys)) h))
+
+-- what a legal history begins with is legal
+pub IsLegal-start : (limits : Limits) (xs ys : List (Option Entry)) → IsLegal limits (xs ++ ys) → IsLegal limits xs
+IsLegal-start limits xs ys h = record {
+  rules = KeepsRules-start limits (noted xs) (noted ys) (subst (λ (es : List Entry). KeepsRules limits es) (filter_map-append (λ mark. mark) xs ys) h.rules);
+  size = AtEachPrefix-start (IsWithin limits) xs ys h.size;
+}
+
+-- entries without a shift
+pub noted-some : (es : List Entry) → noted (map Some es) ≡ es
+noted-some [] = refl
+noted-some (e ∷ es) = ap (λ xs. e ∷ xs) (noted-some es)
+
+since-some : (xs es : List Entry) → since xs (map Some es) ≡ xs ++ es
+since-some xs [] = sym (append-nil xs)
+since-some xs (e ∷ es) = since-some (xs ++ e ∷ []) es ∙ append_assoc xs (e ∷ []) es
+
+pub stored-some : (es : List Entry) → stored (map Some es) ≡ es
+stored-some es = since-some [] es
+
+pub size-some : (es : List Entry) → size (map Some es) ≡ length es + owed es
+size-some es = rw (stored-some es, noted-some es) refl
+
+pub unshifted-rules : (limits : Limits) (es : List Entry) → IsLegal limits (map Some es) → KeepsRules limits es
+unshifted-rules limits es h = subst (λ (xs : List Entry). KeepsRules limits xs) (noted-some es) h.rules
+
+pub unshifted-within : (limits : Limits) (es : List Entry) → IsLegal limits (map Some es) → length es + owed es ≤ limits.history
+unshifted-within limits es h = let was = IsLegal-within limits (map Some es) h in omega (arith, was, size-some es)
+
+pub unshifted-next : (limits : Limits) (es : List Entry) (e : Entry) → IsLegal limits (map Some es) → Fits limits es e → length es + 1 + owed (es ++ e ∷ []) ≤ limits.history → IsLegal limits (map Some (es ++ e ∷ []))
+unshifted-next limits es e h fits within = rw (map-append Some es (e ∷ []))
+    (IsLegal-next limits (map Some es) e h (rw (noted-some es) fits) (rw (stored-some es, noted-some es) within))
+
+pub unshifted-start : (limits : Limits) (xs ys : List Entry) → IsLegal limits (map Some (xs ++ ys)) → IsLegal limits (map Some xs)
+unshifted-start limits xs ys h = IsLegal-start limits (map Some xs) (map Some ys) (subst (λ (zs : List (Option Entry)). IsLegal limits zs) (map-append Some xs ys) h)

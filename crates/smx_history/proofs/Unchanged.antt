@@ -1,0 +1,48 @@
+-- What a note that leaves a part of the content as it is keeps of the agreement.
+use Rattle.std.proofs.Common.{◌≡◌, ℕ, false, List, [], ◌∷◌, ◌++◌, length, map, refl, sym, ◌∙◌, ap, arith, Option, Some, None}
+use Rattle.std.specs.List.{AllZip}
+use Rattle.smx_history.specs.declared.entry.Entry.{Entry}
+use Rattle.smx_history.specs.declared.note.Note.{Note}
+use Rattle.smx_history.specs.Prefixes.{SameCounts}
+use Rattle.smx_history.specs.Entries.{is_admit, is_accept, is_take, is_collect, is_retire, is_settling, present}
+use Rattle.smx_history.specs.Legal.{IsFifo}
+use Rattle.smx_history.specs.Checks.{Fits}
+use Rattle.smx_history.specs.History.{entry_in, entries_of, marks_of, stored_of, request_in, response_in}
+use Rattle.smx_history.specs.Contents.{AgreesWith, IsAfter, IsMemberAfter, Content, Member, queue_after, window_after, greatest_after}
+use Rattle.smx_history.specs.Room.{KeepsRoom}
+use Rattle.smx_history.specs.Legal.{IsLegal}
+use Rattle.smx_history.proofs.Growing.{AtEachPrefix-whole}
+use Rattle.smx_history.proofs.Frames.{takes-other, admits-other, unanswered-other, present-other}
+use Rattle.smx_history.proofs.Reading.{marks_of-push, entries_of-push, places-kept}
+use Rattle.smx_history.proofs.Shifting.{stored-push, IsLegal-next}
+use Rattle.smx_history.proofs.SettleAgrees.{within-after}
+use Rattle.smx_history.proofs.TakeAgrees.{IsMemberAfter-other, requests-other, zip-each}
+
+-- neither an accept nor a take: the queue
+pub queue-kept : (h : List Note) (n : Note) (e : Entry) (v : Content) → entry_in n ≡ Some e → is_take e.kind ≡ false → request_in n.event ≡ None → IsAfter h v → v.queue ≡ queue_after (h ++ n ∷ [])
+queue-kept h n e v is t none a = rw (entries_of-push h n e is, takes-other (entries_of h) e t, requests-other h n none) a.queue
+
+-- neither a take nor an answer: the window
+pub window-kept : (h : List Note) (n : Note) (e : Entry) (v : Content) → entry_in n ≡ Some e → is_take e.kind ≡ false → is_settling e.kind ≡ false → IsFifo (entries_of h) → IsAfter h v → SameCounts (window_after (h ++ n ∷ [])) v.window
+window-kept h n e v is t s fifo a = rw (entries_of-push h n e is, unanswered-other (entries_of h) e t s, places-kept (entries_of h) (e ∷ []) fifo) a.window
+
+-- no note of a client's coming, going, accepts, answers or collects: the rows
+pub members-kept : (h : List Note) (n : Note) (e : Entry) (v : Content) → entry_in n ≡ Some e → is_admit e.kind ≡ false → is_retire e.kind ≡ false → is_accept e.kind ≡ false → is_collect e.kind ≡ false
+    → ((c : ℕ) → response_in c n.event ≡ None) → AgreesWith h v → AllZip (IsMemberAfter (h ++ n ∷ [])) (present (entries_of (h ++ n ∷ []))) v.members
+members-kept h n e v is admit retire accept collect none a = rw (entries_of-push h n e is, present-other (entries_of h) e admit retire)
+    (zip-each (IsMemberAfter h) (IsMemberAfter (h ++ n ∷ [])) (λ x m was. IsMemberAfter-other h n e x m is accept collect (none x.client) a.legal.rules.pairing was) (present (entries_of h)) v.members a.after.members)
+
+-- no admit: the greatest client
+pub greatest-kept : (h : List Note) (n : Note) (e : Entry) (v : Content) → entry_in n ≡ Some e → is_admit e.kind ≡ false → IsAfter h v → v.greatest ≡ greatest_after (h ++ n ∷ [])
+greatest-kept h n e v is admit a = rw (entries_of-push h n e is, admits-other (entries_of h) e admit) a.greatest
+
+-- any note with an entry: the entries
+pub entries-pushed : (h : List Note) (n : Note) (e : Entry) (v : Content) → entry_in n ≡ Some e → IsAfter h v → v.entries ++ e ∷ [] ≡ stored_of (h ++ n ∷ [])
+entries-pushed h n e v is a = rw (marks_of-push h n e is, stored-push (marks_of h) e) (ap (λ xs. xs ++ e ∷ []) a.entries)
+
+-- and the whole: what fits, and leaves a content that agrees and keeps the room
+pub agrees-next : (h : List Note) (n : Note) (e : Entry) (v new : Content) → entry_in n ≡ Some e → new.limits ≡ v.limits → AgreesWith h v → Fits new.limits (entries_of h) e → IsAfter (h ++ n ∷ []) new → KeepsRoom new → AgreesWith (h ++ n ∷ []) new
+agrees-next h n e v new is same a fits after room = record {
+  legal = rw (marks_of-push h n e is) (IsLegal-next new.limits (marks_of h) e (rw same a.legal) fits (within-after h n e new is after room));
+  after = after;
+}
