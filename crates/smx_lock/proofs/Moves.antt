@@ -1,7 +1,7 @@
 -- Each step keeps the rule.
-use Rattle.std.proofs.Common.{true, false, cond, ◌≡◌, ◌≢◌, ℕ, zero, suc, ◌+◌, ◌<◌, ◌≤◌, ◌⊎◌, ◌==◌, eqb, eq-eqb, ne_eqb, List, [], ◌∷◌, ◌++◌, map, length, set, get_or, refl, sym, ap, ◌∙◌, subst, inl, inr, ⊎_elim, arith, Ok, Option, Some, append_assoc}
+use Rattle.std.proofs.Common.{true, false, ◌≡◌, ◌≢◌, ℕ, zero, suc, ◌+◌, ◌<◌, ◌≤◌, ◌⊎◌, ◌==◌, eqb, List, [], ◌∷◌, ◌++◌, map, length, set, get_or, refl, sym, ap, ◌∙◌, subst, inl, inr, ⊎_elim, arith, Ok, Option, Some}
 use Rattle.std.specs.Prelude.{All}
-use Rattle.std.proofs.lemmas.List.Elements.{filter-append, All-head}
+use Rattle.std.proofs.lemmas.List.Elements.{filter-append}
 use Rattle.std.proofs.lemmas.List.{append-nil}
 use mathlib.Core.Logic.{dite}
 use mathlib.Core.Option.{some, none, some-injective, some-ne-none}
@@ -22,62 +22,14 @@ use Rattle.smx_ticket_core.proofs.Lists.{at_end}
 use Rattle.smx_ticket_core.proofs.Reach.{reached_sound, reached_start, runs_on, reached_more, draw_wins, draw_loses, look_hits, look_misses, try_wins, try_loses}
 use Rattle.smx_lock.specs.declared.views.Case.{Case}
 use Rattle.smx_lock.specs.declared.views.View.{View}
-use Rattle.smx_lock.specs.Rule.{notes_of, caller, shown, LockState, Seated, Knows, Agrees, Ruled, turned, read_next, drew, Takes, looked, held, left, released, read_serving, tried, host, guest, newcomer, told, meeting, gone, compared}
-
-prefix_self : {A : Type 0} (xs : List A) → IsPrefix xs xs
-prefix_self xs = ([], append-nil xs)
-
-prefix_more : {A : Type 0} (xs ys zs : List A) → IsPrefix xs ys → IsPrefix xs (ys ++ zs)
-prefix_more xs ys zs p = (p.0 ++ zs, sym (append_assoc xs p.0 zs) ∙ ap (λ w. w ++ zs) p.1)
-
-set_there : {A : Type 0} (l : List A) (i : ℕ) (a b : A) → get_elem? l i ≡ some b → get_elem? (set l i a) i ≡ some a
-set_there [] i a b h = absurd (some-ne-none b (sym h))
-set_there (x ∷ xs) zero a b h = refl
-set_there (x ∷ xs) (suc i) a b h = set_there xs i a b h
-
-head_is : {A : Type 0} (x y : A) (xs ys : List A) → x ∷ xs ≡ y ∷ ys → x ≡ y
-head_is x y xs ys e = cc
-
-tail_is : {A : Type 0} (x y : A) (xs ys : List A) → x ∷ xs ≡ y ∷ ys → xs ≡ ys
-tail_is x y xs ys e = cc
-
--- of two beginnings of one list one begins with the other
-begins_other : {A : Type 0} (xs ys a b : List A) → xs ++ a ≡ ys ++ b → IsPrefix xs ys ⊎ IsPrefix ys xs
-begins_other [] ys a b e = inl (ys, refl)
-begins_other (x ∷ xs) [] a b e = inr (x ∷ xs, refl)
-begins_other (x ∷ xs) (y ∷ ys) a b e = let same = head_is x y (xs ++ a) (ys ++ b) e in
-    ⊎_elim (λ (p : IsPrefix xs ys). inl (p.0, λ k. same k ∷ p.1 k)) (λ (p : IsPrefix ys xs). inr (p.0, λ k. sym same k ∷ p.1 k)) (begins_other xs ys a b (tail_is x y (xs ++ a) (ys ++ b) e))
+use Rattle.smx_lock.specs.Notes.{notes_of}
+use Rattle.smx_lock.specs.Rule.{caller, shown, LockState, Seated, Knows, Agrees, Ruled}
+use Rattle.smx_lock.specs.Steps.{turned, read_next, drew, Takes, looked, held, left, released, read_serving, tried, host, guest, newcomer, message, meeting, gone, compared}
+use Rattle.smx_lock.proofs.Lists.{prefix_self, prefix_more, set_there, begins_other}
+use Rattle.smx_lock.proofs.OwnNotes.{all_own, own_all, own_none}
 
 not_true : false ≡ true → ⊥
 not_true e = cc
-
-cons_not_nil : {A : Type 0} (x : A) (xs : List A) → x ∷ xs ≡ [] → ⊥
-cons_not_nil x xs e = cc
-
-module _ {N : Type 0} (writer : N → ℕ) where
-  -- where no seat but the first made a note, all are the first's
-  pub only_first : (h : List N) → ((k : ℕ) → 1 ≤ k → notes_of writer k h ≡ []) → notes_of writer 0 h ≡ h
-  only_first [] others = refl
-  only_first (n ∷ ns) others = dite (ℕ_discrete (writer n) 0)
-      (λ first. subst (λ b. cond b (n ∷ notes_of writer 0 ns) (notes_of writer 0 ns) ≡ n ∷ ns) (sym (eq-eqb (writer n) 0 first))
-      (ap (λ l. n ∷ l) (only_first ns (λ k le. subst (λ b. cond b (n ∷ notes_of writer k ns) (notes_of writer k ns) ≡ []) (ne_eqb (writer n) k (λ e. omega arith)) (others k le)))))
-      (λ other. absurd (cons_not_nil n (notes_of writer (writer n) ns)
-      (subst (λ b. cond b (n ∷ notes_of writer (writer n) ns) (notes_of writer (writer n) ns) ≡ []) (eq-eqb (writer n) (writer n) refl) (others (writer n) (omega arith)))))
-
-  -- where there is one seat the history is that seat's notes
-  pub all_own : (h : List N) (number seats : ℕ) → number < seats → ((k : ℕ) → seats ≤ k → notes_of writer k h ≡ []) → seats ≡ 1 → h ≡ notes_of writer number h
-  all_own h number seats below others one = let at : 0 ≡ number = omega arith in
-      sym (only_first h (λ k le. others k (omega arith))) ∙ ap (λ (k : ℕ). notes_of writer k h) at
-
-  -- notes of one seat are all of that seat's
-  pub own_all : (k : ℕ) (new : List N) → All (λ n. writer n ≡ k) new → notes_of writer k new ≡ new
-  own_all k [] h = refl
-  own_all k (n ∷ ns) h = subst (λ b. cond b (n ∷ notes_of writer k ns) (notes_of writer k ns) ≡ n ∷ ns) (sym (eq-eqb (writer n) k (All-head (λ m. writer m ≡ k) n ns h))) (ap (λ l. n ∷ l) (own_all k ns (λ i d le. h (suc i) d (omega arith))))
-
-  -- and none are another's
-  pub own_none : (k j : ℕ) (new : List N) → j ≢ k → All (λ n. writer n ≡ k) new → notes_of writer j new ≡ []
-  own_none k j [] other h = refl
-  own_none k j (n ∷ ns) other h = subst (λ b. cond b (n ∷ notes_of writer j ns) (notes_of writer j ns) ≡ []) (sym (ne_eqb (writer n) j (λ e. other (sym e ∙ All-head (λ m. writer m ≡ k) n ns h)))) (own_none k j ns other (λ i d le. h (suc i) d (omega arith)))
 
 module _ {S N F : Type 0} (writer : N → ℕ) (fixed_of : S → F) (suits : S → List N → Type 0) (first : ℕ) (fixed : F) where
   abbrev V : Type 0
@@ -458,12 +410,12 @@ module _ {S N F : Type 0} (writer : N → ℕ) (fixed_of : S → F) (suits : S �
       })
 
   -- a seat's message has seen what the seat had
-  pub tells : (id : ℕ) (v : V) → Splits R id v v (told v)
+  pub tells : (id : ℕ) (v : V) → Splits R id v v (message v)
   tells id v s r at = let mine = r.each_seat id v at in
-      grows s r id v v (told v) r.seats at refl refl refl refl (λ e. absurd (not_true e)) (omega arith) r.few
+      grows s r id v v (message v) r.seats at refl refl refl refl (λ e. absurd (not_true e)) (omega arith) r.few
       (⊎_elim (λ (z : (x : Case S) × (s.homes ≡ some (Some x) ∷ []) × Agrees fixed_of suits fixed r.history r.seats x). inl z)
       (λ (z : (s.homes ≡ none ∷ []) × ((i : ℕ) × (t : ℕ) × (u : V) × (get_elem? s.views i ≡ some u) × (u.caller ≡ Holding t))). let h = z.1 in
-      inr (z.0, (h.0, h.1, h.2, at_longer (set s.views id v) (told v ∷ []) h.0 h.2 (ap (λ (l : List V). get_elem? l h.0) (set_again s.views id v at) ∙ h.3), h.4))) r.place)
+      inr (z.0, (h.0, h.1, h.2, at_longer (set s.views id v) (message v ∷ []) h.0 h.2 (ap (λ (l : List V). get_elem? l h.0) (set_again s.views id v at) ∙ h.3), h.4))) r.place)
       mine
       record { number = mine.number; made_with = λ e. absurd (not_true e); saw = mine.saw; met = mine.met; own = λ e. absurd (not_true e); own_seen = mine.own_seen; last = mine.last; counts = mine.counts; alone = λ e. absurd (not_true e); acts = inl refl; holds = λ q e. absurd (idle_not q e) }
       (λ j u _ there. r.each_seat j u there)
@@ -494,19 +446,19 @@ module _ {S N F : Type 0} (writer : N → ℕ) (fixed_of : S → F) (suits : S �
 
   -- a message is gone
   goes : (s : St) (r : R s) (other : ℕ) (w : V) (some_fixed : F) → w.is_seat ≡ false → w.caller ≡ Idle → get_elem? s.views other ≡ some w → R record { words = s.words; homes = s.homes; views = set s.views other (gone some_fixed) }
-  goes s r other w some_fixed message idle there = let its = r.each_seat other w there in
-      changes s r other w (gone some_fixed) there (λ e. absurd (not_true e)) (sym message) (sym idle)
+  goes s r other w some_fixed sent idle there = let its = r.each_seat other w there in
+      changes s r other w (gone some_fixed) there (λ e. absurd (not_true e)) (sym sent) (sym idle)
       record { number = (let z = its.number in omega arith); made_with = λ e. absurd (not_true e); saw = (r.history, refl); met = (r.history, refl); own = λ e. absurd (not_true e); own_seen = refl; last = omega arith; counts = omega arith; alone = λ e. absurd (not_true e); acts = inl refl; holds = λ q e. absurd (idle_not q e) }
 
   -- a seat takes a message in
   pub meets : (id other : ℕ) (v w : V) (some_fixed : F) → w.is_seat ≡ false → w.caller ≡ Idle → Joins R id v other w (meeting v w) (gone some_fixed)
-  meets id other v w some_fixed message idle s r at apart there =
+  meets id other v w some_fixed sent idle s r at apart there =
       let mine = r.each_seat id v at in
       let its = r.each_seat other w (sym (set_else s.views id other (meeting v w) apart) ∙ there) in
       let s' : St = record { words = s.words; homes = s.homes; views = set s.views id (meeting v w) } in
       let r' : R s' = changes s r id v (meeting v w) at (λ _. refl) refl refl
       record { number = mine.number; made_with = mine.made_with; saw = mine.saw; met = its.saw; own = mine.own; own_seen = mine.own_seen; last = mine.last; counts = mine.counts; alone = mine.alone; acts = mine.acts; holds = mine.holds } in
-      goes s' r' other w some_fixed message idle there
+      goes s' r' other w some_fixed sent idle there
 
   -- *compare*
   pub compares : (n id : ℕ) (me : M) → Allows R n id me 0 (λ x. x) (compared (step n 0 0 0 none) me)
