@@ -110,8 +110,8 @@ module _ {S N F : Type 0} (writer : N → ℕ) (fixed_of : S → F) (suits : S �
       → v.is_seat ≡ true → r.serving ≤ s' → ((t : ℕ) → v.caller ≡ Holding t → ⊥) → ((t : ℕ) → c ≡ Holding t → ⊥) → R (stepped s k x id cs (turned v c) keeps)
   turns s r k x id v c e n' s' cs is at row_is words_is seat grows before idle = let mine = r.each_seat id v at in
       stepped_rule s r id v (turned v c) e n' s' (set s.words k x) r.history s.homes is at row_is words_is refl refl (place_stays s r id v (turned v c) at before)
-      record { number = mine.number; made_with = mine.made_with; saw = mine.saw; met = mine.met; own = mine.own; own_seen = mine.own_seen; last = (let l = mine.last in omega arith); counts = mine.counts; alone = mine.alone; acts = inr seat; holds = λ t h. absurd (idle t h) }
-      (λ j u _ there. let o = r.each_seat j u there in record { number = o.number; made_with = o.made_with; saw = o.saw; met = o.met; own = o.own; own_seen = o.own_seen; last = (let l = o.last in omega arith); counts = o.counts; alone = o.alone; acts = o.acts; holds = o.holds })
+      record { number = mine.number; made_with = mine.made_with; saw = mine.saw; met = mine.met; teller = mine.teller; own = mine.own; own_seen = mine.own_seen; last = (let l = mine.last in omega arith); counts = mine.counts; alone = mine.alone; acts = inr seat; holds = λ t h. absurd (idle t h) }
+      (λ j u _ there. let o = r.each_seat j u there in record { number = o.number; made_with = o.made_with; saw = o.saw; met = o.met; teller = o.teller; own = o.own; own_seen = o.own_seen; last = (let l = o.last in omega arith); counts = o.counts; alone = o.alone; acts = o.acts; holds = o.holds })
       r.no_others
 
   word_0 : (s : St) (r : R s) → get_or s.words 0 0 ≡ r.next
@@ -199,8 +199,8 @@ module _ {S N F : Type 0} (writer : N → ℕ) (fixed_of : S → F) (suits : S �
         ap (λ (l : List (maybe.Option (Option (Case S)))). get_elem? l 0) home.1,
         stepped_rule s r id me.0 w e n' r.serving (set s.words k word) r.history (homes_after s.homes me.1 (takes 0 (Some x))) is at row_is words_is refl refl
             (inr (out, (id, t, w, set_there s.views id w me.0 at, refl)))
-            record { number = mine.number; made_with = mine.made_with; saw = prefix_self r.history; met = mine.met; own = mine.own; own_seen = mine.own seat; last = (let l = mine.last in omega arith); counts = omega arith; alone = λ _ e. e; acts = inr seat; holds = λ u h. (refl, refl, out) }
-            (λ j u _ there. let o = r.each_seat j u there in record { number = o.number; made_with = o.made_with; saw = o.saw; met = o.met; own = o.own; own_seen = o.own_seen; last = (let l = o.last in omega arith); counts = o.counts; alone = o.alone; acts = o.acts; holds = λ q h. absurd (home_not_out s.homes x home.1 (o.holds q h).2) })
+            record { number = mine.number; made_with = mine.made_with; saw = prefix_self r.history; met = mine.met; teller = mine.teller; own = mine.own; own_seen = mine.own seat; last = (let l = mine.last in omega arith); counts = omega arith; alone = λ _ e. e; acts = inr seat; holds = λ u h. (refl, refl, out) }
+            (λ j u _ there. let o = r.each_seat j u there in record { number = o.number; made_with = o.made_with; saw = o.saw; met = o.met; teller = o.teller; own = o.own; own_seen = o.own_seen; last = (let l = o.last in omega arith); counts = o.counts; alone = o.alone; acts = o.acts; holds = λ q h. absurd (home_not_out s.homes x home.1 (o.holds q h).2) })
             r.no_others,
         tell (w, (0, Some x) ∷ me.1) (
           refl,
@@ -263,12 +263,13 @@ module _ {S N F : Type 0} (writer : N → ℕ) (fixed_of : S → F) (suits : S �
         tt,
         stepped_rule s r id me.0 w (Leave id) r.next (t + 1) (set s.words 1 (t + 1)) (me.0.seen ++ new) homes' refl at (ap (row r.next r.serving (Leave id)) holding) (set_1 s r (t + 1)) refl refl
             (inl (x, back, subst (λ (z : F × ℕ). Agrees fixed_of suits z.0 (me.0.seen ++ new) z.1 x) (λ k. (mine.made_with seat k, h.1 k)) agrees))
-            record { number = mine.number; made_with = mine.made_with; saw = prefix_self (me.0.seen ++ new); met = subst (λ (l : List N). IsPrefix me.0.met (l ++ new)) (sym h.0) (prefix_more me.0.met r.history new mine.met); own = λ _. own; own_seen = own; last = omega arith; counts = mine.counts; alone = mine.alone; acts = inl refl; holds = λ u e. absurd (idle_not u e) }
+            record { number = mine.number; made_with = mine.made_with; saw = prefix_self (me.0.seen ++ new); met = subst (λ (l : List N). IsPrefix me.0.met (l ++ new)) (sym h.0) (prefix_more me.0.met r.history new mine.met); teller = mine.teller; own = λ _. own; own_seen = own; last = omega arith; counts = mine.counts; alone = mine.alone; acts = inl refl; holds = λ u e. absurd (idle_not u e) }
             (λ j u other there. let o = r.each_seat j u there in record {
               number = o.number;
               made_with = o.made_with;
               saw = subst (λ (l : List N). IsPrefix u.seen (l ++ new)) (sym h.0) (prefix_more u.seen r.history new o.saw);
               met = subst (λ (l : List N). IsPrefix u.met (l ++ new)) (sym h.0) (prefix_more u.met r.history new o.met);
+              teller = o.teller;
               own = λ stands. none_of u.number (λ e. other (r.apart j id u me.0 there at stands seat e)) ∙ o.own stands;
               own_seen = o.own_seen;
               last = (let l = o.last in omega arith);
@@ -293,7 +294,7 @@ module _ {S N F : Type 0} (writer : N → ℕ) (fixed_of : S → F) (suits : S �
     reached = reached_start 1 first refl;
     place = inl (x, refl, agrees);
     each_seat = λ j v e. ⊎_elim (λ (z : (j ≡ 0) × (newcomer fixed ≡ v)). subst (KnowsAt [] first 1 (some (Some x) ∷ [] ≡ none ∷ [])) z.1
-        record { number = omega arith; made_with = λ _. refl; saw = prefix_self []; met = prefix_self []; own = λ _. refl; own_seen = refl; last = omega arith; counts = omega arith; alone = λ _ e. e; acts = inl refl; holds = λ t h. absurd (idle_not t h) }) (λ z. absurd z) (alone j v e);
+        record { number = omega arith; made_with = λ _. refl; saw = prefix_self []; met = prefix_self []; teller = omega arith; own = λ _. refl; own_seen = refl; last = omega arith; counts = omega arith; alone = λ _ e. e; acts = inl refl; holds = λ t h. absurd (idle_not t h) }) (λ z. absurd z) (alone j v e);
     apart = λ i j u v a b _ _ _. at_zero i u a ∙ sym (at_zero j v b);
     no_others = λ k le. refl;
     low = low;
@@ -380,12 +381,13 @@ module _ {S N F : Type 0} (writer : N → ℕ) (fixed_of : S → F) (suits : S �
       let out : s.homes ≡ none ∷ [] = h.2 in
       grows s r id v (host v) (guest v) (r.seats + 1) at refl refl refl refl (λ _. h.1) (omega arith) (let z = h.1 in omega arith)
       (inr (out, (id, t, host v, at_longer (set s.views id (host v)) (guest v ∷ []) id (host v) (set_there s.views id (host v) v at), holding)))
-      record { number = (let z = mine.number in omega arith); made_with = mine.made_with; saw = mine.saw; met = mine.met; own = mine.own; own_seen = mine.own_seen; last = mine.last; counts = (let z = h.1 in omega arith); alone = λ _ e. (let z = h.1 in omega arith); acts = inr seat; holds = λ q e. (h.0, ap (λ (k : ℕ). k + 1) h.1, out) }
+      record { number = (let z = mine.number in omega arith); made_with = mine.made_with; saw = mine.saw; met = mine.met; teller = (let z = mine.teller in omega arith); own = mine.own; own_seen = mine.own_seen; last = mine.last; counts = (let z = h.1 in omega arith); alone = λ _ e. (let z = h.1 in omega arith); acts = inr seat; holds = λ q e. (h.0, ap (λ (k : ℕ). k + 1) h.1, out) }
       record {
         number = (let z = h.1 in omega arith);
         made_with = λ _. mine.made_with seat;
         saw = mine.saw;
         met = (r.history, refl);
+        teller = omega arith;
         own = λ _. r.no_others v.seats (let e = h.1 in omega arith);
         own_seen = ap (notes_of writer v.seats) h.0 ∙ r.no_others v.seats (let e = h.1 in omega arith);
         last = omega arith;
@@ -399,6 +401,7 @@ module _ {S N F : Type 0} (writer : N → ℕ) (fixed_of : S → F) (suits : S �
         made_with = o.made_with;
         saw = o.saw;
         met = o.met;
+        teller = (let z = o.teller in omega arith);
         own = o.own;
         own_seen = o.own_seen;
         last = o.last;
@@ -417,7 +420,7 @@ module _ {S N F : Type 0} (writer : N → ℕ) (fixed_of : S → F) (suits : S �
       (λ (z : (s.homes ≡ none ∷ []) × ((i : ℕ) × (t : ℕ) × (u : V) × (get_elem? s.views i ≡ some u) × (u.caller ≡ Holding t))). let h = z.1 in
       inr (z.0, (h.0, h.1, h.2, at_longer (set s.views id v) (message v ∷ []) h.0 h.2 (ap (λ (l : List V). get_elem? l h.0) (set_again s.views id v at) ∙ h.3), h.4))) r.place)
       mine
-      record { number = mine.number; made_with = λ e. absurd (not_true e); saw = mine.saw; met = mine.met; own = λ e. absurd (not_true e); own_seen = mine.own_seen; last = mine.last; counts = mine.counts; alone = λ e. absurd (not_true e); acts = inl refl; holds = λ q e. absurd (idle_not q e) }
+      record { number = mine.number; made_with = λ e. absurd (not_true e); saw = mine.saw; met = mine.met; teller = mine.teller; own = λ e. absurd (not_true e); own_seen = mine.own_seen; last = mine.last; counts = mine.counts; alone = λ e. absurd (not_true e); acts = inl refl; holds = λ q e. absurd (idle_not q e) }
       (λ j u _ there. r.each_seat j u there)
 
   -- one view changes, and neither its caller nor its number
@@ -448,7 +451,7 @@ module _ {S N F : Type 0} (writer : N → ℕ) (fixed_of : S → F) (suits : S �
   goes : (s : St) (r : R s) (other : ℕ) (w : V) (some_fixed : F) → w.is_seat ≡ false → w.caller ≡ Idle → get_elem? s.views other ≡ some w → R record { words = s.words; homes = s.homes; views = set s.views other (gone some_fixed) }
   goes s r other w some_fixed sent idle there = let its = r.each_seat other w there in
       changes s r other w (gone some_fixed) there (λ e. absurd (not_true e)) (sym sent) (sym idle)
-      record { number = (let z = its.number in omega arith); made_with = λ e. absurd (not_true e); saw = (r.history, refl); met = (r.history, refl); own = λ e. absurd (not_true e); own_seen = refl; last = omega arith; counts = omega arith; alone = λ e. absurd (not_true e); acts = inl refl; holds = λ q e. absurd (idle_not q e) }
+      record { number = (let z = its.number in omega arith); made_with = λ e. absurd (not_true e); saw = (r.history, refl); met = (r.history, refl); teller = (let z = its.number in omega arith); own = λ e. absurd (not_true e); own_seen = refl; last = omega arith; counts = omega arith; alone = λ e. absurd (not_true e); acts = inl refl; holds = λ q e. absurd (idle_not q e) }
 
   -- a seat takes a message in
   pub meets : (id other : ℕ) (v w : V) (some_fixed : F) → w.is_seat ≡ false → w.caller ≡ Idle → Joins R id v other w (meeting v w) (gone some_fixed)
@@ -457,7 +460,7 @@ module _ {S N F : Type 0} (writer : N → ℕ) (fixed_of : S → F) (suits : S �
       let its = r.each_seat other w (sym (set_else s.views id other (meeting v w) apart) ∙ there) in
       let s' : St = record { words = s.words; homes = s.homes; views = set s.views id (meeting v w) } in
       let r' : R s' = changes s r id v (meeting v w) at (λ _. refl) refl refl
-      record { number = mine.number; made_with = mine.made_with; saw = mine.saw; met = its.saw; own = mine.own; own_seen = mine.own_seen; last = mine.last; counts = mine.counts; alone = mine.alone; acts = mine.acts; holds = mine.holds } in
+      record { number = mine.number; made_with = mine.made_with; saw = mine.saw; met = its.saw; teller = its.number; own = mine.own; own_seen = mine.own_seen; last = mine.last; counts = mine.counts; alone = mine.alone; acts = mine.acts; holds = mine.holds } in
       goes s' r' other w some_fixed sent idle there
 
   -- *compare*
@@ -468,7 +471,7 @@ module _ {S N F : Type 0} (writer : N → ℕ) (fixed_of : S → F) (suits : S �
         keeps,
         tt,
         subst (λ (z : List ℕ × List V). R record { words = z.0; homes = s.homes; views = z.1 }) (λ k. (sym words_is k, sym (set_again s.views id me.0 at) k)) r,
-        (refl, begins_other me.0.met me.0.seen mine.met.0 mine.saw.0 (mine.met.1 ∙ sym mine.saw.1), λ t h. subst (IsPrefix me.0.met) (sym (mine.holds t h).0) mine.met),
+        (refl, begins_other me.0.met me.0.seen mine.met.0 mine.saw.0 (mine.met.1 ∙ sym mine.saw.1), λ t h. (subst (IsPrefix me.0.met) (sym (mine.holds t h).0) mine.met, (let z = (mine.holds t h).1 in let y = mine.teller in omega arith))),
       )
 
   -- what the value that a finished lock gives back agrees with

@@ -33,9 +33,10 @@ Seated S N F = Me (Option (Case S)) (View N F)
 pub record Knows {N F : Type 0} (writer : N → ℕ) (fixed : F) (h : List N) (serving seats : ℕ) (out : Type 0) (v : View N F) : Type 0 where
   pub number : v.number < seats
   pub made_with : v.is_seat ≡ true → v.fixed ≡ fixed
-  -- what it has seen, and what another told it, are beginnings of the history
+  -- what it has seen, and what another told it, are beginnings of the history, and that other is one of the seats
   pub saw : IsPrefix v.seen h
   pub met : IsPrefix v.met h
+  pub teller : v.teller < seats
   -- its own notes stand in the history, and in what it has seen, each once and in order
   pub own : v.is_seat ≡ true → notes_of writer v.number h ≡ v.mine
   pub own_seen : notes_of writer v.number v.seen ≡ v.mine

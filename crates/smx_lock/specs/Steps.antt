@@ -13,7 +13,7 @@ use Rattle.smx_lock.specs.Rule.{Seated, Agrees}
 module _ {N F : Type 0} where
   -- *make*: a seat that has seen nothing
   abbrev pub newcomer : F → View N F
-  newcomer fixed = record { caller = Idle; number = 0; seats = 1; seen = []; mine = []; last = 0; fixed = fixed; met = []; is_seat = true }
+  newcomer fixed = record { caller = Idle; number = 0; seats = 1; seen = []; mine = []; last = 0; fixed = fixed; met = []; teller = 0; is_seat = true }
 
   abbrev pub turned : View N F → Caller → View N F
   turned v c = record v { caller = c }
@@ -31,7 +31,7 @@ module _ {N F : Type 0} where
   host v = record v { seats = v.seats + 1 }
 
   abbrev pub guest : View N F → View N F
-  guest v = record { caller = Idle; number = v.seats; seats = v.seats + 1; seen = v.seen; mine = []; last = 0; fixed = v.fixed; met = []; is_seat = true }
+  guest v = record { caller = Idle; number = v.seats; seats = v.seats + 1; seen = v.seen; mine = []; last = 0; fixed = v.fixed; met = []; teller = 0; is_seat = true }
 
   -- *tell*: a message has seen what the seat that tells has seen
   abbrev pub message : View N F → View N F
@@ -39,10 +39,10 @@ module _ {N F : Type 0} where
 
   -- *meet*: the seat v takes the message w in, and what is left of that message has seen nothing
   abbrev pub meeting : View N F → View N F → View N F
-  meeting v w = record v { met = w.seen }
+  meeting v w = record v { met = w.seen; teller = w.number }
 
   abbrev pub gone : F → View N F
-  gone fixed = record { caller = Idle; number = 0; seats = 0; seen = []; mine = []; last = 0; fixed = fixed; met = []; is_seat = false }
+  gone fixed = record { caller = Idle; number = 0; seats = 0; seen = []; mine = []; last = 0; fixed = fixed; met = []; teller = 0; is_seat = false }
 
 module _ {S N F : Type 0} where
   -- *read-next*: next was read
@@ -92,6 +92,6 @@ module _ {S N F : Type 0} where
   abbrev pub tried : (N → ℕ) → (S → F) → (S → List N → Type 0) → Step (Option (Case S)) → Seated S N F → ℕ → Seated S N F → Type 0
   tried writer fixed_of suits st m r m' = (r ≡ st.first → Takes writer fixed_of suits m r m') × (r ≢ st.first → m' ≡ (turned m.0 Idle, m.1))
 
-  -- *compare*: what the seat was told and what it has seen are beginnings of one history, and a holder has seen all of that
+  -- *compare*: what the seat was told and what it has seen are beginnings of one history; a holder has seen all of that, and its count has the seat that told
   abbrev pub compared : Step (Option (Case S)) → Seated S N F → ℕ → Seated S N F → Type 0
-  compared st m r m' = (m' ≡ m) × (IsPrefix m.0.met m.0.seen ⊎ IsPrefix m.0.seen m.0.met) × ((t : ℕ) → m.0.caller ≡ Holding t → IsPrefix m.0.met m.0.seen)
+  compared st m r m' = (m' ≡ m) × (IsPrefix m.0.met m.0.seen ⊎ IsPrefix m.0.seen m.0.met) × ((t : ℕ) → m.0.caller ≡ Holding t → IsPrefix m.0.met m.0.seen × (m.0.teller < m.0.seats))

@@ -294,12 +294,15 @@ impl<S: Kept> TicketLock<S> {
     }
 
     /// Compares a hold and a seat of this lock: what the hold found begins with what the seat has
-    /// seen. Both come back as they were. It costs what `compare` does.
+    /// seen, and the seat's number is below the hold's count of seats, so it is not the number of
+    /// a seat that this hold splits off from now on. Both come back as they were. It costs what
+    /// `compare` does.
     pub fn compare_held(&self, held: &mut Held<S>, seat: &mut LockSeat<S>)
         requires held { held.old.lock ≡ self.now }
         requires seat { seat.old.lock ≡ self.now }
         ensures same { (held.new ≡ held.old) × (seat.new ≡ seat.old) }
         ensures one_history { IsPrefix seat.old.seen held.old.found }
+        ensures counted { seat.old.number < held.old.seats }
     {
         let table = &self.table.shared;
         let message = table.split_seat::<Tell>(&mut seat.seat);

@@ -28,6 +28,8 @@ pub struct View<N, F> {
     pub fixed: F,
     // What another seat had seen when it told this one.
     pub met: LinkedList<N, Global>,
+    // The number of the seat that told.
+    pub teller: u64,
     // Where not, it is a message from one seat to another, or what is left of one.
     pub is_seat: bool,
 }
