@@ -1,7 +1,7 @@
 -- Each step keeps the rule.
-use Rattle.std.proofs.Common.{true, false, cond, ◌≡◌, ◌≢◌, ℕ, zero, suc, ◌+◌, ◌<◌, ◌≤◌, ◌⊎◌, ◌==◌, eqb, eq-eqb, ne_eqb, List, [], ◌∷◌, ◌++◌, map, length, set, get_or, refl, sym, ap, ◌∙◌, subst, inl, inr, ⊎_elim, arith, Ok, Option, Some, append_assoc}
+use Rattle.std.proofs.Common.{true, false, ◌≡◌, ◌≢◌, ℕ, zero, suc, ◌+◌, ◌<◌, ◌≤◌, ◌⊎◌, ◌==◌, eqb, List, [], ◌∷◌, ◌++◌, map, length, set, get_or, refl, sym, ap, ◌∙◌, subst, inl, inr, ⊎_elim, arith, Ok, Option, Some}
 use Rattle.std.specs.Prelude.{All}
-use Rattle.std.proofs.lemmas.List.Elements.{filter-append, All-head}
+use Rattle.std.proofs.lemmas.List.Elements.{filter-append}
 use Rattle.std.proofs.lemmas.List.{append-nil}
 use mathlib.Core.Logic.{dite}
 use mathlib.Core.Option.{some, none, some-injective, some-ne-none}
@@ -22,62 +22,14 @@ use Rattle.smx_ticket_core.proofs.Lists.{at_end}
 use Rattle.smx_ticket_core.proofs.Reach.{reached_sound, reached_start, runs_on, reached_more, draw_wins, draw_loses, look_hits, look_misses, try_wins, try_loses}
 use Rattle.smx_lock.specs.declared.views.Case.{Case}
 use Rattle.smx_lock.specs.declared.views.View.{View}
-use Rattle.smx_lock.specs.Rule.{notes_of, caller, shown, LockState, Seated, Knows, Agrees, Ruled, turned, read_next, drew, Takes, looked, held, left, released, read_serving, tried, host, guest, newcomer, told, meeting, gone, compared}
-
-prefix_self : {A : Type 0} (xs : List A) → IsPrefix xs xs
-prefix_self xs = ([], append-nil xs)
-
-prefix_more : {A : Type 0} (xs ys zs : List A) → IsPrefix xs ys → IsPrefix xs (ys ++ zs)
-prefix_more xs ys zs p = (p.0 ++ zs, sym (append_assoc xs p.0 zs) ∙ ap (λ w. w ++ zs) p.1)
-
-set_there : {A : Type 0} (l : List A) (i : ℕ) (a b : A) → get_elem? l i ≡ some b → get_elem? (set l i a) i ≡ some a
-set_there [] i a b h = absurd (some-ne-none b (sym h))
-set_there (x ∷ xs) zero a b h = refl
-set_there (x ∷ xs) (suc i) a b h = set_there xs i a b h
-
-head_is : {A : Type 0} (x y : A) (xs ys : List A) → x ∷ xs ≡ y ∷ ys → x ≡ y
-head_is x y xs ys e = cc
-
-tail_is : {A : Type 0} (x y : A) (xs ys : List A) → x ∷ xs ≡ y ∷ ys → xs ≡ ys
-tail_is x y xs ys e = cc
-
--- of two beginnings of one list one begins with the other
-begins_other : {A : Type 0} (xs ys a b : List A) → xs ++ a ≡ ys ++ b → IsPrefix xs ys ⊎ IsPrefix ys xs
-begins_other [] ys a b e = inl (ys, refl)
-begins_other (x ∷ xs) [] a b e = inr (x ∷ xs, refl)
-begins_other (x ∷ xs) (y ∷ ys) a b e = let same = head_is x y (xs ++ a) (ys ++ b) e in
-    ⊎_elim (λ (p : IsPrefix xs ys). inl (p.0, λ k. same k ∷ p.1 k)) (λ (p : IsPrefix ys xs). inr (p.0, λ k. sym same k ∷ p.1 k)) (begins_other xs ys a b (tail_is x y (xs ++ a) (ys ++ b) e))
+use Rattle.smx_lock.specs.Notes.{notes_of}
+use Rattle.smx_lock.specs.Rule.{caller, shown, LockState, Seated, Knows, Agrees, Ruled}
+use Rattle.smx_lock.specs.Steps.{turned, read_next, drew, Takes, looked, held, left, released, read_serving, tried, host, guest, newcomer, message, meeting, gone, compared}
+use Rattle.smx_lock.proofs.Lists.{prefix_self, prefix_more, set_there, begins_other}
+use Rattle.smx_lock.proofs.OwnNotes.{all_own, own_all, own_none}
 
 not_true : false ≡ true → ⊥
 not_true e = cc
-
-cons_not_nil : {A : Type 0} (x : A) (xs : List A) → x ∷ xs ≡ [] → ⊥
-cons_not_nil x xs e = cc
-
-module _ {N : Type 0} (writer : N → ℕ) where
-  -- where no seat but the first made a note, all are the first's
-  pub only_first : (h : List N) → ((k : ℕ) → 1 ≤ k → notes_of writer k h ≡ []) → notes_of writer 0 h ≡ h
-  only_first [] others = refl
-  only_first (n ∷ ns) others = dite (ℕ_discrete (writer n) 0)
-      (λ first. subst (λ b. cond b (n ∷ notes_of writer 0 ns) (notes_of writer 0 ns) ≡ n ∷ ns) (sym (eq-eqb (writer n) 0 first))
-          (ap (λ l. n ∷ l) (only_first ns (λ k le. subst (λ b. cond b (n ∷ notes_of writer k ns) (notes_of writer k ns) ≡ []) (ne_eqb (writer n) k (λ e. omega arith)) (others k le)))))
-      (λ other. absurd (cons_not_nil n (notes_of writer (writer n) ns)
-          (subst (λ b. cond b (n ∷ notes_of writer (writer n) ns) (notes_of writer (writer n) ns) ≡ []) (eq-eqb (writer n) (writer n) refl) (others (writer n) (omega arith)))))
-
-  -- where there is one seat the history is that seat's notes
-  pub all_own : (h : List N) (number seats : ℕ) → number < seats → ((k : ℕ) → seats ≤ k → notes_of writer k h ≡ []) → seats ≡ 1 → h ≡ notes_of writer number h
-  all_own h number seats below others one = let at : 0 ≡ number = omega arith in
-      sym (only_first h (λ k le. others k (omega arith))) ∙ ap (λ (k : ℕ). notes_of writer k h) at
-
-  -- notes of one seat are all of that seat's
-  pub own_all : (k : ℕ) (new : List N) → All (λ n. writer n ≡ k) new → notes_of writer k new ≡ new
-  own_all k [] h = refl
-  own_all k (n ∷ ns) h = subst (λ b. cond b (n ∷ notes_of writer k ns) (notes_of writer k ns) ≡ n ∷ ns) (sym (eq-eqb (writer n) k (All-head (λ m. writer m ≡ k) n ns h))) (ap (λ l. n ∷ l) (own_all k ns (λ i d le. h (suc i) d (omega arith))))
-
-  -- and none are another's
-  pub own_none : (k j : ℕ) (new : List N) → j ≢ k → All (λ n. writer n ≡ k) new → notes_of writer j new ≡ []
-  own_none k j [] other h = refl
-  own_none k j (n ∷ ns) other h = subst (λ b. cond b (n ∷ notes_of writer j ns) (notes_of writer j ns) ≡ []) (sym (ne_eqb (writer n) j (λ e. other (sym e ∙ All-head (λ m. writer m ≡ k) n ns h)))) (own_none k j ns other (λ i d le. h (suc i) d (omega arith)))
 
 module _ {S N F : Type 0} (writer : N → ℕ) (fixed_of : S → F) (suits : S → List N → Type 0) (first : ℕ) (fixed : F) where
   abbrev V : Type 0
@@ -158,8 +110,8 @@ module _ {S N F : Type 0} (writer : N → ℕ) (fixed_of : S → F) (suits : S �
       → v.is_seat ≡ true → r.serving ≤ s' → ((t : ℕ) → v.caller ≡ Holding t → ⊥) → ((t : ℕ) → c ≡ Holding t → ⊥) → R (stepped s k x id cs (turned v c) keeps)
   turns s r k x id v c e n' s' cs is at row_is words_is seat grows before idle = let mine = r.each_seat id v at in
       stepped_rule s r id v (turned v c) e n' s' (set s.words k x) r.history s.homes is at row_is words_is refl refl (place_stays s r id v (turned v c) at before)
-      record { number = mine.number; made_with = mine.made_with; saw = mine.saw; met = mine.met; own = mine.own; own_seen = mine.own_seen; last = (let l = mine.last in omega arith); counts = mine.counts; alone = mine.alone; acts = inr seat; holds = λ t h. absurd (idle t h) }
-      (λ j u _ there. let o = r.each_seat j u there in record { number = o.number; made_with = o.made_with; saw = o.saw; met = o.met; own = o.own; own_seen = o.own_seen; last = (let l = o.last in omega arith); counts = o.counts; alone = o.alone; acts = o.acts; holds = o.holds })
+      record { number = mine.number; made_with = mine.made_with; saw = mine.saw; met = mine.met; teller = mine.teller; own = mine.own; own_seen = mine.own_seen; last = (let l = mine.last in omega arith); counts = mine.counts; alone = mine.alone; acts = inr seat; holds = λ t h. absurd (idle t h) }
+      (λ j u _ there. let o = r.each_seat j u there in record { number = o.number; made_with = o.made_with; saw = o.saw; met = o.met; teller = o.teller; own = o.own; own_seen = o.own_seen; last = (let l = o.last in omega arith); counts = o.counts; alone = o.alone; acts = o.acts; holds = o.holds })
       r.no_others
 
   word_0 : (s : St) (r : R s) → get_or s.words 0 0 ≡ r.next
@@ -247,8 +199,8 @@ module _ {S N F : Type 0} (writer : N → ℕ) (fixed_of : S → F) (suits : S �
         ap (λ (l : List (maybe.Option (Option (Case S)))). get_elem? l 0) home.1,
         stepped_rule s r id me.0 w e n' r.serving (set s.words k word) r.history (homes_after s.homes me.1 (takes 0 (Some x))) is at row_is words_is refl refl
             (inr (out, (id, t, w, set_there s.views id w me.0 at, refl)))
-            record { number = mine.number; made_with = mine.made_with; saw = prefix_self r.history; met = mine.met; own = mine.own; own_seen = mine.own seat; last = (let l = mine.last in omega arith); counts = omega arith; alone = λ _ e. e; acts = inr seat; holds = λ u h. (refl, refl, out) }
-            (λ j u _ there. let o = r.each_seat j u there in record { number = o.number; made_with = o.made_with; saw = o.saw; met = o.met; own = o.own; own_seen = o.own_seen; last = (let l = o.last in omega arith); counts = o.counts; alone = o.alone; acts = o.acts; holds = λ q h. absurd (home_not_out s.homes x home.1 (o.holds q h).2) })
+            record { number = mine.number; made_with = mine.made_with; saw = prefix_self r.history; met = mine.met; teller = mine.teller; own = mine.own; own_seen = mine.own seat; last = (let l = mine.last in omega arith); counts = omega arith; alone = λ _ e. e; acts = inr seat; holds = λ u h. (refl, refl, out) }
+            (λ j u _ there. let o = r.each_seat j u there in record { number = o.number; made_with = o.made_with; saw = o.saw; met = o.met; teller = o.teller; own = o.own; own_seen = o.own_seen; last = (let l = o.last in omega arith); counts = o.counts; alone = o.alone; acts = o.acts; holds = λ q h. absurd (home_not_out s.homes x home.1 (o.holds q h).2) })
             r.no_others,
         tell (w, (0, Some x) ∷ me.1) (
           refl,
@@ -311,12 +263,13 @@ module _ {S N F : Type 0} (writer : N → ℕ) (fixed_of : S → F) (suits : S �
         tt,
         stepped_rule s r id me.0 w (Leave id) r.next (t + 1) (set s.words 1 (t + 1)) (me.0.seen ++ new) homes' refl at (ap (row r.next r.serving (Leave id)) holding) (set_1 s r (t + 1)) refl refl
             (inl (x, back, subst (λ (z : F × ℕ). Agrees fixed_of suits z.0 (me.0.seen ++ new) z.1 x) (λ k. (mine.made_with seat k, h.1 k)) agrees))
-            record { number = mine.number; made_with = mine.made_with; saw = prefix_self (me.0.seen ++ new); met = subst (λ (l : List N). IsPrefix me.0.met (l ++ new)) (sym h.0) (prefix_more me.0.met r.history new mine.met); own = λ _. own; own_seen = own; last = omega arith; counts = mine.counts; alone = mine.alone; acts = inl refl; holds = λ u e. absurd (idle_not u e) }
+            record { number = mine.number; made_with = mine.made_with; saw = prefix_self (me.0.seen ++ new); met = subst (λ (l : List N). IsPrefix me.0.met (l ++ new)) (sym h.0) (prefix_more me.0.met r.history new mine.met); teller = mine.teller; own = λ _. own; own_seen = own; last = omega arith; counts = mine.counts; alone = mine.alone; acts = inl refl; holds = λ u e. absurd (idle_not u e) }
             (λ j u other there. let o = r.each_seat j u there in record {
               number = o.number;
               made_with = o.made_with;
               saw = subst (λ (l : List N). IsPrefix u.seen (l ++ new)) (sym h.0) (prefix_more u.seen r.history new o.saw);
               met = subst (λ (l : List N). IsPrefix u.met (l ++ new)) (sym h.0) (prefix_more u.met r.history new o.met);
+              teller = o.teller;
               own = λ stands. none_of u.number (λ e. other (r.apart j id u me.0 there at stands seat e)) ∙ o.own stands;
               own_seen = o.own_seen;
               last = (let l = o.last in omega arith);
@@ -341,7 +294,7 @@ module _ {S N F : Type 0} (writer : N → ℕ) (fixed_of : S → F) (suits : S �
     reached = reached_start 1 first refl;
     place = inl (x, refl, agrees);
     each_seat = λ j v e. ⊎_elim (λ (z : (j ≡ 0) × (newcomer fixed ≡ v)). subst (KnowsAt [] first 1 (some (Some x) ∷ [] ≡ none ∷ [])) z.1
-        record { number = omega arith; made_with = λ _. refl; saw = prefix_self []; met = prefix_self []; own = λ _. refl; own_seen = refl; last = omega arith; counts = omega arith; alone = λ _ e. e; acts = inl refl; holds = λ t h. absurd (idle_not t h) }) (λ z. absurd z) (alone j v e);
+        record { number = omega arith; made_with = λ _. refl; saw = prefix_self []; met = prefix_self []; teller = omega arith; own = λ _. refl; own_seen = refl; last = omega arith; counts = omega arith; alone = λ _ e. e; acts = inl refl; holds = λ t h. absurd (idle_not t h) }) (λ z. absurd z) (alone j v e);
     apart = λ i j u v a b _ _ _. at_zero i u a ∙ sym (at_zero j v b);
     no_others = λ k le. refl;
     low = low;
@@ -407,9 +360,9 @@ module _ {S N F : Type 0} (writer : N → ℕ) (fixed_of : S → F) (suits : S �
         (λ (z : (j ≡ length (set s.views id w)) × (g ≡ u)). subst (KnowsAt r.history r.serving seats' (s.homes ≡ none ∷ [])) z.1 new) (at_end (set s.views id w) g u j there);
     apart = λ i j u x hu hx su sx e. ⊎_elim
         (λ (a : get_elem? (set s.views id w) i ≡ some u). ⊎_elim (λ (b : get_elem? (set s.views id w) j ≡ some x). still_apart s r id v w at (λ _. number) seat i j u x a b su sx e)
-            (λ (b : (j ≡ length (set s.views id w)) × (g ≡ x)). absurd (let p = under i u a su in let q = last x b.1 sx in omega arith)) (at_end (set s.views id w) g x j hx))
+        (λ (b : (j ≡ length (set s.views id w)) × (g ≡ x)). absurd (let p = under i u a su in let q = last x b.1 sx in omega arith)) (at_end (set s.views id w) g x j hx))
         (λ (a : (i ≡ length (set s.views id w)) × (g ≡ u)). ⊎_elim (λ (b : get_elem? (set s.views id w) j ≡ some x). absurd (let p = under j x b sx in let q = last u a.1 su in omega arith))
-            (λ (b : (j ≡ length (set s.views id w)) × (g ≡ x)). a.0 ∙ sym b.0) (at_end (set s.views id w) g x j hx))
+        (λ (b : (j ≡ length (set s.views id w)) × (g ≡ x)). a.0 ∙ sym b.0) (at_end (set s.views id w) g x j hx))
         (at_end (set s.views id w) g u i hu);
     no_others = λ k le. r.no_others k (omega arith);
     low = r.low;
@@ -428,12 +381,13 @@ module _ {S N F : Type 0} (writer : N → ℕ) (fixed_of : S → F) (suits : S �
       let out : s.homes ≡ none ∷ [] = h.2 in
       grows s r id v (host v) (guest v) (r.seats + 1) at refl refl refl refl (λ _. h.1) (omega arith) (let z = h.1 in omega arith)
       (inr (out, (id, t, host v, at_longer (set s.views id (host v)) (guest v ∷ []) id (host v) (set_there s.views id (host v) v at), holding)))
-      record { number = (let z = mine.number in omega arith); made_with = mine.made_with; saw = mine.saw; met = mine.met; own = mine.own; own_seen = mine.own_seen; last = mine.last; counts = (let z = h.1 in omega arith); alone = λ _ e. (let z = h.1 in omega arith); acts = inr seat; holds = λ q e. (h.0, ap (λ (k : ℕ). k + 1) h.1, out) }
+      record { number = (let z = mine.number in omega arith); made_with = mine.made_with; saw = mine.saw; met = mine.met; teller = (let z = mine.teller in omega arith); own = mine.own; own_seen = mine.own_seen; last = mine.last; counts = (let z = h.1 in omega arith); alone = λ _ e. (let z = h.1 in omega arith); acts = inr seat; holds = λ q e. (h.0, ap (λ (k : ℕ). k + 1) h.1, out) }
       record {
         number = (let z = h.1 in omega arith);
         made_with = λ _. mine.made_with seat;
         saw = mine.saw;
         met = (r.history, refl);
+        teller = omega arith;
         own = λ _. r.no_others v.seats (let e = h.1 in omega arith);
         own_seen = ap (notes_of writer v.seats) h.0 ∙ r.no_others v.seats (let e = h.1 in omega arith);
         last = omega arith;
@@ -447,6 +401,7 @@ module _ {S N F : Type 0} (writer : N → ℕ) (fixed_of : S → F) (suits : S �
         made_with = o.made_with;
         saw = o.saw;
         met = o.met;
+        teller = (let z = o.teller in omega arith);
         own = o.own;
         own_seen = o.own_seen;
         last = o.last;
@@ -458,14 +413,14 @@ module _ {S N F : Type 0} (writer : N → ℕ) (fixed_of : S → F) (suits : S �
       })
 
   -- a seat's message has seen what the seat had
-  pub tells : (id : ℕ) (v : V) → Splits R id v v (told v)
+  pub tells : (id : ℕ) (v : V) → Splits R id v v (message v)
   tells id v s r at = let mine = r.each_seat id v at in
-      grows s r id v v (told v) r.seats at refl refl refl refl (λ e. absurd (not_true e)) (omega arith) r.few
+      grows s r id v v (message v) r.seats at refl refl refl refl (λ e. absurd (not_true e)) (omega arith) r.few
       (⊎_elim (λ (z : (x : Case S) × (s.homes ≡ some (Some x) ∷ []) × Agrees fixed_of suits fixed r.history r.seats x). inl z)
-          (λ (z : (s.homes ≡ none ∷ []) × ((i : ℕ) × (t : ℕ) × (u : V) × (get_elem? s.views i ≡ some u) × (u.caller ≡ Holding t))). let h = z.1 in
-          inr (z.0, (h.0, h.1, h.2, at_longer (set s.views id v) (told v ∷ []) h.0 h.2 (ap (λ (l : List V). get_elem? l h.0) (set_again s.views id v at) ∙ h.3), h.4))) r.place)
+      (λ (z : (s.homes ≡ none ∷ []) × ((i : ℕ) × (t : ℕ) × (u : V) × (get_elem? s.views i ≡ some u) × (u.caller ≡ Holding t))). let h = z.1 in
+      inr (z.0, (h.0, h.1, h.2, at_longer (set s.views id v) (message v ∷ []) h.0 h.2 (ap (λ (l : List V). get_elem? l h.0) (set_again s.views id v at) ∙ h.3), h.4))) r.place)
       mine
-      record { number = mine.number; made_with = λ e. absurd (not_true e); saw = mine.saw; met = mine.met; own = λ e. absurd (not_true e); own_seen = mine.own_seen; last = mine.last; counts = mine.counts; alone = λ e. absurd (not_true e); acts = inl refl; holds = λ q e. absurd (idle_not q e) }
+      record { number = mine.number; made_with = λ e. absurd (not_true e); saw = mine.saw; met = mine.met; teller = mine.teller; own = λ e. absurd (not_true e); own_seen = mine.own_seen; last = mine.last; counts = mine.counts; alone = λ e. absurd (not_true e); acts = inl refl; holds = λ q e. absurd (idle_not q e) }
       (λ j u _ there. r.each_seat j u there)
 
   -- one view changes, and neither its caller nor its number
@@ -482,8 +437,8 @@ module _ {S N F : Type 0} (writer : N → ℕ) (fixed_of : S → F) (suits : S �
     place = ⊎_elim (λ (z : (x : Case S) × (s.homes ≡ some (Some x) ∷ []) × Agrees fixed_of suits fixed r.history r.seats x). inl z)
         (λ (z : (s.homes ≡ none ∷ []) × ((i : ℕ) × (t : ℕ) × (u : V) × (get_elem? s.views i ≡ some u) × (u.caller ≡ Holding t))). let h = z.1 in
         dite (ℕ_discrete h.0 id)
-            (λ here. inr (z.0, (id, h.1, w, set_there s.views id w v at, same ∙ ap caller (some-injective v h.2 (sym at ∙ ap (get_elem? s.views) (sym here) ∙ h.3)) ∙ h.4)))
-            (λ else. inr (z.0, (h.0, h.1, h.2, set_else s.views id h.0 w else ∙ h.3, h.4)))) r.place;
+        (λ here. inr (z.0, (id, h.1, w, set_there s.views id w v at, same ∙ ap caller (some-injective v h.2 (sym at ∙ ap (get_elem? s.views) (sym here) ∙ h.3)) ∙ h.4)))
+        (λ else. inr (z.0, (h.0, h.1, h.2, set_else s.views id h.0 w else ∙ h.3, h.4)))) r.place;
     each_seat = λ j u there. ⊎_elim (λ (z : (j ≡ id) × (w ≡ u)). subst (KnowsAt r.history r.serving r.seats (s.homes ≡ none ∷ [])) z.1 mine)
         (λ (z : (j ≢ id) × (get_elem? s.views j ≡ some u)). r.each_seat j u z.1) (at_set s.views id j w u there);
     apart = still_apart s r id v w at number seat;
@@ -494,19 +449,19 @@ module _ {S N F : Type 0} (writer : N → ℕ) (fixed_of : S → F) (suits : S �
 
   -- a message is gone
   goes : (s : St) (r : R s) (other : ℕ) (w : V) (some_fixed : F) → w.is_seat ≡ false → w.caller ≡ Idle → get_elem? s.views other ≡ some w → R record { words = s.words; homes = s.homes; views = set s.views other (gone some_fixed) }
-  goes s r other w some_fixed message idle there = let its = r.each_seat other w there in
-      changes s r other w (gone some_fixed) there (λ e. absurd (not_true e)) (sym message) (sym idle)
-          record { number = (let z = its.number in omega arith); made_with = λ e. absurd (not_true e); saw = (r.history, refl); met = (r.history, refl); own = λ e. absurd (not_true e); own_seen = refl; last = omega arith; counts = omega arith; alone = λ e. absurd (not_true e); acts = inl refl; holds = λ q e. absurd (idle_not q e) }
+  goes s r other w some_fixed sent idle there = let its = r.each_seat other w there in
+      changes s r other w (gone some_fixed) there (λ e. absurd (not_true e)) (sym sent) (sym idle)
+      record { number = (let z = its.number in omega arith); made_with = λ e. absurd (not_true e); saw = (r.history, refl); met = (r.history, refl); teller = (let z = its.number in omega arith); own = λ e. absurd (not_true e); own_seen = refl; last = omega arith; counts = omega arith; alone = λ e. absurd (not_true e); acts = inl refl; holds = λ q e. absurd (idle_not q e) }
 
   -- a seat takes a message in
   pub meets : (id other : ℕ) (v w : V) (some_fixed : F) → w.is_seat ≡ false → w.caller ≡ Idle → Joins R id v other w (meeting v w) (gone some_fixed)
-  meets id other v w some_fixed message idle s r at apart there =
+  meets id other v w some_fixed sent idle s r at apart there =
       let mine = r.each_seat id v at in
       let its = r.each_seat other w (sym (set_else s.views id other (meeting v w) apart) ∙ there) in
       let s' : St = record { words = s.words; homes = s.homes; views = set s.views id (meeting v w) } in
       let r' : R s' = changes s r id v (meeting v w) at (λ _. refl) refl refl
-          record { number = mine.number; made_with = mine.made_with; saw = mine.saw; met = its.saw; own = mine.own; own_seen = mine.own_seen; last = mine.last; counts = mine.counts; alone = mine.alone; acts = mine.acts; holds = mine.holds } in
-      goes s' r' other w some_fixed message idle there
+      record { number = mine.number; made_with = mine.made_with; saw = mine.saw; met = its.saw; teller = its.number; own = mine.own; own_seen = mine.own_seen; last = mine.last; counts = mine.counts; alone = mine.alone; acts = mine.acts; holds = mine.holds } in
+      goes s' r' other w some_fixed sent idle there
 
   -- *compare*
   pub compares : (n id : ℕ) (me : M) → Allows R n id me 0 (λ x. x) (compared (step n 0 0 0 none) me)
@@ -516,7 +471,7 @@ module _ {S N F : Type 0} (writer : N → ℕ) (fixed_of : S → F) (suits : S �
         keeps,
         tt,
         subst (λ (z : List ℕ × List V). R record { words = z.0; homes = s.homes; views = z.1 }) (λ k. (sym words_is k, sym (set_again s.views id me.0 at) k)) r,
-        (refl, begins_other me.0.met me.0.seen mine.met.0 mine.saw.0 (mine.met.1 ∙ sym mine.saw.1), λ t h. subst (IsPrefix me.0.met) (sym (mine.holds t h).0) mine.met),
+        (refl, begins_other me.0.met me.0.seen mine.met.0 mine.saw.0 (mine.met.1 ∙ sym mine.saw.1), λ t h. (subst (IsPrefix me.0.met) (sym (mine.holds t h).0) mine.met, (let z = (mine.holds t h).1 in let y = mine.teller in omega arith))),
       )
 
   -- what the value that a finished lock gives back agrees with

@@ -1,6 +1,6 @@
 -- For the layers above: a hold that is over served its call.
 use Rattle.std.proofs.Common.{◌≡◌, ℕ, List, ◌++◌, refl, sym, ap, ◌∙◌, subst, arith}
-use Rattle.smx_lock.specs.Rule.{notes_of}
+use Rattle.smx_lock.specs.Notes.{notes_of}
 use Rattle.smx_lock.specs.Fronts.{Front, Hold, Finds, Serves, after_hold, host_hold}
 
 module _ {S N F : Type 0} (writer : N → ℕ) (fixed_of : S → F) (suits : S → List N → Type 0) where

@@ -12,9 +12,13 @@ use Rattle.smx_ticket_core.specs.declared.callers.Caller.TheVariants.{Read, Wait
 use Rattle.smx_ticket_core.specs.Machine.{most, ticket}
 use Rattle.smx_lock.specs.declared.views.Case.{Case}
 use Rattle.smx_lock.specs.declared.views.View.{View}
-use Rattle.smx_lock.specs.Rule.{notes_of, Seated, Ruled, turned, newcomer, drew, Takes, left, released, Found, guest}
-use Rattle.smx_lock.specs.Fronts.{front_of, hold_of, Front, IsFree, IsHold, Finds, IsLast}
-use Rattle.smx_lock.proofs.Moves.{opens, draws, leaves, own_all}
+use Rattle.smx_lock.specs.Notes.{notes_of}
+use Rattle.smx_lock.specs.Fronts.{front_of, hold_of, Front, Finds, IsLast}
+use Rattle.smx_lock.specs.Rule.{Seated, Ruled}
+use Rattle.smx_lock.specs.Steps.{turned, newcomer, drew, Takes, left, released, Found, guest}
+use Rattle.smx_lock.specs.Invariants.{IsFree, IsHold}
+use Rattle.smx_lock.proofs.OwnNotes.{own_all}
+use Rattle.smx_lock.proofs.Moves.{opens, draws, leaves}
 
 slot_value : {A : Type 0} → List (ℕ × Option A) → Option A
 slot_value [] = None

@@ -19,6 +19,7 @@ pub enum TryFault {
     #[error("every ticket was drawn")]
     Spent,
     /// Another caller holds the lock or has drawn a ticket, or drew one in the course of the try.
+    /// No clause says that it comes only then; a test shows a try that nobody is beside.
     #[error("another caller has the lock")]
     Busy,
 }

@@ -6,12 +6,15 @@ ghost use Rattle.smx_ticket_core.specs.declared.callers.Caller.TheVariants.{Idle
 ghost use Rattle.smx_lock.specs.Fronts.{front_of, first_front, Finds, IsSpent, MayLeave, after_hold, host_hold, guest_front, IsLast, Refused};
 
 use crate::faults::{Spent, StateOut, TryFault};
-use crate::kept::{Kept, Noted, Told};
-use crate::plays::{Compare, Draw, Leave, Look, Meet, ReadNext, ReadServing, Tell, TryDraw, Turns, Twin};
+use crate::noted::Noted;
+use crate::plays::{
+    Compare, Draw, Leave, Look, Meet, ReadNext, ReadServing, Tell, TryDraw, Turns, Twin,
+};
 use crate::tokens::{Held, LockSeat};
 use crate::views::{Case, Opening, View};
 use atomic_table::{Seat, Table};
 use crossbeam_utils::Backoff;
+use smx_kept::{Kept, Told};
 use smx_ticket_core::MOST;
 use std::alloc::{AllocError, Global};
 use std::marker::{Brand, Model};
@@ -20,6 +23,9 @@ use std::sync::Wait;
 
 /// A ticket lock round one value. Contracts see which lock it is, and the part of the value that
 /// never changes.
+///
+/// The value lies in a box of its own, so that a hold takes the box's address out of the lock and
+/// puts it back, 8 octets, whatever the size of the value.
 #[derive(Drop)]
 pub struct TicketLock<S: Kept> {
     // Word 0 is the ticket that is drawn next, word 1 the ticket that is served.
@@ -38,8 +44,9 @@ impl<S: Kept> Model for TicketLock<S> {
 }
 
 impl<S: Kept> TicketLock<S> {
-    /// A lock whose first ticket is 0, and its first seat, number 0. The value comes back where
-    /// memory is refused.
+    /// A lock whose first ticket is 0, and its first seat, number 0. It allocates the value's box,
+    /// two words and one slot; no later call allocates. The value comes back where memory is
+    /// refused.
     pub fn new(alloc: Global, value: S) -> Result<(TicketLock<S>, LockSeat<S>), (S, AllocError)>
         requires { S.agrees value [] }
         ensures fixed { IfOk result (λ l. l.0.fixed ≡ S.fixed value) }
@@ -247,8 +254,9 @@ impl<S: Kept> TicketLock<S> {
         LockSeat::free(seat, number)
     }
 
-    /// A new seat, which has seen what this hold found. Its number is the count of seats before.
-    /// `Spent` comes where there are 2^62 seats.
+    /// A new seat, which has seen what this hold found and has made no note. Its number is the
+    /// count of seats before: above the holder's own, and no note found stands under it. `Spent`
+    /// comes exactly where there are 2^62 seats. A seat takes no memory of the lock.
     pub fn split(&self, held: &mut Held<S>) -> Result<LockSeat<S>, Spent>
         requires { held.old.lock ≡ self.now }
         ensures room { IfOk result (λ _. held.old.seats < most) }
@@ -266,8 +274,13 @@ impl<S: Kept> TicketLock<S> {
         Ok(LockSeat::free(seat, number))
     }
 
-    /// Two seats of one lock have seen one history: what one has seen begins with what the other has.
-    /// At run time it is three loads.
+    /// Compares what two seats of this lock have seen: one of the two histories begins with the
+    /// other. Both seats come back as they were.
+    ///
+    /// A caller that has two tokens of a lock knows by this that they tell of one history. At run
+    /// time it is three loads of one word; it never waits, allocates nothing and answers nothing.
+    /// That the two seats have different numbers is said by no clause: `LockSeat::number` tells
+    /// it.
     pub fn compare(&self, a: &mut LockSeat<S>, b: &mut LockSeat<S>)
         requires a { a.old.lock ≡ self.now }
         requires b { b.old.lock ≡ self.now }
@@ -280,12 +293,16 @@ impl<S: Kept> TicketLock<S> {
         table.load::<Compare>(&mut b.seat, 0);
     }
 
-    /// What a hold found begins with what any seat of the lock has seen.
+    /// Compares a hold and a seat of this lock: what the hold found begins with what the seat has
+    /// seen, and the seat's number is below the hold's count of seats, so it is not the number of
+    /// a seat that this hold splits off from now on. Both come back as they were. It costs what
+    /// `compare` does.
     pub fn compare_held(&self, held: &mut Held<S>, seat: &mut LockSeat<S>)
         requires held { held.old.lock ≡ self.now }
         requires seat { seat.old.lock ≡ self.now }
         ensures same { (held.new ≡ held.old) × (seat.new ≡ seat.old) }
         ensures one_history { IsPrefix seat.old.seen held.old.found }
+        ensures counted { seat.old.number < held.old.seats }
     {
         let table = &self.table.shared;
         let message = table.split_seat::<Tell>(&mut seat.seat);

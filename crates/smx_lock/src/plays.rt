@@ -1,9 +1,11 @@
 //! The rule that the table keeps, and what each atomic step tells the seat that takes it.
-ghost use Rattle.smx_lock.specs.Rule.{Ruled, newcomer, host, guest, told, gone, meeting, compared, read_next, drew, looked, released, read_serving, tried};
+ghost use Rattle.smx_lock.specs.Rule.{Ruled};
+ghost use Rattle.smx_lock.specs.Steps.{newcomer, host, guest, message, gone, meeting, compared, read_next, drew, looked, released, read_serving, tried};
 
-use crate::kept::{Kept, Noted};
+use crate::noted::Noted;
 use crate::views::{Case, Opening, View};
 use atomic_table::{Join, Play, Split, TableRule};
+use smx_kept::Kept;
 use std::marker::PhantomData;
 
 /// The rule of the lock.
@@ -70,16 +72,16 @@ impl<N, F> Split<View<N, F>> for Twin {
     ghost right = { guest };
 }
 
-/// A seat tells what it has seen.
+/// A seat makes a message of what it has seen.
 pub struct Tell;
 
 impl<N, F> Split<View<N, F>> for Tell {
     ghost left = { λ v. v };
 
-    ghost right = { told };
+    ghost right = { message };
 }
 
-/// A seat is told what another has seen.
+/// A seat takes in what another told. The message's place among the views stays, with nothing.
 pub struct Meet<S> {
     marker: PhantomData<S>,
 }
@@ -90,7 +92,7 @@ impl<S: Kept> Join<View<S::Note, S::Fixed>> for Meet<S> {
     ghost spent = { gone S.some_fixed };
 }
 
-/// The seat compares what it was told with what it has seen.
+/// A seat compares what it was told with what it has seen.
 pub struct Compare;
 
 impl<S, N, F> Play<Option<Case<S>>, View<N, F>> for Compare {

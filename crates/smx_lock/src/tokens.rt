@@ -1,8 +1,8 @@
 //! A seat at a lock, and a hold of it.
 
-use crate::kept::Kept;
 use crate::views::{Case, View};
 use atomic_table::Seat;
+use smx_kept::Kept;
 use std::alloc::Global;
 use std::marker::Model;
 
@@ -16,7 +16,8 @@ pub struct LockSeat<S: Kept> {
 }
 
 impl<S: Kept> Model for LockSeat<S> {
-    ghost use Rattle.smx_lock.specs.Fronts.{Front, front_of, IsFree};
+    ghost use Rattle.smx_lock.specs.Fronts.{Front, front_of};
+    ghost use Rattle.smx_lock.specs.Invariants.{IsFree};
 
     ghost Value = { Front S.Note S.Fixed };
 
@@ -27,7 +28,8 @@ impl<S: Kept> Model for LockSeat<S> {
 
 impl<S: Kept> LockSeat<S> {
     ghost use Rattle.std.specs.Prelude.{◌≡◌, true, false};
-    ghost use Rattle.smx_lock.specs.Fronts.{front_of, IsFree};
+    ghost use Rattle.smx_lock.specs.Fronts.{front_of};
+    ghost use Rattle.smx_lock.specs.Invariants.{IsFree};
 
     // A seat with no hold, while there are tickets.
     pub(crate) fn free(
@@ -59,7 +61,7 @@ impl<S: Kept> LockSeat<S> {
         }
     }
 
-    /// The seat's number: 0 for the first, and one more for each that was split off.
+    /// The seat's number: 0 for the first, and the count of seats before it for each other.
     pub fn number(&self) -> u64
         ensures { result ≡ self.now.number }
     {
@@ -67,8 +69,9 @@ impl<S: Kept> LockSeat<S> {
     }
 }
 
-/// A seat that holds the lock, with the value. It has no `Drop`: only `TicketLock::release` and
-/// `TicketLock::release_told` spend it, and code that lets it go does not compile.
+/// A seat that holds the lock, with the value in its box. It has no `Drop`: only
+/// `TicketLock::release` and `TicketLock::release_told` spend it, and code that lets it go does
+/// not compile.
 pub struct Held<S: Kept> {
     pub(crate) seat: Seat<Option<Case<S>>, View<S::Note, S::Fixed>>,
     pub(crate) value: Box<S, Global>,
@@ -79,7 +82,8 @@ pub struct Held<S: Kept> {
 }
 
 impl<S: Kept> Model for Held<S> {
-    ghost use Rattle.smx_lock.specs.Fronts.{Hold, hold_of, IsHold};
+    ghost use Rattle.smx_lock.specs.Fronts.{Hold, hold_of};
+    ghost use Rattle.smx_lock.specs.Invariants.{IsHold};
 
     ghost Value = { Hold S S.Note S.Fixed };
 

@@ -5,19 +5,19 @@ use std::alloc::Global;
 use std::collections::LinkedList;
 use std::snapshot::Snapshot;
 
-/// The value in its place, beside the count of seats.
+/// The value, in a box so that a hold moves 8 octets of it, beside the count of seats.
 #[derive(Drop)]
 pub struct Case<S> {
     pub value: Box<S, Global>,
     pub seats: u64,
 }
 
-/// What a seat knows. No value of it is made.
+/// What a seat knows, or what a message between two seats says. No value of it is made.
 pub struct View<N, F> {
     // The seat's state in the ticket machine.
     pub caller: Caller,
     pub number: u64,
-    // The count of seats, in a hold.
+    // The count of seats, as the last hold left it.
     pub seats: u64,
     // A history that has been, and in a hold the whole history.
     pub seen: LinkedList<N, Global>,
@@ -26,9 +26,11 @@ pub struct View<N, F> {
     // One more than the ticket of the last hold that ended, 0 before.
     pub last: u64,
     pub fixed: F,
-    // What another seat had seen, as that seat told.
+    // What another seat had seen when it told this one.
     pub met: LinkedList<N, Global>,
-    // Else it is a message of a seat, or what is left of one.
+    // The number of the seat that told.
+    pub teller: u64,
+    // Where not, it is a message from one seat to another, or what is left of one.
     pub is_seat: bool,
 }
 

@@ -28,6 +28,7 @@ fn one_seat_reads_what_it_added(rt: HostRuntime) -> Result<(), Fail> {
     Ok(())
 }
 
+// No test makes 2^62 seats, so that a split is refused there is said by its clause alone.
 #[test]
 fn two_seats_are_compared(rt: HostRuntime) -> Result<(), Fail> {
     let Ok((lock, seat)) = TicketLock::new(rt.alloc(), Counter::new(10)) else {
@@ -43,11 +44,15 @@ fn two_seats_are_compared(rt: HostRuntime) -> Result<(), Fail> {
     let mut seat = lock.release_told(held, &Deed::Nothing);
     lock.compare(&mut seat, &mut other);
     lock.compare(&mut other, &mut seat);
+    assert_eq!(rt; (seat.number(), other.number()), (0, 1));
     let mut adder = Adder::new(other);
     assert_eq!(rt; adder.add(&rt, &lock, 2), Ok(true));
     let mut other = adder.into_seat();
     lock.compare(&mut seat, &mut other);
-    let Ok(counter) = lock.finish(seat) else {
+    assert_eq!(rt; (seat.number(), other.number()), (0, 1));
+    let mut adder = Adder::new(seat);
+    assert_eq!(rt; adder.read(&rt, &lock), Ok(2));
+    let Ok(counter) = adder.finish(lock) else {
         panic!(rt; "the value is out")
     };
     assert_eq!(rt; counter.count, 2);
@@ -90,6 +95,56 @@ fn two_threads_add(rt: HostRuntime) -> Result<(), Fail> {
         panic!(rt; "the value is out")
     };
     assert_eq!(rt; counter.count, 2000);
+    Ok(())
+}
+
+fn compare_many(
+    lock: &TicketLock<Counter>,
+    mut one: LockSeat<Counter>,
+    mut two: LockSeat<Counter>,
+) -> (LockSeat<Counter>, LockSeat<Counter>)
+    requires one { one.lock ≡ lock.now }
+    requires two { two.lock ≡ lock.now }
+    ensures one { result.0.lock ≡ lock.now }
+    ensures two { result.1.lock ≡ lock.now }
+{
+    for _ in 0..1000 {
+        lock.compare(&mut one, &mut two);
+    }
+    (one, two)
+}
+
+#[test]
+fn seats_are_compared_while_another_thread_adds(rt: HostRuntime) -> Result<(), Fail> {
+    let Ok((lock, seat)) = TicketLock::new(rt.alloc(), Counter::new(5000)) else {
+        panic!(rt; "no memory")
+    };
+    let Ok(mut held) = lock.acquire(&rt, seat) else {
+        panic!(rt; "spent")
+    };
+    let Ok(one) = lock.split(&mut held) else {
+        panic!(rt; "spent")
+    };
+    let Ok(two) = lock.split(&mut held) else {
+        panic!(rt; "spent")
+    };
+    let seat = lock.release_told(held, &Deed::Nothing);
+    let (mut seat, (mut one, two)) = join(
+        &rt,
+        || add_many(&rt, &lock, seat),
+        || compare_many(&lock, one, two),
+    );
+    lock.compare(&mut seat, &mut one);
+    assert_eq!(rt; (seat.number(), one.number(), two.number()), (0, 1, 2));
+    let Ok(held) = lock.acquire(&rt, two) else {
+        panic!(rt; "spent")
+    };
+    assert_eq!(rt; held.value().count, 1000);
+    let last = lock.release_told(held, &Deed::Nothing);
+    let Ok(counter) = lock.finish(last) else {
+        panic!(rt; "the value is out")
+    };
+    assert_eq!(rt; counter.count, 1000);
     Ok(())
 }
 

@@ -1,5 +1,5 @@
 use Rattle.std.proofs.Common.{rules, arith, subst}
-use Rattle.smx_lock.specs.Fronts.{is_free}
+use Rattle.smx_lock.specs.Invariants.{is_free}
 use Rattle.smx_lock.proofs.Moves.{reads_next}
 use Rattle.smx_lock.proofs.Uses.{draws_at}
 use Rattle.smx_lock.proofs.lock.TicketLock.acquire.Goals as goal

@@ -1,7 +1,7 @@
 use Rattle.std.proofs.Common.{◌≡◌, ◌≤◌, []}
 use Rattle.smx_ticket_core.specs.Machine.{most}
 use Rattle.smx_ticket_core.specs.declared.callers.Caller.TheVariants.{Read}
-use Rattle.smx_lock.specs.Rule.{turned}
+use Rattle.smx_lock.specs.Steps.{turned}
 use Rattle.smx_lock.proofs.lock.TicketLock.acquire.Given as goal
 
 abbrev pub invariant-loop : goal.invariant-loop

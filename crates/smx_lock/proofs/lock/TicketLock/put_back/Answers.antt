@@ -1,6 +1,6 @@
 use Rattle.std.proofs.Common.{rules, arith, sym, ap, subst, ◌∙◌, ◌∷◌, Some}
 use Rattle.atomic_table.specs.Table.{rest}
-use Rattle.smx_lock.specs.Rule.{left}
+use Rattle.smx_lock.specs.Steps.{left}
 use Rattle.smx_lock.specs.Fronts.{MayLeave}
 use Rattle.smx_lock.proofs.Uses.{puts_back, free_after}
 use Rattle.smx_lock.proofs.lock.TicketLock.put_back.Goals as goal

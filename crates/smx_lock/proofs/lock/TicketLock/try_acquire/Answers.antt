@@ -1,5 +1,5 @@
 use Rattle.std.proofs.Common.{rules, arith, ap, subst}
-use Rattle.smx_lock.specs.Fronts.{is_free}
+use Rattle.smx_lock.specs.Invariants.{is_free}
 use Rattle.smx_lock.proofs.Moves.{reads_serving, tries}
 use Rattle.smx_lock.proofs.Uses.{has_slot}
 use Rattle.smx_lock.proofs.lock.TicketLock.try_acquire.Goals as goal

@@ -1,6 +1,6 @@
 use Rattle.std.proofs.Common.{rules, arith, sym, ap, subst, ◌∙◌}
 use Rattle.smx_ticket_core.specs.declared.callers.Caller.TheVariants.{Waiting}
-use Rattle.smx_lock.specs.Rule.{Takes}
+use Rattle.smx_lock.specs.Steps.{Takes}
 use Rattle.smx_lock.proofs.Moves.{looks}
 use Rattle.smx_lock.proofs.Uses.{has_slot, out, holds_on, finds, never_empty, waiting_same}
 use Rattle.smx_lock.proofs.lock.TicketLock.wait_for.Goals as goal
