@@ -1,4 +1,4 @@
--- What octets begin with, for the framer's own proof: no public contract cites it.
+-- What octets begin with, for the framer's own proof.
 use Rattle.std.specs.Prelude.{ℕ, List, length, nat_lt, if◌then◌else◌}
 use Rattle.smx_pdu.specs.Pdu.{length_field}
 use Rattle.smx_frame.specs.declared.front.Front.{Front}
