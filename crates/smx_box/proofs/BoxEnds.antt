@@ -10,7 +10,8 @@ use Rattle.smx_box.specs.declared.letter.Sizes.{Sizes}
 use Rattle.smx_box.specs.declared.letter.Note.{Note}
 use Rattle.smx_box.specs.declared.letter.Deed.TheVariants.{Putting, Getting}
 use Rattle.smx_box.specs.Letters.{is_item, letter, of, is_open, Numbered, AllShut}
-use Rattle.smx_box.specs.Boxes.{writer, note, puts, gets, BoxHistory, PutServes, FullServes, TakeServes, IsNext, IsFirst, IsSender, IsReceiver, shut_below, Receiving, sending, receiving, Hands, GetServes}
+use Rattle.smx_box.specs.Boxes.{writer, note, puts, gets, BoxHistory, PutServes, FullServes, TakeServes, Receiving, Hands, GetServes}
+use Rattle.smx_box.specs.Private.Ends.{IsNextLetter, IsFreshSeat, IsSender, IsReceiver, shut_below, sending, receiving}
 use Rattle.smx_box.specs.declared.receiver.Got.TheVariants.{Item, Shut}
 use Rattle.smx_box.proofs.LetterLists.{of-append, of_yes, of_no, open_snoc, shut_snoc, Numbered_snoc, next_got, numbered_got}
 use Rattle.smx_box.proofs.BoxHistories.{puts-append, gets-append, no_puts}
@@ -44,7 +45,7 @@ module _ {T : Type 0} where
       (λ (e : g ≡ record f { caller = Saw most }). subst (SameSeat f) (sym e) record { number = refl; lock = refl; mine = refl }) s
 
   -- a sender
-  pub first_sender : (f : F T) (p : ℕ) → IsFirst f p → IsSender f p 0
+  pub first_sender : (f : F T) (p : ℕ) → IsFreshSeat f p → IsSender f p 0
   first_sender f p first = record {
     seat = first.0;
     sender = first.1;
@@ -54,7 +55,7 @@ module _ {T : Type 0} where
     opened = ap (λ l. is_open (puts l)) first.2;
   }
 
-  pub next_of : (f : F T) (p count : ℕ) (x : Option T) → IsSender f p count → IsNext f (letter p (count + 1) x)
+  pub next_of : (f : F T) (p count : ℕ) (x : Option T) → IsSender f p count → IsNextLetter f (letter p (count + 1) x)
   next_of f p count x is = record { seat = is.seat; sender = is.sender; number = ap (λ n. n + 1) (sym is.counted); opened = is.opened }
 
   pub sender_stays : (f g : F T) (p count : ℕ) → SameSeat f g → IsSender f p count → IsSender g p count

@@ -12,7 +12,8 @@ use Rattle.smx_box.specs.declared.letter.Deed.{Deed}
 use Rattle.smx_box.specs.declared.letter.Deed.TheVariants.{Putting, Getting}
 use Rattle.smx_box.specs.declared.ring.Ring.{Ring}
 use Rattle.smx_box.specs.Letters.{of, is_open}
-use Rattle.smx_box.specs.Boxes.{writer, note, puts, gets, sizes_of, suits, BoxHistory, OneHold, IsNext, sending, receiving, PutServes, FullServes, TakeServes}
+use Rattle.smx_box.specs.Boxes.{writer, note, puts, gets, BoxHistory, OneHold, PutServes, FullServes, TakeServes}
+use Rattle.smx_box.specs.Private.Ends.{sizes_of, suits, IsNextLetter, sending, receiving}
 use Rattle.smx_box.proofs.BoxHistories.{own_puts, own_gets, history_put, history_got}
 
 abbrev F : Type 0 → Type 0
@@ -76,7 +77,7 @@ module _ {T : Type 0} where
     pub more : new.letters.items ≡ old.letters.items ++ m ∷ []
     pub room : length old.letters.items < old.letters.capacity
 
-  put_left : (f : F T) (h : H T) (w : Ring T) (m : Letter T) → FindsBox f h → IsNext f m → Pushed h.value w m → Left h w (note h.number (Putting m) ∷ [])
+  put_left : (f : F T) (h : H T) (w : Ring T) (m : Letter T) → FindsBox f h → IsNextLetter f m → Pushed h.value w m → Left h w (note h.number (Putting m) ∷ [])
   put_left f h w m found next did = let mine : notes_of writer h.number h.found ≡ f.mine = found.own ∙ found.mine in
       let s = made_with f h found in (
         did.sizes,
@@ -87,10 +88,10 @@ module _ {T : Type 0} where
             (next.number ∙ ap (λ l. length (puts l) + 1) (sym mine)) (ap (λ l. is_open (puts l)) mine ∙ next.opened) did.room)),
       )
 
-  pub may_put : (f : F T) (h : H T) (w : Ring T) (m : Letter T) → FindsBox f h → IsNext f m → Pushed h.value w m → MayBeLeft h w (note h.number (Putting m) ∷ [])
+  pub may_put : (f : F T) (h : H T) (w : Ring T) (m : Letter T) → FindsBox f h → IsNextLetter f m → Pushed h.value w m → MayBeLeft h w (note h.number (Putting m) ∷ [])
   may_put f h w m found next did = may_note f h w (Putting m) found (put_left f h w m found next did)
 
-  pub put_serves : (f g : F T) (h : H T) (w : Ring T) (m : Letter T) → FindsBox f h → IsNext f m → Pushed h.value w m → g ≡ after_hold (holding h w) (note h.number (Putting m) ∷ []) → PutServes (sending m.sender f) g m
+  pub put_serves : (f g : F T) (h : H T) (w : Ring T) (m : Letter T) → FindsBox f h → IsNextLetter f m → Pushed h.value w m → g ≡ after_hold (holding h w) (note h.number (Putting m) ∷ []) → PutServes (sending m.sender f) g m
   put_serves f g h w m found next did is = (
     h.found,
     h.value.letters.items,

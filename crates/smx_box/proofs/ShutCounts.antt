@@ -1,7 +1,7 @@
 -- How many senders are shut.
 use Rattle.std.proofs.Common.{◌≡◌, ◌≢◌, ℕ, zero, suc, ◌+◌, ◌<◌, ◌≤◌, ◌⊎◌, inl, inr, ⊎_elim, Bool, true, false, true≢false, eqb, eq-eqb, sym, refl, ap, ◌∙◌, arith}
 use Rattle.std.proofs.lemmas.Bool.{eqb-true}
-use Rattle.smx_box.specs.Boxes.{one_if_shut, shut_below}
+use Rattle.smx_box.specs.Private.Ends.{one_if_shut, shut_below}
 
 -- two numbers are equal or not
 same_or_not : (a b : ℕ) → (a ≡ b) ⊎ (a ≢ b)

@@ -1,36 +1,22 @@
 -- The history of a box, what a hold of it did, and what clauses see of its ends.
-use Rattle.std.specs.Prelude.{◌≡◌, ℕ, ◌+◌, ◌<◌, ◌≤◌, zero, suc, Bool, true, false, List, [], ◌∷◌, ◌++◌, length, Option, Some, None, Result, Ok, Err}
-use Rattle.smx_ticket_core.specs.Machine.{most}
-use Rattle.smx_lock.specs.Fronts.{LockId, Front, Serves, first_front}
+use Rattle.std.specs.Prelude.{◌≡◌, ℕ, ◌+◌, ◌<◌, ◌≤◌, true, List, [], ◌∷◌, ◌++◌, length, Option, Some, None}
+use Rattle.smx_lock.specs.Fronts.{LockId, Front, Serves}
 use Rattle.smx_box.specs.declared.letter.Letter.{Letter}
 use Rattle.smx_box.specs.declared.letter.Sizes.{Sizes}
 use Rattle.smx_box.specs.declared.letter.Deed.{Deed}
 use Rattle.smx_box.specs.declared.letter.Deed.TheVariants.{Putting, Getting}
 use Rattle.smx_box.specs.declared.letter.Note.{Note}
-use Rattle.smx_box.specs.declared.letter.Did.{Did}
-use Rattle.smx_box.specs.declared.letter.Did.TheVariants as did
-use Rattle.smx_box.specs.declared.ring.Ring.{Ring}
 use Rattle.smx_box.specs.declared.receiver.Got.{Got}
 use Rattle.smx_box.specs.declared.receiver.Got.TheVariants.{Item, Shut, Empty}
 use Rattle.smx_box.specs.declared.fault.BoxFault.{BoxFault}
 use Rattle.smx_box.specs.declared.fault.BoxFault.TheVariants.{BadSize, NoMemory, Spent}
-use Rattle.smx_box.specs.Letters.{letter, of, is_open, Numbered, Delivers}
+use Rattle.smx_box.specs.Letters.{letter, of, is_open, Delivers}
 
 abbrev pub sizes : ℕ → ℕ → Sizes
 sizes senders places = record { senders = senders; places = places }
 
 abbrev pub AreSizes : ℕ → ℕ → Type 0
 AreSizes senders places = ((0 < senders) × (senders ≤ 256)) × ((0 < places) × (places ≤ 256))
-
--- counts a sender that is no longer open
-abbrev pub one_if_shut : Bool → ℕ
-one_if_shut true = 0
-one_if_shut false = 1
-
--- how many of the first n senders are shut
-abbrev pub shut_below : ℕ → (ℕ → Bool) → ℕ
-shut_below zero opened = 0
-shut_below (suc n) opened = one_if_shut (opened n) + shut_below n opened
 
 module _ {T : Type 0} where
   -- the seat that made a note
@@ -39,12 +25,6 @@ module _ {T : Type 0} where
 
   abbrev pub note : ℕ → Deed T → Note T
   note k d = record { by = k; deed = d }
-
-  -- the notes of what a hold of the seat k did
-  abbrev pub notes_told : Did T → ℕ → List (Note T)
-  notes_told (did.Put m) k = note k (Putting m.value) ∷ []
-  notes_told (did.Got m) k = note k (Getting m.value) ∷ []
-  notes_told did.Nothing k = []
 
   abbrev pub put_by : Deed T → List (Letter T)
   put_by (Putting m) = m ∷ []
@@ -79,48 +59,11 @@ module _ {T : Type 0} where
     pub within : length items ≤ s.places
     pub own : AreOwnDeeds s.senders h
 
-  abbrev pub sizes_of : Ring T → Sizes
-  sizes_of r = sizes r.senders r.letters.capacity
-
-  abbrev pub suits : Ring T → List (Note T) → Type 0
-  suits r h = BoxHistory (sizes_of r) h r.letters.items
-
-  abbrev pub front_in : LockId Sizes → Option (Front (Note T) Sizes) → Front (Note T) Sizes
-  front_in l (Some f) = f
-  front_in l None = first_front l
-
   -- one hold found this history, and the box with these letters, and it left the box with those
   pub record OneHold (f g : Front (Note T) Sizes) (found new : List (Note T)) (before after : List (Letter T)) : Type 0 where
     pub serves : Serves writer f g found new
     pub finds : BoxHistory f.lock.fixed found before
     pub leaves : BoxHistory f.lock.fixed g.seen after
-
-  -- the letter is the next of the sender that has the seat
-  pub record IsNext (f : Front (Note T) Sizes) (m : Letter T) : Type 0 where
-    pub seat : f.number ≡ m.sender + 1
-    pub sender : m.sender < f.lock.fixed.senders
-    pub number : m.number ≡ length (puts f.mine) + 1
-    pub opened : is_open (puts f.mine) ≡ true
-
-  -- a seat of the sender p that made no note yet
-  abbrev pub IsFirst : Front (Note T) Sizes → ℕ → Type 0
-  IsFirst f p = (f.number ≡ p + 1) × (p < f.lock.fixed.senders) × (f.mine ≡ [])
-
-  -- what a sender keeps of its seat
-  pub record IsSender (f : Front (Note T) Sizes) (p count : ℕ) : Type 0 where
-    pub seat : f.number ≡ p + 1
-    pub sender : p < f.lock.fixed.senders
-    pub counted : length (puts f.mine) ≡ count
-    pub limit : count ≤ most
-    pub numbered : Numbered 0 (puts f.mine)
-    pub opened : is_open (puts f.mine) ≡ true
-
-  -- what a receiver keeps of its seat
-  pub record IsReceiver (f : Front (Note T) Sizes) (s : Sizes) (shut : ℕ) : Type 0 where
-    pub seat : f.number ≡ 0
-    pub all : f.lock.fixed ≡ s
-    pub numbered : (p : ℕ) → Numbered 0 (of p (gets f.mine))
-    pub counted : shut ≡ shut_below s.senders (λ p. is_open (of p (gets f.mine)))
 
 -- what clauses see of a sender: which it is, all that it put, and its seat
 pub record Sending (T : Type 0) : Type 0 where
@@ -135,12 +78,6 @@ pub record Receiving (T : Type 0) : Type 0 where
   pub front : Front (Note T) Sizes
 
 module _ {T : Type 0} where
-  abbrev pub sending : ℕ → Front (Note T) Sizes → Sending T
-  sending sender f = record { sender = sender; put = puts f.mine; front = f }
-
-  abbrev pub receiving : Front (Note T) Sizes → Receiving T
-  receiving f = record { senders = f.lock.fixed.senders; got = gets f.mine; front = f }
-
   -- one hold put the letter, where there was a place; what the history says of this sender is what it put
   abbrev pub PutServes : Sending T → Front (Note T) Sizes → Letter T → Type 0
   PutServes s g m = (found : List (Note T)) × (items : List (Letter T))
@@ -154,10 +91,6 @@ module _ {T : Type 0} where
       × OneHold s.front g found [] items items
       × (of s.sender (puts found) ≡ s.put)
       × (length items ≡ s.front.lock.fixed.places)
-
-  abbrev pub PostServes : Sending T → Front (Note T) Sizes → Letter T → Result (Unit {0}) (Letter T) → Type 0
-  PostServes s g m (Ok _) = PutServes s g m
-  PostServes s g m (Err back) = (back ≡ m) × FullServes s g
 
   -- one hold got the oldest letter, or found none and did nothing; what the history says was got is what the receiver got
   abbrev pub TakeServes : Receiving T → Front (Note T) Sizes → Option (Letter T) → Type 0

@@ -2,7 +2,8 @@
 ghost use Rattle.std.specs.Prelude.{◌≡◌, Ok, MatchResult, IfOk, OnErr};
 ghost use Rattle.std.specs.Arc.{arc_value};
 ghost use Rattle.smx_lock.specs.Fronts.{IsSpent};
-ghost use Rattle.smx_box.specs.Boxes.{IsNext, sending, receiving, PostServes, TakeServes};
+ghost use Rattle.smx_box.specs.Boxes.{TakeServes};
+ghost use Rattle.smx_box.specs.Private.Ends.{IsNextLetter, sending, receiving, PostServes};
 
 use crate::letter::{Did, Letter};
 use crate::ring::Ring;
@@ -26,7 +27,7 @@ impl<T: Drop> Model for End<T> {
     ghost use Rattle.smx_lock.specs.Fronts.{Front};
     ghost use Rattle.smx_box.specs.declared.letter.Note.{Note};
     ghost use Rattle.smx_box.specs.declared.letter.Sizes.{Sizes};
-    ghost use Rattle.smx_box.specs.Boxes.{front_in};
+    ghost use Rattle.smx_box.specs.Private.Ends.{front_in};
 
     ghost Value = { Front (Note T) Sizes };
 
@@ -52,7 +53,7 @@ impl<T: Drop> End<T> {
         rt: &R,
         letter: Letter<T>,
     ) -> Result<Result<(), Letter<T>>, (Letter<T>, Spent)>
-        requires { IsNext self.old letter }
+        requires { IsNextLetter self.old letter }
         ensures lock { self.new.lock ≡ self.old.lock }
         ensures served { MatchResult result (PostServes (sending letter.sender self.old) self.new letter) (λ e. (e.0 ≡ letter) × IsSpent self.old self.new) }
     {

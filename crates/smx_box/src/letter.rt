@@ -42,7 +42,7 @@ pub(crate) enum Did<T> {
 }
 
 impl<T> Told<Note<T>> for Did<T> {
-    ghost use Rattle.smx_box.specs.Boxes.{notes_told};
+    ghost use Rattle.smx_box.specs.Private.Ends.{notes_told};
 
     ghost notes = { notes_told };
 }

@@ -2,7 +2,8 @@
 ghost use Rattle.std.specs.Prelude.{◌≡◌, ◌↔◌, ℕ, [], IsTrue, IfOk, OnErr};
 ghost use Rattle.smx_lock.specs.Fronts.{IsSpent};
 ghost use Rattle.smx_box.specs.Letters.{of, Numbered, AllShut};
-ghost use Rattle.smx_box.specs.Boxes.{receiving, Hands, GetServes};
+ghost use Rattle.smx_box.specs.Boxes.{Hands, GetServes};
+ghost use Rattle.smx_box.specs.Private.Ends.{receiving};
 
 use crate::end::End;
 use crate::letter::{Letter, Sizes};
@@ -37,7 +38,8 @@ pub struct Receiver<T: Drop> {
 }
 
 impl<T: Drop> Model for Receiver<T> {
-    ghost use Rattle.smx_box.specs.Boxes.{Receiving, receiving, IsReceiver};
+    ghost use Rattle.smx_box.specs.Boxes.{Receiving};
+    ghost use Rattle.smx_box.specs.Private.Ends.{receiving, IsReceiver};
 
     ghost Value = { Receiving T };
 

@@ -1,6 +1,7 @@
 //! The letters that wait, as they lie under the lock.
 ghost use Rattle.std.specs.Prelude.{◌≡◌, ◌≤◌, ◌<◌, [], ◌∷◌, ◌++◌, length, IfOk, OnOk, IfErr, MatchOption};
-ghost use Rattle.smx_box.specs.Boxes.{sizes_of, sizes};
+ghost use Rattle.smx_box.specs.Boxes.{sizes};
+ghost use Rattle.smx_box.specs.Private.Ends.{sizes_of};
 
 use crate::letter::{Letter, Note, Sizes};
 use circular_buffer::HeapCircularBuffer;
@@ -20,7 +21,8 @@ impl<T: Drop> Kept for Ring<T> {
 
     type Fixed = Sizes;
 
-    ghost use Rattle.smx_box.specs.Boxes.{writer, sizes, sizes_of, suits};
+    ghost use Rattle.smx_box.specs.Boxes.{writer, sizes};
+    ghost use Rattle.smx_box.specs.Private.Ends.{sizes_of, suits};
 
     ghost writer = { writer };
 

@@ -5,7 +5,8 @@ ghost use Rattle.smx_ticket_core.specs.Machine.{most};
 ghost use Rattle.smx_box.specs.declared.letter.Note.{Note};
 ghost use Rattle.smx_box.specs.declared.letter.Sizes.{Sizes};
 ghost use Rattle.smx_box.specs.Letters.{letter, is_open, Numbered};
-ghost use Rattle.smx_box.specs.Boxes.{PutServes, FullServes, IsFirst};
+ghost use Rattle.smx_box.specs.Boxes.{PutServes, FullServes};
+ghost use Rattle.smx_box.specs.Private.Ends.{IsFreshSeat};
 
 use crate::end::End;
 use crate::letter::Letter;
@@ -34,7 +35,8 @@ pub struct Sender<T: Drop> {
 }
 
 impl<T: Drop> Model for Sender<T> {
-    ghost use Rattle.smx_box.specs.Boxes.{Sending, sending, IsSender};
+    ghost use Rattle.smx_box.specs.Boxes.{Sending};
+    ghost use Rattle.smx_box.specs.Private.Ends.{sending, IsSender};
 
     ghost Value = { Sending T };
 
@@ -46,7 +48,7 @@ impl<T: Drop> Model for Sender<T> {
 impl<T: Drop> Sender<T> {
     // A sender that put nothing.
     pub(crate) fn new(end: End<T>, sender: usize) -> Sender<T>
-        requires { IsFirst end sender }
+        requires { IsFreshSeat end sender }
         ensures sender { result.sender ≡ sender }
         ensures front { result.front ≡ end }
         ensures put { result.put ≡ [] }

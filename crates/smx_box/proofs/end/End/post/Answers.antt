@@ -2,7 +2,8 @@ use Rattle.std.proofs.Common.{◌≤◌, ◌∷◌, [], length, sym, ap, subst, 
 use Rattle.std.specs.Arc.{arc_value}
 use Rattle.smx_lock.specs.Fronts.{after_hold, holding}
 use Rattle.smx_box.specs.declared.letter.Deed.TheVariants.{Putting}
-use Rattle.smx_box.specs.Boxes.{front_in, note, IsNext, sending, PutServes, FullServes}
+use Rattle.smx_box.specs.Boxes.{note, PutServes, FullServes}
+use Rattle.smx_box.specs.Private.Ends.{front_in, IsNextLetter, sending}
 use Rattle.smx_box.proofs.BoxHolds.{MayBeLeft, Pushed, may_put, put_serves, full_serves}
 use Rattle.smx_box.proofs.end.End.post.Goals as goal
 
@@ -11,14 +12,14 @@ release_told-requires-clause-notes g c =
     let is = ap (front_in (arc_value c.self.inside.lock)) c.in-Some.ensures.value ∙ c.self.view_is in
     let did = subst (λ r. Pushed r c.push.new.self c.args.letter) c.value_mut.ensures.value record { sizes = c.in-Ok-push.ensures.sizes; more = c.in-Ok-push.ensures.ok; room = c.in-Ok-push.ensures.room } in
     subst (λ x. MayBeLeft c.in-Ok.held c.push.new.self (note c.in-Ok.held.number (Putting x) ∷ [])) (sym c.of-told.ensures)
-    (may_put c.in-Some.seat c.in-Ok.held c.push.new.self c.args.letter c.in-Ok.ensures.found (subst (λ f. IsNext f c.args.letter) (sym is) c.requires) did)
+    (may_put c.in-Some.seat c.in-Ok.held c.push.new.self c.args.letter c.in-Ok.ensures.found (subst (λ f. IsNextLetter f c.args.letter) (sym is) c.requires) did)
 
 pub returns-in-Ok-push-clause-served : goal.returns-in-Ok-push-clause-served
 returns-in-Ok-push-clause-served g c =
     let is = ap (front_in (arc_value c.self.inside.lock)) c.in-Some.ensures.value ∙ c.self.view_is in
     let did = subst (λ r. Pushed r c.push.new.self c.args.letter) c.value_mut.ensures.value record { sizes = c.in-Ok-push.ensures.sizes; more = c.in-Ok-push.ensures.ok; room = c.in-Ok-push.ensures.room } in
     subst (λ f. PutServes (sending c.args.letter.sender f) c.release_told.result c.args.letter) is
-    (put_serves c.in-Some.seat c.release_told.result c.in-Ok.held c.push.new.self c.args.letter c.in-Ok.ensures.found (subst (λ f. IsNext f c.args.letter) (sym is) c.requires) did
+    (put_serves c.in-Some.seat c.release_told.result c.in-Ok.held c.push.new.self c.args.letter c.in-Ok.ensures.found (subst (λ f. IsNextLetter f c.args.letter) (sym is) c.requires) did
     (c.release_told.ensures ∙ ap (λ x. after_hold (holding c.in-Ok.held c.push.new.self) (note c.in-Ok.held.number (Putting x) ∷ [])) c.of-told.ensures))
 
 pub returns-in-Err-push-clause-served : goal.returns-in-Err-push-clause-served

@@ -2,7 +2,8 @@ use Rattle.std.proofs.Common.{◌∷◌, [], sym, ap, subst, ◌∙◌, Some, No
 use Rattle.std.specs.Arc.{arc_value}
 use Rattle.smx_lock.specs.Fronts.{after_hold, holding}
 use Rattle.smx_box.specs.declared.letter.Deed.TheVariants.{Getting}
-use Rattle.smx_box.specs.Boxes.{front_in, note, receiving, TakeServes}
+use Rattle.smx_box.specs.Boxes.{note, TakeServes}
+use Rattle.smx_box.specs.Private.Ends.{front_in, receiving}
 use Rattle.smx_box.proofs.BoxHolds.{MayBeLeft, Popped, may_got, got_serves, empty_serves}
 use Rattle.smx_box.proofs.end.End.take.Goals as goal
 

@@ -1,6 +1,7 @@
 use Rattle.std.proofs.Common.{ap, subst, arith}
 use Rattle.smx_box.specs.Letters.{is_item}
-use Rattle.smx_box.specs.Boxes.{receiving, TakeServes}
+use Rattle.smx_box.specs.Boxes.{TakeServes}
+use Rattle.smx_box.specs.Private.Ends.{receiving}
 use Rattle.smx_box.proofs.BoxEnds.{taken, receiver_item, receiver_mark, some_open, hands_item, hands_mark, mark_serves}
 use Rattle.smx_box.proofs.receiver.Receiver.get.Goals as goal
 

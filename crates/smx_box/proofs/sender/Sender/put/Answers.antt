@@ -1,6 +1,6 @@
 use Rattle.std.proofs.Common.{ap, sym, ◌∙◌, refl, subst, arith, ◌++◌, ◌∷◌, [], ◌+◌, Some}
 use Rattle.smx_box.specs.Letters.{letter}
-use Rattle.smx_box.specs.Boxes.{sending, PostServes}
+use Rattle.smx_box.specs.Private.Ends.{sending, PostServes}
 use Rattle.smx_box.proofs.BoxEnds.{sender_put, put_more}
 use Rattle.smx_box.proofs.sender.Sender.put.Goals as goal
 
