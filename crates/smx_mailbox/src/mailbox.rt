@@ -26,7 +26,7 @@ pub struct Mailbox {
 
 impl Model for Mailbox {
     ghost use Rattle.smx_mailbox.specs.Mailbox.{Mailbox};
-    ghost use Rattle.smx_mailbox.specs.Reserved.{mailbox_of, HasPlaces};
+    ghost use Rattle.smx_mailbox.specs.Private.Fields.{mailbox_of, HasPlaces};
 
     ghost Value = { Mailbox };
 
