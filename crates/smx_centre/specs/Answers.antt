@@ -3,8 +3,9 @@ use Rattle.std.specs.Prelude.{ℕ, ◌+◌, Bool, List, [], ◌∷◌, ◌++◌,
 use Rattle.std.specs.List.{list_any}
 use Rattle.std.specs.Fmt.{decimal}
 use Rattle.smx_pdu.specs.declared.pdu.Pdu.{Pdu}
-use Rattle.smx_pdu.specs.declared.command.TheConstants.{BIND_RECEIVER, BIND_TRANSMITTER, BIND_TRANSCEIVER, ENQUIRE_LINK, UNBIND, SUBMIT_SM, DATA_SM, SUBMIT_MULTI, QUERY_SM, CANCEL_SM, REPLACE_SM, DELIVER_SM, GENERIC_NACK, RESPONSE}
-use Rattle.smx_pdu.specs.declared.status.TheConstants.{ESME_ROK, ESME_RSYSERR, ESME_RINVCMDID}
+use Rattle.smx_pdu.specs.declared.command.TheConstants.{BIND_RECEIVER, BIND_TRANSMITTER, BIND_TRANSCEIVER, ENQUIRE_LINK, UNBIND, SUBMIT_SM, DATA_SM, SUBMIT_MULTI, QUERY_SM, CANCEL_SM, REPLACE_SM, DELIVER_SM, RESPONSE}
+use Rattle.smx_pdu.specs.declared.status.TheConstants.{ESME_ROK, ESME_RSYSERR}
+use Rattle.smx_pdu.specs.Answers.{response, unknown}
 use Rattle.smx_centre.specs.declared.class.Class.{Class}
 use Rattle.smx_centre.specs.declared.class.Class.TheVariants.{Bind, Session, Message, Forwarded, OtherRequest, Response}
 use Rattle.smx_centre.specs.declared.mode.Mode.{Mode}
@@ -37,15 +38,6 @@ class_of command =
     else if is_among (SUBMIT_MULTI ∷ QUERY_SM ∷ CANCEL_SM ∷ REPLACE_SM ∷ []) command then Forwarded
     else if nat_lt command RESPONSE then OtherRequest
     else Response
-
--- the response to a request
-abbrev pub response : Pdu → ℕ → List ℕ → Pdu
-response request status body = record {
-  command = RESPONSE + request.command;
-  status = status;
-  number = request.number;
-  body = body;
-}
 
 -- the response to a message with its message_id in decimal (4.4.2), and to another forwarded
 -- command, which fails
@@ -80,7 +72,7 @@ answers Bind c p = response p ESME_ROK (codes "centre" ++ 0 ∷ []) ∷ []
 answers Session c p = response p ESME_ROK [] ∷ []
 answers Message c p = sent c.mode c.held (forwarded_response (Some (next c.messages)) p)
 answers Forwarded c p = sent c.mode c.held (forwarded_response None p)
-answers OtherRequest c p = record { command = GENERIC_NACK; status = ESME_RINVCMDID; number = p.number; body = [] } ∷ []
+answers OtherRequest c p = unknown p.number ∷ []
 answers Response c p = []
 
 -- and what the centre keeps after it

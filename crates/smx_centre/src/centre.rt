@@ -5,10 +5,10 @@ ghost use Rattle.smx_centre.specs.Answers.{next, last};
 use crate::class::{Class, class_of};
 use crate::mode::Mode;
 use crate::pdus::{add, one, two};
-use crate::response::{delivery, forwarded_response, response, system_id, unknown};
+use crate::response::{delivery, forwarded_response, system_id};
 use smx_pdu::command::RESPONSE;
 use smx_pdu::status::ESME_ROK;
-use smx_pdu::{Body, Pdu};
+use smx_pdu::Pdu;
 use std::alloc::{AllocError, Global};
 use std::marker::Model;
 
@@ -122,8 +122,8 @@ impl Centre {
     {
         let alloc = self.alloc;
         match class_of(pdu.command) {
-            Class::Bind => one(alloc, response(pdu, ESME_ROK, system_id(alloc)?)),
-            Class::Session => one(alloc, response(pdu, ESME_ROK, Body::empty(alloc))),
+            Class::Bind => one(alloc, pdu.response(ESME_ROK, system_id(alloc)?)),
+            Class::Session => one(alloc, pdu.header_response(alloc, ESME_ROK)),
             Class::Message => {
                 let message = next(self.messages);
                 let pdus = self.send(pdu, Some(message))?;
@@ -131,7 +131,7 @@ impl Centre {
                 Ok(pdus)
             }
             Class::Forwarded => self.send(pdu, None),
-            Class::OtherRequest => one(alloc, unknown(alloc, pdu.number)),
+            Class::OtherRequest => one(alloc, Pdu::unknown(alloc, pdu.number)),
             Class::Response => Ok(Vec::new(alloc)),
         }
     }

@@ -1,54 +1,18 @@
 //! The PDUs that a centre sends.
 ghost use Rattle.std.specs.Prelude.{◌≡◌, ◌+◌, ◌<◌, ◌≤◌, List, [], ◌∷◌, ◌++◌, IfOk, length, codes, replicate};
 ghost use Rattle.std.specs.Fmt.{decimal};
-ghost use Rattle.smx_centre.specs.Answers.{response, delivery, forwarded_response};
+ghost use Rattle.smx_centre.specs.Answers.{delivery, forwarded_response};
 
-use smx_pdu::command::{DELIVER_SM, GENERIC_NACK, RESPONSE};
-use smx_pdu::status::{ESME_RINVCMDID, ESME_ROK, ESME_RSYSERR};
+use smx_pdu::command::{DELIVER_SM, RESPONSE};
+use smx_pdu::status::{ESME_ROK, ESME_RSYSERR};
 use smx_pdu::{Body, Pdu};
 use std::alloc::{AllocError, Global};
-
-// The response to a request.
-pub(crate) fn response(request: &Pdu, status: u32, body: Body) -> Pdu
-    requires { request.now.command < RESPONSE }
-    ensures { result ≡ response request.now status body }
-{
-    Pdu {
-        command: RESPONSE + request.command,
-        status,
-        number: request.number,
-        body,
-    }
-}
-
-// generic_nack of a PDU with an unknown command (section 4.3).
-pub(crate) fn unknown(alloc: Global, number: u32) -> Pdu
-    ensures { result ≡ record { command = GENERIC_NACK; status = ESME_RINVCMDID; number = number; body = [] } }
-{
-    Pdu {
-        command: GENERIC_NACK,
-        status: ESME_RINVCMDID,
-        number,
-        body: Body::empty(alloc),
-    }
-}
-
-// A body of octets that aren't too many.
-fn short(octets: Vec<u8>) -> Body
-    requires { length octets.items ≤ 65520 }
-    ensures { result ≡ octets.items }
-{
-    match Body::new(octets) {
-        Ok(body) => body,
-        Err(_) => unreachable!(),
-    }
-}
 
 // The body of a bind's response: the system_id of the centre (section 4.1.2).
 pub(crate) fn system_id(alloc: Global) -> Result<Body, AllocError>
     ensures { IfOk result (λ b. b ≡ codes "centre" ++ 0 ∷ []) }
 {
-    Ok(short(Vec::from_slice(alloc, b"centre\0")?))
+    Ok(Body::short(Vec::from_slice(alloc, b"centre\0")?))
 }
 
 // The body of a message's response: its message_id in decimal (section 4.4.2).
@@ -57,7 +21,7 @@ pub(crate) fn message_id(alloc: Global, id: u32) -> Result<Body, AllocError>
 {
     let mut octets = id.to_string(alloc)?.into_bytes();
     octets.push(0)?;
-    Ok(short(octets))
+    Ok(Body::short(octets))
 }
 
 // A message to a destination, all else in it empty.
@@ -73,7 +37,7 @@ pub(crate) fn delivery(alloc: Global, number: u32, destination: &[u8]) -> Result
         command: DELIVER_SM,
         status: ESME_ROK,
         number,
-        body: short(octets),
+        body: Body::short(octets),
     })
 }
 
@@ -87,7 +51,7 @@ pub(crate) fn forwarded_response(
     ensures { IfOk result (λ p. p ≡ forwarded_response message request.now) }
 {
     match message {
-        Some(id) => Ok(response(request, ESME_ROK, message_id(alloc, id)?)),
-        None => Ok(response(request, ESME_RSYSERR, Body::empty(alloc))),
+        Some(id) => Ok(request.response(ESME_ROK, message_id(alloc, id)?)),
+        None => Ok(request.header_response(alloc, ESME_RSYSERR)),
     }
 }

@@ -12,7 +12,7 @@ use Rattle.smx_frame.specs.declared.fault.FrameFault.TheVariants.{Below16, Above
 use Rattle.smx_frame.specs.declared.front.Front.{Front}
 use Rattle.smx_frame.specs.declared.front.Front.TheVariants.{Part, Bad, Whole}
 use Rattle.smx_frame.specs.Stream.{fault_at, IsFrame, HasNone, TakesFirst, BeginsFrame}
-use Rattle.smx_frame.specs.Front.{front_of}
+use Rattle.smx_frame.specs.Private.Front.{front_of}
 
 abbrev pub fault_in : Front → Option FrameFault
 fault_in Part = None

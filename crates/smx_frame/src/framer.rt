@@ -23,7 +23,7 @@ pub struct Framer {
 impl Model for Framer {
     ghost use Rattle.std.specs.Prelude.{◌-◌, drop, vec_len, vec_capacity};
     ghost use Rattle.smx_frame.specs.Stream.{Framing};
-    ghost use Rattle.smx_frame.specs.Inside.{IsFramer};
+    ghost use Rattle.smx_frame.specs.Private.Fields.{IsFramer};
 
     ghost Value = { Framing };
 

@@ -1,6 +1,6 @@
 //! What octets begin with.
 ghost use Rattle.std.specs.Prelude.{◌≡◌};
-ghost use Rattle.smx_frame.specs.Front.{front_of};
+ghost use Rattle.smx_frame.specs.Private.Front.{front_of};
 
 use crate::fault::FrameFault;
 
@@ -16,7 +16,7 @@ pub enum Front {
 }
 
 // What the octets begin with, where no PDU has more than `max` octets.
-#[tactic(auto, unfolding(crate::specs::Front::front_of))]
+#[tactic(auto, unfolding(crate::specs::Private::Front::front_of))]
 pub fn front_of(octets: &[u8], max: u32) -> Front
     ensures { result ≡ front_of max octets.now }
 {

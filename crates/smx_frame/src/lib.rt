@@ -8,6 +8,7 @@ mod front;
 mod law;
 mod whole;
 
+pub use buffer::compact;
 pub use fault::FrameFault;
 pub use framer::Framer;
 pub use law::stream_law;

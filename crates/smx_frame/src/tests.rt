@@ -100,6 +100,25 @@ fn good_lengths(rt: HostRuntime) -> Result<(), Fail> {
     Ok(())
 }
 
+// What is left moves once as much was handed out.
+#[test]
+fn compacted(rt: HostRuntime) -> Result<(), Fail> {
+    let table: [(usize, &[u8], usize); 4] = [
+        (0, &[1, 2, 3, 4], 0),
+        (1, &[1, 2, 3, 4], 1),
+        (2, &[3, 4], 0),
+        (4, &[], 0),
+    ];
+    for (start, wanted, left) in table {
+        let mut octets = Vec::from_slice(rt.alloc(), &[1, 2, 3, 4])?;
+        let mut at = start;
+        compact(&mut octets, &mut at);
+        assert_eq!(rt; octets.as_slice(), wanted);
+        assert_eq!(rt; at, left);
+    }
+    Ok(())
+}
+
 #[test]
 fn faults_in_words(rt: HostRuntime) -> Result<(), Fail> {
     let words = format!(in rt.alloc();

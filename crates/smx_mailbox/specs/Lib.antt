@@ -1,2 +1,2 @@
 pub mod Mailbox
-pub mod Reserved
+pub mod Private

@@ -18,8 +18,8 @@ const SYSTEM_TYPE: usize = 13;
 const ADDRESS_RANGE: usize = 41;
 
 /// What bind_transmitter, bind_receiver and bind_transceiver say. The texts are without their
-/// ending 0.
-#[derive(Clone, Copy, Debug)]
+/// ending 0. It can't be printed, so that no password is.
+#[derive(Clone, Copy)]
 pub struct Bind<'a> {
     /// The name of the ESME, or of the message centre: at most 15 octets.
     pub system_id: &'a [u8],

@@ -13,7 +13,7 @@ use Rattle.smx_session.specs.declared.client_row.ClientRow.{ClientRow}
 use Rattle.smx_session.specs.declared.client_row.ClientRow.TheVariants as row
 use Rattle.smx_session.specs.declared.act.Act.{Act}
 use Rattle.smx_session.specs.declared.act.Act.TheVariants as act
-use Rattle.smx_session.specs.Pdus.{response, unknown}
+use Rattle.smx_pdu.specs.Answers.{response, unknown}
 use Rattle.smx_session.specs.declared.bind_check.Checked.{Checked}
 use Rattle.smx_session.specs.declared.bind_check.Checked.TheVariants.{Refused, Granted}
 use Rattle.smx_session.specs.Binds.{check_bind, bind_answer}
@@ -122,7 +122,7 @@ bind_decision k (Granted i version) s p = (act.Bind k i (response p ESME_ROK (bi
 abbrev pub client_decision : ClientCell → List Login → ClientState → Pdu → Act × ClientState
 client_decision (checks k) accounts s p = bind_decision k (check_bind accounts p.body) s p
 client_decision (answer status) accounts s p = (act.Answer (response p status []), s)
-client_decision nack accounts s p = (act.Answer (unknown p), s)
+client_decision nack accounts s p = (act.Answer (unknown p.number), s)
 client_decision forward accounts s p = (act.Forward, s)
 client_decision message_answer accounts s p = (act.MoAnswer p.number, s)
 client_decision leave accounts s p = (act.Leave (response p ESME_ROK []), Ended)

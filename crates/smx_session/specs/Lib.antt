@@ -1,4 +1,3 @@
-pub mod Pdus
 pub mod Login
 pub mod Binds
 pub mod ClientTable

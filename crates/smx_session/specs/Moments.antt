@@ -2,10 +2,11 @@
 use Rattle.std.specs.Prelude.{ℕ, ◌-◌, List, Option, Some, None, Bool, true, false, ◌&&◌, max, nat_le, if◌then◌else◌}
 use Rattle.smx_pdu.specs.declared.pdu.Pdu.{Pdu}
 use Rattle.smx_pdu.specs.declared.command.TheConstants.{ENQUIRE_LINK, UNBIND}
+use Rattle.smx_pdu.specs.declared.status.TheConstants.{ESME_ROK}
 use Rattle.smx_session.specs.declared.upstream_state.UpstreamState.{UpstreamState}
 use Rattle.smx_session.specs.declared.upstream_state.UpstreamState.TheVariants.{Binding, Bound, Unbinding, Ended}
 use Rattle.smx_session.specs.declared.up_act.UpAct.{UpAct}
-use Rattle.smx_session.specs.Pdus.{request}
+use Rattle.smx_pdu.specs.Answers.{header_only}
 use Rattle.smx_session.specs.UpstreamTable.{UpstreamCell, upstream_row, upstream_cell, upstream_decision, enquiry_number, unbind_number}
 use Rattle.smx_session.specs.UpstreamTable.UpstreamCell.{bind_answer, failed, answered, closed, to_lane, mo, answer, leave, nack, ignore}
 
@@ -73,7 +74,7 @@ abbrev pub is_due : Upstream → ℕ → Bool
 is_due u now = is_bound u.state && (none_waits u.enquired && nat_le u.silence (moment u now - u.heard))
 
 abbrev pub enquiry : Upstream → ℕ → Option Pdu
-enquiry u now = if is_due u now then Some (request ENQUIRE_LINK enquiry_number) else None
+enquiry u now = if is_due u now then Some (header_only ENQUIRE_LINK ESME_ROK enquiry_number) else None
 
 -- it is unanswered from that moment on
 abbrev pub after_moment : Upstream → ℕ → Upstream
@@ -93,7 +94,7 @@ is_silent u now = unanswered_for u.silence (moment u now) u.enquired
 -- unbind goes out in Bound only
 abbrev pub farewell : UpstreamState → Option Pdu
 farewell Binding = None
-farewell Bound = Some (request UNBIND unbind_number)
+farewell Bound = Some (header_only UNBIND ESME_ROK unbind_number)
 farewell Unbinding = None
 farewell Ended = None
 

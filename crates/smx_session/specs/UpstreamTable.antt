@@ -10,7 +10,7 @@ use Rattle.smx_session.specs.declared.upstream_row.UpstreamRow.{UpstreamRow}
 use Rattle.smx_session.specs.declared.upstream_row.UpstreamRow.TheVariants as row
 use Rattle.smx_session.specs.declared.up_act.UpAct.{UpAct}
 use Rattle.smx_session.specs.declared.up_act.UpAct.TheVariants as act
-use Rattle.smx_session.specs.Pdus.{response, unknown}
+use Rattle.smx_pdu.specs.Answers.{response, unknown}
 use Rattle.smx_session.specs.ClientTable.{is_among}
 
 -- the numbers of the proxy's own bind_transceiver, enquire_link and unbind
@@ -134,5 +134,5 @@ upstream_decision to_lane s p = (act.ToLane, s)
 upstream_decision mo s p = (act.Mo, s)
 upstream_decision (answer status) s p = (act.Answer (response p status []), s)
 upstream_decision leave s p = (act.Leave (response p ESME_ROK []), Ended)
-upstream_decision nack s p = (act.Answer (unknown p), s)
+upstream_decision nack s p = (act.Answer (unknown p.number), s)
 upstream_decision ignore s p = (act.Ignore, s)

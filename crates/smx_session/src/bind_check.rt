@@ -5,7 +5,6 @@ ghost use Rattle.smx_pdu.specs.Reading.{said_by, bind_at, Gives};
 ghost use Rattle.smx_session.specs.Binds.{account_of, bind_answer, check_bind, check_fields};
 
 use crate::account::Account;
-use crate::answer::short;
 use smx_pdu::status::{ESME_RINVCMDLEN, ESME_RINVPASWD, ESME_RINVSYSID};
 use smx_pdu::{Bind, Body, BodyFault, read_bind};
 use std::alloc::{AllocError, Global};
@@ -88,5 +87,5 @@ pub(crate) fn bind_answer(alloc: Global, version: u8) -> Result<Body, AllocError
     } else {
         Vec::from_slice(alloc, b"smx\0")?
     };
-    Ok(short(octets))
+    Ok(Body::short(octets))
 }

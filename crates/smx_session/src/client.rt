@@ -1,11 +1,10 @@
 //! A client's session.
 ghost use Rattle.std.specs.Prelude.{◌≡◌, IfOk, OnOk, OnErr};
-ghost use Rattle.smx_session.specs.Pdus.{undecoded};
+ghost use Rattle.smx_pdu.specs.Answers.{undecoded};
 ghost use Rattle.smx_session.specs.ClientTable.{bound_state, client_decides, client_cell, client_row, Binds};
 
 use crate::account::Account;
 use crate::act::Act;
-use crate::answer::{header_response, response, undecoded, unknown};
 use crate::bind_check::{Checked, bind_answer, check_bind};
 use crate::client_row::{ClientRow, client_row};
 use crate::client_state::ClientState::{self, BoundRx, BoundTrx, BoundTx, Ended, Opened};
@@ -81,23 +80,23 @@ impl ClientSession {
         let act = match (client_row(pdu.command), self.state) {
             (ClientRow::Bind(kind), Opened) => return self.on_bind(kind, pdu, accounts),
             (ClientRow::Bind(_), BoundTx | BoundRx | BoundTrx) => {
-                Act::Answer(header_response(alloc, pdu, ESME_RALYBND))
+                Act::Answer(pdu.header_response(alloc, ESME_RALYBND))
             }
             (ClientRow::Forwarded, BoundTx | BoundTrx) => Act::Forward,
             (ClientRow::MessageAnswer, BoundRx | BoundTrx) => Act::MoAnswer { number: pdu.number },
             (ClientRow::EnquireLink, Opened | BoundTx | BoundRx | BoundTrx) => {
-                Act::Answer(header_response(alloc, pdu, ESME_ROK))
+                Act::Answer(pdu.header_response(alloc, ESME_ROK))
             }
             (ClientRow::Unbind, BoundTx | BoundRx | BoundTrx) => {
                 self.state = Ended;
-                Act::Leave(header_response(alloc, pdu, ESME_ROK))
+                Act::Leave(pdu.header_response(alloc, ESME_ROK))
             }
-            (ClientRow::Unknown, _) => Act::Answer(unknown(alloc, pdu)),
+            (ClientRow::Unknown, _) => Act::Answer(Pdu::unknown(alloc, pdu.number)),
             (ClientRow::MessageAnswer | ClientRow::OtherResponse | ClientRow::Unanswered, _) => {
                 Act::Ignore
             }
             // Each other request isn't allowed in its state.
-            _ => Act::Answer(header_response(alloc, pdu, ESME_RINVBNDSTS)),
+            _ => Act::Answer(pdu.header_response(alloc, ESME_RINVBNDSTS)),
         };
         Ok(act)
     }
@@ -114,10 +113,10 @@ impl ClientSession {
     {
         match check_bind(accounts, pdu.body.as_slice()) {
             Checked::Refused(status) => {
-                Ok(Act::Answer(header_response(self.alloc, pdu, status)))
+                Ok(Act::Answer(pdu.header_response(self.alloc, status)))
             }
             Checked::Granted { account, version } => {
-                let answer = response(pdu, ESME_ROK, bind_answer(self.alloc, version)?);
+                let answer = pdu.response(ESME_ROK, bind_answer(self.alloc, version)?);
                 self.state = bound_state(kind);
                 Ok(Act::Bind {
                     kind,
@@ -134,6 +133,6 @@ impl ClientSession {
         ensures state { self.new ≡ ClientState.Ended }
     {
         self.state = ClientState::Ended;
-        Act::Hangup(undecoded(self.alloc))
+        Act::Hangup(Pdu::undecoded(self.alloc))
     }
 }

@@ -6,7 +6,6 @@
 
 mod account;
 mod act;
-mod answer;
 mod bind_check;
 mod client;
 mod client_row;

@@ -1,13 +1,12 @@
 //! The session with a centre.
 ghost use Rattle.std.specs.Prelude.{◌≡◌, IfOk, None};
 
-use crate::answer::{header_response, request, short, unknown};
 use crate::up_act::UpAct;
 use crate::upstream_row::{BIND_NUMBER, ENQUIRY_NUMBER, UNBIND_NUMBER, UpstreamRow, upstream_row};
 use crate::upstream_state::UpstreamState::{self, Binding, Bound, Ended, Unbinding};
 use smx_pdu::command::{BIND_TRANSCEIVER, ENQUIRE_LINK, UNBIND};
 use smx_pdu::status::{ESME_RINVBNDSTS, ESME_ROK};
-use smx_pdu::{Bind, Pdu, write_bind};
+use smx_pdu::{Bind, Body, Pdu, write_bind};
 use std::alloc::{AllocError, Global};
 use std::marker::Model;
 
@@ -119,7 +118,7 @@ impl UpstreamSession {
             command: BIND_TRANSCEIVER,
             status: ESME_ROK,
             number: BIND_NUMBER,
-            body: short(octets),
+            body: Body::short(octets),
         })
     }
 
@@ -159,13 +158,13 @@ impl UpstreamSession {
             (UpstreamRow::OtherResponse, Bound | Unbinding) => UpAct::ToLane,
             (UpstreamRow::Message, Bound) => UpAct::Mo,
             (UpstreamRow::EnquireLink, Binding | Bound | Unbinding) => {
-                UpAct::Answer(header_response(alloc, pdu, ESME_ROK))
+                UpAct::Answer(pdu.header_response(alloc, ESME_ROK))
             }
             (UpstreamRow::Unbind, Binding | Bound | Unbinding) => {
                 self.state = Ended;
-                UpAct::Leave(header_response(alloc, pdu, ESME_ROK))
+                UpAct::Leave(pdu.header_response(alloc, ESME_ROK))
             }
-            (UpstreamRow::Unknown, _) => UpAct::Answer(unknown(alloc, pdu)),
+            (UpstreamRow::Unknown, _) => UpAct::Answer(Pdu::unknown(alloc, pdu.number)),
             // Each other request isn't allowed in its state.
             (
                 UpstreamRow::Message
@@ -173,7 +172,7 @@ impl UpstreamSession {
                 | UpstreamRow::Unbind
                 | UpstreamRow::OtherRequest,
                 _,
-            ) => UpAct::Answer(header_response(alloc, pdu, ESME_RINVBNDSTS)),
+            ) => UpAct::Answer(pdu.header_response(alloc, ESME_RINVBNDSTS)),
             _ => UpAct::Ignore,
         }
     }
@@ -192,7 +191,7 @@ impl UpstreamSession {
             return None;
         }
         self.enquired = Some(now);
-        Some(request(self.alloc, ENQUIRE_LINK, ENQUIRY_NUMBER))
+        Some(Pdu::header_only(self.alloc, ENQUIRE_LINK, ESME_ROK, ENQUIRY_NUMBER))
     }
 
     /// Whether an enquiry is unanswered for the silence at this moment. It takes no memory.
@@ -216,6 +215,6 @@ impl UpstreamSession {
             return None;
         }
         self.state = Unbinding;
-        Some(request(self.alloc, UNBIND, UNBIND_NUMBER))
+        Some(Pdu::header_only(self.alloc, UNBIND, ESME_ROK, UNBIND_NUMBER))
     }
 }

@@ -5,7 +5,7 @@ use Rattle.smx_frame.specs.declared.front.Front.TheVariants.{Part, Bad, Whole}
 use Rattle.smx_pdu.specs.declared.pdu.Pdu.{Pdu}
 use Rattle.smx_pdu.specs.Pdu.{Spells, length_field}
 use Rattle.smx_frame.specs.Stream.{Framing, Stream}
-use Rattle.smx_frame.specs.Front.{front_of}
+use Rattle.smx_frame.specs.Private.Front.{front_of}
 use Rattle.smx_frame.proofs.Fronts.{fault_front, whole_front, part_has_none, not_failed, taken, at, same_fault, not_memory, whole_field, begins}
 use Rattle.smx_frame.proofs.framer.Framer.next_pdu.Goals as goal
 

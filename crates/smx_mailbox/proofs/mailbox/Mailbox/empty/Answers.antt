@@ -1,6 +1,6 @@
 use Rattle.std.proofs.Common.{◌++◌, ap, refl, arith}
 use Rattle.smx_mailbox.specs.Mailbox.{unanswered}
-use Rattle.smx_mailbox.specs.Reserved.{mailbox_of}
+use Rattle.smx_mailbox.specs.Private.Fields.{mailbox_of}
 use Rattle.smx_mailbox.proofs.Rising.{length-unanswered}
 use Rattle.smx_mailbox.proofs.mailbox.Mailbox.empty.Goals as goal
 
