@@ -11,7 +11,7 @@ use Rattle.smx_history.specs.declared.response.Response.{Response}
 use Rattle.smx_history.specs.declared.note.Note.{Note}
 use Rattle.smx_history.specs.Prefixes.{AtEach, RiseAbove}
 use Rattle.smx_history.specs.Entries.{is_admitted, is_collect, answers_of, collects_of, is_retired, present}
-use Rattle.smx_history.specs.Legal.{IsFifo, IsPaired}
+use Rattle.smx_history.specs.Legal.{IsFifo, IsPaired, IsServed}
 use Rattle.smx_history.specs.History.{entry_by, note, entries_of, responses, marks_of}
 use Rattle.smx_history.specs.Contents.{AgreesWith, IsAfter, IsMemberAfter, Content, Member, shown}
 use Rattle.smx_history.specs.Room.{KeepsRoom}
@@ -21,7 +21,6 @@ use Rattle.smx_history.proofs.Frames.{takes-other, accepts_of-other, admits-othe
 use Rattle.smx_history.proofs.Reading.{marks_of-push, entries_of-push, shown-kept, responses_are_answers, responses-other, places-kept}
 use Rattle.smx_history.proofs.Sizes.{found_admit, present_served}
 use Rattle.smx_history.proofs.Keeping.{one_row}
-use Rattle.smx_history.specs.Legal.{IsServed}
 use Rattle.std.proofs.lemmas.List.{drop-map}
 use Rattle.smx_history.proofs.TakeAgrees.{requests-other}
 

@@ -1,5 +1,5 @@
 -- What a lane finds is what its history says.
-use Rattle.std.proofs.Common.{◌≡◌, ◌<◌, ◌≤◌, ◌+◌, ◌-◌, ◌==◌, ℕ, Bool, true, false, cond, not, ◌||◌, ◌&&◌, List, [], ◌∷◌, ◌++◌, length, map, drop, refl, sym, ◌∙◌, ap, subst, arith, count_by, sum_by, length-append, inl, inr, Option, Some, None, nat_le, slice_get, suc, nat_eq, zero, filter}
+use Rattle.std.proofs.Common.{◌≡◌, ◌<◌, ◌≤◌, ◌+◌, ◌==◌, ℕ, Bool, true, false, cond, not, ◌||◌, ◌&&◌, List, [], ◌∷◌, ◌++◌, length, map, drop, refl, sym, ◌∙◌, ap, subst, arith, count_by, length-append, inl, inr, Some, None, nat_le, slice_get, suc, nat_eq, zero, filter}
 use Rattle.std.specs.List.{list_any, find, AllZip, AllByRecursion, IsDistinct}
 use Rattle.std.proofs.lemmas.Bool.{cases_Bool, cases_lt, eqb-true, eq-eqb, ne_eqb, and_parts, and_from, or_parts}
 use Rattle.std.proofs.lemmas.List.Elements.{filter_agree}
@@ -7,28 +7,24 @@ use Rattle.std.proofs.lemmas.List.Sums.{sum_by-cons}
 use Rattle.std.proofs.lemmas.List.{drop-drop}
 use Rattle.smx_pdu.specs.declared.pdu.Pdu.{Pdu}
 use Rattle.smx_history.specs.declared.entry.Entry.{Entry}
-use Rattle.smx_history.specs.declared.limits.Limits.{Limits}
 use Rattle.smx_history.specs.declared.note.Note.{Note}
 use Rattle.smx_history.specs.declared.note.Event.TheVariants.{Collect, Take}
 use Rattle.smx_history.specs.declared.place.Place.{Place}
 use Rattle.smx_history.specs.declared.response.Response.{Response}
-use Rattle.smx_history.specs.declared.reply.Refusal.{Refusal}
-use Rattle.smx_history.specs.declared.reply.Refusal.TheVariants.{NotAdmitted, ClientFull, QueueFull, HistoryFull}
-use Rattle.smx_pdu.specs.Command.{is_response_to}
 use Rattle.smx_history.specs.Prefixes.{SameCounts}
 use Rattle.smx_history.specs.Entries.{is_collect, is_take, is_settling, is_settled, has_name, takes, accepts_of, collects_of, present, unanswered, is_admitted, is_retired}
 use Rattle.smx_history.specs.Legal.{AreApart, IsLegal, KeepsRules, IsPaired}
 use Rattle.smx_history.specs.History.{entries_of, entry_by, note, responses, marks_of}
-use Rattle.smx_history.specs.Contents.{AgreesWith, IsAfter, IsMemberAfter, Content, Member, place_of, shown, window_after, queue_after, greatest_after, size_of}
+use Rattle.smx_history.specs.Contents.{AgreesWith, IsMemberAfter, Content, Member, place_of, shown, window_after}
 use Rattle.smx_history.specs.Answering.{oldest_in}
 use Rattle.smx_history.specs.Replies.{member_with, accept_refusal, refusal_for, admit_refusal, take_refusal, answers_place, has_room}
 use Rattle.smx_history.specs.Finding.{is_present, pending_after, has_room_after, admit_refusal_after, refusal_after, take_refusal_after, place_answered, waiting_after, IsFree}
 use Rattle.smx_history.proofs.Counts.{count_by-map, count_by-push, count_split, any_count, none_count, count_none_any, any-same, length-same}
-use Rattle.smx_history.proofs.Sizes.{size_agrees, found_admit, present_served, length-window}
+use Rattle.smx_history.proofs.Sizes.{size_agrees, found_admit, present_served}
 use Rattle.smx_history.proofs.Growing.{AtEachPrefix-whole, AtEach-last, filter_push}
 use Rattle.smx_history.proofs.Taking.{not_settled}
 use Rattle.smx_history.proofs.Frames.{present-other, is_settled-other}
-use Rattle.smx_history.proofs.Reading.{marks_of-push, entries_of-push, responses-other, shown-kept}
+use Rattle.smx_history.proofs.Reading.{entries_of-push, responses-other, shown-kept}
 use Rattle.smx_history.proofs.Numbers.{had-le-length, had_more}
 
 -- a row is found exactly where a client has one

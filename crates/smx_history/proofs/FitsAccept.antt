@@ -1,22 +1,18 @@
 -- An accept fits exactly where the check says so.
-use Rattle.std.proofs.Common.{◌≡◌, ◌<◌, ◌≤◌, ◌+◌, ◌==◌, ◌↔◌, ℕ, Bool, true, not, ◌&&◌, List, [], ◌∷◌, ◌++◌, length, map, refl, sym, ◌∙◌, ap, subst, arith, length-append, inl, inr}
+use Rattle.std.proofs.Common.{◌≡◌, ◌<◌, ◌+◌, ◌==◌, ℕ, true, ◌&&◌, List, [], ◌∷◌, ◌++◌, length, map, sym, ◌∙◌, ap, arith, length-append, inl, inr}
 use Rattle.std.proofs.lemmas.List.{map-append}
-use Rattle.std.proofs.lemmas.Bool.{and_from, and_parts, eq-eqb, ne_eqb, ltb-true, lt-ltb, cases_eq, not-true}
+use Rattle.std.proofs.lemmas.Bool.{and_from, eq-eqb, ne_eqb, cases_eq}
 use Rattle.smx_pdu.specs.Command.{is_forwarded}
 use Rattle.smx_history.specs.declared.entry.Entry.{Entry}
 use Rattle.smx_history.specs.declared.entry.Kind.TheVariants as kind
 use Rattle.smx_history.specs.declared.limits.Limits.{Limits}
-use Rattle.smx_history.specs.declared.totals.Totals.{Totals}
-use Rattle.smx_history.specs.Prefixes.{RiseAbove, last_or}
+use Rattle.smx_history.specs.Prefixes.{last_or}
 use Rattle.smx_history.specs.Entries.{is_admit, is_accept, is_take, is_answer, is_collect, is_retire, is_settling, name_of, accepts, takes, accepts_of, collects_of}
-use Rattle.smx_history.specs.Legal.{KeepsRules, IsFifo, AreApart, IsBounded, HasForm, StandsWell, IsServed}
-use Rattle.smx_history.specs.Checks.{Fits, Counted, accept_fits}
+use Rattle.smx_history.specs.Legal.{KeepsRules, IsFifo, AreApart, IsBounded, IsServed}
+use Rattle.smx_history.proofs.Fitting.{Fits}
 use Rattle.smx_history.proofs.Growing.{filter_push, filter_other, AtEachPrefix-whole, RiseAbove-push, StartsWith-more}
 use Rattle.smx_history.proofs.Frames.{takes-other, answers_of-other, collects_of-other, is_retired-other, unanswered-other}
 use Rattle.smx_history.proofs.Kept.{takes_kept, settlings_kept, membership_kept, apart_kept, HasForm-by, StandsWell-by, IsPaired-by}
-use Rattle.smx_history.proofs.Sizes.{takes-le-accepts}
-use Rattle.smx_history.proofs.Unseen.{rise_last}
-use Rattle.smx_history.proofs.Parts.{RiseAbove-end, last_below, below_last}
 
 pub accepted_push : (es : List Entry) (e : Entry) → e.kind ≡ kind.Accept → accepts (es ++ e ∷ []) ≡ accepts es ++ e ∷ []
 accepted_push es e k = filter_push (λ x. is_accept x.kind) es e (ap is_accept k)
@@ -27,7 +23,7 @@ accepted_own c es e k same = filter_push (λ x. is_accept x.kind && (x.client ==
 pub accepted_other : (c : ℕ) (es : List Entry) (e : Entry) → e.kind ≡ kind.Accept → (e.client ≡ c → ⊥) → accepts_of c (es ++ e ∷ []) ≡ accepts_of c es
 accepted_other c es e k apart = filter_other (λ x. is_accept x.kind && (x.client == c)) es e (ap (λ b. b && (e.client == c)) (ap is_accept k) ∙ ne_eqb e.client c apart)
 
-ordinals_accepted : (c : ℕ) (es : List Entry) (e : Entry) → e.kind ≡ kind.Accept → e.client ≡ c → map (λ x. x.ordinal) (accepts_of c (es ++ e ∷ [])) ≡ map (λ x. x.ordinal) (accepts_of c es) ++ e.ordinal ∷ []
+pub ordinals_accepted : (c : ℕ) (es : List Entry) (e : Entry) → e.kind ≡ kind.Accept → e.client ≡ c → map (λ x. x.ordinal) (accepts_of c (es ++ e ∷ [])) ≡ map (λ x. x.ordinal) (accepts_of c es) ++ e.ordinal ∷ []
 ordinals_accepted c es e k same = ap (map (λ (x : Entry). x.ordinal)) (accepted_own c es e k same) ∙ map-append (λ x. x.ordinal) (accepts_of c es) (e ∷ [])
 
 -- what a legal list allows an accept by
@@ -37,30 +33,6 @@ pub record MayAccept (limits : Limits) (es : List Entry) (e : Entry) : Type 0 wh
   pub rises : last_or 0 (map (λ x. x.ordinal) (accepts_of e.client es)) < e.ordinal
   pub queue : length (accepts es) < length (takes es) + limits.queue
   pub client : length (accepts_of e.client es) < length (collects_of e.client es) + limits.client
-
-passes_from : (limits : Limits) (t : Totals) (es : List Entry) (e : Entry) → KeepsRules limits es → Counted es t → accept_fits limits.queue limits.client t es e ≡ true → MayAccept limits es e
-passes_from limits t es e legal counted test =
-    let a = and_parts _ _ test in
-    let b = and_parts _ _ a.0 in
-    let c = and_parts _ _ b.0 in
-    let d = and_parts _ _ c.0 in
-    let f = and_parts _ _ d.0 in
-    let s = and_parts _ _ f.1 in
-    let queue : t.queued < limits.queue = ltb-true _ _ b.1 in
-    record {
-      forwarded = f.0;
-      served = (s.0, not-true _ s.1);
-      rises = last_below (λ (x : Entry). x.ordinal) (λ x. is_accept x.kind && (x.client == e.client)) 0 e.ordinal es (ltb-true _ _ d.1) (not-true _ c.1);
-      queue = omega (arith, queue, counted.queued, takes-le-accepts es (AtEachPrefix-whole IsFifo es legal.fifo));
-      client = ltb-true _ _ a.1;
-    }
-
-passes_to : (limits : Limits) (t : Totals) (es : List Entry) (e : Entry) → KeepsRules limits es → Counted es t → MayAccept limits es e → accept_fits limits.queue limits.client t es e ≡ true
-passes_to limits t es e legal counted p =
-    let all = rise_last 0 (map (λ x. x.ordinal) (accepts_of e.client es)) (legal.once.ordinals e.client) in
-    let reached = below_last (λ (x : Entry). x.ordinal) (λ x. is_accept x.kind && (x.client == e.client)) e.ordinal (last_or 0 (map (λ x. x.ordinal) (accepts_of e.client es))) es p.rises all.1 in
-    let queue : t.queued < limits.queue = omega (arith, p.queue, counted.queued, takes-le-accepts es (AtEachPrefix-whole IsFifo es legal.fifo)) in
-    and_from _ _ (and_from _ _ (and_from _ _ (and_from _ _ (and_from _ _ p.forwarded (and_from _ _ p.served.0 (ap not p.served.1))) (lt-ltb _ _ (omega (arith, p.rises)))) (ap not reached)) (lt-ltb _ _ queue)) (lt-ltb _ _ p.client)
 
 pub accept_fit : (limits : Limits) (es : List Entry) (e : Entry) → KeepsRules limits es → e.kind ≡ kind.Accept → MayAccept limits es e → Fits limits es e
 accept_fit limits es e legal k p =
@@ -93,24 +65,3 @@ accept_fit limits es e legal k p =
         ];
       };
     }
-
-accept_from : (limits : Limits) (es : List Entry) (e : Entry) → e.kind ≡ kind.Accept → Fits limits es e → MayAccept limits es e
-accept_from limits es e k fits =
-    let form : HasForm kind.Accept e = rw k at fits.form in
-    let served : StandsWell kind.Accept es e = rw k at fits.standing in
-    let rise : RiseAbove 0 (map (λ x. x.ordinal) (accepts_of e.client es) ++ e.ordinal ∷ []) = subst (λ (xs : List ℕ). RiseAbove 0 xs) (ordinals_accepted e.client es e k refl) (fits.once.ordinals e.client) in
-    let above = RiseAbove-end 0 (map (λ x. x.ordinal) (accepts_of e.client es)) e.ordinal rise in
-    let queue : length (accepts es ++ e ∷ []) ≤ length (takes es) + limits.queue = rw (accepted_push es e k, takes-other es e (ap is_take k)) at fits.bounds.queue in
-    let client : length (accepts_of e.client es ++ e ∷ []) ≤ length (collects_of e.client es) + limits.client =
-    rw (accepted_own e.client es e k refl, collects_of-other e.client es e (ap is_collect k)) at (fits.bounds.client e.client (is_retired-other e.client es e (ap is_retire k) ∙ served.1)) in
-    record {
-      forwarded = form;
-      served = served;
-      rises = above;
-      queue = omega (arith, queue, length-append (accepts es) (e ∷ []));
-      client = omega (arith, client, length-append (accepts_of e.client es) (e ∷ []));
-    }
-
-pub accept_iff : (limits : Limits) (t : Totals) (es : List Entry) (e : Entry) (b : Bool) → KeepsRules limits es → Counted es t → e.kind ≡ kind.Accept → b ≡ accept_fits limits.queue limits.client t es e → (b ≡ true) ↔ Fits limits es e
-accept_iff limits t es e b legal counted k is =
-    (λ h. accept_fit limits es e legal k (passes_from limits t es e legal counted (sym is ∙ h)), λ fits. is ∙ passes_to limits t es e legal counted (accept_from limits es e k fits))

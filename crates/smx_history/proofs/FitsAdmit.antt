@@ -1,19 +1,16 @@
 -- An admit fits exactly where the check says so.
-use Rattle.std.proofs.Common.{◌≡◌, ◌<◌, ◌↔◌, ℕ, Bool, true, false, List, [], ◌∷◌, ◌++◌, map, sym, ◌∙◌, ap, subst, arith}
+use Rattle.std.proofs.Common.{◌≡◌, ◌<◌, false, List, [], ◌∷◌, ◌++◌, map, sym, ◌∙◌, ap}
 use Rattle.std.proofs.lemmas.List.{map-append}
-use Rattle.std.proofs.lemmas.Bool.{and_from, and_parts, eqb-true, eq-eqb, ltb-true, lt-ltb}
 use Rattle.smx_history.specs.declared.entry.Entry.{Entry}
 use Rattle.smx_history.specs.declared.entry.Kind.TheVariants as kind
 use Rattle.smx_history.specs.declared.limits.Limits.{Limits}
-use Rattle.smx_history.specs.declared.totals.Totals.{Totals}
-use Rattle.smx_history.specs.Prefixes.{RiseAbove, last_or}
+use Rattle.smx_history.specs.Prefixes.{last_or}
 use Rattle.smx_history.specs.Entries.{is_admit, is_accept, is_take, is_answer, is_collect, is_retire, is_settling, admits}
 use Rattle.smx_history.specs.Legal.{KeepsRules, IsFifo, AreApart, IsBounded, HasForm}
-use Rattle.smx_history.specs.Checks.{Fits, Counted, admit_fits}
+use Rattle.smx_history.proofs.Fitting.{Fits}
 use Rattle.smx_history.proofs.Growing.{filter_push, AtEachPrefix-whole, RiseAbove-push}
 use Rattle.smx_history.proofs.Frames.{accepts-other, takes-other, accepts_of-other, collects_of-other, is_retired-other, unanswered-other}
 use Rattle.smx_history.proofs.Kept.{fifo_kept, once_kept, retires_kept, apart_kept, HasForm-by, StandsWell-by, IsPaired-by}
-use Rattle.smx_history.proofs.Parts.{RiseAbove-end}
 
 -- a list of entries keeps to its bounds where an entry is neither accept nor take, answers nothing and retires nobody
 pub bounds_kept : (limits : Limits) (es : List Entry) (e : Entry) → is_accept e.kind ≡ false → is_take e.kind ≡ false → is_settling e.kind ≡ false → is_collect e.kind ≡ false → is_retire e.kind ≡ false → IsBounded limits es → IsBounded limits (es ++ e ∷ [])
@@ -41,19 +38,3 @@ admit_fit limits es e legal k form above =
       apart = apart_kept es e (ap is_take k) (ap is_settling k) (AtEachPrefix-whole AreApart es legal.apart);
       bounds = bounds_kept limits es e (ap is_accept k) (ap is_take k) (ap is_settling k) (ap is_collect k) (ap is_retire k) (AtEachPrefix-whole (IsBounded limits) es legal.bounds);
     }
-
-admit_to : (limits : Limits) (t : Totals) (es : List Entry) (e : Entry) → KeepsRules limits es → Counted es t → e.kind ≡ kind.Admit → admit_fits t e ≡ true → Fits limits es e
-admit_to limits t es e legal counted k test =
-    let a = and_parts _ _ test in
-    let b = and_parts _ _ a.0 in
-    let c = and_parts _ _ b.1 in
-    admit_fit limits es e legal k (eqb-true _ _ b.0, eqb-true _ _ c.0, eqb-true _ _ c.1) (omega (arith, ltb-true _ _ a.1, counted.greatest))
-
-admit_from : (limits : Limits) (t : Totals) (es : List Entry) (e : Entry) → Counted es t → e.kind ≡ kind.Admit → Fits limits es e → admit_fits t e ≡ true
-admit_from limits t es e counted k fits =
-    let form : HasForm kind.Admit e = rw k at fits.form in
-    let above = RiseAbove-end 0 (map (λ x. x.client) (admits es)) e.client (subst (λ (xs : List ℕ). RiseAbove 0 xs) (clients_admitted es e k) fits.membership.clients) in
-    and_from _ _ (and_from _ _ (eq-eqb e.ordinal 0 form.0) (and_from _ _ (eq-eqb e.number 0 form.1) (eq-eqb e.command 0 form.2))) (lt-ltb t.greatest e.client (omega (arith, above, counted.greatest)))
-
-pub admit_iff : (limits : Limits) (t : Totals) (es : List Entry) (e : Entry) (b : Bool) → KeepsRules limits es → Counted es t → e.kind ≡ kind.Admit → b ≡ admit_fits t e → (b ≡ true) ↔ Fits limits es e
-admit_iff limits t es e b legal counted k is = (λ h. admit_to limits t es e legal counted k (sym is ∙ h), λ fits. is ∙ admit_from limits t es e counted k fits)

@@ -1,24 +1,20 @@
 -- A collect or a retire fits exactly where the check says so.
-use Rattle.std.proofs.Common.{drop, zero, suc}
-use Rattle.std.proofs.Common.{◌≡◌, ◌≤◌, ◌==◌, ◌↔◌, ℕ, Bool, true, false, not, ◌&&◌, List, [], ◌∷◌, ◌++◌, length, map, refl, sym, ◌∙◌, ap, subst, arith, length-append, inl, inr, count_by, Some, slice_get}
-use Rattle.std.specs.Option.{option_map}
+use Rattle.std.proofs.Common.{drop, zero, suc, ◌≡◌, ◌≤◌, ◌==◌, ℕ, false, ◌&&◌, List, [], ◌∷◌, ◌++◌, length, map, refl, sym, ◌∙◌, ap, subst, arith, length-append, inl, inr, count_by, Some, slice_get}
 use Rattle.std.proofs.lemmas.List.{map-append, length-map}
 use Rattle.std.proofs.lemmas.List.Elements.{filter-append}
-use Rattle.std.proofs.lemmas.Option.{slice_get-map}
-use Rattle.std.proofs.lemmas.Bool.{and_from, and_parts, eqb-true, eq-eqb, ne_eqb, cases_eq, not-true}
+use Rattle.std.proofs.lemmas.Bool.{and_from, eq-eqb, ne_eqb, cases_eq}
 use Rattle.smx_history.specs.declared.entry.Entry.{Entry}
 use Rattle.smx_history.specs.declared.entry.Kind.TheVariants as kind
 use Rattle.smx_history.specs.declared.limits.Limits.{Limits}
 use Rattle.smx_history.specs.Prefixes.{StartsWith}
 use Rattle.smx_history.specs.Entries.{is_admit, is_accept, is_take, is_answer, is_collect, is_retire, is_settling, answers_of, collects_of, is_retired}
-use Rattle.smx_history.specs.Legal.{KeepsRules, IsFifo, IsMembership, IsServed, AreApart, IsBounded, HasForm, StandsWell}
-use Rattle.smx_history.specs.Checks.{Fits, collect_fits, retire_fits, is_oldest}
+use Rattle.smx_history.specs.Legal.{KeepsRules, IsFifo, IsMembership, IsServed, AreApart, IsBounded, HasForm}
+use Rattle.smx_history.proofs.Fitting.{Fits}
 use Rattle.smx_history.proofs.Growing.{filter_push, filter_other, AtEachPrefix-whole}
 use Rattle.smx_history.proofs.Counts.{none_count}
-use Rattle.smx_history.proofs.Frames.{accepts-other, takes-other, admits-other, accepts_of-other, answers_of-other, collects_of-other, is_retired-other, unanswered-other}
+use Rattle.smx_history.proofs.Frames.{accepts-other, takes-other, admits-other, accepts_of-other, answers_of-other, collects_of-other, is_retired-other, unanswered-other, retired_before}
 use Rattle.smx_history.proofs.Kept.{fifo_kept, once_kept, membership_kept, apart_kept, HasForm-by, StandsWell-by, IsPaired-by}
-use Rattle.smx_history.proofs.Frames.{retired_before}
-use Rattle.smx_history.proofs.Parts.{StartsWith-next, StartsWith-end, numbered_some, some_numbered, count_one, count_other}
+use Rattle.smx_history.proofs.Parts.{StartsWith-next, count_one, count_other}
 
 pub collected_own : (c : ℕ) (es : List Entry) (e : Entry) → e.kind ≡ kind.Collect → e.client ≡ c → collects_of c (es ++ e ∷ []) ≡ collects_of c es ++ e ∷ []
 collected_own c es e k same = filter_push (λ x. is_collect x.kind && (x.client == c)) es e (and_from _ _ (ap is_collect k) (eq-eqb e.client c same))
@@ -27,15 +23,10 @@ pub collected_other : (c : ℕ) (es : List Entry) (e : Entry) → e.kind ≡ kin
 collected_other c es e k apart = filter_other (λ x. is_collect x.kind && (x.client == c)) es e (ap (λ b. b && (e.client == c)) (ap is_collect k) ∙ ne_eqb e.client c apart)
 
 -- what the client's next response is to
-pub IsOldest : List Entry → Entry → Type 0
+unfoldable pub IsOldest : List Entry → Entry → Type 0
 IsOldest es e = slice_get (map (λ x. x.ordinal) (answers_of e.client es)) (length (map (λ x. x.ordinal) (collects_of e.client es))) ≡ Some e.ordinal
 
-pub oldest_is : (es : List Entry) (e : Entry) → option_map (λ (x : Entry). x.ordinal) (slice_get (answers_of e.client es) (length (collects_of e.client es))) ≡ slice_get (map (λ x. x.ordinal) (answers_of e.client es)) (length (map (λ x. x.ordinal) (collects_of e.client es)))
-oldest_is es e =
-    sym (slice_get-map (λ (x : Entry). x.ordinal) (answers_of e.client es) (length (collects_of e.client es)))
-    ∙ ap (slice_get (map (λ (x : Entry). x.ordinal) (answers_of e.client es))) (sym (length-map (collects_of e.client es) (λ (x : Entry). x.ordinal)))
-
-ordinals_collected : (es : List Entry) (e : Entry) → e.kind ≡ kind.Collect → map (λ x. x.ordinal) (collects_of e.client (es ++ e ∷ [])) ≡ map (λ x. x.ordinal) (collects_of e.client es) ++ e.ordinal ∷ []
+pub ordinals_collected : (es : List Entry) (e : Entry) → e.kind ≡ kind.Collect → map (λ x. x.ordinal) (collects_of e.client (es ++ e ∷ [])) ≡ map (λ x. x.ordinal) (collects_of e.client es) ++ e.ordinal ∷ []
 ordinals_collected es e k = ap (map (λ (x : Entry). x.ordinal)) (collected_own e.client es e k refl) ∙ map-append (λ x. x.ordinal) (collects_of e.client es) (e ∷ [])
 
 fifo_collected : (es : List Entry) (e : Entry) → e.kind ≡ kind.Collect → IsOldest es e → IsFifo es → IsFifo (es ++ e ∷ [])
@@ -52,13 +43,6 @@ fifo_collected es e k oldest h = record {
     here = rw (answers_of-other e.client es e (ap is_answer k), ordinals_collected es e k)
         (StartsWith-next (map (λ x. x.ordinal) (answers_of e.client es)) (map (λ x. x.ordinal) (collects_of e.client es)) e.ordinal (h.collected e.client) oldest)
 
-pub oldest_from : (es : List Entry) (e : Entry) → e.kind ≡ kind.Collect → IsFifo (es ++ e ∷ []) → IsOldest es e
-unfolding IsOldest
-oldest_from es e k fifo =
-    let starts : StartsWith (map (λ x. x.ordinal) (answers_of e.client es)) (map (λ x. x.ordinal) (collects_of e.client es) ++ e.ordinal ∷ []) =
-    rw (answers_of-other e.client es e (ap is_answer k), ordinals_collected es e k) at (fifo.collected e.client) in
-    StartsWith-end (map (λ x. x.ordinal) (answers_of e.client es)) (map (λ x. x.ordinal) (collects_of e.client es)) e.ordinal starts
-
 -- where the ordinals left begin with that of the entry
 pub oldest_next : (es : List Entry) (e : Entry) (rest : List ℕ) → drop (length (collects_of e.client es)) (map (λ x. x.ordinal) (answers_of e.client es)) ≡ e.ordinal ∷ rest → IsOldest es e
 unfolding IsOldest
@@ -71,14 +55,6 @@ oldest_next es e rest next =
     front (suc n) [] h = cc
     front zero (x ∷ xs) h = cc
     front (suc n) (x ∷ xs) h = front n xs h
-
-oldest_test : (es : List Entry) (e : Entry) → is_oldest es e ≡ true → IsOldest es e
-unfolding IsOldest
-oldest_test es e test = sym (oldest_is es e) ∙ numbered_some (slice_get (answers_of e.client es) (length (collects_of e.client es))) e.ordinal test
-
-test_oldest : (es : List Entry) (e : Entry) → IsOldest es e → is_oldest es e ≡ true
-unfolding IsOldest
-test_oldest es e oldest = some_numbered (slice_get (answers_of e.client es) (length (collects_of e.client es))) e.ordinal (oldest_is es e ∙ oldest)
 
 pub collect_fit : (limits : Limits) (es : List Entry) (e : Entry) → KeepsRules limits es → e.kind ≡ kind.Collect → HasForm kind.Collect e → IsServed es e → IsOldest es e → Fits limits es e
 collect_fit limits es e legal k form served oldest =
@@ -101,20 +77,6 @@ collect_fit limits es e legal k form served oldest =
             rw (accepts_of-other d es e (ap is_accept k)) (omega (arith, old, more));
       };
     }
-
-pub collect_iff : (limits : Limits) (es : List Entry) (e : Entry) (b : Bool) → KeepsRules limits es → e.kind ≡ kind.Collect → b ≡ collect_fits es e → (b ≡ true) ↔ Fits limits es e
-collect_iff limits es e b legal k is = (
-  λ h.
-      let a = and_parts _ _ (sym is ∙ h) in
-      let c = and_parts _ _ a.0 in
-      let bare = and_parts _ _ c.0 in
-      let served = and_parts _ _ c.1 in
-      collect_fit limits es e legal k (eqb-true _ _ bare.0, eqb-true _ _ bare.1) (served.0, not-true _ served.1) (oldest_test es e a.1),
-  λ fits.
-      let form : HasForm kind.Collect e = rw k at fits.form in
-      let served : StandsWell kind.Collect es e = rw k at fits.standing in
-      is ∙ and_from _ _ (and_from _ _ (and_from _ _ (eq-eqb e.number 0 form.0) (eq-eqb e.command 0 form.1)) (and_from _ _ served.0 (ap not served.1))) (test_oldest es e (oldest_from es e k fits.fifo)),
-)
 
 retires_more : (es : List Entry) (e : Entry) → e.kind ≡ kind.Retire → is_retired e.client es ≡ false → IsMembership es → (d : ℕ) → count_by (λ x. is_retire x.kind && (x.client == d)) (es ++ e ∷ []) ≤ 1
 retires_more es e k none h d =
@@ -146,17 +108,3 @@ retire_fit limits es e legal k form served =
         client = λ d stays. rw (accepts_of-other d es e (ap is_accept k), collects_of-other d es e (ap is_collect k)) (was.client d (retired_before d es e stays));
       };
     }
-
-pub retire_iff : (limits : Limits) (es : List Entry) (e : Entry) (b : Bool) → KeepsRules limits es → e.kind ≡ kind.Retire → b ≡ retire_fits es e → (b ≡ true) ↔ Fits limits es e
-retire_iff limits es e b legal k is = (
-  λ h.
-      let a = and_parts _ _ (sym is ∙ h) in
-      let c = and_parts _ _ a.0 in
-      let bare = and_parts _ _ c.1 in
-      let served = and_parts _ _ a.1 in
-      retire_fit limits es e legal k (eqb-true _ _ c.0, eqb-true _ _ bare.0, eqb-true _ _ bare.1) (served.0, not-true _ served.1),
-  λ fits.
-      let form : HasForm kind.Retire e = rw k at fits.form in
-      let served : StandsWell kind.Retire es e = rw k at fits.standing in
-      is ∙ and_from _ _ (and_from _ _ (eq-eqb e.ordinal 0 form.0) (and_from _ _ (eq-eqb e.number 0 form.1) (eq-eqb e.command 0 form.2))) (and_from _ _ served.0 (ap not served.1)),
-)

@@ -1,26 +1,22 @@
 -- An answer, in time or late, fits exactly where the check says so.
-use Rattle.std.proofs.Common.{◌≡◌, ◌≤◌, ◌==◌, ◌↔◌, ℕ, Bool, true, false, not, ◌&&◌, ◌||◌, List, [], ◌∷◌, ◌++◌, map, filter, refl, sym, ◌∙◌, ap, subst, arith, inl, inr, count_by}
+use Rattle.std.proofs.Common.{◌≡◌, ◌≤◌, ◌==◌, ℕ, Bool, true, false, not, ◌&&◌, ◌||◌, List, [], ◌∷◌, ◌++◌, map, filter, refl, sym, ◌∙◌, ap, arith, inl, inr, count_by}
 use Rattle.std.proofs.lemmas.List.{map-append}
 use Rattle.std.proofs.lemmas.List.Elements.{filter_agree, filter-append}
 use Rattle.std.proofs.lemmas.List.Folds.{list_any-append}
-use Rattle.std.proofs.lemmas.Bool.{and_from, and_parts, and_right, eqb-true, cases_Bool, not-true}
-use Rattle.smx_pdu.specs.Command.{is_response_to}
+use Rattle.std.proofs.lemmas.Bool.{and_from, and_parts, and_right, eqb-true, cases_Bool}
 use Rattle.smx_history.specs.declared.entry.Entry.{Entry}
 use Rattle.smx_history.specs.declared.entry.Kind.{Kind}
 use Rattle.smx_history.specs.declared.entry.Kind.TheVariants as kind
 use Rattle.smx_history.specs.declared.limits.Limits.{Limits}
 use Rattle.smx_history.specs.Entries.{is_admit, is_accept, is_take, is_answer, is_collect, is_retire, is_settling, has_name, takes, answers_of, collects_of, is_retired, is_settled, unanswered}
-use Rattle.smx_history.specs.Legal.{KeepsRules, IsFifo, IsOnce, AreApart, IsBounded, StandsWell, IsPaired, Answers}
-use Rattle.smx_history.specs.Checks.{Fits, settle_fits, answer_fits, late_fits}
+use Rattle.smx_history.specs.Legal.{KeepsRules, IsFifo, IsOnce, AreApart, IsBounded, Answers}
+use Rattle.smx_history.proofs.Fitting.{Fits}
 use Rattle.smx_history.proofs.Growing.{AtEachPrefix-whole, StartsWith-more}
-use Rattle.smx_history.proofs.Counts.{none_count}
+use Rattle.smx_history.proofs.Counts.{none_count, eqb_sym, length_part}
 use Rattle.smx_history.proofs.Frames.{accepts-other, takes-other, accepts_of-other, collects_of-other, is_retired-other}
 use Rattle.smx_history.proofs.Kept.{takes_kept, membership_kept, HasForm-by, StandsWell-by, IsPaired-by}
 use Rattle.smx_history.proofs.Taking.{filter-and}
-use Rattle.smx_history.proofs.Counts.{eqb_sym}
-use Rattle.smx_history.proofs.Parts.{apart-filter}
-use Rattle.smx_history.proofs.Counts.{length_part}
-use Rattle.smx_history.proofs.Parts.{passes_find, count_one, count_other}
+use Rattle.smx_history.proofs.Parts.{apart-filter, count_one, count_other}
 
 -- an entry that settles is no admit, accept, take, collect or retire
 pub record Settles (k : Kind) : Type 0 where
@@ -70,18 +66,6 @@ settles_once es e s none h c n =
       | inr apart ↦
           omega (arith, count_other (λ x. is_settling x.kind && has_name c n x) es e (and_right (is_settling e.kind) (has_name c n e) apart), h.settlings c n)
     ]
-
-settle_from : (es : List Entry) (e : Entry) → settle_fits es e ≡ true → Answers es e
-settle_from es e test =
-    let a = and_parts _ _ test in
-    let b = and_parts _ _ a.0 in
-    let r = and_parts _ _ (sym (passes_find (λ x. is_accept x.kind && has_name e.client e.ordinal x) (λ x. x.command) (λ n. is_response_to n e.command) es) ∙ a.1) in
-    record { taken = b.0; first = not-true _ b.1; accepted = r.0; command = r.1 }
-
-settle_to : (es : List Entry) (e : Entry) → Answers es e → settle_fits es e ≡ true
-settle_to es e p =
-    and_from _ _ (and_from _ _ p.taken (ap not p.first))
-    (passes_find (λ x. is_accept x.kind && has_name e.client e.ordinal x) (λ x. x.command) (λ n. is_response_to n e.command) es ∙ and_from _ _ p.accepted p.command)
 
 -- what is the same for an answer in time and for one that is late
 record FitsBut (limits : Limits) (es : List Entry) (e : Entry) : Type 0 where
@@ -143,21 +127,3 @@ late_fit limits es e legal k p gone =
       apart = but.apart;
       bounds = but.bounds;
     }
-
-pub answer_iff : (limits : Limits) (es : List Entry) (e : Entry) (b : Bool) → KeepsRules limits es → e.kind ≡ kind.Answer → b ≡ answer_fits es e → (b ≡ true) ↔ Fits limits es e
-answer_iff limits es e b legal k is = (
-  λ h. let w = and_parts _ _ (sym is ∙ h) in answer_fit limits es e legal k (settle_from es e w.0) (not-true _ w.1),
-  λ fits.
-      let standing : StandsWell kind.Answer es e = rw k at fits.standing in
-      let paired : IsPaired kind.Answer es e = subst (λ (x : Kind). IsPaired x es e) k fits.pairing in
-      is ∙ and_from _ _ (settle_to es e paired) (ap not standing),
-)
-
-pub late_iff : (limits : Limits) (es : List Entry) (e : Entry) (b : Bool) → KeepsRules limits es → e.kind ≡ kind.Late → b ≡ late_fits es e → (b ≡ true) ↔ Fits limits es e
-late_iff limits es e b legal k is = (
-  λ h. let w = and_parts _ _ (sym is ∙ h) in late_fit limits es e legal k (settle_from es e w.0) w.1,
-  λ fits.
-      let standing : StandsWell kind.Late es e = rw k at fits.standing in
-      let paired : IsPaired kind.Late es e = subst (λ (x : Kind). IsPaired x es e) k fits.pairing in
-      is ∙ and_from _ _ (settle_to es e paired) standing,
-)

@@ -7,8 +7,8 @@ use Rattle.smx_history.specs.declared.limits.Limits.{Limits}
 use Rattle.smx_history.specs.Prefixes.{RiseAbove}
 use Rattle.smx_history.specs.Entries.{is_admit, is_accept, is_take, is_retire, is_settling, has_name, admits, accepts_of}
 use Rattle.smx_history.specs.Legal.{KeepsRules, IsFifo, IsOnce, IsMembership, AreApart, IsBounded, HasForm, StandsWell, IsPaired}
-use Rattle.smx_history.specs.Checks.{Fits}
-use Rattle.smx_history.proofs.Growing.{AtEach-push, AtEach-init, AtEach-last, AtEachPrefix-push, AtEachPrefix-init, AtEachPrefix-whole}
+use Rattle.smx_history.proofs.Fitting.{Fits}
+use Rattle.smx_history.proofs.Growing.{AtEach-push, AtEach-init, AtEachPrefix-push, AtEachPrefix-init}
 use Rattle.smx_history.proofs.Counts.{count_by-push}
 use Rattle.smx_history.proofs.Parts.{RiseAbove-init}
 
@@ -50,18 +50,6 @@ pub KeepsRules-start : (limits : Limits) (xs ys : List Entry) → KeepsRules lim
 KeepsRules-start limits xs [] h = subst (λ (zs : List Entry). KeepsRules limits zs) (append-nil xs) h
 KeepsRules-start limits xs (y ∷ ys) h =
     KeepsRules-init limits xs y (KeepsRules-start limits (xs ++ y ∷ []) ys (subst (λ (zs : List Entry). KeepsRules limits zs) (sym (append_assoc xs (y ∷ []) ys)) h))
-
-pub KeepsRules-fits : (limits : Limits) (es : List Entry) (e : Entry) → KeepsRules limits (es ++ e ∷ []) → Fits limits es e
-KeepsRules-fits limits es e h = record {
-  form = AtEach-last (λ before x. HasForm x.kind x) es e h.form;
-  fifo = AtEachPrefix-whole IsFifo (es ++ e ∷ []) h.fifo;
-  once = h.once;
-  membership = h.membership;
-  standing = AtEach-last (λ before x. StandsWell x.kind before x) es e h.standing;
-  pairing = AtEach-last (λ before x. IsPaired x.kind before x) es e h.pairing;
-  apart = AtEachPrefix-whole AreApart (es ++ e ∷ []) h.apart;
-  bounds = AtEachPrefix-whole (IsBounded limits) (es ++ e ∷ []) h.bounds;
-}
 
 pub KeepsRules-next : (limits : Limits) (es : List Entry) (e : Entry) → KeepsRules limits es → Fits limits es e → KeepsRules limits (es ++ e ∷ [])
 KeepsRules-next limits es e h fits = record {

@@ -1,13 +1,11 @@
 -- What an entry of another kind leaves as it is.
-use Rattle.std.proofs.lemmas.Bool.{false_from_ne_true, both_ways}
-use Rattle.smx_history.proofs.Growing.{any_kept}
+use Rattle.std.proofs.lemmas.Bool.{false_from_ne_true, both_ways, and_left}
+use Rattle.smx_history.proofs.Growing.{any_kept, filter_other, any_other}
 use Rattle.std.proofs.Common.{◌≡◌, ◌-◌, ◌==◌, ℕ, false, not, ◌&&◌, List, [], ◌∷◌, ◌++◌, length, ◌∙◌, ap, filter, sum_by}
 use Rattle.std.proofs.lemmas.List.Elements.{filter_agree}
-use Rattle.std.proofs.lemmas.Bool.{and_left}
 use Rattle.smx_history.specs.declared.entry.Entry.{Entry}
 use Rattle.smx_history.specs.Entries.{is_admit, is_accept, is_take, is_answer, is_collect, is_retire, is_settling, has_name, admits, accepts, takes, accepts_of, answers_of, collects_of, is_retired, unanswered, is_settled, present}
 use Rattle.smx_history.specs.Legal.{waiting}
-use Rattle.smx_history.proofs.Growing.{filter_other, any_other}
 
 pub accepts_of-other : (c : ℕ) (es : List Entry) (e : Entry) → is_accept e.kind ≡ false → accepts_of c (es ++ e ∷ []) ≡ accepts_of c es
 accepts_of-other c es e h = filter_other (λ x. is_accept x.kind && (x.client == c)) es e (and_left _ _ h)

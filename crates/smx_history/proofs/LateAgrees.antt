@@ -20,8 +20,7 @@ use Rattle.smx_history.proofs.Taking.{any_none}
 use Rattle.smx_history.proofs.SettleAgrees.{place_taken, place_answers, window-settled, within-after}
 use Rattle.smx_history.proofs.FitsSettle.{settles_late, late_fit}
 use Rattle.smx_history.proofs.Shifting.{IsLegal-next, stored-push}
-use Rattle.smx_history.proofs.Counting.{present_once}
-use Rattle.smx_history.proofs.CountedSettle.{accepted_admitted}
+use Rattle.smx_history.proofs.Presence.{present_once, accepted_admitted}
 use Rattle.smx_history.proofs.TakeAgrees.{IsMemberAfter-other, requests-other, zip-each}
 
 -- with no row of the client, no admit of it is present

@@ -13,7 +13,7 @@ use Rattle.smx_history.specs.Legal.{IsFifo, Answers, size, owed}
 use Rattle.smx_history.specs.Shifts.{stored}
 use Rattle.smx_history.proofs.Shifting.{size-push}
 use Rattle.smx_history.specs.History.{entry_in, entries_of, marks_of}
-use Rattle.smx_history.specs.Contents.{AgreesWith, IsAfter, Content, place_of, size_of, window_after}
+use Rattle.smx_history.specs.Contents.{AgreesWith, IsAfter, Content, place_of, window_after}
 use Rattle.smx_history.specs.Room.{KeepsRoom}
 use Rattle.smx_history.proofs.Growing.{AtEachPrefix-whole}
 use Rattle.smx_history.proofs.Counts.{remove_only, filter-map, All-same, count_by-map, count_by-filter, count-filter-le}

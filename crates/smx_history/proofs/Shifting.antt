@@ -1,13 +1,13 @@
 -- Histories that grow by an entry or by a shift.
 use Rattle.std.proofs.Common.{◌≡◌, ◌≤◌, ◌+◌, List, [], ◌∷◌, ◌++◌, length, map, refl, sym, ◌∙◌, ap, subst, arith, length-append, append_assoc, Option, Some, None}
-use Rattle.std.proofs.lemmas.List.{append-nil, map-append}
+use Rattle.std.proofs.lemmas.List.{append-nil}
 use Rattle.std.proofs.lemmas.List.Elements.{filter_map-append}
 use Rattle.smx_history.specs.declared.entry.Entry.{Entry}
 use Rattle.smx_history.specs.declared.limits.Limits.{Limits}
 use Rattle.smx_history.specs.Shifts.{noted, since, stored}
 use Rattle.smx_history.specs.Legal.{IsLegal, KeepsRules, IsWithin, size, owed}
 use Rattle.smx_history.specs.Prefixes.{AtEachPrefix}
-use Rattle.smx_history.specs.Checks.{Fits}
+use Rattle.smx_history.proofs.Fitting.{Fits}
 use Rattle.smx_history.proofs.Growing.{AtEachPrefix-push, AtEachPrefix-init, AtEachPrefix-whole}
 use Rattle.smx_history.proofs.Following.{KeepsRules-next, KeepsRules-start}
 
@@ -69,26 +69,3 @@ IsLegal-start limits xs ys h = record {
 pub noted-some : (es : List Entry) → noted (map Some es) ≡ es
 noted-some [] = refl
 noted-some (e ∷ es) = ap (λ xs. e ∷ xs) (noted-some es)
-
-since-some : (xs es : List Entry) → since xs (map Some es) ≡ xs ++ es
-since-some xs [] = sym (append-nil xs)
-since-some xs (e ∷ es) = since-some (xs ++ e ∷ []) es ∙ append_assoc xs (e ∷ []) es
-
-pub stored-some : (es : List Entry) → stored (map Some es) ≡ es
-stored-some es = since-some [] es
-
-pub size-some : (es : List Entry) → size (map Some es) ≡ length es + owed es
-size-some es = rw (stored-some es, noted-some es) refl
-
-pub unshifted-rules : (limits : Limits) (es : List Entry) → IsLegal limits (map Some es) → KeepsRules limits es
-unshifted-rules limits es h = subst (λ (xs : List Entry). KeepsRules limits xs) (noted-some es) h.rules
-
-pub unshifted-within : (limits : Limits) (es : List Entry) → IsLegal limits (map Some es) → length es + owed es ≤ limits.history
-unshifted-within limits es h = let was = IsLegal-within limits (map Some es) h in omega (arith, was, size-some es)
-
-pub unshifted-next : (limits : Limits) (es : List Entry) (e : Entry) → IsLegal limits (map Some es) → Fits limits es e → length es + 1 + owed (es ++ e ∷ []) ≤ limits.history → IsLegal limits (map Some (es ++ e ∷ []))
-unshifted-next limits es e h fits within = rw (map-append Some es (e ∷ []))
-    (IsLegal-next limits (map Some es) e h (rw (noted-some es) fits) (rw (stored-some es, noted-some es) within))
-
-pub unshifted-start : (limits : Limits) (xs ys : List Entry) → IsLegal limits (map Some (xs ++ ys)) → IsLegal limits (map Some xs)
-unshifted-start limits xs ys h = IsLegal-start limits (map Some xs) (map Some ys) (subst (λ (zs : List (Option Entry)). IsLegal limits zs) (map-append Some xs ys) h)

@@ -4,7 +4,7 @@ use Rattle.std.proofs.lemmas.Option.{slice_get-map}
 use Rattle.smx_history.proofs.FitsTake.{MayTake, takes_push, unanswered_taken, take_fit}
 use Rattle.smx_history.proofs.Shifting.{IsLegal-next, IsLegal-within, stored-push}
 use Rattle.smx_history.proofs.Parts.{count_numbered}
-use Rattle.smx_history.proofs.Taking.{any-and}
+use Rattle.smx_history.proofs.Taking.{any-and, drop-split, drop-next, filter-and, none_before, filter_none, not_settled}
 use Rattle.std.proofs.Common.{slice_get, zero, ◌≡◌, ◌<◌, ◌≤◌, ◌+◌, ◌==◌, ℕ, Bool, true, false, cond, ◌||◌, ◌&&◌, List, [], ◌∷◌, ◌++◌, length, map, take, drop, refl, sym, ◌∙◌, ap, subst, arith, filter, length-append, length-drop, nat_eq, Some, None, suc}
 use Rattle.std.specs.List.{list_any, AllByRecursion, AllZip, cons_option}
 use Rattle.std.proofs.lemmas.List.{append-nil, length-map, map-append, take-map, drop-map}
@@ -26,7 +26,6 @@ use Rattle.smx_history.proofs.Growing.{filter_other, AtEachPrefix-whole}
 use Rattle.smx_history.proofs.Frames.{accepts-other, accepts_of-other, collects_of-other, admits-other, present-other, waiting-other}
 use Rattle.smx_history.proofs.Reading.{requests_are_accepts, unsigned, entries_of-push, marks_of-push, places-kept, shown-kept, responses-other, All-to_map, All-of_map}
 use Rattle.smx_history.proofs.Sizes.{length-window}
-use Rattle.smx_history.proofs.Taking.{drop-split, drop-next, filter-and, none_before, filter_none, not_settled}
 
 -- the entry of the accept that is next to be taken
 pub record IsNext (es : List Entry) (r : Request) (y : Entry) (zs : List Entry) : Type 0 where

@@ -1,17 +1,15 @@
 -- What a note that leaves a part of the content as it is keeps of the agreement.
-use Rattle.std.proofs.Common.{◌≡◌, ℕ, false, List, [], ◌∷◌, ◌++◌, length, map, refl, sym, ◌∙◌, ap, arith, Option, Some, None}
+use Rattle.std.proofs.Common.{◌≡◌, ℕ, false, List, [], ◌∷◌, ◌++◌, ap, Some, None}
 use Rattle.std.specs.List.{AllZip}
 use Rattle.smx_history.specs.declared.entry.Entry.{Entry}
 use Rattle.smx_history.specs.declared.note.Note.{Note}
 use Rattle.smx_history.specs.Prefixes.{SameCounts}
 use Rattle.smx_history.specs.Entries.{is_admit, is_accept, is_take, is_collect, is_retire, is_settling, present}
 use Rattle.smx_history.specs.Legal.{IsFifo}
-use Rattle.smx_history.specs.Checks.{Fits}
+use Rattle.smx_history.proofs.Fitting.{Fits}
 use Rattle.smx_history.specs.History.{entry_in, entries_of, marks_of, stored_of, request_in, response_in}
-use Rattle.smx_history.specs.Contents.{AgreesWith, IsAfter, IsMemberAfter, Content, Member, queue_after, window_after, greatest_after}
+use Rattle.smx_history.specs.Contents.{AgreesWith, IsAfter, IsMemberAfter, Content, queue_after, window_after, greatest_after}
 use Rattle.smx_history.specs.Room.{KeepsRoom}
-use Rattle.smx_history.specs.Legal.{IsLegal}
-use Rattle.smx_history.proofs.Growing.{AtEachPrefix-whole}
 use Rattle.smx_history.proofs.Frames.{takes-other, admits-other, unanswered-other, present-other}
 use Rattle.smx_history.proofs.Reading.{marks_of-push, entries_of-push, places-kept}
 use Rattle.smx_history.proofs.Shifting.{stored-push, IsLegal-next}

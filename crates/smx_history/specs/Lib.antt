@@ -6,6 +6,5 @@ pub mod Contents
 pub mod Replies
 pub mod Room
 pub mod Answering
-pub mod Checks
 pub mod Finding
 pub mod Shifts

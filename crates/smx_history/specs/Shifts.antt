@@ -20,12 +20,3 @@ stored marks = since [] marks
 abbrev pub marks_in : List (List Entry) → List (Option Entry)
 marks_in [] = []
 marks_in (es ∷ lists) = None ∷ map Some es ++ marks_in lists
-
--- the entries shift by shift, the last list being what is stored, after those entries and these marks
-abbrev pub shifts_since : List Entry → List (Option Entry) → List (List Entry)
-shifts_since es [] = es ∷ []
-shifts_since es (None ∷ marks) = es ∷ shifts_since [] marks
-shifts_since es (Some e ∷ marks) = shifts_since (es ++ e ∷ []) marks
-
-abbrev pub shifts : List (Option Entry) → List (List Entry)
-shifts marks = shifts_since [] marks

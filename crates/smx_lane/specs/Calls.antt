@@ -1,17 +1,21 @@
 -- What a list of calls leaves, and what the calls answer.
-use Rattle.std.specs.Prelude.{◌≡◌, ◌++◌, ◌∷◌, [], List, Some, None, Ok, Err, IsSome, slice_get}
-use Rattle.std.specs.List.{find}
+use Rattle.std.specs.Prelude.{◌≡◌, ◌++◌, ◌∷◌, [], List, Option, Some, None, Ok, Err, IsSome, slice_get, map, filter_map}
+use Rattle.std.specs.List.{find, flat_map}
+use Rattle.smx_history.specs.declared.entry.Entry.{Entry}
 use Rattle.smx_history.specs.declared.note.Note.{Note}
 use Rattle.smx_history.specs.declared.place.Place.{Place}
 use Rattle.smx_history.specs.declared.response.Response.{Response}
 use Rattle.smx_history.specs.declared.note.Event.TheVariants as event
 use Rattle.smx_history.specs.declared.reply.Answered.TheVariants as answered
-use Rattle.smx_history.specs.History.{note}
+use Rattle.smx_history.specs.History.{note, shift, marks_of, entries_of}
+use Rattle.smx_history.specs.Shifts.{marks_in}
+use Rattle.smx_history.specs.Legal.{IsLegal}
 use Rattle.smx_history.specs.Contents.{Content, AgreesWith}
 use Rattle.smx_history.specs.Replies.{admit_refusal, accept_refusal, take_refusal, answers_place, member_with}
 use Rattle.smx_history.specs.Answering.{oldest_in}
 use Rattle.smx_lane.specs.Conditions.{IsOwn, IsNext}
 use Rattle.smx_lane.specs.Faults.{IsAdmitFault}
+use Rattle.smx_lane.specs.Turning.{IsTurned}
 use Rattle.smx_lane.specs.declared.call.Call.{Call}
 use Rattle.smx_lane.specs.declared.call.Call.TheVariants as call
 use Rattle.smx_lane.specs.declared.call.Reply.{Reply}
@@ -47,6 +51,9 @@ IsReply old (call.Collect by c) (reply.Collected (Some p)) own new = IsOwn old b
 IsReply old (call.Collect by c) (reply.Collected None) own new = IsOwn old by c × (oldest_in (member_with c old.members) ≡ None) × Stays old own new
 IsReply old (call.Retire by c) (reply.Retired (Ok _)) own new = IsOwn old by c × IsSome (member_with c old.members) × (own ≡ note by (event.Retire c) ∷ [])
 IsReply old (call.Retire by c) (reply.Retired (Err _)) own new = IsOwn old by c × (member_with c old.members ≡ None) × Stays old own new
+IsReply old (call.TurnOver by least) (reply.TurnedOver (Ok (Some list))) own new = IsTurned old by least (Some list.items) new × (own ≡ shift by ∷ [])
+IsReply old (call.TurnOver by least) (reply.TurnedOver (Ok None)) own new = IsTurned old by least None new × (own ≡ [])
+IsReply old (call.TurnOver by least) (reply.TurnedOver (Err _)) own new = Stays old own new
 IsReply old made reply.Unkept own new = ¬ (Keeps old made) × Stays old own new
 IsReply old _ _ own new = ⊥
 
@@ -56,3 +63,25 @@ Ran old [] [] notes new = (notes ≡ []) × (new ≡ old)
 Ran old (made ∷ calls) (came ∷ replies) notes new =
     (mid : Content) × (own : List Note) × (rest : List Note) × (notes ≡ own ++ rest) × IsReply old made came own mid × GoesOn old own mid × Ran mid calls replies rest new
 Ran old _ _ notes new = ⊥
+
+-- the list that a reply hands out
+abbrev pub list_in : Reply → Option (List Entry)
+list_in (reply.TurnedOver (Ok (Some list))) = Some list.items
+list_in _ = None
+
+-- the lists that the replies hand out, in order
+abbrev pub lists_in : List Reply → List (List Entry)
+lists_in replies = filter_map list_in replies
+
+-- the lists handed out and then what is stored are, as marks, a shift, what was stored before, and what the calls noted; so joined they are all those entries
+pub record IsHandedOut (before : List Entry) (notes : List Note) (lists : List (List Entry)) (stored : List Entry) : Type 0 where
+  pub marks : marks_in (lists ++ stored ∷ []) ≡ None ∷ map Some before ++ marks_of notes
+  pub joined : flat_map (λ es. es) (lists ++ stored ∷ []) ≡ before ++ entries_of notes
+
+-- this holds where the lane agreed with some history
+abbrev pub HandsOut : Content → List Reply → List Note → Content → Type 0
+HandsOut old replies notes new = (h : List Note) → AgreesWith h old → IsHandedOut old.entries notes (lists_in replies) new.entries
+
+-- what a new lane handed out and what it stores pass the check of a finished history
+abbrev pub HandsOutLegal : Content → List Reply → Content → Type 0
+HandsOutLegal old replies new = AgreesWith [] old → IsLegal new.limits (marks_in (lists_in replies ++ new.entries ∷ []))

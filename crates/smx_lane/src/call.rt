@@ -1,12 +1,12 @@
 //! Lists of calls, made one after another.
-ghost use Rattle.std.specs.Prelude.{◌≡◌, List, IfOk, OnErr};
+ghost use Rattle.std.specs.Prelude.{◌≡◌, List, [], ◌∷◌, IfOk, OnErr};
 ghost use Rattle.smx_history.specs.declared.note.Note.{Note};
-ghost use Rattle.smx_lane.specs.Calls.{IsReply, GoesOn, Ran};
+ghost use Rattle.smx_lane.specs.Calls.{IsReply, GoesOn, Ran, HandsOut, HandsOutLegal};
 
 use crate::fault::{AdmitFault, NotAdmitted};
 use crate::lane::Lane;
 use crate::sent::Sent;
-use smx_history::{Answered, Refusal, Request, TakeRefusal};
+use smx_history::{Answered, Entry, Refusal, Request, TakeRefusal};
 use smx_pdu::Pdu;
 use std::alloc::{AllocError, Global};
 
@@ -19,6 +19,7 @@ pub enum Call {
     Answer { by: u64, response: Pdu },
     Collect { by: u64, client: u64 },
     Retire { by: u64, client: u64 },
+    TurnOver { by: u64, least: usize },
 }
 
 /// What came of a call.
@@ -30,13 +31,15 @@ pub enum Reply {
     Answered(Answered),
     Collected(Option<Pdu>),
     Retired(Result<(), NotAdmitted>),
+    TurnedOver(Result<Option<Vec<Entry>>, AllocError>),
     /// The call did not keep to its condition, and was not made.
     Unkept,
 }
 
 /// Makes the call where it keeps to its condition.
 pub fn run(lane: &mut Lane, call: Call) -> Reply
-    ensures reply { (own : List Note) × IsReply lane.old call result own lane.new × GoesOn lane.old own lane.new }
+    ensures reply { (own : List Note) × IsReply lane.old call result own lane.new
+        × GoesOn lane.old own lane.new × HandsOut lane.old (result ∷ []) own lane.new }
     ensures limits { lane.new.limits ≡ lane.old.limits }
 {
     match call {
@@ -61,12 +64,16 @@ pub fn run(lane: &mut Lane, call: Call) -> Reply
             }
             Reply::Retired(lane.retire(by, client))
         }
+        Call::TurnOver { by, least } => Reply::TurnedOver(lane.turn_over(by, least)),
     }
 }
 
-/// Makes the calls one after another. Where there is no memory for the replies, none is made.
+/// Makes the calls one after another. Where there is no memory for the replies, none is made. The lists that the turns
+/// over hand out, and what the lane stores at the end, are all that was noted, in order and each entry once.
 pub fn run_all(lane: &mut Lane, alloc: Global, calls: Vec<Call>) -> Result<Vec<Reply>, AllocError>
-    ensures ran { IfOk result (λ replies. (notes : List Note) × Ran lane.old calls.items replies.items notes lane.new × GoesOn lane.old notes lane.new) }
+    ensures ran { IfOk result (λ replies. (notes : List Note) × Ran lane.old calls.items replies.items notes lane.new
+        × GoesOn lane.old notes lane.new × HandsOut lane.old replies.items notes lane.new) }
+    ensures legal { IfOk result (λ replies. HandsOutLegal lane.old replies.items lane.new) }
     ensures err { OnErr result (lane.new ≡ lane.old) }
     ensures limits { lane.new.limits ≡ lane.old.limits }
 {

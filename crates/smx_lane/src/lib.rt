@@ -17,5 +17,5 @@ pub use lane::Lane;
 pub use sent::Sent;
 pub use smx_history::{
     AdmitRefusal, Answered, Entry, Event, Kind, Limits, Note, Place, Refusal, Request, Response,
-    TakeRefusal, is_legal,
+    TakeRefusal,
 };

@@ -2,7 +2,7 @@ ghost use Rattle.std.specs.Prelude.{◌≡◌};
 
 use super::*;
 use smx_pdu::{Body, Pdu};
-use std::alloc::Global;
+use std::alloc::{AllocError, Global};
 use std::test::Fail;
 
 const ROOMY: Limits = Limits {
@@ -150,6 +150,8 @@ fn lists_of_calls(rt: HostRuntime) -> Result<(), Fail> {
     calls.push(Call::Answer { by: 9, response })?;
     calls.push(Call::Collect { by: 9, client: 1 })?;
     calls.push(Call::Collect { by: 3, client: 1 })?;
+    calls.push(Call::TurnOver { by: 9, least: 6 })?;
+    calls.push(Call::TurnOver { by: 9, least: 5 })?;
     calls.push(Call::Retire { by: 3, client: 1 })?;
     let replies = run_all(&mut lane, rt.alloc(), calls)?;
     let made = [
@@ -169,11 +171,72 @@ fn lists_of_calls(rt: HostRuntime) -> Result<(), Fail> {
             replies.get(6),
             Some(Reply::Collected(Some(Pdu { number: 7, .. })))
         ),
-        matches!(replies.get(7), Some(Reply::Retired(Ok(())))),
+        matches!(replies.get(7), Some(Reply::TurnedOver(Ok(None)))),
+        matches!(replies.get(9), Some(Reply::Retired(Ok(())))),
     ];
-    assert_eq!(rt; made, [true; 8]);
-    assert_eq!(rt; replies.len(), 8);
-    assert_eq!(rt; lane.entries().len(), 6);
+    assert_eq!(rt; made, [true; 9]);
+    let Some(Reply::TurnedOver(Ok(Some(list)))) = replies.get(8) else {
+        return Ok(assert!(rt; false, "no list is handed out"));
+    };
+    assert_eq!(rt; list.len(), 5);
+    assert_eq!(rt; replies.len(), 10);
+    assert_eq!(rt; lane.entries().len(), 1);
+    Ok(())
+}
+
+// Rounds of accept, take, answer and collect, as many as the lane has room for: the first refusal, and how many there
+// were before it.
+fn rounds(lane: &mut Lane, alloc: Global, first: u64) -> (u64, Option<Refusal>) {
+    let mut ordinal = first;
+    for _ in 0..1_000 {
+        if !lane.is_next(0, 1, ordinal) {
+            break;
+        }
+        if let Err((_, refusal)) = lane.accept(0, submit(alloc, 1, ordinal)) {
+            return (ordinal.saturating_sub(first), Some(refusal));
+        }
+        let Ok(sent) = lane.take(0) else {
+            break;
+        };
+        lane.answer(0, submitted(alloc, sent.upstream));
+        if !lane.is_own(0, 1) {
+            break;
+        }
+        lane.collect(0, 1);
+        ordinal = ordinal.saturating_add(1);
+    }
+    (ordinal.saturating_sub(first), None)
+}
+
+// A lane under history 1,000 takes 249 rounds of one client: 1 + 4 * 249 entries, and no room for four more beside the
+// client's retire. After a shift there is room again.
+#[test]
+fn turned_lanes_go_on(rt: HostRuntime) -> Result<(), Fail> {
+    let mut lane = Lane::new(rt.alloc(), ROOMY)?;
+    lane.admit(0, 1)?;
+    let full = Some(Refusal::HistoryFull);
+    assert_eq!(rt; rounds(&mut lane, rt.alloc(), 1), (249, full));
+    let first = lane.turn_over(0, 1)?;
+    assert_eq!(rt; first.as_ref().map(|entries| entries.len()), Some(997));
+    assert_eq!(rt; rounds(&mut lane, rt.alloc(), 250), (249, full));
+    assert_eq!(rt; lane.entries().len(), 996);
+    assert!(rt; lane.turn_over(0, 997)?.is_none());
+    assert_eq!(rt; lane.entries().len(), 996);
+    let second = lane.turn_over(0, 996)?;
+    assert_eq!(rt; second.map(|entries| entries.len()), Some(996));
+    Ok(())
+}
+
+#[test]
+fn turned_lanes_know_their_clients(rt: HostRuntime) -> Result<(), Fail> {
+    let mut lane = Lane::new(rt.alloc(), ROOMY)?;
+    assert_eq!(rt; lane.admit(0, 5), Ok(()));
+    assert!(rt; lane.is_own(0, 5));
+    assert_eq!(rt; lane.retire(0, 5), Ok(()));
+    let list = lane.turn_over(0, 1)?;
+    assert_eq!(rt; list.map(|entries| entries.len()), Some(2));
+    assert_eq!(rt; lane.admit(0, 5), Err(AdmitFault::Known));
+    assert!(rt; lane.entries().is_empty());
     Ok(())
 }
 
@@ -185,7 +248,8 @@ fn refused_memory(rt: HostRuntime) {
         Ok(lane) => lane,
         Err(fault) => return assert_eq!(rt; fault, LaneFault::NoMemory),
     };
-    match lane.admit(0, 1) {
+    let admitted = lane.admit(0, 1);
+    match admitted {
         Ok(()) => assert_eq!(rt; lane.entries().len(), 1),
         Err(fault) => {
             assert_eq!(rt; fault, AdmitFault::NoMemory);
@@ -193,52 +257,13 @@ fn refused_memory(rt: HostRuntime) {
             assert_eq!(rt; lane.limits(), ROOMY);
         }
     }
-}
-
-#[test]
-fn turned_lanes_go_on(rt: HostRuntime) -> Result<(), Fail> {
-    let mut lane = Lane::new(rt.alloc(), ROOMY)?;
-    assert_eq!(rt; lane.admit(0, 1), Ok(()));
-    let mut rounds = 0;
-    for ordinal in 1..1_000 {
-        if !lane.is_next(0, 1, ordinal) {
-            break;
+    let stored = lane.entries().len();
+    match lane.turn_over(0, 0) {
+        Ok(list) => {
+            assert_eq!(rt; list.map(|entries| entries.len()), Some(stored));
+            assert!(rt; lane.entries().is_empty());
         }
-        let Ok(()) = lane.accept(0, submit(rt.alloc(), 1, ordinal)) else {
-            break;
-        };
-        let Ok(sent) = lane.take(0) else {
-            break;
-        };
-        lane.answer(0, submitted(rt.alloc(), sent.upstream));
-        if !lane.is_own(0, 1) {
-            break;
-        }
-        lane.collect(0, 1);
-        rounds += 1;
+        Err(AllocError) => assert_eq!(rt; lane.entries().len(), stored),
     }
-    assert_eq!(rt; rounds, 249);
-    let first = lane.turn_over(0, 1)?;
-    assert_eq!(rt; first.map(|entries| entries.len()), Some(997));
-    for ordinal in 1_000..2_000 {
-        if !lane.is_next(0, 1, ordinal) {
-            break;
-        }
-        let Ok(()) = lane.accept(0, submit(rt.alloc(), 1, ordinal)) else {
-            break;
-        };
-        let Ok(sent) = lane.take(0) else {
-            break;
-        };
-        lane.answer(0, submitted(rt.alloc(), sent.upstream));
-        if !lane.is_own(0, 1) {
-            break;
-        }
-        lane.collect(0, 1);
-        rounds += 1;
-    }
-    assert_eq!(rt; rounds, 498);
-    assert_eq!(rt; lane.entries().len(), 996);
-    assert!(rt; lane.turn_over(0, 997)?.is_none());
-    Ok(())
+    assert_eq!(rt; lane.admit(0, 1).is_ok(), admitted.is_err());
 }

@@ -89,14 +89,14 @@ impl Driver {
 
     /// Whether the check of a finished history finds this one legal.
     pub(crate) fn is_legal(&self) -> bool {
-        smx_lane::is_legal(self.lane.entries(), LIMITS)
+        smx_legal::is_legal(self.lane.entries(), LIMITS)
     }
 
     /// Whether the check refuses this history once it is spoiled so, or nothing where it has no
     /// entry to spoil.
     pub(crate) fn refuses(&self, spoiling: Spoiling) -> Result<Option<bool>, AllocError> {
         match spoiling.of(self.alloc, self.lane.entries())? {
-            Some(entries) => Ok(Some(!smx_lane::is_legal(&entries, LIMITS))),
+            Some(entries) => Ok(Some(!smx_legal::is_legal(&entries, LIMITS))),
             None => Ok(None),
         }
     }

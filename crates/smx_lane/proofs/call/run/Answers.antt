@@ -1,4 +1,4 @@
-use Rattle.smx_lane.proofs.Calling.{admit_made, accept_made, take_made, answer_made, collect_made, retire_made}
+use Rattle.smx_lane.proofs.Calling.{admit_made, accept_made, take_made, answer_made, collect_made, retire_made, turn_made}
 use Rattle.smx_lane.proofs.call.run.Goals as goal
 
 pub returns-in-Admit-clause-reply : goal.returns-in-Admit-clause-reply
@@ -18,3 +18,6 @@ returns-else-not-is_own-clause-reply c = rw c.in-Collect.is (collect_made c.args
 
 pub returns-else-not-is_own-2-clause-reply : goal.returns-else-not-is_own-2-clause-reply
 returns-else-not-is_own-2-clause-reply c = rw c.in-Retire.is (retire_made c.args.lane.now _ _ _ c.retire.result (c.is_own-in-Retire.ensures.0 c.if-not-is_own-2.false) c.retire.ensures.reply c.retire.ensures.agrees c.retire.ensures.err)
+
+pub returns-in-TurnOver-clause-reply : goal.returns-in-TurnOver-clause-reply
+returns-in-TurnOver-clause-reply c = rw c.in-TurnOver.is (turn_made c.args.lane.now _ _ _ c.turn_over.result c.turn_over.ensures.turned c.turn_over.ensures.err)

@@ -1,6 +1,7 @@
 use Rattle.std.proofs.Common.{◌≡◌, ◌++◌, ◌∷◌, List, [], length, length-append, refl, sym, ap, ◌∙◌, arith, append_assoc}
 use Rattle.std.proofs.lemmas.List.{append-nil}
 use Rattle.smx_lane.proofs.Calling.{ran_none, ran_further, goes_further, stays}
+use Rattle.smx_lane.proofs.Handing.{hands_nothing, hands_more, hands_legal}
 use Rattle.smx_lane.proofs.call.run_all.Goals as goal
 
 none_left : {X : Type 0} (xs : List X) → length xs ≡ 0 → xs ≡ []
@@ -11,7 +12,7 @@ pub loop-call-init : goal.loop-call-init
 loop-call-init c =
     let none = c.in_ok-replies.ensures.items in
     record {
-      made = ([], rw none (ran_none c.args.lane.now), stays c.args.lane.now c.args.lane.now refl);
+      made = ([], rw none (ran_none c.args.lane.now), stays c.args.lane.now c.args.lane.now refl, λ h was. rw none (hands_nothing c.args.lane.now c.args.lane.now refl));
       count = c.in_ok-replies.ensures.len;
       room = omega (arith, c.in_ok-replies.ensures.capacity, c.len.ensures, c.args.calls.ok.0);
       left = c.into_iter-call-iterator.ensures.into_iter_gives.0;
@@ -28,6 +29,7 @@ loop-call-preserved c =
         so_far.0 ++ made.0,
         rw c.push_reserved.ensures.items (ran_further c.loop-call.yielded c.loop-call.replies.items so_far.0 made.0 c.args.lane.now c.loop-call.lane c.run.new.lane c.in-Some.call c.run.result so_far.1 made.1 made.2),
         goes_further c.args.lane.now c.loop-call.lane c.run.new.lane so_far.0 made.0 so_far.2 made.2,
+        rw c.push_reserved.ensures.items (hands_more c.args.lane.now c.loop-call.lane c.run.new.lane c.loop-call.replies.items c.run.result so_far.0 made.0 so_far.2 so_far.3 made.3),
       );
       count = omega (arith, c.push_reserved.ensures.len, c.loop-call.invariant.count, length-append c.loop-call.yielded (c.in-Some.call ∷ []));
       room = omega (arith, c.push_reserved.ensures.capacity, c.loop-call.invariant.room);
@@ -46,4 +48,9 @@ returns-clause-ran c =
     let none = none_left rest.items (omega (arith, c.in-None.ensures.steps.0, rest.ok.0)) in
     let all = sym (append-nil c.loop-call.yielded) ∙ ap (λ xs. c.loop-call.yielded ++ xs) (sym none) ∙ c.loop-call.invariant.left in
     let made = c.loop-call.invariant.made in
-    (made.0, rw (← all) made.1, made.2)
+    (made.0, rw (← all) made.1, made.2, made.3)
+
+pub returns-clause-legal : goal.returns-clause-legal
+returns-clause-legal c =
+    let made = c.loop-call.invariant.made in
+    hands_legal c.args.lane.now c.loop-call.lane c.loop-call.replies.items made.0 made.2 made.3

@@ -1,4 +1,4 @@
-use Rattle.std.proofs.Common.{arith, ◌≡◌, sym, ◌∙◌, ap, refl}
+use Rattle.std.proofs.Common.{arith, refl}
 use Rattle.smx_lane.specs.Inside.{content_of}
 use Rattle.smx_history.proofs.ShiftAgrees.{AgreesWith-turned}
 use Rattle.smx_lane.proofs.lane.Lane.turn_over.Goals as goal

@@ -1,0 +1,12 @@
+pub mod Passing
+pub mod AdmitFits
+pub mod AcceptFits
+pub mod TakeFits
+pub mod SettleFits
+pub mod CollectFits
+pub mod Counting
+pub mod CountedEntries
+pub mod CountedSettle
+pub mod Nth
+pub mod Marking
+pub mod Steps
