@@ -20,15 +20,15 @@ pub enters_of : (c : ℕ) (f g s p : Front Note Limits) → SplitServes f g s �
 enters_of c f g s p h a = record {
   served = (s, h, a);
   begins =
-      let t = h.2.serves.begins in
+      let t = h.hold.serves.begins in
       let u = a.2.serves.begins in
       let new = note s.number (event.Admit c) ∷ [] in
-      let first : s.seen ≡ f.seen ++ t.0 = h.5 ∙ sym t.1 in (
+      let first : s.seen ≡ f.seen ++ t.0 = h.seen ∙ sym t.1 in (
         t.0 ++ (u.0 ++ new),
         sym (append_assoc f.seen t.0 (u.0 ++ new)) ∙ ap (λ l. l ++ (u.0 ++ new)) (sym first) ∙ sym (append_assoc s.seen u.0 new) ∙ ap (λ l. l ++ new) u.1 ∙ sym a.2.serves.seen,
       );
-  mine = a.2.serves.mine ∙ ap (λ l. l ++ note s.number (event.Admit c) ∷ []) h.6 ∙ ap (λ k. note k (event.Admit c) ∷ []) (sym a.2.serves.number);
-  lock = a.2.serves.lock ∙ h.3;
+  mine = a.2.serves.mine ∙ ap (λ l. l ++ note s.number (event.Admit c) ∷ []) h.mine ∙ ap (λ k. note k (event.Admit c) ∷ []) (sym a.2.serves.number);
+  lock = a.2.serves.lock ∙ h.lock;
 }
 
 -- who was admitted alone is a member

@@ -1,7 +1,7 @@
 -- What a port keeps, when notes are added to its fronts.
 use Rattle.std.proofs.Common.{◌≡◌, ◌≢◌, ◌<◌, ◌≤◌, ◌+◌, ◌==◌, ◌^◌, ◌||◌, ◌&&◌, ℕ, Bool, true, false, List, [], ◌∷◌, ◌++◌, length, set, slice_get, get_or, Option, Some, None, Ok, Err, Result, refl, sym, ◌∙◌, ap, subst, arith, inl, inr, length-append, if◌then◌else◌}
 use Rattle.std.specs.List.{AllByRecursion}
-use Rattle.std.proofs.lemmas.List.{append-nil, map-append, length-set}
+use Rattle.std.proofs.lemmas.List.{append-nil, length-set}
 use Rattle.std.proofs.lemmas.List.Elements.{filter_map-append}
 use Rattle.std.proofs.lemmas.List.Folds.{list_any-append}
 use Rattle.std.proofs.lemmas.Bool.{cases_lt, cases_eq, eq-eqb, ne_eqb}
@@ -20,7 +20,8 @@ use Rattle.smx_history.specs.History.{entries_of, note, request_in, requests}
 use Rattle.smx_history.proofs.Growing.{any_kept}
 use Rattle.smx_shared.specs.Views.{PortView, locks_of}
 use Rattle.smx_shared.specs.Offers.{Accepted, requests_on, request_for}
-use Rattle.smx_shared.specs.Ports.{IsMemberBy, IsBelow, IsPort, HasAccepted}
+use Rattle.smx_shared.specs.Ports.{IsMemberBy, IsPort, HasAccepted}
+use Rattle.smx_shared.specs.Steps.{IsBelow}
 use Rattle.smx_shared.specs.Serving.{CollectServes, Waited, Tried}
 use Rattle.smx_shared.specs.Submits.{Passed, WentBy, AcceptsOn, StopsOn, Refuses, request_of, start_of}
 use Rattle.smx_shared.specs.declared.offer.Offer.{Offer}

@@ -15,7 +15,8 @@ use Rattle.smx_shared.specs.declared.fault.TakeFault as take_fault
 use Rattle.smx_shared.specs.declared.fault.TakeFault.TheVariants as takes
 use Rattle.smx_shared.specs.declared.fault.TryTakeFault as try_fault
 use Rattle.smx_shared.specs.declared.fault.TryTakeFault.TheVariants as tries
-use Rattle.smx_shared.specs.Serving.{Takes, TriesTake, AnswerServes, TurnServes, TurnsBy}
+use Rattle.smx_shared.specs.Serving.{Takes, TriesTake, AnswerServes, TurnServes}
+use Rattle.smx_shared.specs.Steps.{TurnsBy}
 use Rattle.std.specs.Option.{option_map}
 use Rattle.smx_history.specs.declared.entry.Entry.{Entry}
 use Rattle.smx_shared.specs.Taps.{Queued, known, known_of, known_by_take, known_by_answer}

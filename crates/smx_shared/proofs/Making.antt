@@ -7,7 +7,7 @@ use Rattle.smx_lock.specs.Fronts.{Front, LockId, first_front}
 use Rattle.smx_history.specs.declared.limits.Limits.{Limits}
 use Rattle.smx_history.specs.declared.note.Note.{Note}
 use Rattle.smx_shared.specs.Views.{TapView, locks_of}
-use Rattle.smx_shared.specs.Making.{AreLocks, Tapped}
+use Rattle.smx_shared.specs.Making.{AreLocks, Tapped, IsUnused}
 use Rattle.smx_shared.specs.Serving.{SplitServes}
 use Rattle.smx_shared.proofs.Lists.{All-both}
 
@@ -44,7 +44,7 @@ taps_locks lanes locks new taps count tapped k d within =
     let now = has_at new k (omega (arith, within, tapped.made_count, count, tapped.count, n)) in
     let served = tapped.each k (first_front {N = Note} {F = Limits} l.0) now.0 t.0 was now.1 t.1 in
     subst (λ (x : TapView). slice_get locks x.lane ≡ Some x.front.lock) (sym (get_or_from_slice_get taps k t.0 d t.1))
-    (ap (slice_get locks) served.0 ∙ l.1 ∙ ap Some (sym served.1.3))
+    (ap (slice_get locks) served.0 ∙ l.1 ∙ ap Some (sym served.1.lock))
 
 pub tapped_firsts : (lanes : ℕ) (locks : List (LockId Limits)) (seats new : List (Front Note Limits)) (taps : List TapView) → seats ≡ map first_front locks → length locks ≡ lanes
     → Tapped (length seats) seats new taps → Tapped lanes (map first_front locks) new taps
@@ -52,10 +52,31 @@ tapped_firsts lanes locks seats new taps is count tapped =
     subst (λ n. Tapped n (map (first_front {N = Note} {F = Limits}) locks) new taps) (length-map locks (first_front {N = Note} {F = Limits}) ∙ count)
     (subst (λ fs. Tapped (length fs) fs new taps) is tapped)
 
--- a tap's first history is empty, since the seat that made it was alone
-pub tap_empty : (l : LockId Limits) (g s : Front Note Limits) → SplitServes (first_front l) g s → s.seen ≡ []
-tap_empty l g s split = split.5 ∙ split.2.serves.alone refl
+-- the seats of a lane after its first split: that first seat was alone
+door_unused : (l : LockId Limits) (g s : Front Note Limits) → SplitServes (first_front l) g s → IsUnused g
+door_unused l g s split = (split.hold.serves.seen ∙ ap (λ h. h ++ []) (split.hold.serves.alone refl), split.hold.serves.mine, split.second refl)
 
--- and so is the door's then
-pub door_empty : (l : LockId Limits) (g s : Front Note Limits) → SplitServes (first_front l) g s → g.seen ≡ []
-door_empty l g s split = split.2.serves.seen ∙ ap (λ h. h ++ []) (split.2.serves.alone refl)
+tap_unused : (l : LockId Limits) (g s : Front Note Limits) → SplitServes (first_front l) g s → IsUnused s
+tap_unused l g s split = (split.seen ∙ split.hold.serves.alone refl, split.mine, split.seats ∙ split.second refl)
+
+-- on lane k of a new exchange one hold made the tap
+made_at : (lanes k : ℕ) (locks : List (LockId Limits)) (new : List (Front Note Limits)) (taps : List TapView) → length locks ≡ lanes → Tapped lanes (map first_front locks) new taps → k < lanes
+    → (l : LockId Limits) × (g : Front Note Limits) × (t : TapView) × (slice_get new k ≡ Some g) × (slice_get taps k ≡ Some t) × SplitServes (first_front l) g t.front
+made_at lanes k locks new taps count tapped within =
+    let l = has_at locks k (omega (arith, within, count)) in
+    let was : slice_get (map (first_front {N = Note} {F = Limits}) locks) k ≡ Some (first_front {N = Note} {F = Limits} l.0) = slice_get-map (first_front {N = Note} {F = Limits}) locks k ∙ ap (option_map (first_front {N = Note} {F = Limits})) l.1 in
+    let g = has_at new k (omega (arith, within, count, tapped.count, length-map locks (first_front {N = Note} {F = Limits}))) in
+    let t = has_at taps k (omega (arith, within, tapped.made_count)) in
+    (l.0, g.0, t.0, g.1, t.1, (tapped.each k (first_front {N = Note} {F = Limits} l.0) g.0 t.0 was g.1 t.1).1)
+
+pub doors_unused : (lanes : ℕ) (locks : List (LockId Limits)) (new : List (Front Note Limits)) (taps : List TapView) → length locks ≡ lanes → Tapped lanes (map first_front locks) new taps
+    → All IsUnused new
+doors_unused lanes locks new taps count tapped k d within =
+    let m = made_at lanes k locks new taps count tapped (omega (arith, within, count, tapped.count, length-map locks (first_front {N = Note} {F = Limits}))) in
+    subst IsUnused (sym (get_or_from_slice_get new k m.1 d m.3)) (door_unused m.0 m.1 m.2.front m.5)
+
+pub taps_unused : (lanes : ℕ) (locks : List (LockId Limits)) (new : List (Front Note Limits)) (taps : List TapView) → length locks ≡ lanes → Tapped lanes (map first_front locks) new taps
+    → All (λ (t : TapView). IsUnused t.front) taps
+taps_unused lanes locks new taps count tapped k d within =
+    let m = made_at lanes k locks new taps count tapped (omega (arith, within, tapped.made_count)) in
+    subst (λ (t : TapView). IsUnused t.front) (sym (get_or_from_slice_get taps k m.2 d m.4)) (tap_unused m.0 m.1 m.2.front m.5)

@@ -3,7 +3,6 @@ use Rattle.std.proofs.Common.{◌≡◌, ◌<◌, ◌≤◌, ◌==◌, ℕ, Bool
 use Rattle.std.specs.Option.{option_map}
 use Rattle.std.specs.List.{list_any, AllByRecursion, AllZip, cons_option}
 use Rattle.std.proofs.lemmas.List.{take-append-drop}
-use Rattle.std.proofs.lemmas.List.Elements.{filter_agree}
 use Rattle.std.proofs.lemmas.Bool.{eq-eqb, eqb-true, ne_eqb, and_parts, and_from, both_ways, false_from_ne_true}
 use Rattle.smx_lock.specs.Rule.{notes_of}
 use Rattle.smx_lock.specs.Fronts.{Front, Hold, Finds}
@@ -23,14 +22,14 @@ use Rattle.smx_history.specs.Contents.{Content, Member, AgreesWith, IsMemberAfte
 use Rattle.smx_lane.specs.Kept.{writer, limits_of, suits}
 use Rattle.smx_history.specs.Replies.{member_with, refusal_for, accept_refusal, has_room}
 use Rattle.smx_history.proofs.Growing.{any_kept}
-use Rattle.smx_history.proofs.Counts.{filter-map}
 use Rattle.smx_history.proofs.Reading.{All-from_get, All-filtered, any_at}
 use Rattle.smx_history.proofs.Sizes.{present_served}
 use Rattle.smx_history.proofs.Taking.{any_none}
 use Rattle.smx_history.proofs.Finding.{absent}
 use Rattle.smx_history.specs.Finding.{is_present}
 use Rattle.smx_shared.proofs.Lists.{All-in_filter, All-at, any_weaken}
-use Rattle.smx_shared.specs.Ports.{IsMemberBy, IsBelow}
+use Rattle.smx_shared.specs.Ports.{IsMemberBy}
+use Rattle.smx_shared.specs.Steps.{IsBelow}
 
 by_is : (by : ℕ) (e : Event) → (entry_by by e).by ≡ by
 by_is by (event.Admit c) = refl

@@ -9,3 +9,5 @@ pub mod Rounds
 pub mod Entering
 pub mod Making
 pub mod Ending
+pub mod Tokens
+pub mod Steps

@@ -1,5 +1,5 @@
 -- How an exchange is made.
-use Rattle.std.specs.Prelude.{◌≡◌, ◌<◌, ◌≤◌, ◌^◌, ℕ, List, length, map}
+use Rattle.std.specs.Prelude.{◌≡◌, ◌<◌, ◌≤◌, ◌^◌, ℕ, List, [], length, map}
 use Rattle.std.specs.List.{AllByRecursion}
 use Rattle.smx_lock.specs.Fronts.{Front, LockId, first_front}
 use Rattle.smx_history.specs.declared.limits.Limits.{Limits}
@@ -43,3 +43,7 @@ pub record Opens (lanes : ℕ) (limits : Limits) (starts : Starts) (locks : List
   pub numbers : (door.next ≡ starts.client) × (door.ordinal ≡ starts.ordinal)
   pub seats : locks_of door.fronts ≡ locks
   pub tapped : Tapped lanes (map first_front locks) door.fronts taps
+
+-- the seat of a lane on which nothing was noted yet, one of two
+abbrev pub IsUnused : Front Note Limits → Type 0
+IsUnused f = (f.seen ≡ []) × (f.mine ≡ []) × (f.seats ≡ 2)

@@ -7,10 +7,6 @@ use Rattle.smx_shared.specs.declared.offer.Offer.{Offer}
 abbrev pub request_for : ℕ → ℕ → Offer → Request
 request_for c n o = record { client = c; ordinal = n; own = o.own; command = o.command; body = o.body; forwarded = o.forwarded }
 
--- a request without its client and its ordinal
-abbrev pub offer_of : Request → Offer
-offer_of r = record { own = r.own; command = r.command; body = r.body; forwarded = r.forwarded }
-
 -- an offer that was accepted, and the lane that accepted it
 pub record Accepted : Type 0 where
   pub lane : ℕ

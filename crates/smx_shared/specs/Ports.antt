@@ -14,10 +14,6 @@ pub record IsMemberBy (c : ℕ) (f : Front Note Limits) : Type 0 where
   pub admitted : is_admitted f.number c (entries_of f.mine) ≡ true
   pub stays : is_retired c (entries_of f.mine) ≡ false
 
--- the ordinals that the seat's own notes accept are below n
-abbrev pub IsBelow : ℕ → Front Note Limits → Type 0
-IsBelow n f = AllByRecursion (λ r. r.ordinal < n) (requests f.mine)
-
 -- These are the port's accepts, in order, over all its lanes: they bear the ordinals from its first on, one each and no other, and each stands in the
 -- port's own notes on the lane named and on no other.
 pub record HasAccepted (v : PortView) (all : List Accepted) : Type 0 where

@@ -1,7 +1,6 @@
 -- One hold of a lane's lock serves one call.
 use Rattle.std.specs.Prelude.{◌≡◌, ◌≢◌, ◌⊎◌, ◌+◌, ◌<◌, ◌≤◌, length, ℕ, List, [], ◌∷◌, Option, Some, None, Result, Ok, Err, slice_get}
 use Rattle.std.specs.List.{find}
-use Rattle.std.specs.Option.{option_map}
 use Rattle.smx_ticket_core.specs.Machine.{most}
 use Rattle.smx_lock.specs.Rule.{notes_of}
 use Rattle.smx_lock.specs.Fronts.{Front, Serves, IsSpent, Refused}
@@ -111,15 +110,21 @@ TurnServes f g least None = (found : List Note) × (v : Content) × OneHold f g 
 abbrev pub StaysServes : Front Note Limits → Front Note Limits → Type 0
 StaysServes f g = (found : List Note) × (v : Content) × OneHold f g found [] v
 
--- what a turn answers, of lists that show these entries
-abbrev pub TurnsBy : {V E : Type 0} → (V → List Entry) → Front Note Limits → Front Note Limits → ℕ → Result (Option V) E → Type 0
-TurnsBy entries f g least (Ok list) = TurnServes f g least (option_map entries list)
-TurnsBy entries f g least (Err _) = StaysServes f g
-
--- one hold made a seat, which has seen what it found, under a number above its own that no seat had
-abbrev pub SplitServes : Front Note Limits → Front Note Limits → Front Note Limits → Type 0
-SplitServes f g s = (found : List Note) × (v : Content) × OneHold f g found [] v × (s.lock ≡ f.lock) × (s.caller ≡ Idle) × (s.seen ≡ found) × (s.mine ≡ []) × (s.last ≡ 0)
-    × (s.number + 1 ≡ g.seats) × (s.seats ≡ g.seats) × (f.number < s.number) × (notes_of writer s.number found ≡ [])
+-- One hold made a seat, which has seen what that hold found, under a number above the holder's that no seat had. There is one seat more, and a holder that was alone made the second
+pub record SplitServes (f g s : Front Note Limits) : Type 0 where
+  pub found : List Note
+  pub content : Content
+  pub hold : OneHold f g found [] content
+  pub lock : s.lock ≡ f.lock
+  pub caller : s.caller ≡ Idle
+  pub seen : s.seen ≡ found
+  pub mine : s.mine ≡ []
+  pub last : s.last ≡ 0
+  pub number : s.number + 1 ≡ g.seats
+  pub seats : s.seats ≡ g.seats
+  pub above : f.number < s.number
+  pub unused : notes_of writer s.number found ≡ []
+  pub second : f.seats ≡ 1 → g.seats ≡ 2
 
 -- no seat was made: every ticket was drawn, or one hold found that 2^62 seats were made
 abbrev pub SplitFails : Front Note Limits → Front Note Limits → Type 0

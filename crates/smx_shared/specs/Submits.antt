@@ -39,16 +39,6 @@ WentBy false start count lane r old new = (m : List (Front Note Limits)) × Pass
 abbrev pub Went : ℕ → ℕ → ℕ → Request → List (Front Note Limits) → List (Front Note Limits) → Type 0
 Went start count lane r old new = WentBy (nat_le start lane) start count lane r old new
 
--- what a round over some lanes in a row leaves
-abbrev pub Accepts : ℕ → ℕ → Request → List (Front Note Limits) → List (Front Note Limits) → ℕ → Type 0
-Accepts from to r old new lane = (mid : List (Front Note Limits)) × (from ≤ lane) × (lane < to) × Passed from lane r old mid
-    × OnLane lane mid new (λ f g. AcceptServes f g r (Ok tt))
-
-abbrev pub Stops : ℕ → ℕ → Request → List (Front Note Limits) → List (Front Note Limits) → SubmitFault → Type 0
-Stops from to r old new fault.AllFull = Passed from to r old new
-Stops from to r old new fault.Spent = (lane : ℕ) × (mid : List (Front Note Limits)) × (from ≤ lane) × (lane < to) × Passed from lane r old mid × OnLane lane mid new IsSpent
-Stops from to r old new fault.Exhausted = ⊥
-
 -- the request that the port's next offer becomes
 abbrev pub request_of : PortView → Offer → Request
 request_of v o = request_for v.client v.next o

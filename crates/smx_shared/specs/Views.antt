@@ -1,25 +1,9 @@
 -- What contracts see of a tap, a port, a door, and what a call noted.
-use Rattle.std.specs.Prelude.{ℕ, List, [], ◌∷◌, map, Option, Some, None}
+use Rattle.std.specs.Prelude.{ℕ, List, [], map, Option, Some, None}
 use Rattle.smx_ticket_core.specs.declared.callers.Caller.TheVariants.{Idle}
 use Rattle.smx_lock.specs.Fronts.{LockId, Front}
 use Rattle.smx_history.specs.declared.limits.Limits.{Limits}
 use Rattle.smx_history.specs.declared.note.Note.{Note}
-use Rattle.smx_history.specs.declared.note.Event.TheVariants as event
-use Rattle.smx_history.specs.History.{note, shift}
-use Rattle.smx_shared.specs.declared.did.Did.{Did}
-use Rattle.smx_shared.specs.declared.did.Did.TheVariants.{Admitting, Accepting, Taking, Answering, BeingLate, Collecting, Retiring, Turning, Nothing}
-
--- the notes that the seat of the number k makes
-abbrev pub notes_told : Did → ℕ → List Note
-notes_told (Admitting c) k = note k (event.Admit c) ∷ []
-notes_told (Accepting r) k = note k (event.Accept r.value) ∷ []
-notes_told (Taking c n u) k = note k (event.Take c n u) ∷ []
-notes_told (Answering c n p) k = note k (event.Answer c n p.value) ∷ []
-notes_told (BeingLate c n p) k = note k (event.Late c n p.value.number p.value.command) ∷ []
-notes_told (Collecting c n) k = note k (event.Collect c n) ∷ []
-notes_told (Retiring c) k = note k (event.Retire c) ∷ []
-notes_told Turning k = shift k ∷ []
-notes_told Nothing k = []
 
 -- a tap: its lane, and the front of its seat there
 pub record TapView : Type 0 where

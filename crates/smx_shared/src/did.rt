@@ -21,7 +21,7 @@ pub(crate) enum Did {
 }
 
 impl Told<Note> for Did {
-    ghost use Rattle.smx_shared.specs.Views.{notes_told};
+    ghost use Rattle.smx_shared.specs.Steps.{notes_told};
 
     ghost notes = { notes_told };
 }

@@ -34,8 +34,10 @@ impl Model for Door {
 }
 
 impl Door {
-    /// Enters the next client: its port has a seat on every lane. It may wait at each lane, twice.
-    /// At a refusal after the first the client is retired again on the lanes that it entered.
+    /// Enters the next client: its port has a seat on every lane. It may wait at each lane, twice:
+    /// the door's seat makes the new one, which admits the client. At a refusal after the first the
+    /// client is retired again on the lanes that it entered, which may wait once more, but for those
+    /// whose tickets are spent.
     pub fn enter<R: Wait>(&mut self, at: &Exchange, rt: &R) -> Result<Port, EnterFault>
         requires { locks_of self.old.fronts ≡ at.now }
         ensures ok { IfOk result (Admits self.old self.new) }

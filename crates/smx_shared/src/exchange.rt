@@ -2,7 +2,8 @@
 ghost use Rattle.std.specs.Prelude.{◌≡◌, ◌<◌, ◌≤◌, [], length, slice_get, vec_capacity, Some, All, IfOk, IfErr};
 ghost use Rattle.smx_shared.specs.Ending.{AreGiven, GivenBefore};
 ghost use Rattle.smx_shared.specs.Views.{locks_of};
-ghost use Rattle.smx_shared.specs.Making.{AreStarts, Opens, IsMakeFault};
+ghost use Rattle.smx_shared.specs.Making.{AreStarts, Opens, IsUnused, IsMakeFault};
+ghost use Rattle.smx_shared.specs.Tokens.{SawOneHistory};
 
 use crate::door::Door;
 use crate::fault::{MakeFault, StateOut};
@@ -10,6 +11,7 @@ use crate::lane_seat::LaneSeat;
 use crate::make::{make_locks, split_taps};
 use crate::starts::Starts;
 use crate::tap::Tap;
+use crate::token::{HasSeat, Token};
 use smx_history::Limits;
 use smx_lane::Lane;
 use smx_lock::TicketLock;
@@ -40,8 +42,8 @@ impl Model for Exchange {
 }
 
 impl Exchange {
-    /// Lanes under the limits, with a door and, for each lane in order, a tap. It holds each lane
-    /// once, and may wait there.
+    /// Empty lanes under the limits, with a door and, for each lane in order, a tap. It holds each
+    /// lane once, and may wait there.
     pub fn new<R: Wait>(
         rt: &R,
         alloc: Global,
@@ -50,6 +52,7 @@ impl Exchange {
     ) -> Result<(Exchange, Door, Vec<Tap>), MakeFault>
         ensures ok { IfOk result (λ made. Opens lanes limits Starts.FIRST made.0 made.1 made.2.items) }
         ensures taps { IfOk result (λ made. All (λ t. slice_get made.0 t.lane ≡ Some t.front.lock) made.2.items) }
+        ensures empty { IfOk result (λ made. All IsUnused made.1.fronts × All (λ t. IsUnused t.front) made.2.items) }
         ensures err { IfErr result (IsMakeFault lanes limits) }
     {
         Exchange::new_at(rt, alloc, limits, lanes, Starts::FIRST)
@@ -66,6 +69,7 @@ impl Exchange {
         requires { AreStarts starts }
         ensures ok { IfOk result (λ made. Opens lanes limits starts made.0 made.1 made.2.items) }
         ensures taps { IfOk result (λ made. All (λ t. slice_get made.0 t.lane ≡ Some t.front.lock) made.2.items) }
+        ensures empty { IfOk result (λ made. All IsUnused made.1.fronts × All (λ t. IsUnused t.front) made.2.items) }
         ensures err { IfErr result (IsMakeFault lanes limits) }
     {
         if lanes == 0 || lanes > 16 {
@@ -85,6 +89,20 @@ impl Exchange {
             seats,
         };
         Ok((Exchange { locks, room, alloc }, door, taps))
+    }
+
+    /// Two tokens have seen one history of the lane: what one has seen there begins with what the
+    /// other has. Both stay as they were. It never waits, takes no memory, and at run time is three
+    /// loads.
+    // No clause says that the two have different numbers on the lane. That shows only at run time, in
+    // the entries that they leave.
+    pub fn compare<A: Token, B: HasSeat>(&self, one: &mut A, other: &mut B, lane: usize)
+        requires one { A.fits one.old self.now lane }
+        requires other { B.fits other.old self.now lane }
+        ensures same { (one.new ≡ one.old) × (other.new ≡ other.old) }
+        ensures one_history { SawOneHistory (A.front_on one.old lane) (B.front_on other.old lane) }
+    {
+        one.compare_token(self, lane, other);
     }
 
     /// Ends the lanes' locks and gives the lanes, in order. Each agrees with a history that begins

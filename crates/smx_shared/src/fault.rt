@@ -26,7 +26,7 @@ pub enum EnterFault {
     /// Client 2^62 was given.
     #[error("every client number was given")]
     Exhausted,
-    /// A lane's tickets were drawn, or all its seats given out.
+    /// Every ticket of a lane was drawn, or it has 2^62 seats.
     #[error("every ticket or seat was given out")]
     Spent,
     /// A lane has no room for what may follow of one more client.
@@ -35,7 +35,8 @@ pub enum EnterFault {
     /// The seats' list, or the client's row or box on a lane, could not be made.
     #[error("no memory for the client")]
     NoMemory,
-    /// A lane has admitted this client or one above it. No call of this crate leads there.
+    /// A lane has admitted this client or one above it. The door gives each number once and in
+    /// rising order, so this is not met; no clause says so.
     #[error("the client's number is not above every number admitted so far")]
     Known,
 }
@@ -54,13 +55,13 @@ pub enum SubmitFault {
     AllFull,
 }
 
-/// Why no entries are handed out.
+/// Why no entries are handed out. The lane goes on as it was.
 #[derive(Clone, Copy, Debug, PartialEq, Eq, Error)]
 pub enum TurnFault {
     /// Every ticket was drawn.
     #[error("every ticket was drawn")]
     Spent,
-    /// There is no memory for the new list.
+    /// There is no memory for a new list of as many places as the limits' `history`.
     #[error("no memory for a new list of entries")]
     NoMemory,
 }

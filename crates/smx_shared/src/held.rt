@@ -8,7 +8,8 @@ ghost use Rattle.smx_history.specs.Contents.{AgreesWith};
 ghost use Rattle.smx_history.specs.Replies.{accept_refusal, member_with};
 ghost use Rattle.smx_lane.specs.Conditions.{IsOwn, IsNext};
 ghost use Rattle.smx_lane.specs.Kept.{writer, limits_of, suits};
-ghost use Rattle.smx_shared.specs.Serving.{TurnsBy, TakeServes, AnswerServes, AcceptServes, CollectServes, AdmitServes, RetireServes};
+ghost use Rattle.smx_shared.specs.Serving.{TakeServes, AnswerServes, AcceptServes, CollectServes, AdmitServes, RetireServes};
+ghost use Rattle.smx_shared.specs.Steps.{TurnsBy};
 
 use crate::did::Did;
 use smx_history::{Answered, Entry, Refusal, Request, TakeRefusal};

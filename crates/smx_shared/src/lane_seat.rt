@@ -1,11 +1,15 @@
 //! A seat on one lane. Each call is served by one hold of the lane's lock.
-ghost use Rattle.std.specs.Prelude.{◌≡◌, ◌<◌, MatchResult};
+ghost use Rattle.std.specs.Prelude.{◌≡◌, ◌<◌, ◌⊎◌, MatchResult};
+ghost use mathlib.Core.List.{IsPrefix};
 ghost use Rattle.smx_lock.specs.Fronts.{IsSpent};
-ghost use Rattle.smx_shared.specs.Serving.{TurnsBy, TakeServes, AnswerServes, AcceptServes, CollectServes, AdmitServes, RetireServes, SplitServes, SplitFails, Waited, Tried};
-ghost use Rattle.smx_shared.specs.Ports.{IsMemberBy, IsBelow};
+ghost use Rattle.smx_shared.specs.Serving.{TakeServes, AnswerServes, AcceptServes, CollectServes, AdmitServes, RetireServes, SplitServes, SplitFails, Waited, Tried};
+ghost use Rattle.smx_shared.specs.Ports.{IsMemberBy};
+ghost use Rattle.smx_shared.specs.Steps.{IsBelow, TurnsBy};
 
 use crate::did::Did;
-use crate::held::{accept_held, admit_held, answer_held, collect_held, retire_held, take_held, turn_held};
+use crate::held::{
+    accept_held, admit_held, answer_held, collect_held, retire_held, take_held, turn_held,
+};
 use smx_history::{Answered, Entry, Refusal, Request, TakeRefusal};
 use smx_lane::{AdmitFault, Lane, Sent};
 use smx_lock::{LockSeat, Spent, TicketLock, TryFault};
@@ -14,9 +18,10 @@ use std::alloc::AllocError;
 use std::marker::Model;
 use std::sync::Wait;
 
-// A seat on one lane, in place between two calls. Contracts see its front.
+/// A seat on one lane, in place between two calls. Contracts see its front. It can't be named
+/// outside the crate.
 #[derive(Drop)]
-pub(crate) struct LaneSeat {
+pub struct LaneSeat {
     seat: Option<LockSeat<Lane>>,
 }
 
@@ -223,6 +228,21 @@ impl LaneSeat {
                 Err(fault)
             }
         }
+    }
+
+    // What one of the two seats has seen begins with what the other has.
+    pub(crate) fn compare(&mut self, lock: &TicketLock<Lane>, other: &mut LaneSeat)
+        requires own { self.old.lock ≡ lock.now }
+        requires other { other.old.lock ≡ lock.now }
+        ensures same { (self.new ≡ self.old) × (other.new ≡ other.old) }
+        ensures one_history { IsPrefix self.old.seen other.old.seen ⊎ IsPrefix other.old.seen self.old.seen }
+    {
+        let (Some(mut mine), Some(mut theirs)) = (self.seat.take(), other.seat.take()) else {
+            unreachable!()
+        };
+        lock.compare(&mut mine, &mut theirs);
+        self.seat = Some(mine);
+        other.seat = Some(theirs);
     }
 
     pub(crate) fn new(seat: LockSeat<Lane>) -> LaneSeat

@@ -1,8 +1,10 @@
 //! Lanes that threads share through tokens.
 //!
 //! An `Exchange` keeps the lanes, each under its ticket lock. A `Door` enters clients, a `Port` is
-//! one client's right to submit, to collect and to leave, and a `Tap` takes from one lane and brings
-//! its answers. Each call of a token is served by one hold of each lane that it uses.
+//! one client's right to submit, to collect and to leave, and a `Tap` takes from one lane, brings its
+//! answers and turns it over. A call of a port or a tap is served by one hold of each lane that it
+//! uses. `Door::enter` holds each lane twice, to make a seat and by that seat, and a lane that it
+//! leaves again a third time.
 #![tactic(auto)]
 
 mod admit;
@@ -23,6 +25,7 @@ mod submit;
 mod tap;
 #[cfg(test)]
 mod tests;
+mod token;
 
 pub use door::Door;
 pub use exchange::Exchange;
@@ -31,3 +34,4 @@ pub use offer::Offer;
 pub use port::Port;
 pub use starts::Starts;
 pub use tap::Tap;
+pub use token::{HasSeat, Token};

@@ -7,7 +7,8 @@ ghost use Rattle.smx_history.specs.declared.note.Event.TheVariants.{Admit};
 ghost use Rattle.smx_history.specs.History.{note};
 ghost use Rattle.smx_shared.specs.Views.{locks_of};
 ghost use Rattle.smx_shared.specs.Serving.{CollectServes, Waited, Tried};
-ghost use Rattle.smx_shared.specs.Offers.{Accepted, accepted_by, offer_of, request_for};
+ghost use Rattle.smx_shared.specs.Offers.{Accepted, accepted_by, request_for};
+ghost use Rattle.smx_shared.specs.Steps.{offer_of};
 ghost use Rattle.smx_shared.specs.Ports.{IsPort, HasAccepted};
 ghost use Rattle.smx_shared.specs.Leaving.{Left, Retired};
 ghost use Rattle.smx_shared.specs.Submits.{OnLane, Submitted, Refuses};
@@ -32,7 +33,7 @@ pub struct Port {
     client: u64,
     first: u64,
     next: u64,
-    seats: Vec<LaneSeat>,
+    pub(crate) seats: Vec<LaneSeat>,
 }
 
 impl Model for Port {
@@ -184,8 +185,10 @@ impl Port {
         self.seats.len()
     }
 
-    /// What a port keeps at every call: its accepts, in order, have the ordinals from its first to
-    /// its last, each once, each in its notes on the lane that `submit` named.
+    /// What a port keeps: there is a list of its accepts, with a lane for each, such that they have
+    /// the ordinals from its first to its last, one each and in order, and each is in the port's own
+    /// notes on its lane and on no other. On each lane these notes admit the client, and none
+    /// retires it. That the list is that of the answers of `submit`, the clauses `listed` say.
     pub fn law(&self)
         ensures { IsPort self.now }
     {

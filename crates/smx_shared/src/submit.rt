@@ -4,8 +4,9 @@ ghost use Rattle.smx_lock.specs.Fronts.{Front};
 ghost use Rattle.smx_history.specs.declared.limits.Limits.{Limits};
 ghost use Rattle.smx_history.specs.declared.note.Note.{Note};
 ghost use Rattle.smx_shared.specs.Views.{locks_of};
-ghost use Rattle.smx_shared.specs.Ports.{IsMemberBy, IsBelow};
-ghost use Rattle.smx_shared.specs.Submits.{Accepts, Stops, AcceptsOn, StopsOn};
+ghost use Rattle.smx_shared.specs.Ports.{IsMemberBy};
+ghost use Rattle.smx_shared.specs.Submits.{AcceptsOn, StopsOn};
+ghost use Rattle.smx_shared.specs.Steps.{Accepts, Stops, IsBelow};
 
 use crate::fault::SubmitFault;
 use crate::lane_seat::LaneSeat;

@@ -6,7 +6,7 @@ ghost use Rattle.smx_shared.specs.Serving.{TurnServes, IsTurnFault, Takes, Tries
 ghost use Rattle.smx_lock.specs.Fronts.{IsSpent};
 
 use crate::exchange::Exchange;
-use crate::fault::{TakeFault, TurnFault, TryTakeFault};
+use crate::fault::{TakeFault, TryTakeFault, TurnFault};
 use crate::lane_seat::LaneSeat;
 use smx_history::{Answered, Entry};
 use smx_lane::Sent;
@@ -21,7 +21,7 @@ use std::sync::Wait;
 #[derive(Drop)]
 pub struct Tap {
     lane: usize,
-    seat: LaneSeat,
+    pub(crate) seat: LaneSeat,
 }
 
 impl Model for Tap {
@@ -75,8 +75,13 @@ impl Tap {
         }
     }
 
-    /// Hands out the entries that the lane stored since its last shift, where they are at least so many; the lane goes on
-    /// with none. It may wait.
+    /// Hands out what all callers of the lane noted since its last shift, where that is `least`
+    /// entries or more; else it answers `None`, and nothing changed. The lane then goes on with no
+    /// entries, so that it never ends for a full history where its tap's owner calls this often
+    /// enough. The lane's requests, its window, its responses and its clients stay.
+    ///
+    /// It takes memory for one new list, of as many places as the limits' `history`; the old list is
+    /// handed out by move. It may wait.
     pub fn turn_over<R: Wait>(
         &mut self,
         at: &Exchange,

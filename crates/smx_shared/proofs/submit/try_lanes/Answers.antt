@@ -1,5 +1,6 @@
 use Rattle.std.proofs.Common.{sym, refl, ◌∙◌, subst, arith, ◌≡◌, Ok, ◌<◌}
-use Rattle.smx_shared.specs.Ports.{IsMemberBy, IsBelow}
+use Rattle.smx_shared.specs.Ports.{IsMemberBy}
+use Rattle.smx_shared.specs.Steps.{IsBelow}
 use Rattle.smx_shared.specs.Serving.{AcceptServes}
 use Rattle.smx_shared.specs.Submits.{Passed, FullServes}
 use Rattle.smx_shared.proofs.Passing.{passed_none, passed_on, lock_at, at_cur, at_old, full_of}

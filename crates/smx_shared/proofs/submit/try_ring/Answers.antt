@@ -1,6 +1,6 @@
 use Rattle.std.proofs.Common.{sym, subst}
-use Rattle.smx_shared.specs.Ports.{IsMemberBy, IsBelow}
-use Rattle.smx_shared.specs.Submits.{Stops}
+use Rattle.smx_shared.specs.Ports.{IsMemberBy}
+use Rattle.smx_shared.specs.Steps.{IsBelow, Stops}
 use Rattle.smx_shared.proofs.Growing.{passed_own}
 use Rattle.smx_shared.proofs.submit.try_ring.Goals as goal
 

@@ -1,6 +1,6 @@
 use Rattle.std.proofs.Common.{sym, refl, ◌∙◌, ap, arith}
 use Rattle.smx_shared.specs.Views.{locks_of}
-use Rattle.smx_shared.proofs.Making.{locks_of-firsts, tapped_firsts, taps_locks}
+use Rattle.smx_shared.proofs.Making.{locks_of-firsts, tapped_firsts, taps_locks, doors_unused, taps_unused}
 use Rattle.smx_shared.proofs.exchange.Exchange.new_at.Goals as goal
 
 pub split_taps-requires-clause-locks : goal.split_taps-requires-clause-locks
@@ -23,3 +23,12 @@ returns-clause-taps g c =
     let made = c.in_ok-locks.ensures in
     taps_locks c.args.lanes c.in_ok-locks.locks.items c.split_taps.new.seats.items c.split_taps.new.taps.items made.locks.count
     (tapped_firsts c.args.lanes c.in_ok-locks.locks.items c.in_ok-locks.seats.items c.split_taps.new.seats.items c.split_taps.new.taps.items made.seats made.locks.count c.in_ok-split_taps.ensures.ok)
+
+pub returns-clause-empty : goal.returns-clause-empty
+returns-clause-empty g c =
+    let made = c.in_ok-locks.ensures in
+    let locks = c.in_ok-locks.locks.items in
+    let door = c.split_taps.new.seats.items in
+    let taps = c.split_taps.new.taps.items in
+    let tapped = tapped_firsts c.args.lanes locks c.in_ok-locks.seats.items door taps made.seats made.locks.count c.in_ok-split_taps.ensures.ok in
+    (doors_unused c.args.lanes locks door taps made.locks.count tapped, taps_unused c.args.lanes locks door taps made.locks.count tapped)

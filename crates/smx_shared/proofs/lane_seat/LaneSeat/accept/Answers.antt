@@ -1,6 +1,7 @@
 use Rattle.std.proofs.Common.{sym, ◌∙◌, ap, subst}
 use Rattle.smx_shared.specs.Views.{front_in}
-use Rattle.smx_shared.specs.Ports.{IsMemberBy, IsBelow}
+use Rattle.smx_shared.specs.Ports.{IsMemberBy}
+use Rattle.smx_shared.specs.Steps.{IsBelow}
 use Rattle.smx_shared.proofs.Own.{own_rows, has_row}
 use Rattle.smx_shared.proofs.lane_seat.LaneSeat.accept.Goals as goal
 

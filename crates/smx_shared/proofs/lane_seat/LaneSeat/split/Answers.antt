@@ -14,17 +14,18 @@ returns-in-Ok-split-clause-served g c =
     let found = c.in-Ok.ensures.found in
     let left = c.release_told.ensures ∙ ap (λ x. after_hold x []) c.in-Ok-split.ensures.host in
     let guest = c.new.ensures ∙ c.in-Ok-split.ensures.guest in
-    subst (λ f. SplitServes f c.release_told.result c.new.result) is (
-      h.found,
-      h.value,
-      served_split c.in-Some.seat c.release_told.result h found left,
-      ap (λ z. z.lock) guest ∙ found.lock,
-      ap (λ z. z.caller) guest,
-      ap (λ z. z.seen) guest,
-      ap (λ z. z.mine) guest,
-      ap (λ z. z.last) guest,
-      ap (λ z. z.number + 1) guest ∙ sym (ap (λ z. z.seats) left),
-      ap (λ z. z.seats) guest ∙ sym (ap (λ z. z.seats) left),
-      subst (λ k. c.in-Some.seat.number < k) (sym (ap (λ z. z.number) guest)) (subst (λ k. k < h.seats) found.number found.one_seat),
-      ap (λ z. notes_of writer z.number h.found) guest ∙ found.no_others h.seats (omega arith),
-    )
+    subst (λ f. SplitServes f c.release_told.result c.new.result) is record {
+      found = h.found;
+      content = h.value;
+      hold = served_split c.in-Some.seat c.release_told.result h found left;
+      lock = ap (λ z. z.lock) guest ∙ found.lock;
+      caller = ap (λ z. z.caller) guest;
+      seen = ap (λ z. z.seen) guest;
+      mine = ap (λ z. z.mine) guest;
+      last = ap (λ z. z.last) guest;
+      number = ap (λ z. z.number + 1) guest ∙ sym (ap (λ z. z.seats) left);
+      seats = ap (λ z. z.seats) guest ∙ sym (ap (λ z. z.seats) left);
+      above = subst (λ k. c.in-Some.seat.number < k) (sym (ap (λ z. z.number) guest)) (subst (λ k. k < h.seats) found.number found.one_seat);
+      unused = ap (λ z. notes_of writer z.number h.found) guest ∙ found.no_others h.seats (omega arith);
+      second = λ alone. ap (λ z. z.seats) left ∙ ap (λ n. n + 1) (found.stays_alone alone);
+    }

@@ -1,6 +1,6 @@
 use Rattle.std.proofs.Common.{◌∙◌, ap, subst}
 use Rattle.smx_shared.specs.Views.{front_in}
-use Rattle.smx_shared.specs.Serving.{TurnsBy}
+use Rattle.smx_shared.specs.Steps.{TurnsBy}
 use Rattle.smx_shared.proofs.lane_seat.LaneSeat.turn_over.Goals as goal
 
 pub returns-in-Ok-clause-served : goal.returns-in-Ok-clause-served
