@@ -15,7 +15,8 @@ use Rattle.smx_history.specs.Entries.{accepts, takes, accepts_of, is_admitted, i
 use Rattle.smx_history.specs.Legal.{IsFifo, IsPaired, owed}
 use Rattle.smx_history.specs.History.{entry_by, note, marks_of, entries_of, requests, request_in}
 use Rattle.smx_history.specs.Contents.{AgreesWith, IsMemberAfter, Content, Member}
-use Rattle.smx_history.specs.Replies.{with_row, accepted, member_with}
+use Rattle.smx_history.specs.Replies.{member_with}
+use Rattle.smx_history.proofs.Updates.{with_row, accepted}
 use Rattle.smx_history.proofs.Refusals.{IsAllowed}
 use Rattle.smx_history.proofs.Reading.{entries_of-push, marks_of-push, shown-kept, places-kept, length-requests, responses-other}
 use Rattle.smx_history.proofs.Sizes.{length-queue, takes-le-accepts, size_agrees, found_admit, present_served}

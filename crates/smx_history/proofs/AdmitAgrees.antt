@@ -16,8 +16,9 @@ use Rattle.smx_history.specs.Entries.{is_admit, admits, present}
 use Rattle.smx_history.specs.Legal.{IsFifo}
 use Rattle.smx_history.specs.History.{entry_by, note, entries_of, responses, marks_of}
 use Rattle.smx_history.specs.Contents.{AgreesWith, IsAfter, IsMemberAfter, Content, Member, size_of}
-use Rattle.smx_history.specs.Room.{KeepsRoom, FitsBox}
-use Rattle.smx_history.specs.Replies.{admitted, new_row, admit_refusal, has_room}
+use Rattle.smx_history.proofs.Room.{KeepsRoom, FitsBox}
+use Rattle.smx_history.specs.Replies.{admit_refusal, has_room}
+use Rattle.smx_history.proofs.Updates.{admitted, new_row}
 use Rattle.smx_history.proofs.Reading.{marks_of-push, entries_of-push, length-responses, responses-other, places-kept, All-each}
 use Rattle.smx_history.proofs.Growing.{filter_push, AtEachPrefix-whole, RiseAbove-push, last_or-push, All-push}
 use Rattle.smx_history.proofs.Frames.{takes-other, accepts_of-other, collects_of-other, unanswered-other}

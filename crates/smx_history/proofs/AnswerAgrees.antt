@@ -16,8 +16,9 @@ use Rattle.smx_history.specs.Entries.{is_admitted, answers_of, collects_of, is_r
 use Rattle.smx_history.specs.Legal.{IsFifo, IsPaired}
 use Rattle.smx_history.specs.History.{entry_by, note, entries_of, responses, response_in, marks_of}
 use Rattle.smx_history.specs.Contents.{AgreesWith, IsAfter, IsMemberAfter, Content, Member, shown}
-use Rattle.smx_history.specs.Room.{KeepsRoom}
-use Rattle.smx_history.specs.Replies.{answered, response_for, member_with}
+use Rattle.smx_history.proofs.Room.{KeepsRoom}
+use Rattle.smx_history.specs.Replies.{member_with}
+use Rattle.smx_history.proofs.Updates.{answered, response_for}
 use Rattle.smx_history.proofs.Growing.{AtEachPrefix-whole, StartsWith-length}
 use Rattle.smx_history.proofs.Frames.{takes-other, accepts_of-other, collects_of-other, admits-other, present-other}
 use Rattle.smx_history.proofs.Reading.{marks_of-push, entries_of-push, shown-kept, own_of-kept, length-responses}

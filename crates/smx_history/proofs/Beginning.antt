@@ -5,8 +5,9 @@ use Rattle.smx_history.specs.declared.limits.Limits.{Limits}
 use Rattle.smx_history.specs.Prefixes.{AtEachPrefix, AtEach}
 use Rattle.smx_history.specs.Legal.{IsLegal, KeepsRules, IsFifo, AreApart, IsBounded, IsWithin, HasForm, StandsWell, IsPaired}
 use Rattle.smx_history.specs.Contents.{AgreesWith}
-use Rattle.smx_history.specs.Room.{KeepsRoom, AreLimits}
-use Rattle.smx_history.specs.Replies.{empty}
+use Rattle.smx_history.specs.Room.{AreLimits}
+use Rattle.smx_history.proofs.Room.{KeepsRoom}
+use Rattle.smx_history.proofs.Updates.{empty}
 
 AtEach-empty : {X : Type 0} (Q : List X → X → Type 0) → AtEach Q []
 AtEach-empty Q k x at = cc

@@ -14,8 +14,9 @@ use Rattle.smx_history.specs.Entries.{is_admitted, is_collect, answers_of, colle
 use Rattle.smx_history.specs.Legal.{IsFifo, IsPaired, IsServed}
 use Rattle.smx_history.specs.History.{entry_by, note, entries_of, responses, marks_of}
 use Rattle.smx_history.specs.Contents.{AgreesWith, IsAfter, IsMemberAfter, Content, Member, shown}
-use Rattle.smx_history.specs.Room.{KeepsRoom}
-use Rattle.smx_history.specs.Replies.{collected, with_row, member_with}
+use Rattle.smx_history.proofs.Room.{KeepsRoom}
+use Rattle.smx_history.specs.Replies.{member_with}
+use Rattle.smx_history.proofs.Updates.{collected, with_row}
 use Rattle.smx_history.proofs.Growing.{filter_push, AtEachPrefix-whole}
 use Rattle.smx_history.proofs.Frames.{takes-other, accepts_of-other, admits-other, present-other, unanswered-other}
 use Rattle.smx_history.proofs.Reading.{marks_of-push, entries_of-push, shown-kept, responses_are_answers, responses-other, places-kept}

@@ -9,8 +9,9 @@ use Rattle.smx_history.specs.declared.note.Event.TheVariants.{Accept}
 use Rattle.smx_history.specs.History.{entry_by}
 use Rattle.smx_history.specs.Prefixes.{RiseAbove}
 use Rattle.smx_history.specs.Contents.{Content, Member}
-use Rattle.smx_history.specs.Room.{KeepsRoom, FitsBox}
-use Rattle.smx_history.specs.Replies.{with_row, accepted, member_with}
+use Rattle.smx_history.proofs.Room.{KeepsRoom, FitsBox}
+use Rattle.smx_history.specs.Replies.{member_with}
+use Rattle.smx_history.proofs.Updates.{with_row, accepted}
 use Rattle.smx_history.proofs.Refusals.{IsAllowed}
 
 -- what a change of a row leaves as it is, it leaves so in all rows

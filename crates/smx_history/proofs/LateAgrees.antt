@@ -11,8 +11,9 @@ use Rattle.smx_pdu.specs.Command.{is_response_to}
 use Rattle.smx_history.specs.Entries.{is_accepted, is_retired, present}
 use Rattle.smx_history.specs.History.{entry_by, note, entries_of, marks_of}
 use Rattle.smx_history.specs.Contents.{AgreesWith, IsAfter, IsMemberAfter, Content, Member}
-use Rattle.smx_history.specs.Room.{KeepsRoom}
-use Rattle.smx_history.specs.Replies.{member_with, late}
+use Rattle.smx_history.proofs.Room.{KeepsRoom}
+use Rattle.smx_history.specs.Replies.{member_with}
+use Rattle.smx_history.proofs.Updates.{late}
 use Rattle.smx_history.proofs.Counts.{none_count}
 use Rattle.smx_history.proofs.Frames.{takes-other, admits-other, present-other}
 use Rattle.smx_history.proofs.Reading.{marks_of-push, entries_of-push}

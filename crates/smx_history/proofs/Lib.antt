@@ -1,4 +1,6 @@
 pub mod Growing
+pub mod Updates
+pub mod Room
 pub mod Counts
 pub mod Frames
 pub mod Reading

@@ -15,8 +15,9 @@ use Rattle.smx_history.specs.Entries.{is_retired, is_admitted, present}
 use Rattle.smx_history.specs.Legal.{IsFifo, IsServed}
 use Rattle.smx_history.specs.History.{entry_by, note, entries_of, marks_of}
 use Rattle.smx_history.specs.Contents.{AgreesWith, IsAfter, IsMemberAfter, Content, Member}
-use Rattle.smx_history.specs.Room.{KeepsRoom, FitsBox}
-use Rattle.smx_history.specs.Replies.{retired, without, member_with}
+use Rattle.smx_history.proofs.Room.{KeepsRoom, FitsBox}
+use Rattle.smx_history.specs.Replies.{member_with}
+use Rattle.smx_history.proofs.Updates.{retired, without}
 use Rattle.smx_history.proofs.Reading.{marks_of-push, entries_of-push, places-kept, All-kept}
 use Rattle.smx_history.proofs.Sizes.{found_admit, present_served}
 use Rattle.smx_history.proofs.Growing.{AtEachPrefix-whole}

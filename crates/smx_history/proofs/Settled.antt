@@ -12,8 +12,9 @@ use Rattle.smx_history.specs.declared.response.Response.{Response}
 use Rattle.smx_history.specs.Prefixes.{RiseAbove}
 use Rattle.smx_history.specs.History.{entry_by}
 use Rattle.smx_history.specs.Contents.{Content, Member}
-use Rattle.smx_history.specs.Room.{KeepsRoom, FitsBox}
-use Rattle.smx_history.specs.Replies.{answered, collected, response_for, with_row, member_with}
+use Rattle.smx_history.proofs.Room.{KeepsRoom, FitsBox}
+use Rattle.smx_history.specs.Replies.{member_with}
+use Rattle.smx_history.proofs.Updates.{answered, collected, response_for, with_row}
 use Rattle.smx_history.proofs.Members.{with_row-above}
 use Rattle.smx_history.proofs.Counts.{count_by-remove}
 use Rattle.smx_history.proofs.Keeping.{All-with_row, All-each, map-with_row, length-with_row, found_meets, one_row, All-both}

@@ -21,7 +21,7 @@ use Rattle.smx_history.specs.Entries.{is_accept, is_collect, has_name, name_of, 
 use Rattle.smx_history.specs.Legal.{IsFifo, IsOnce, IsPaired, owed}
 use Rattle.smx_history.specs.History.{entry_by, entry_in, note, marks_of, entries_of, requests, request_in, response_in}
 use Rattle.smx_history.specs.Contents.{AgreesWith, IsMemberAfter, Content, Member, place_of, window_after}
-use Rattle.smx_history.specs.Replies.{taken, place_for}
+use Rattle.smx_history.proofs.Updates.{taken, place_for}
 use Rattle.smx_history.proofs.Growing.{filter_other, AtEachPrefix-whole}
 use Rattle.smx_history.proofs.Frames.{accepts-other, accepts_of-other, collects_of-other, admits-other, present-other, waiting-other}
 use Rattle.smx_history.proofs.Reading.{requests_are_accepts, unsigned, entries_of-push, marks_of-push, places-kept, shown-kept, responses-other, All-to_map, All-of_map}

@@ -6,8 +6,8 @@ use Rattle.smx_history.specs.declared.request.Request.{Request}
 use Rattle.smx_history.specs.declared.note.Event.TheVariants.{Take}
 use Rattle.smx_history.specs.History.{entry_by}
 use Rattle.smx_history.specs.Contents.{Content, Member}
-use Rattle.smx_history.specs.Room.{KeepsRoom, FitsBox}
-use Rattle.smx_history.specs.Replies.{taken, place_for}
+use Rattle.smx_history.proofs.Room.{KeepsRoom, FitsBox}
+use Rattle.smx_history.proofs.Updates.{taken, place_for}
 use Rattle.smx_history.proofs.Keeping.{count_by-push, All-each}
 
 pub remove_first : {X : Type 0} (xs ys : List X) → ys ≡ remove xs 0 → ys ≡ drop 1 xs

@@ -9,7 +9,7 @@ use Rattle.smx_history.specs.Legal.{IsFifo}
 use Rattle.smx_history.proofs.Fitting.{Fits}
 use Rattle.smx_history.specs.History.{entry_in, entries_of, marks_of, stored_of, request_in, response_in}
 use Rattle.smx_history.specs.Contents.{AgreesWith, IsAfter, IsMemberAfter, Content, queue_after, window_after, greatest_after}
-use Rattle.smx_history.specs.Room.{KeepsRoom}
+use Rattle.smx_history.proofs.Room.{KeepsRoom}
 use Rattle.smx_history.proofs.Frames.{takes-other, admits-other, unanswered-other, present-other}
 use Rattle.smx_history.proofs.Reading.{marks_of-push, entries_of-push, places-kept}
 use Rattle.smx_history.proofs.Shifting.{stored-push, IsLegal-next}

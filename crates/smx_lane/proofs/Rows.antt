@@ -8,7 +8,7 @@ use Rattle.std.proofs.Math.ListN.{get_or-map}
 use Rattle.std.proofs.lemmas.List.{map-set, length-map}
 use Rattle.smx_history.specs.Prefixes.{RiseAbove}
 use Rattle.smx_history.specs.Contents.{Member}
-use Rattle.smx_history.specs.Replies.{with_row, without}
+use Rattle.smx_history.proofs.Updates.{with_row, without}
 use Rattle.smx_history.proofs.Members.{set_is_with_row, rise_at}
 use Rattle.smx_history.proofs.Keeping.{map-with_row, All-set_row, All-get_row}
 use Rattle.smx_history.proofs.RetireAgrees.{rise_part}

@@ -1,8 +1,8 @@
--- What the fields of a lane show, and what they keep.
+-- What the fields of a lane show, and what they keep. No clause of a public function cites these.
 use Rattle.std.specs.Prelude.{◌≡◌, ◌≤◌, vec_capacity}
 use Rattle.smx_lane.specs.declared.lane.Lane.TheInside.{Inside}
 use Rattle.smx_history.specs.Contents.{Content}
-use Rattle.smx_history.specs.Room.{KeepsRoom}
+use Rattle.smx_history.proofs.Room.{KeepsRoom}
 
 abbrev pub content_of : Inside → Content
 content_of a = record {

@@ -1,4 +1,4 @@
--- The clients of a lane, as a list of rows.
+-- The clients of a lane, as a list of rows. No clause of a public function cites these.
 use Rattle.std.specs.Prelude.{◌≡◌, ℕ, List, length, sum_by, slice_get, Some}
 use Rattle.smx_history.specs.Contents.{Member}
 use Rattle.smx_history.specs.Replies.{member_with}

@@ -1,4 +1,4 @@
--- What the fields of a roster show, and what they keep.
+-- What the fields of a roster show, and what they keep. No clause of a public function cites these.
 use Rattle.std.specs.Prelude.{◌≡◌, map}
 use Rattle.std.specs.List.{AllByRecursion}
 use Rattle.smx_lane.specs.declared.roster.Row.{Row}

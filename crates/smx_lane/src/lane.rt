@@ -88,14 +88,14 @@ impl Lane {
         self.limits
     }
 
-    /// The notes so far, without bodies and statuses, the oldest first.
+    /// The notes since the last shift, without bodies and statuses, the oldest first.
     pub fn entries(&self) -> &[Entry]
         ensures { result.now ≡ self.now.entries }
     {
         self.entries.as_slice()
     }
 
-    /// The entry of the newest note.
+    /// The entry of the newest note, or none where nothing was noted since the last shift.
     pub fn last_entry(&self) -> Option<Entry>
         ensures { result ≡ slice_get self.now.entries (length self.now.entries - 1) }
     {

@@ -2,7 +2,8 @@
 ghost use Rattle.std.specs.Prelude.{◌≡◌, ◌≤◌, ◌<◌, ◌+◌, ◌-◌, ◌==◌, [], ◌∷◌, ◌++◌, length, map, drop, slice_get, OnOk, OnErr, MatchOption, Some, None};
 ghost use Rattle.smx_history.specs.Contents.{Member};
 ghost use Rattle.smx_history.specs.Prefixes.{RiseAbove};
-ghost use Rattle.smx_history.specs.Replies.{member_with, with_row, new_row, without};
+ghost use Rattle.smx_history.specs.Replies.{member_with};
+ghost use Rattle.smx_history.proofs.Updates.{with_row, new_row, without};
 ghost use Rattle.smx_lane.specs.Members.{IsRowOf, waiting_of};
 
 use circular_buffer::HeapCircularBuffer;

@@ -6,6 +6,7 @@ use smx_history::Request;
 #[derive(Debug, Drop)]
 pub struct Sent {
     pub request: Request,
-    /// The sequence number upstream, 1 to 1,024.
+    /// The sequence number upstream: one that a request may bear (SMPP 3.4, section 5.1.4), the last three left out, and
+    /// that no other request in the window has.
     pub upstream: u32,
 }

@@ -2,7 +2,7 @@
 ghost use Rattle.std.specs.Prelude.{◌≡◌};
 ghost use Rattle.smx_lane.specs.Conditions.{IsOwn};
 ghost use Rattle.smx_history.specs.Answering.{IsAnswered, IsCollected};
-ghost use Rattle.smx_history.specs.Replies.{response_for};
+ghost use Rattle.smx_history.proofs.Updates.{response_for};
 
 use super::Lane;
 use crate::window::place_of;

@@ -9,8 +9,13 @@ use std::alloc::AllocError;
 use std::mem;
 
 impl Lane {
-    /// Hands out the entries stored so far, where there are at least so many, and goes on with an empty list that has
-    /// all the room again. Nothing else changes. Where there is no memory for the new list, nothing changes at all.
+    /// A shift: hands out the entries stored so far, the oldest first, where there are at least `least` of them, and
+    /// goes on with none. Nothing else changes: requests, places, boxes and clients stay, and so does the greatest
+    /// client's number. The entries that are stored count anew, so a lane whose history was full has room again.
+    ///
+    /// It takes the memory of one new list with `history` places, and no more; where that is refused, the lane is as it
+    /// was. The entries are handed out as the list that they stand in, without a copy and without a look at them: with
+    /// the list handed out its memory is the caller's.
     pub fn turn_over(&mut self, by: u64, least: usize) -> Result<Option<Vec<Entry>>, AllocError>
         ensures turned { IfOk result (λ list. IsTurned self.old by least (option_map (λ es. es.items) list) self.new) }
         ensures err { OnErr result (self.new ≡ self.old) }
