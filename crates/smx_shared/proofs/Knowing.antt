@@ -1,6 +1,5 @@
 -- What the calls of a tap let its caller know.
 use Rattle.std.proofs.Common.{◌≡◌, ℕ, Option, Some, None, List, [], ◌∷◌, ◌++◌, Result, Ok, Err, sym, ◌∙◌, ap, inl, inr}
-use Rattle.std.specs.Prelude.{MatchResult}
 use Rattle.std.proofs.lemmas.List.{append-nil}
 use Rattle.std.proofs.lemmas.List.Elements.{filter_map-append}
 use Rattle.smx_pdu.specs.declared.pdu.Pdu.{Pdu}
@@ -15,7 +14,7 @@ use Rattle.smx_shared.specs.declared.fault.TakeFault as take_fault
 use Rattle.smx_shared.specs.declared.fault.TakeFault.TheVariants as takes
 use Rattle.smx_shared.specs.declared.fault.TryTakeFault as try_fault
 use Rattle.smx_shared.specs.declared.fault.TryTakeFault.TheVariants as tries
-use Rattle.smx_shared.specs.Serving.{Takes, TriesTake, AnswerServes, TurnServes}
+use Rattle.smx_shared.specs.Serving.{Takes, TriesTake, Brings, TurnServes}
 use Rattle.smx_shared.specs.Steps.{TurnsBy}
 use Rattle.std.specs.Option.{option_map}
 use Rattle.smx_history.specs.declared.entry.Entry.{Entry}
@@ -44,7 +43,7 @@ tries_known f g (Err (tries.Refused e)) h = more f g [] h.2.serves.mine
 tries_known f g (Err tries.Spent) h = spent_same f g h
 tries_known f g (Err tries.Busy) h = same f g (ap (λ z. z.mine) h.0)
 
-pub answers_known : (f g : Front Note Limits) (p : Pdu) (r : Result Answered (Pdu × spent.Spent)) → MatchResult r (AnswerServes f g p) (λ e. (e.0 ≡ p) × IsSpent f g)
+pub answers_known : (f g : Front Note Limits) (p : Pdu) (r : Result Answered (Pdu × spent.Spent)) → Brings f g p r
     → known_of g.mine ≡ known_of f.mine ++ known_by_answer p r
 answers_known f g p (Ok (answered.Queued c)) h = more f g _ h.4.serves.mine ∙ ap (λ x. known_of f.mine ++ Queued x p ∷ []) h.6
 answers_known f g p (Ok answered.Late) h = more f g _ h.3.serves.mine

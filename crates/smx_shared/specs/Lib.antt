@@ -4,6 +4,7 @@ pub mod Taps
 pub mod Offers
 pub mod Ports
 pub mod Submits
+pub mod Collecting
 pub mod Leaving
 pub mod Rounds
 pub mod Entering

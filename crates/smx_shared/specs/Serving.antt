@@ -1,6 +1,7 @@
 -- One hold of a lane's lock serves one call.
 use Rattle.std.specs.Prelude.{◌≡◌, ◌≢◌, ◌⊎◌, ◌+◌, ◌<◌, ◌≤◌, length, ℕ, List, [], ◌∷◌, Option, Some, None, Result, Ok, Err, slice_get}
 use Rattle.std.specs.List.{find}
+use Rattle.std.specs.Option.{option_map}
 use Rattle.smx_ticket_core.specs.Machine.{most}
 use Rattle.smx_lock.specs.Rule.{notes_of}
 use Rattle.smx_lock.specs.Fronts.{Front, Serves, IsSpent, Refused}
@@ -72,6 +73,11 @@ CollectServes f g c (Some p) = (found : List Note) × (v : Content) × (r : Resp
     × OneHold f g found (note f.number (event.Collect c r.ordinal) ∷ []) v
     × (oldest_in (member_with c v.members) ≡ Some r) × (r.pdu ≡ p)
 
+-- what bringing a response leaves: one hold, or the tickets are spent and it comes back
+abbrev pub Brings : Front Note Limits → Front Note Limits → Pdu → Result Answered (Pdu × Spent) → Type 0
+Brings f g p (Ok answered) = AnswerServes f g p answered
+Brings f g p (Err e) = (e.0 ≡ p) × IsSpent f g
+
 -- served, or the lock's tickets are spent
 abbrev pub Waited : {X : Type 0} → (X → Type 0) → Front Note Limits → Front Note Limits → Result X Spent → Type 0
 Waited Serve f g (Ok x) = Serve x
@@ -110,7 +116,8 @@ TurnServes f g least None = (found : List Note) × (v : Content) × OneHold f g 
 abbrev pub StaysServes : Front Note Limits → Front Note Limits → Type 0
 StaysServes f g = (found : List Note) × (v : Content) × OneHold f g found [] v
 
--- One hold made a seat, which has seen what that hold found, under a number above the holder's that no seat had. There is one seat more, and a holder that was alone made the second
+-- One hold made a seat, which has seen what that hold found, under a number above the holder's that
+-- no seat had. There is one seat more, and a holder that was alone made the second
 pub record SplitServes (f g s : Front Note Limits) : Type 0 where
   pub found : List Note
   pub content : Content
@@ -134,3 +141,9 @@ SplitFails f g = IsSpent f g ⊎ ((found : List Note) × (v : Content) × OneHol
 abbrev pub IsTurnFault : Front Note Limits → Front Note Limits → turn_fault.TurnFault → Type 0
 IsTurnFault f g turns.Spent = IsSpent f g
 IsTurnFault f g turns.NoMemory = StaysServes f g
+
+-- what a turn over leaves, of lists that show these entries
+abbrev pub Turns : {V : Type 0} → (V → List Entry) → Front Note Limits → Front Note Limits → ℕ
+    → Result (Option V) turn_fault.TurnFault → Type 0
+Turns entries f g least (Ok list) = TurnServes f g least (option_map entries list)
+Turns entries f g least (Err e) = IsTurnFault f g e

@@ -1,5 +1,6 @@
--- What private functions promise: the notes of one hold, a turn of one lane, and a round over some lanes in a row. No contract of a public function cites this file.
-use Rattle.std.specs.Prelude.{◌≤◌, ◌<◌, ℕ, List, [], ◌∷◌, Option, Result, Ok, Err}
+-- What private functions ask and promise: the notes of one hold, a turn of one lane, and a round over
+-- some lanes in a row. No contract of a public function cites this file.
+use Rattle.std.specs.Prelude.{◌≡◌, ◌≤◌, ◌<◌, ℕ, List, [], ◌∷◌, Option, Some, Result, Ok, Err, slice_get}
 use Rattle.std.specs.List.{AllByRecursion}
 use Rattle.std.specs.Option.{option_map}
 use Rattle.smx_lock.specs.Fronts.{Front, IsSpent}
@@ -15,6 +16,7 @@ use Rattle.smx_shared.specs.declared.offer.Offer.{Offer}
 use Rattle.smx_shared.specs.declared.fault.SubmitFault.{SubmitFault}
 use Rattle.smx_shared.specs.declared.fault.SubmitFault.TheVariants as fault
 use Rattle.smx_shared.specs.Serving.{AcceptServes, TurnServes, StaysServes}
+use Rattle.smx_shared.specs.Ports.{IsMemberBy}
 use Rattle.smx_shared.specs.Submits.{OnLane, Passed}
 
 -- the notes that the seat of the number k makes
@@ -36,6 +38,16 @@ offer_of r = record { own = r.own; command = r.command; body = r.body; forwarded
 -- the ordinals that the seat's own notes accept are below n
 abbrev pub IsBelow : ℕ → Front Note Limits → Type 0
 IsBelow n f = AllByRecursion (λ r. r.ordinal < n) (requests f.mine)
+
+-- in each seat's own notes the request's client is a member, with lower ordinals alone
+abbrev pub MayAccept : Request → List (Front Note Limits) → Type 0
+MayAccept r fronts = (k : ℕ) (f : Front Note Limits) → slice_get fronts k ≡ Some f
+    → IsMemberBy r.client f × IsBelow r.ordinal f
+
+-- each seat's own notes are the client's admit
+abbrev pub HaveAdmitted : ℕ → List (Front Note Limits) → Type 0
+HaveAdmitted c fronts = (k : ℕ) (f : Front Note Limits) → slice_get fronts k ≡ Some f
+    → f.mine ≡ note f.number (event.Admit c) ∷ []
 
 -- what a turn answers, of lists that show these entries
 abbrev pub TurnsBy : {V E : Type 0} → (V → List Entry) → Front Note Limits → Front Note Limits → ℕ → Result (Option V) E → Type 0

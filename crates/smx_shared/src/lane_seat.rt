@@ -2,7 +2,7 @@
 ghost use Rattle.std.specs.Prelude.{◌≡◌, ◌<◌, ◌⊎◌, MatchResult};
 ghost use mathlib.Core.List.{IsPrefix};
 ghost use Rattle.smx_lock.specs.Fronts.{IsSpent};
-ghost use Rattle.smx_shared.specs.Serving.{TakeServes, AnswerServes, AcceptServes, CollectServes, AdmitServes, RetireServes, SplitServes, SplitFails, Waited, Tried};
+ghost use Rattle.smx_shared.specs.Serving.{TakeServes, Brings, AcceptServes, CollectServes, AdmitServes, RetireServes, SplitServes, SplitFails, Waited, Tried};
 ghost use Rattle.smx_shared.specs.Ports.{IsMemberBy};
 ghost use Rattle.smx_shared.specs.Steps.{IsBelow, TurnsBy};
 
@@ -131,7 +131,7 @@ impl LaneSeat {
     ) -> Result<Answered, (Pdu, Spent)>
         requires { self.old.lock ≡ lock.now }
         ensures lock { self.new.lock ≡ self.old.lock }
-        ensures served { MatchResult result (AnswerServes self.old self.new response) (λ e. (e.0 ≡ response) × IsSpent self.old self.new) }
+        ensures served { Brings self.old self.new response result }
     {
         let Some(seat) = self.seat.take() else {
             unreachable!()

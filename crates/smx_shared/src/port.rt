@@ -1,17 +1,12 @@
 //! The token of a client, with a seat on each lane.
-ghost use Rattle.std.specs.Prelude.{◌≡◌, true, false, ℕ, List, [], ◌∷◌, ◌++◌, ◌<◌, ◌≤◌, ◌^◌, length, slice_get, Some, IfOk, IfErr, OnOk, OnErr};
-ghost use Rattle.smx_lock.specs.Fronts.{Front};
-ghost use Rattle.smx_history.specs.declared.limits.Limits.{Limits};
-ghost use Rattle.smx_history.specs.declared.note.Note.{Note};
-ghost use Rattle.smx_history.specs.declared.note.Event.TheVariants.{Admit};
-ghost use Rattle.smx_history.specs.History.{note};
+ghost use Rattle.std.specs.Prelude.{◌≡◌, true, false, List, [], ◌++◌, ◌<◌, ◌≤◌, ◌^◌, length, IfOk, IfErr, OnOk, OnErr};
 ghost use Rattle.smx_shared.specs.Views.{locks_of};
-ghost use Rattle.smx_shared.specs.Serving.{CollectServes, Waited, Tried};
 ghost use Rattle.smx_shared.specs.Offers.{Accepted, accepted_by, request_for};
-ghost use Rattle.smx_shared.specs.Steps.{offer_of};
+ghost use Rattle.smx_shared.specs.Steps.{offer_of, HaveAdmitted};
 ghost use Rattle.smx_shared.specs.Ports.{IsPort, HasAccepted};
-ghost use Rattle.smx_shared.specs.Leaving.{Left, Retired};
-ghost use Rattle.smx_shared.specs.Submits.{OnLane, Submitted, Refuses};
+ghost use Rattle.smx_shared.specs.Leaving.{HasLeft};
+ghost use Rattle.smx_shared.specs.Collecting.{Collects, TriesCollect};
+ghost use Rattle.smx_shared.specs.Submits.{Submitted, Refuses};
 
 use crate::exchange::Exchange;
 use crate::fault::SubmitFault;
@@ -78,7 +73,7 @@ impl Port {
     pub(crate) fn new(client: u64, first: u64, seats: Vec<LaneSeat>) -> Port
         requires lanes { (0 < length seats.items) × (length seats.items ≤ 16) }
         requires first { (0 < first) × (first ≤ 2 ^ 62) }
-        requires admitted { (k : ℕ) (f : Front Note Limits) → slice_get seats.items k ≡ Some f → f.mine ≡ note f.number (Admit client) ∷ [] }
+        requires admitted { HaveAdmitted client seats.items }
         ensures port { result ≡ record { client = client; first = first; next = first; fronts = seats.items } }
         ensures listed { HasAccepted result [] }
     {
@@ -128,7 +123,7 @@ impl Port {
     ) -> Result<Option<Pdu>, Spent>
         requires locks { locks_of self.old.fronts ≡ at.now }
         requires lane { lane < length self.old.fronts }
-        ensures served { OnLane lane self.old.fronts self.new.fronts (λ f g. Waited (CollectServes f g self.old.client) f g result) }
+        ensures served { Collects lane self.old self.new result }
         ensures same { self.new ≡ record self.old { fronts = self.new.fronts } }
         ensures listed { (all : List Accepted) → HasAccepted self.old all → HasAccepted self.new all }
         ensures locks { locks_of self.new.fronts ≡ locks_of self.old.fronts }
@@ -141,7 +136,7 @@ impl Port {
     pub fn try_collect(&mut self, at: &Exchange, lane: usize) -> Result<Option<Pdu>, TryFault>
         requires locks { locks_of self.old.fronts ≡ at.now }
         requires lane { lane < length self.old.fronts }
-        ensures served { OnLane lane self.old.fronts self.new.fronts (λ f g. Tried (CollectServes f g self.old.client) f g result) }
+        ensures served { TriesCollect lane self.old self.new result }
         ensures same { self.new ≡ record self.old { fronts = self.new.fronts } }
         ensures listed { (all : List Accepted) → HasAccepted self.old all → HasAccepted self.new all }
         ensures locks { locks_of self.new.fronts ≡ locks_of self.old.fronts }
@@ -155,8 +150,8 @@ impl Port {
     // The seats go with the port, so the clauses speak of fronts that no one holds any more.
     pub fn leave<R: Wait>(self, at: &Exchange, rt: &R) -> Result<(), Spent>
         requires { locks_of self.fronts ≡ at.now }
-        ensures ok { OnOk result ((last : List (Front Note Limits)) × Left (length self.fronts) self.client self.fronts last × Retired true (length self.fronts) self.client self.fronts last) }
-        ensures err { OnErr result ((last : List (Front Note Limits)) × Left (length self.fronts) self.client self.fronts last × Retired false (length self.fronts) self.client self.fronts last) }
+        ensures ok { OnOk result (HasLeft true self) }
+        ensures err { OnErr result (HasLeft false self) }
     {
         let Port {
             client,

@@ -1,12 +1,8 @@
 //! How a request goes round the lanes.
-ghost use Rattle.std.specs.Prelude.{◌≡◌, ℕ, ◌<◌, ◌≤◌, length, slice_get, Some, IfOk, IfErr};
-ghost use Rattle.smx_lock.specs.Fronts.{Front};
-ghost use Rattle.smx_history.specs.declared.limits.Limits.{Limits};
-ghost use Rattle.smx_history.specs.declared.note.Note.{Note};
+ghost use Rattle.std.specs.Prelude.{◌≡◌, ◌<◌, ◌≤◌, length, IfOk, IfErr};
 ghost use Rattle.smx_shared.specs.Views.{locks_of};
-ghost use Rattle.smx_shared.specs.Ports.{IsMemberBy};
 ghost use Rattle.smx_shared.specs.Submits.{AcceptsOn, StopsOn};
-ghost use Rattle.smx_shared.specs.Steps.{Accepts, Stops, IsBelow};
+ghost use Rattle.smx_shared.specs.Steps.{Accepts, Stops, MayAccept};
 
 use crate::fault::SubmitFault;
 use crate::lane_seat::LaneSeat;
@@ -26,7 +22,7 @@ fn try_lanes<R: Wait>(
 ) -> Result<usize, (Request, SubmitFault)>
     requires range { (from ≤ to) × (to ≤ length seats.old.items) }
     requires locks { locks_of seats.old.items ≡ locks.now }
-    requires own { (k : ℕ) (f : Front Note Limits) → slice_get seats.old.items k ≡ Some f → IsMemberBy request.client f × IsBelow request.ordinal f }
+    requires own { MayAccept request seats.old.items }
     requires ordinal { 0 < request.ordinal }
     ensures ok { IfOk result (Accepts from to request seats.old.items seats.new.items) }
     ensures err { IfErr result (λ e. (e.0 ≡ request) × Stops from to request seats.old.items seats.new.items e.1) }
@@ -52,7 +48,7 @@ pub(crate) fn try_ring<R: Wait>(
 ) -> Result<usize, (Request, SubmitFault)>
     requires start { start < length seats.old.items }
     requires locks { locks_of seats.old.items ≡ locks.now }
-    requires own { (k : ℕ) (f : Front Note Limits) → slice_get seats.old.items k ≡ Some f → IsMemberBy request.client f × IsBelow request.ordinal f }
+    requires own { MayAccept request seats.old.items }
     requires ordinal { 0 < request.ordinal }
     ensures ok { IfOk result (AcceptsOn start request seats.old.items seats.new.items) }
     ensures err { IfErr result (λ e. (e.0 ≡ request) × StopsOn start request seats.old.items seats.new.items e.1) }

@@ -1,9 +1,7 @@
 //! The token that takes from one lane.
-ghost use Rattle.std.specs.Prelude.{◌≡◌, ◌++◌, slice_get, Some, MatchResult};
-ghost use Rattle.std.specs.Option.{option_map};
+ghost use Rattle.std.specs.Prelude.{◌≡◌, ◌++◌, slice_get, Some};
 ghost use Rattle.smx_shared.specs.Taps.{known_of, known_by_take, known_by_answer};
-ghost use Rattle.smx_shared.specs.Serving.{TurnServes, IsTurnFault, Takes, TriesTake, AnswerServes};
-ghost use Rattle.smx_lock.specs.Fronts.{IsSpent};
+ghost use Rattle.smx_shared.specs.Serving.{Turns, Takes, TriesTake, Brings};
 
 use crate::exchange::Exchange;
 use crate::fault::{TakeFault, TryTakeFault, TurnFault};
@@ -90,7 +88,7 @@ impl Tap {
     ) -> Result<Option<Vec<Entry>>, TurnFault>
         requires { slice_get at.now self.old.lane ≡ Some self.old.front.lock }
         ensures same { (self.new.lane ≡ self.old.lane) × (self.new.front.lock ≡ self.old.front.lock) }
-        ensures served { MatchResult result (λ o. TurnServes self.old.front self.new.front least (option_map (λ es. es.items) o)) (IsTurnFault self.old.front self.new.front) }
+        ensures served { Turns (λ es. es.items) self.old.front self.new.front least result }
         ensures known { known_of self.new.front.mine ≡ known_of self.old.front.mine }
     {
         match self.seat.turn_over(rt, &at.locks[self.lane], least) {
@@ -109,7 +107,7 @@ impl Tap {
     ) -> Result<Answered, (Pdu, Spent)>
         requires { slice_get at.now self.old.lane ≡ Some self.old.front.lock }
         ensures same { (self.new.lane ≡ self.old.lane) × (self.new.front.lock ≡ self.old.front.lock) }
-        ensures served { MatchResult result (AnswerServes self.old.front self.new.front response) (λ e. (e.0 ≡ response) × IsSpent self.old.front self.new.front) }
+        ensures served { Brings self.old.front self.new.front response result }
         ensures known { known_of self.new.front.mine ≡ known_of self.old.front.mine ++ known_by_answer response result }
     {
         self.seat.answer(rt, &at.locks[self.lane], response)
