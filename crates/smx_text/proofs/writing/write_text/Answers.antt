@@ -1,7 +1,7 @@
 use Rattle.std.proofs.Common.{◌≡◌, ◌++◌, ◌-◌, ℕ, List, length, take, drop, ap, sym, ◌∙◌, append_assoc}
 use Rattle.std.proofs.lemmas.List.{take-append-drop, take_rest}
 use Rattle.std.proofs.KnownBytes.{Appends-trans}
-use Rattle.smx_config.proofs.transfer.write_text.Goals as goal
+use Rattle.smx_text.proofs.writing.write_text.Goals as goal
 
 -- more of the rest goes to the front
 moved : (text front rest : List ℕ) (n : ℕ) → text ≡ front ++ rest → text ≡ (front ++ take n rest) ++ take (length rest - n) (drop n rest)
