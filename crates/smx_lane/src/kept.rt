@@ -2,7 +2,7 @@
 
 use crate::lane::Lane;
 use smx_history::{Limits, Note};
-use smx_lock::Kept;
+use smx_kept::Kept;
 
 impl Kept for Lane {
     type Note = Note;

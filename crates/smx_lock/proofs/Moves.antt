@@ -60,9 +60,9 @@ module _ {N : Type 0} (writer : N → ℕ) where
   only_first [] others = refl
   only_first (n ∷ ns) others = dite (ℕ_discrete (writer n) 0)
       (λ first. subst (λ b. cond b (n ∷ notes_of writer 0 ns) (notes_of writer 0 ns) ≡ n ∷ ns) (sym (eq-eqb (writer n) 0 first))
-          (ap (λ l. n ∷ l) (only_first ns (λ k le. subst (λ b. cond b (n ∷ notes_of writer k ns) (notes_of writer k ns) ≡ []) (ne_eqb (writer n) k (λ e. omega arith)) (others k le)))))
+      (ap (λ l. n ∷ l) (only_first ns (λ k le. subst (λ b. cond b (n ∷ notes_of writer k ns) (notes_of writer k ns) ≡ []) (ne_eqb (writer n) k (λ e. omega arith)) (others k le)))))
       (λ other. absurd (cons_not_nil n (notes_of writer (writer n) ns)
-          (subst (λ b. cond b (n ∷ notes_of writer (writer n) ns) (notes_of writer (writer n) ns) ≡ []) (eq-eqb (writer n) (writer n) refl) (others (writer n) (omega arith)))))
+      (subst (λ b. cond b (n ∷ notes_of writer (writer n) ns) (notes_of writer (writer n) ns) ≡ []) (eq-eqb (writer n) (writer n) refl) (others (writer n) (omega arith)))))
 
   -- where there is one seat the history is that seat's notes
   pub all_own : (h : List N) (number seats : ℕ) → number < seats → ((k : ℕ) → seats ≤ k → notes_of writer k h ≡ []) → seats ≡ 1 → h ≡ notes_of writer number h
@@ -407,9 +407,9 @@ module _ {S N F : Type 0} (writer : N → ℕ) (fixed_of : S → F) (suits : S �
         (λ (z : (j ≡ length (set s.views id w)) × (g ≡ u)). subst (KnowsAt r.history r.serving seats' (s.homes ≡ none ∷ [])) z.1 new) (at_end (set s.views id w) g u j there);
     apart = λ i j u x hu hx su sx e. ⊎_elim
         (λ (a : get_elem? (set s.views id w) i ≡ some u). ⊎_elim (λ (b : get_elem? (set s.views id w) j ≡ some x). still_apart s r id v w at (λ _. number) seat i j u x a b su sx e)
-            (λ (b : (j ≡ length (set s.views id w)) × (g ≡ x)). absurd (let p = under i u a su in let q = last x b.1 sx in omega arith)) (at_end (set s.views id w) g x j hx))
+        (λ (b : (j ≡ length (set s.views id w)) × (g ≡ x)). absurd (let p = under i u a su in let q = last x b.1 sx in omega arith)) (at_end (set s.views id w) g x j hx))
         (λ (a : (i ≡ length (set s.views id w)) × (g ≡ u)). ⊎_elim (λ (b : get_elem? (set s.views id w) j ≡ some x). absurd (let p = under j x b sx in let q = last u a.1 su in omega arith))
-            (λ (b : (j ≡ length (set s.views id w)) × (g ≡ x)). a.0 ∙ sym b.0) (at_end (set s.views id w) g x j hx))
+        (λ (b : (j ≡ length (set s.views id w)) × (g ≡ x)). a.0 ∙ sym b.0) (at_end (set s.views id w) g x j hx))
         (at_end (set s.views id w) g u i hu);
     no_others = λ k le. r.no_others k (omega arith);
     low = r.low;
@@ -462,8 +462,8 @@ module _ {S N F : Type 0} (writer : N → ℕ) (fixed_of : S → F) (suits : S �
   tells id v s r at = let mine = r.each_seat id v at in
       grows s r id v v (told v) r.seats at refl refl refl refl (λ e. absurd (not_true e)) (omega arith) r.few
       (⊎_elim (λ (z : (x : Case S) × (s.homes ≡ some (Some x) ∷ []) × Agrees fixed_of suits fixed r.history r.seats x). inl z)
-          (λ (z : (s.homes ≡ none ∷ []) × ((i : ℕ) × (t : ℕ) × (u : V) × (get_elem? s.views i ≡ some u) × (u.caller ≡ Holding t))). let h = z.1 in
-          inr (z.0, (h.0, h.1, h.2, at_longer (set s.views id v) (told v ∷ []) h.0 h.2 (ap (λ (l : List V). get_elem? l h.0) (set_again s.views id v at) ∙ h.3), h.4))) r.place)
+      (λ (z : (s.homes ≡ none ∷ []) × ((i : ℕ) × (t : ℕ) × (u : V) × (get_elem? s.views i ≡ some u) × (u.caller ≡ Holding t))). let h = z.1 in
+      inr (z.0, (h.0, h.1, h.2, at_longer (set s.views id v) (told v ∷ []) h.0 h.2 (ap (λ (l : List V). get_elem? l h.0) (set_again s.views id v at) ∙ h.3), h.4))) r.place)
       mine
       record { number = mine.number; made_with = λ e. absurd (not_true e); saw = mine.saw; met = mine.met; own = λ e. absurd (not_true e); own_seen = mine.own_seen; last = mine.last; counts = mine.counts; alone = λ e. absurd (not_true e); acts = inl refl; holds = λ q e. absurd (idle_not q e) }
       (λ j u _ there. r.each_seat j u there)
@@ -482,8 +482,8 @@ module _ {S N F : Type 0} (writer : N → ℕ) (fixed_of : S → F) (suits : S �
     place = ⊎_elim (λ (z : (x : Case S) × (s.homes ≡ some (Some x) ∷ []) × Agrees fixed_of suits fixed r.history r.seats x). inl z)
         (λ (z : (s.homes ≡ none ∷ []) × ((i : ℕ) × (t : ℕ) × (u : V) × (get_elem? s.views i ≡ some u) × (u.caller ≡ Holding t))). let h = z.1 in
         dite (ℕ_discrete h.0 id)
-            (λ here. inr (z.0, (id, h.1, w, set_there s.views id w v at, same ∙ ap caller (some-injective v h.2 (sym at ∙ ap (get_elem? s.views) (sym here) ∙ h.3)) ∙ h.4)))
-            (λ else. inr (z.0, (h.0, h.1, h.2, set_else s.views id h.0 w else ∙ h.3, h.4)))) r.place;
+        (λ here. inr (z.0, (id, h.1, w, set_there s.views id w v at, same ∙ ap caller (some-injective v h.2 (sym at ∙ ap (get_elem? s.views) (sym here) ∙ h.3)) ∙ h.4)))
+        (λ else. inr (z.0, (h.0, h.1, h.2, set_else s.views id h.0 w else ∙ h.3, h.4)))) r.place;
     each_seat = λ j u there. ⊎_elim (λ (z : (j ≡ id) × (w ≡ u)). subst (KnowsAt r.history r.serving r.seats (s.homes ≡ none ∷ [])) z.1 mine)
         (λ (z : (j ≢ id) × (get_elem? s.views j ≡ some u)). r.each_seat j u z.1) (at_set s.views id j w u there);
     apart = still_apart s r id v w at number seat;
@@ -496,7 +496,7 @@ module _ {S N F : Type 0} (writer : N → ℕ) (fixed_of : S → F) (suits : S �
   goes : (s : St) (r : R s) (other : ℕ) (w : V) (some_fixed : F) → w.is_seat ≡ false → w.caller ≡ Idle → get_elem? s.views other ≡ some w → R record { words = s.words; homes = s.homes; views = set s.views other (gone some_fixed) }
   goes s r other w some_fixed message idle there = let its = r.each_seat other w there in
       changes s r other w (gone some_fixed) there (λ e. absurd (not_true e)) (sym message) (sym idle)
-          record { number = (let z = its.number in omega arith); made_with = λ e. absurd (not_true e); saw = (r.history, refl); met = (r.history, refl); own = λ e. absurd (not_true e); own_seen = refl; last = omega arith; counts = omega arith; alone = λ e. absurd (not_true e); acts = inl refl; holds = λ q e. absurd (idle_not q e) }
+      record { number = (let z = its.number in omega arith); made_with = λ e. absurd (not_true e); saw = (r.history, refl); met = (r.history, refl); own = λ e. absurd (not_true e); own_seen = refl; last = omega arith; counts = omega arith; alone = λ e. absurd (not_true e); acts = inl refl; holds = λ q e. absurd (idle_not q e) }
 
   -- a seat takes a message in
   pub meets : (id other : ℕ) (v w : V) (some_fixed : F) → w.is_seat ≡ false → w.caller ≡ Idle → Joins R id v other w (meeting v w) (gone some_fixed)
@@ -505,7 +505,7 @@ module _ {S N F : Type 0} (writer : N → ℕ) (fixed_of : S → F) (suits : S �
       let its = r.each_seat other w (sym (set_else s.views id other (meeting v w) apart) ∙ there) in
       let s' : St = record { words = s.words; homes = s.homes; views = set s.views id (meeting v w) } in
       let r' : R s' = changes s r id v (meeting v w) at (λ _. refl) refl refl
-          record { number = mine.number; made_with = mine.made_with; saw = mine.saw; met = its.saw; own = mine.own; own_seen = mine.own_seen; last = mine.last; counts = mine.counts; alone = mine.alone; acts = mine.acts; holds = mine.holds } in
+      record { number = mine.number; made_with = mine.made_with; saw = mine.saw; met = its.saw; own = mine.own; own_seen = mine.own_seen; last = mine.last; counts = mine.counts; alone = mine.alone; acts = mine.acts; holds = mine.holds } in
       goes s' r' other w some_fixed message idle there
 
   -- *compare*

@@ -11,13 +11,13 @@
 #![tactic(auto)]
 
 mod faults;
-mod kept;
 mod lock;
+mod noted;
 mod plays;
 mod tokens;
 mod views;
 
 pub use faults::{Spent, StateOut, TryFault};
-pub use kept::{Kept, Told};
 pub use lock::TicketLock;
+pub use smx_kept::{Kept, Told};
 pub use tokens::{Held, LockSeat};

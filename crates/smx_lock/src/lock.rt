@@ -6,12 +6,15 @@ ghost use Rattle.smx_ticket_core.specs.declared.callers.Caller.TheVariants.{Idle
 ghost use Rattle.smx_lock.specs.Fronts.{front_of, first_front, Finds, IsSpent, MayLeave, after_hold, host_hold, guest_front, IsLast, Refused};
 
 use crate::faults::{Spent, StateOut, TryFault};
-use crate::kept::{Kept, Noted, Told};
-use crate::plays::{Compare, Draw, Leave, Look, Meet, ReadNext, ReadServing, Tell, TryDraw, Turns, Twin};
+use crate::noted::Noted;
+use crate::plays::{
+    Compare, Draw, Leave, Look, Meet, ReadNext, ReadServing, Tell, TryDraw, Turns, Twin,
+};
 use crate::tokens::{Held, LockSeat};
 use crate::views::{Case, Opening, View};
 use atomic_table::{Seat, Table};
 use crossbeam_utils::Backoff;
+use smx_kept::{Kept, Told};
 use smx_ticket_core::MOST;
 use std::alloc::{AllocError, Global};
 use std::marker::{Brand, Model};

@@ -1,9 +1,10 @@
 //! The rule that the table keeps, and what each atomic step tells the seat that takes it.
 ghost use Rattle.smx_lock.specs.Rule.{Ruled, newcomer, host, guest, told, gone, meeting, compared, read_next, drew, looked, released, read_serving, tried};
 
-use crate::kept::{Kept, Noted};
+use crate::noted::Noted;
 use crate::views::{Case, Opening, View};
 use atomic_table::{Join, Play, Split, TableRule};
+use smx_kept::Kept;
 use std::marker::PhantomData;
 
 /// The rule of the lock.

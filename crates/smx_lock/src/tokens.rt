@@ -1,8 +1,8 @@
 //! A seat at a lock, and a hold of it.
 
-use crate::kept::Kept;
 use crate::views::{Case, View};
 use atomic_table::Seat;
+use smx_kept::Kept;
 use std::alloc::Global;
 use std::marker::Model;
 
