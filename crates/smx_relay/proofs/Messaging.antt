@@ -1,24 +1,23 @@
 -- Turns of messages, as turns of the whole state.
-use Rattle.std.proofs.Common.{◌≡◌, ◌≢◌, ◌++◌, ℕ, Bool, true, false, List, [], ◌∷◌, map, get_or, refl, sym, ◌∙◌, ap, subst, codes, Option, Some, None, slice_get, Result, Ok, Err}
+use Rattle.std.proofs.Common.{◌≡◌, ◌++◌, ℕ, true, false, List, [], get_or, ◌∙◌, ap, subst, codes, Option, Some, None, slice_get, Ok, Err}
 use Rattle.std.specs.List.{flat_map}
-use Rattle.std.specs.Global.{Vec}
 use Rattle.std.specs.Fmt.{decimal}
 use Rattle.smx_pdu.specs.declared.pdu.Pdu.{Pdu}
 use Rattle.smx_pdu.specs.declared.body_fault.BodyFault.{BodyFault}
 use Rattle.smx_pdu.specs.declared.status.TheConstants.{ESME_RINVCMDLEN, ESME_RMSGQFUL, ESME_RX_T_APPN}
 use Rattle.smx_pdu.specs.Reading.{destination_at}
-use Rattle.smx_mo.specs.declared.mo_window.Waiting.{Waiting}
-use Rattle.smx_mo.specs.Window.{answered}
-use Rattle.smx_mo.specs.Routing.{Route, IsRouted, routed}
-use Rattle.smx_mo.proofs.Routed.{routed_is}
+use Rattle.smx_routes.specs.declared.mo_window.Waiting.{Waiting}
+use Rattle.smx_routes.specs.Window.{answered}
+use Rattle.smx_routes.specs.Routing.{Route, IsRouted, routed}
+use Rattle.smx_routes.proofs.Routed.{routed_is}
 use Rattle.smx_mailbox.specs.declared.message.Unanswered.{Unanswered}
 use Rattle.smx_mailbox.specs.Mailbox.{with_message, is_full, sent, after_sent, settled, unanswered, emptied}
 use Rattle.smx_relay.specs.declared.state.State.{State}
 use Rattle.smx_relay.specs.Links.{ClientLink}
 use Rattle.smx_relay.specs.Texts.{text_line, pdu_line, to_client, up_lane, refusal}
-use Rattle.smx_relay.specs.Relay.{Relay, all_left, collect_lanes, last_of, with_link}
+use Rattle.smx_relay.specs.Relay.{Relay, all_left, with_link}
 use Rattle.smx_relay.specs.Messages.{answer_turn, leave_turn, left_line, message_turn, put_to, send_turn}
-use Rattle.smx_relay.specs.Agrees.{Agrees, Turned, Prints}
+use Rattle.smx_relay.specs.Private.Agrees.{Agrees, Turned}
 use Rattle.smx_relay.proofs.Links.{IsLinked, linked, link_untouched}
 
 -- the client's link is this from now on

@@ -14,11 +14,9 @@ fn refusal(read: Result<Vec<u8>, ReadFault>) -> Result<Option<ReadFault>, ReadFa
 fn a_text_that_is_read_and_written(rt: HostRuntime) -> Result<(), Fail> {
     let mut text = "whole".as_bytes();
     let octets = read_octets(rt.alloc(), &mut text, 5)?;
-    let mut out = Vec::new(rt.alloc());
-    match write_text(&mut out, &octets) {
-        Ok(()) => assert_eq!(rt; out.as_slice(), "whole".as_bytes()),
-        Err(fault) => return Err(fault.into()),
-    }
+    let mut out = Vec::with_capacity(rt.alloc(), 64)?;
+    write_text(&mut out, &octets)?;
+    assert_eq!(rt; out.as_slice(), "whole".as_bytes());
     let mut longer = "whole".as_bytes();
     let refused = refusal(read_octets(rt.alloc(), &mut longer, 4))?;
     assert_eq!(rt; refused, Some(ReadFault::TooLong));
