@@ -3,8 +3,8 @@ use Rattle.std.specs.Prelude.{◌≡◌, ℕ, List, [], ◌∷◌, ◌++◌, len
 use Rattle.std.specs.Fmt.{decimal}
 use Rattle.smx_config.specs.declared.fault.ConfigFault.{ConfigFault}
 use Rattle.smx_config.specs.declared.fault.ConfigFault.TheVariants.{NotToml, Listen, Numbers, Limits, Upstreams, Upstream, Accounts, Account, NoMemory}
-use Rattle.smx_config.specs.declared.transfer.FileFault.{FileFault}
-use Rattle.smx_config.specs.declared.transfer.FileFault.TheVariants as file
+use Rattle.smx_config.specs.declared.file.FileFault.{FileFault}
+use Rattle.smx_config.specs.declared.file.FileFault.TheVariants as file
 use Rattle.smx_config.specs.Settings.{Settings}
 use Rattle.smx_config.specs.Reading.{settings_of}
 

@@ -7,8 +7,9 @@ ghost use Rattle.smx_config.specs.Lines.{ComesTo, fault_line, file_line, line_of
 
 use crate::config::Config;
 use crate::fault::ConfigFault;
+use crate::file::FileFault;
 use crate::reading::read;
-use crate::transfer::{FileFault, WriteFault, write_text};
+use smx_text::{WriteFault, write_text};
 use std::alloc::{AllocError, Global};
 use std::io::Write;
 

@@ -6,11 +6,11 @@ mod advising;
 mod checking;
 mod config;
 mod fault;
+mod file;
 mod number;
 mod reading;
 mod table;
 mod text;
-mod transfer;
 mod upstream;
 
 pub use account::Account;
@@ -18,8 +18,9 @@ pub use advising::advice;
 pub use checking::{check, reject};
 pub use config::Config;
 pub use fault::ConfigFault;
+pub use file::{FileFault, MAX_FILE, read_text};
 pub use reading::read;
-pub use transfer::{FileFault, MAX_FILE, WriteFault, read_text};
+pub use smx_text::WriteFault;
 pub use upstream::Upstream;
 
 #[cfg(test)]

@@ -9,12 +9,12 @@ use Rattle.smx_session.specs.declared.act.Act.TheVariants as act
 use Rattle.smx_session.specs.declared.up_act.UpAct.{UpAct}
 use Rattle.smx_session.specs.declared.up_act.UpAct.TheVariants as up
 use Rattle.smx_relay.specs.declared.state.State.{State}
-use Rattle.smx_relay.specs.Texts.{pdu_line, to_client, closed_line, down_line, up_lane}
+use Rattle.smx_relay.specs.Texts.{pdu_line, to_client, down_line, up_lane}
 use Rattle.smx_relay.specs.Relay.{Relay}
 use Rattle.smx_relay.specs.Messages.{answer_turn, leave_turn, message_turn}
 use Rattle.smx_relay.specs.ClientTurn.{client_act, followed_by, forward, hang_up}
 use Rattle.smx_relay.specs.CentreTurn.{centre_act, to_lane}
-use Rattle.smx_relay.specs.Agrees.{Agrees, Turned, Prints}
+use Rattle.smx_relay.specs.Private.Agrees.{Agrees, Turned, Prints}
 
 -- ---- clients
 

@@ -8,9 +8,9 @@ use Rattle.smx_relay.specs.Texts.{down_line}
 use Rattle.smx_relay.specs.Links.{CentreLink, Receives, has_failed, is_down}
 use Rattle.smx_relay.specs.Relay.{Relay, on_lane, take_on}
 use Rattle.smx_relay.specs.ClientTurn.{each_pdu, followed_by}
-use Rattle.smx_relay.specs.CentreTurn.{BackTurn, centre_end, centre_pdu, unless_down, with_centre}
+use Rattle.smx_relay.specs.CentreTurn.{BackTurn, centre_end, centre_pdu, with_centre}
 use Rattle.smx_relay.specs.Turns.{TakeTurn}
-use Rattle.smx_relay.specs.Agrees.{Agrees, MayPrint, Prints, Turned}
+use Rattle.smx_relay.specs.Private.Agrees.{Agrees, MayPrint, Turned}
 use Rattle.smx_relay.proofs.StateTurns.{Takes, some_free_on}
 use Rattle.smx_relay.proofs.Turning.{turned_then}
 use Rattle.smx_relay.proofs.Links.{IsCentre, centred}

@@ -8,8 +8,8 @@ use Rattle.smx_history.specs.Contents.{AgreesWith, Content}
 use Rattle.smx_relay.specs.declared.state.State.{State}
 use Rattle.smx_relay.specs.Links.{CentreLink, bound_centre}
 use Rattle.smx_relay.specs.Relay.{Relay, begun}
-use Rattle.smx_relay.specs.OnLane.{OnLane}
-use Rattle.smx_relay.specs.Agrees.{Agrees}
+use Rattle.smx_relay.specs.Private.OnLane.{OnLane}
+use Rattle.smx_relay.specs.Private.Agrees.{Agrees}
 use Rattle.smx_relay.proofs.Lanes.{zip-push}
 
 -- the settings stand, and so many lanes are made

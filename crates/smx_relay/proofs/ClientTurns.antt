@@ -1,8 +1,7 @@
 -- The turns of clients, from what the loops over the lanes say.
-use Rattle.std.proofs.Common.{◌≡◌, ◌≢◌, ◌<◌, ℕ, true, false, List, [], ◌∷◌, ◌++◌, length, map, take, drop, refl, sym, ◌∙◌, ap, subst, arith, Option, Some, None, codes, zero, suc}
-use Rattle.std.specs.Global.{Vec}
+use Rattle.std.proofs.Common.{◌≡◌, ◌<◌, ℕ, true, false, List, [], ◌∷◌, ◌++◌, length, map, take, drop, refl, sym, ◌∙◌, ap, subst, arith, Option, Some, None, codes, zero, suc}
 use Rattle.std.specs.Prelude.{is_none}
-use Rattle.std.specs.List.{position, flat_map}
+use Rattle.std.specs.List.{position}
 use Rattle.std.specs.Fmt.{decimal}
 use Rattle.std.proofs.lemmas.List.{length-take-le}
 use Rattle.std.proofs.lemmas.List.Quantifiers.{position-Some}
@@ -14,8 +13,8 @@ use Rattle.smx_relay.specs.declared.state.State.{State}
 use Rattle.smx_relay.specs.Links.{ClientLink, new_link}
 use Rattle.smx_relay.specs.Texts.{text_line}
 use Rattle.smx_relay.specs.Relay.{Relay, last_of, entered, entered_and_left, client_turn}
-use Rattle.smx_relay.specs.OnLane.{OnLane}
-use Rattle.smx_relay.specs.Agrees.{Agrees, HasLinks, Turned, AreOn, Enters, HaveEntered}
+use Rattle.smx_relay.specs.Private.OnLane.{OnLane}
+use Rattle.smx_relay.specs.Private.Agrees.{Agrees, HasLinks, Turned, AreOn, Enters, HaveEntered}
 use Rattle.smx_relay.proofs.Lanes.{zip-weaker}
 use Rattle.smx_relay.proofs.Entering.{refuses}
 use Rattle.smx_relay.proofs.Keeping.{KeepsSettings}

@@ -1,5 +1,5 @@
 -- What a client collects: its responses, and then its messages.
-use Rattle.std.proofs.Common.{◌≡◌, ◌≢◌, ◌++◌, ◌∷◌, ℕ, true, List, [], map, refl, sym, ◌∙◌, ap, subst, codes, Option, Some, None}
+use Rattle.std.proofs.Common.{◌≡◌, ◌≢◌, ◌++◌, ◌∷◌, ℕ, true, List, [], map, refl, sym, ◌∙◌, ap, codes, Option, Some, None}
 use Rattle.std.specs.Global.{Vec}
 use Rattle.std.specs.Prelude.{is_none}
 use Rattle.std.specs.List.{flat_map}
@@ -10,7 +10,7 @@ use Rattle.smx_relay.specs.Relay.{Relay, collect_lanes, collect_text, collected,
 use Rattle.smx_relay.specs.ClientTurn.{followed_by}
 use Rattle.smx_relay.specs.Messages.{send_turn}
 use Rattle.smx_relay.specs.Turns.{collect_turn, or_none}
-use Rattle.smx_relay.specs.Agrees.{Agrees, AreOn, Prints, Turned}
+use Rattle.smx_relay.specs.Private.Agrees.{Agrees, AreOn, Prints, Turned}
 use Rattle.smx_relay.proofs.Keeping.{KeepsSettings, kept_links}
 use Rattle.smx_relay.proofs.ClientTurns.{known_last, none_last}
 

@@ -17,7 +17,7 @@ use Rattle.smx_history.proofs.Reading.{entries_of-push}
 use Rattle.smx_history.proofs.Finding.{waiting-collected, oldest_same, row_found, absent, waiting_absent}
 use Rattle.smx_relay.specs.Texts.{pdu_line, to_client}
 use Rattle.smx_relay.specs.Relay.{collect_text, collected}
-use Rattle.smx_relay.specs.OnLane.{TurnsLane, AreOurs}
+use Rattle.smx_relay.specs.Private.OnLane.{TurnsLane, AreOurs}
 
 -- the notes of collects
 unfoldable pub collects : ℕ → List Response → List Note

@@ -24,8 +24,8 @@ use Rattle.smx_history.proofs.Unseen.{none_admitted, unseen}
 use Rattle.smx_history.proofs.Presence.{present_admitted}
 use Rattle.smx_history.proofs.Finding.{admit_refusal_same, absent}
 use Rattle.smx_relay.specs.Relay.{entered, entered_and_left, collect_text, collected}
-use Rattle.smx_relay.specs.OnLane.{OnLane, TurnsLane, AreOurs}
-use Rattle.smx_relay.specs.Agrees.{AreOn, AreReached, Enters, HaveEntered}
+use Rattle.smx_relay.specs.Private.OnLane.{OnLane, TurnsLane, AreOurs}
+use Rattle.smx_relay.specs.Private.Agrees.{AreOn, AreReached, Enters, HaveEntered}
 use Rattle.smx_relay.proofs.Lanes.{zip-length, zip-get, zip-set, zip-middle, zip-middle_set}
 use Rattle.smx_relay.proofs.Rows.{rows_ours, ours_of_own}
 use Rattle.smx_relay.proofs.Passing.{IsPassing, passing_start, passing_at, passing_more, passing_end, first_place, no_place}

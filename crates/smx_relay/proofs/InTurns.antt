@@ -1,5 +1,5 @@
 -- Octets of a client, by where their turn ends.
-use Rattle.std.proofs.Common.{◌≡◌, ◌++◌, ℕ, Bool, true, false, List, Option, Some, None, refl, sym, ap, ◌∙◌, subst, slice_get}
+use Rattle.std.proofs.Common.{◌≡◌, ◌++◌, ℕ, Bool, true, false, List, Some, None, refl, sym, ap, ◌∙◌, subst, slice_get}
 use Rattle.std.specs.Global.{Vec}
 use Rattle.smx_pdu.specs.declared.pdu.Pdu.{Pdu}
 use Rattle.smx_frame.specs.Stream.{Stream}
@@ -8,7 +8,7 @@ use Rattle.smx_relay.specs.Texts.{closed_line}
 use Rattle.smx_relay.specs.Links.{ClientLink, Receives, has_failed}
 use Rattle.smx_relay.specs.Relay.{Relay, last_of, with_link}
 use Rattle.smx_relay.specs.ClientTurn.{InTurn, client_end, client_pdu, each_pdu, followed_by}
-use Rattle.smx_relay.specs.Agrees.{Agrees, IsReached, MayPrint, Turned}
+use Rattle.smx_relay.specs.Private.Agrees.{Agrees, MayPrint, Turned}
 use Rattle.smx_relay.proofs.Turning.{turned_then}
 use Rattle.smx_relay.proofs.Links.{IsLinked, linked}
 

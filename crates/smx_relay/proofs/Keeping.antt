@@ -4,7 +4,7 @@ use Rattle.smx_session.specs.Login.{Login}
 use Rattle.smx_routes.specs.Routing.{Route}
 use Rattle.smx_relay.specs.declared.state.State.{State}
 use Rattle.smx_relay.specs.Links.{ClientLink, CentreLink}
-use Rattle.smx_relay.specs.Agrees.{HasLinks}
+use Rattle.smx_relay.specs.Private.Agrees.{HasLinks}
 
 -- the settings and the lanes' links stay
 pub record KeepsSettings (old new : State) : Type 0 where

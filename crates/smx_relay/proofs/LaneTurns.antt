@@ -10,7 +10,7 @@ use Rattle.smx_history.specs.declared.reply.Answered.TheVariants.{Queued, Late, 
 use Rattle.smx_history.specs.declared.reply.TakeRefusal.{TakeRefusal}
 use Rattle.smx_history.specs.declared.reply.TakeRefusal.TheVariants.{QueueEmpty, WindowFull}
 use Rattle.smx_history.specs.Legal.{IsLegal}
-use Rattle.smx_history.specs.History.{marks_of, note, entries_of}
+use Rattle.smx_history.specs.History.{marks_of, note}
 use Rattle.smx_history.specs.Contents.{AgreesWith, Content, queue_after, window_after}
 use Rattle.smx_history.specs.Replies.{take_refusal}
 use Rattle.smx_history.specs.Answering.{IsAnswered}
@@ -19,7 +19,7 @@ use Rattle.smx_history.proofs.Counts.{length-same}
 use Rattle.smx_history.proofs.Finding.{some_free, taken_free, place_same, absent, row_found}
 use Rattle.smx_relay.specs.Texts.{text_line, pdu_line, up_lane, upstream_of}
 use Rattle.smx_relay.specs.Relay.{take_with, take_on, back_on}
-use Rattle.smx_relay.specs.OnLane.{TurnsLane}
+use Rattle.smx_relay.specs.Private.OnLane.{TurnsLane}
 
 window_length : (h : List Note) (v : Content) → AgreesWith h v → length v.window ≡ length (window_after h)
 window_length h v a = length-same (window_after h) v.window a.after.window

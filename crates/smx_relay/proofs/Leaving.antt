@@ -9,8 +9,8 @@ use Rattle.smx_history.specs.Replies.{member_with}
 use Rattle.smx_history.proofs.Finding.{absent, row_found}
 use Rattle.smx_lane.specs.declared.fault.NotAdmitted.{NotAdmitted}
 use Rattle.smx_relay.specs.Relay.{left}
-use Rattle.smx_relay.specs.OnLane.{OnLane}
-use Rattle.smx_relay.specs.Agrees.{AreOn, AreReached}
+use Rattle.smx_relay.specs.Private.OnLane.{OnLane}
+use Rattle.smx_relay.specs.Private.Agrees.{AreOn, AreReached}
 use Rattle.smx_relay.proofs.Lanes.{zip-get, zip-set}
 use Rattle.smx_relay.proofs.Passing.{IsPassing, passing_start, passing_at, passing_more, passing_end}
 use Rattle.smx_relay.proofs.OwnNotes.{own_retired}

@@ -1,10 +1,10 @@
 -- From each state a line may print something.
-use Rattle.std.proofs.Common.{◌≡◌, ℕ, Bool, true, false, List, ◌∷◌, Option, Some, None, refl, slice_get}
-use Rattle.smx_relay.specs.declared.command.Action.{Action}
-use Rattle.smx_relay.specs.declared.command.Action.TheVariants.{Client, Prefix, In, Take, Back, Collect, History}
-use Rattle.smx_relay.specs.declared.command.Command.{Command}
-use Rattle.smx_relay.specs.declared.command.Command.TheVariants.{Skip, Set, Run}
-use Rattle.smx_relay.specs.Script.{command_of}
+use Rattle.std.proofs.Common.{ℕ, Bool, true, false, List, ◌∷◌, Option, Some, None, refl, slice_get}
+use Rattle.smx_script.specs.declared.command.Action.{Action}
+use Rattle.smx_script.specs.declared.command.Action.TheVariants.{Client, Prefix, In, Take, Back, Collect, History, Turn}
+use Rattle.smx_script.specs.declared.command.Command.{Command}
+use Rattle.smx_script.specs.declared.command.Command.TheVariants.{Skip, Set, Run}
+use Rattle.smx_script.specs.Script.{command_of}
 use Rattle.smx_relay.specs.Links.{ClientLink, CentreLink, has_failed, is_down}
 use Rattle.smx_relay.specs.Relay.{Relay, begun, last_of}
 use Rattle.smx_relay.specs.ClientTurn.{OnOpen, OnStream, OnLink, OnClient, InTurn}
@@ -86,6 +86,7 @@ some_act s (Take i) = some_take s i
 some_act s (Back i octets) = some_back s i octets
 some_act s (Collect c) = (_, refl)
 some_act s (History i) = (_, refl)
+some_act s (Turn i) = (_, refl)
 
 some_does : (s : Relay) (command : Command) → Some_of (Does s command)
 unfolding Does

@@ -1,5 +1,5 @@
 -- Turns of one link, as turns of the whole state.
-use Rattle.std.proofs.Common.{◌≡◌, ◌<◌, ◌≤◌, ◌++◌, ℕ, Bool, true, false, List, [], length, map, filter, not, ◌==◌, set, get_or, refl, sym, ◌∙◌, ap, subst, Option, Some, None, slice_get, rules}
+use Rattle.std.proofs.Common.{◌≡◌, ◌<◌, ◌≤◌, ◌++◌, ℕ, Bool, true, false, List, [], length, map, filter, not, ◌==◌, set, get_or, refl, sym, ◌∙◌, ap, subst, Some, None, slice_get}
 use Rattle.std.proofs.lemmas.Option.{slice_get_past, slice_get_read}
 use Rattle.smx_pdu.specs.declared.pdu.Pdu.{Pdu}
 use Rattle.smx_session.specs.declared.act.Act.{Act}
@@ -8,14 +8,14 @@ use Rattle.smx_session.specs.declared.client_state.ClientState.TheVariants.{Ende
 use Rattle.smx_session.specs.Pdus.{undecoded}
 use Rattle.smx_relay.specs.declared.state.State.{State}
 use Rattle.smx_relay.specs.Links.{ClientLink, CentreLink, has_left}
-use Rattle.smx_relay.specs.Texts.{pdu_line, to_client, closed_line, up_lane, down_line}
+use Rattle.smx_relay.specs.Texts.{pdu_line, up_lane, down_line}
 use Rattle.smx_routes.specs.Routing.{Route}
 use Rattle.smx_relay.specs.Relay.{Relay, all_left, left, with_link}
 use Rattle.smx_relay.specs.ClientTurn.{hang_up, client_act, client_pdu, client_pdu_at, client_end, client_end_at, decides}
 use Rattle.smx_relay.specs.CentreTurn.{with_centre, centre_act, centre_pdu, centre_pdu_at, centre_end, centre_end_at, act_of, session_after}
-use Rattle.smx_relay.specs.Agrees.{Agrees, HasLeft, IsReached, AreReached, Turned}
+use Rattle.smx_relay.specs.Private.Agrees.{Agrees, HasLeft, IsReached, AreReached, Turned}
 use Rattle.smx_relay.proofs.Lanes.{written_back}
-use Rattle.smx_relay.proofs.Keeping.{KeepsSettings, kept_links}
+use Rattle.smx_relay.proofs.Keeping.{KeepsSettings}
 
 -- ---- clients
 

@@ -1,7 +1,6 @@
 -- Turns of messages, as turns of the whole state.
-use Rattle.std.proofs.Common.{◌≡◌, ◌≢◌, ◌++◌, ℕ, Bool, true, false, List, [], ◌∷◌, map, get_or, refl, sym, ◌∙◌, ap, subst, codes, Option, Some, None, slice_get, Result, Ok, Err}
+use Rattle.std.proofs.Common.{◌≡◌, ◌++◌, ℕ, true, false, List, [], get_or, ◌∙◌, ap, subst, codes, Option, Some, None, slice_get, Ok, Err}
 use Rattle.std.specs.List.{flat_map}
-use Rattle.std.specs.Global.{Vec}
 use Rattle.std.specs.Fmt.{decimal}
 use Rattle.smx_pdu.specs.declared.pdu.Pdu.{Pdu}
 use Rattle.smx_pdu.specs.declared.body_fault.BodyFault.{BodyFault}
@@ -16,9 +15,9 @@ use Rattle.smx_mailbox.specs.Mailbox.{with_message, is_full, sent, after_sent, s
 use Rattle.smx_relay.specs.declared.state.State.{State}
 use Rattle.smx_relay.specs.Links.{ClientLink}
 use Rattle.smx_relay.specs.Texts.{text_line, pdu_line, to_client, up_lane, refusal}
-use Rattle.smx_relay.specs.Relay.{Relay, all_left, collect_lanes, last_of, with_link}
+use Rattle.smx_relay.specs.Relay.{Relay, all_left, with_link}
 use Rattle.smx_relay.specs.Messages.{answer_turn, leave_turn, left_line, message_turn, put_to, send_turn}
-use Rattle.smx_relay.specs.Agrees.{Agrees, Turned, Prints}
+use Rattle.smx_relay.specs.Private.Agrees.{Agrees, Turned}
 use Rattle.smx_relay.proofs.Links.{IsLinked, linked, link_untouched}
 
 -- the client's link is this from now on

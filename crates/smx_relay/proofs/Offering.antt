@@ -16,8 +16,8 @@ use Rattle.smx_relay.specs.declared.state.State.{State}
 use Rattle.smx_relay.specs.declared.offer.Offer.{Offer}
 use Rattle.smx_relay.specs.Texts.{text_line, pdu_line, to_client, refusal_of}
 use Rattle.smx_relay.specs.Relay.{Relay, ring, last_of, accepts_on, lane_for, in_turn_at, request_of}
-use Rattle.smx_relay.specs.OnLane.{OnLane}
-use Rattle.smx_relay.specs.Agrees.{Agrees, Turned, MayAccept, accepts_in}
+use Rattle.smx_relay.specs.Private.OnLane.{OnLane}
+use Rattle.smx_relay.specs.Private.Agrees.{Agrees, Turned, MayAccept, accepts_in}
 use Rattle.smx_relay.proofs.Lanes.{zip-length, zip-set, zip-weaker, find-agree}
 use Rattle.smx_relay.proofs.Rows.{rows_below}
 use Rattle.smx_relay.proofs.Keeping.{KeepsSettings, kept_links}

@@ -5,7 +5,6 @@ use Rattle.std.specs.List.{AllByRecursion}
 use Rattle.std.specs.Fmt.{decimal}
 use Rattle.smx_history.specs.declared.note.Event.TheVariants as event
 use Rattle.smx_relay.specs.Texts.{text_line}
-use Rattle.std.proofs.lemmas.List.{map-append}
 use Rattle.smx_pdu.specs.declared.pdu.Pdu.{Pdu}
 use Rattle.smx_history.specs.declared.entry.Entry.{Entry}
 use Rattle.smx_history.specs.declared.limits.Limits.{Limits}
@@ -18,9 +17,10 @@ use Rattle.smx_history.specs.History.{entry_in, entries_of, note}
 use Rattle.smx_history.specs.Contents.{queue_after}
 use Rattle.smx_history.specs.Finding.{is_present, place_answered, waiting_after}
 use Rattle.smx_history.proofs.Growing.{All-push}
+use Rattle.smx_history.proofs.ShiftAgrees.{entries_of-shift}
 use Rattle.smx_history.proofs.Reading.{entries_of-push, entries_of-append, All-each}
-use Rattle.smx_relay.specs.Relay.{last_of, last_in, take_with, take_on, back_to, back_on, collected, entered, entered_and_left}
-use Rattle.smx_relay.specs.OnLane.{IsOwn, AreOwn}
+use Rattle.smx_relay.specs.Relay.{last_of, last_in, take_with, take_on, turn_on, back_to, back_on, collected, entered, entered_and_left}
+use Rattle.smx_relay.specs.Private.OnLane.{IsOwn, AreOwn}
 use Rattle.smx_relay.proofs.Collecting.{collects}
 
 pub own_push : (clients : List (Option ℕ)) (h : List Note) (n : Note) (e : Entry) → entry_in n ≡ Some e → AreOwn clients h → IsOwn clients e → AreOwn clients (h ++ n ∷ [])
@@ -50,6 +50,11 @@ own_back_to clients p h (Some q) own = at (is_present q.client h)
 pub own_back : (clients : List (Option ℕ)) (p : Pdu) (h : List Note) → AreOwn clients h → AreOwn clients (back_on p h).1
 unfolding back_on
 own_back clients p h own = own_back_to clients p h (place_answered h p) own
+
+-- a shift has no entry
+pub own_turn : (clients : List (Option ℕ)) (i : ℕ) (h : List Note) → AreOwn clients h → AreOwn clients (turn_on i h).1
+unfolding turn_on
+own_turn clients i h own = subst (AllByRecursion (IsOwn clients)) (sym (entries_of-shift h 0)) own
 
 All-append : {X : Type 0} (P : X → Type 0) (xs ys : List X) → AllByRecursion P xs → AllByRecursion P ys → AllByRecursion P (xs ++ ys)
 All-append P [] ys a b = b

@@ -1,7 +1,7 @@
 -- A stream's octets, cut into PDUs one after another.
 use Rattle.std.proofs.Common.{◌≡◌, ◌⊎◌, ◌<◌, ℕ, List, [], ◌∷◌, ◌++◌, length, refl, sym, ap, subst, ◌∙◌, arith, append_assoc, Option, Some, None, inl, inr}
 use Rattle.std.specs.Prelude.{IfSome}
-use Rattle.std.specs.List.{flat_map, AllByRecursion}
+use Rattle.std.specs.List.{flat_map}
 use Rattle.std.proofs.lemmas.Grind.{flat_map-append}
 use Rattle.std.proofs.lemmas.List.{append-nil, length-append}
 use Rattle.smx_pdu.specs.declared.pdu.Pdu.{Pdu}
@@ -10,7 +10,7 @@ use Rattle.smx_pdu.proofs.Spelling.{Spells-length}
 use Rattle.smx_history.proofs.Growing.{All-push}
 use Rattle.smx_frame.specs.declared.fault.FrameFault.{FrameFault}
 use Rattle.smx_frame.specs.declared.fault.FrameFault.TheVariants.{NoMemory}
-use Rattle.smx_frame.specs.Stream.{Stream, IsFrame, TakesFirst, HasNone, Begins, Cuts, fault_at}
+use Rattle.smx_frame.specs.Stream.{Stream, IsFrame, TakesFirst, HasNone, Begins, fault_at}
 use Rattle.smx_frame.proofs.Streams.{bad_has_none}
 use Rattle.smx_frame.proofs.Readings.{some_cuts}
 use Rattle.smx_relay.specs.Links.{Receives}

@@ -8,7 +8,7 @@ use Rattle.smx_history.specs.declared.reply.Refusal.{Refusal}
 use Rattle.smx_history.specs.Contents.{Content}
 use Rattle.smx_history.specs.Replies.{accept_refusal}
 use Rattle.smx_relay.specs.Relay.{ring}
-use Rattle.smx_relay.specs.Agrees.{accepts_in}
+use Rattle.smx_relay.specs.Private.Agrees.{accepts_in}
 use Rattle.smx_relay.proofs.Lanes.{find-here, find-next}
 
 -- the lanes from the k-th of the ring on

@@ -1,5 +1,5 @@
 -- A client's prefix, by where its line ends.
-use Rattle.std.proofs.Common.{◌≡◌, ◌≤◌, ◌<◌, arith, ℕ, Bool, true, false, List, [], ◌∷◌, ◌||◌, length, nat_lt, not, refl, sym, ◌∙◌, ap, subst, Option, Some, None, slice_get}
+use Rattle.std.proofs.Common.{◌≡◌, ◌<◌, arith, ℕ, Bool, true, false, List, [], ◌∷◌, ◌||◌, length, nat_lt, not, refl, sym, ◌∙◌, ap, subst, Some, None, slice_get}
 use Rattle.std.specs.Global.{Vec}
 use Rattle.std.specs.Prelude.{IsPermutation, Contains}
 use Rattle.std.proofs.lemmas.Bool.Decides.{nat_tests}
@@ -9,7 +9,7 @@ use Rattle.smx_relay.specs.declared.state.State.{State}
 use Rattle.smx_relay.specs.Links.{ClientLink, may_receive}
 use Rattle.smx_relay.specs.Relay.{Relay, last_of}
 use Rattle.smx_relay.specs.Turns.{RouteTurn, is_bad_route}
-use Rattle.smx_relay.specs.Agrees.{Agrees, MayPrint}
+use Rattle.smx_relay.specs.Private.Agrees.{Agrees, MayPrint}
 use Rattle.smx_relay.proofs.Keeping.{KeepsSettings}
 
 pub route_unknown : (s : Relay) (c : ℕ) (prefix : List ℕ) (new : State) → last_of s.clients c ≡ None → MayPrint (RouteTurn s c prefix) new None

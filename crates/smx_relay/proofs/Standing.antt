@@ -1,5 +1,5 @@
 -- Where the engine stands before a line, and what follows from it.
-use Rattle.std.proofs.Common.{◌≡◌, ℕ, ◌+◌, ◌<◌, ◌≤◌, List, [], ◌∷◌, ◌++◌, length, drop, Option, Some, None, refl, sym, ap, subst, ◌∙◌, append_assoc, arith}
+use Rattle.std.proofs.Common.{◌≡◌, ℕ, ◌+◌, ◌<◌, ◌≤◌, List, [], ◌∷◌, ◌++◌, length, drop, Option, Some, None, sym, ap, subst, ◌∙◌, append_assoc, arith}
 use Rattle.std.specs.Global.{Vec}
 use Rattle.std.specs.Prelude.{IfSome}
 use Rattle.std.proofs.Common.{Bor, map, get_or}
@@ -8,12 +8,12 @@ use Rattle.std.specs.Io.KnownBytes.{Appends}
 use Rattle.std.proofs.KnownBytes.{Appends-nil, Appends-trans}
 use Rattle.std.proofs.lemmas.List.{drop_all}
 use Rattle.smx_relay.specs.declared.state.State.{State}
-use Rattle.smx_relay.specs.Script.{lines_of}
+use Rattle.smx_script.specs.Script.{lines_of}
 use Rattle.smx_relay.specs.Texts.{bad_line}
 use Rattle.smx_relay.specs.Relay.{Relay, start}
 use Rattle.smx_relay.specs.Turns.{Lines}
 use Rattle.smx_relay.specs.Runs.{Runs, Relays}
-use Rattle.smx_relay.specs.Agrees.{Agrees, Turned, MayPrint}
+use Rattle.smx_relay.specs.Private.Agrees.{Agrees, Turned, MayPrint}
 use Rattle.smx_relay.specs.Ends.{BeginsRelay}
 use Rattle.smx_relay.proofs.Running.{SoFar, so_far_start, so_far_more, so_far_end, so_far_bad, so_far_front, so_far_part, runs_on}
 

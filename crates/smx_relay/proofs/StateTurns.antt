@@ -1,5 +1,5 @@
 -- Turns of one lane, as turns of the whole state.
-use Rattle.std.proofs.Common.{◌≡◌, ◌<◌, ◌≤◌, ℕ, List, [], length, set, get_or, sym, ◌∙◌, ap, subst, arith, Option, Some, None, slice_get, Result, Ok, Err, IfOk, rules}
+use Rattle.std.proofs.Common.{◌≡◌, ◌<◌, ◌≤◌, ℕ, List, [], length, set, get_or, sym, ◌∙◌, ap, subst, arith, Option, Some, None, slice_get, Result, Ok, Err, IfOk}
 use Rattle.std.specs.Prelude.{unwrap_or}
 use Rattle.std.specs.Global.{Vec}
 use Rattle.std.specs.List.{AllZip}
@@ -10,12 +10,12 @@ use Rattle.smx_history.specs.Contents.{AgreesWith, Content}
 use Rattle.smx_history.specs.Finding.{IsFree}
 use Rattle.smx_history.proofs.Finding.{some_free}
 use Rattle.smx_relay.specs.declared.state.State.{State}
-use Rattle.smx_relay.specs.Relay.{Relay, on_lane, take_on, back_on, history_on}
+use Rattle.smx_relay.specs.Relay.{Relay, on_lane, take_on, back_on, history_on, turn_on}
 use Rattle.smx_relay.specs.Turns.{IsFreeOn}
-use Rattle.smx_relay.specs.OnLane.{OnLane, AreOwn, TurnsLane}
-use Rattle.smx_relay.specs.Agrees.{Agrees, Prints, Turned}
+use Rattle.smx_relay.specs.Private.OnLane.{OnLane, AreOwn, TurnsLane}
+use Rattle.smx_relay.specs.Private.Agrees.{Agrees, Prints, Turned}
 use Rattle.smx_relay.proofs.Lanes.{zip-length, zip-get, zip-set}
-use Rattle.smx_relay.proofs.OwnNotes.{own_take, own_back}
+use Rattle.smx_relay.proofs.OwnNotes.{own_take, own_back, own_turn}
 use Rattle.smx_relay.proofs.ActTurns.{some_printed}
 use Rattle.smx_relay.proofs.Keeping.{KeepsSettings, kept_links}
 
@@ -109,3 +109,9 @@ pub history_some : (old new : State) (s : Relay) (i : ℕ) (lane after : Content
 history_some old new s i lane after text a is goes =
     let x = history_at old s i lane a is.within is.here in
     lane_turned old new s i history_on x.0 lane after text a is x.1 x.2 (goes x.0 x.2.agrees) (history_own s.clients x.0 x.2.own)
+
+pub turn_some : (old new : State) (s : Relay) (i : ℕ) (lane after : Content) (text : Vec ℕ) → Agrees old s → IsTurned old new i lane after
+    → ((h : List Note) → AgreesWith h lane → TurnsLane (turn_on i h) lane after text.items) → Prints (on_lane s i (turn_on i)) new (Some text)
+turn_some old new s i lane after text a is goes =
+    let x = history_at old s i lane a is.within is.here in
+    lane_turned old new s i (turn_on i) x.0 lane after text a is x.1 x.2 (goes x.0 x.2.agrees) (own_turn s.clients i x.0 x.2.own)

@@ -5,7 +5,7 @@ use Rattle.smx_pdu.specs.declared.pdu.Pdu.{Pdu}
 use Rattle.smx_relay.specs.declared.state.State.{State}
 use Rattle.smx_relay.specs.Relay.{Relay}
 use Rattle.smx_relay.specs.ClientTurn.{followed_by, each_pdu}
-use Rattle.smx_relay.specs.Agrees.{Agrees, IsReached, Turned}
+use Rattle.smx_relay.specs.Private.Agrees.{Agrees, IsReached, Turned}
 
 -- a turn that prints nothing and leaves the state
 pub turned_nothing : (state : State) (s : Relay) (text : List ℕ) → Agrees state s → text ≡ [] → Turned ([], s) state text

@@ -1,5 +1,5 @@
 -- Octets of the centre on a lane: what the lane's session decides of each PDU, and what comes of that.
-use Rattle.std.specs.Prelude.{◌≡◌, ℕ, ◌++◌, Bool, true, false, not, ◌&&◌, List, [], ◌∷◌, set, Option, Some, None, slice_get, unwrap_or, if◌then◌else◌}
+use Rattle.std.specs.Prelude.{◌≡◌, ℕ, ◌++◌, Bool, true, false, List, [], set, Option, Some, None, slice_get, unwrap_or, if◌then◌else◌}
 use Rattle.smx_pdu.specs.declared.pdu.Pdu.{Pdu}
 use Rattle.smx_frame.specs.Stream.{Stream}
 use Rattle.smx_session.specs.declared.up_act.UpAct.{UpAct}

@@ -1,4 +1,3 @@
-pub mod Script
 pub mod Texts
 pub mod Links
 pub mod Relay
@@ -6,7 +5,6 @@ pub mod Messages
 pub mod ClientTurn
 pub mod CentreTurn
 pub mod Turns
-pub mod OnLane
-pub mod Agrees
 pub mod Runs
 pub mod Ends
+pub mod Private

@@ -10,15 +10,15 @@ use Rattle.smx_history.specs.declared.request.Request.{Request}
 use Rattle.smx_history.specs.declared.place.Place.{Place}
 use Rattle.smx_history.specs.declared.note.Note.{Note}
 use Rattle.smx_history.specs.declared.note.Event.TheVariants as event
-use Rattle.smx_history.specs.History.{note, entries_of, stored_of}
+use Rattle.smx_history.specs.History.{note, shift, stored_of}
 use Rattle.smx_history.specs.Contents.{queue_after, window_after}
 use Rattle.smx_history.specs.Finding.{is_present, admit_refusal_after, refusal_after, place_answered, waiting_after}
 use Rattle.smx_routes.specs.Routing.{Route}
 use Rattle.smx_relay.specs.declared.offer.Offer.{Offer}
-use Rattle.smx_relay.specs.declared.command.Setting.{Setting}
-use Rattle.smx_relay.specs.declared.command.Setting.TheVariants.{Sizes, Lanes, Places, Account}
+use Rattle.smx_script.specs.declared.command.Setting.{Setting}
+use Rattle.smx_script.specs.declared.command.Setting.TheVariants.{Sizes, Lanes, Places, Account}
 use Rattle.smx_relay.specs.Links.{ClientLink, CentreLink, new_link, bound_centre}
-use Rattle.smx_relay.specs.Texts.{text_line, pdu_line, to_client, up_lane, refusal_of, upstream_of, entry_line}
+use Rattle.smx_relay.specs.Texts.{text_line, pdu_line, to_client, up_lane, refusal_of, upstream_of, entry_line, turned_line}
 
 pub record Relay : Type 0 where
   -- the sizes of each lane, and how many lanes there are to be
@@ -171,5 +171,10 @@ collected c h = h ++ map (λ r. note 0 (event.Collect c r.ordinal)) (waiting_aft
 abbrev pub collect_lanes : ℕ → Relay → List ℕ × Relay
 collect_lanes c s = (flat_map (collect_text c) s.histories, record s { histories = map (collected c) s.histories })
 
+-- the entries after the last shift are listed
 unfoldable pub history_on : List Note → List ℕ × List Note
 history_on h = (flat_map entry_line (stored_of h), h)
+
+-- so they are, and a shift follows
+unfoldable pub turn_on : ℕ → List Note → List ℕ × List Note
+turn_on i h = (flat_map entry_line (stored_of h) ++ turned_line i (length (stored_of h)), h ++ shift 0 ∷ [])

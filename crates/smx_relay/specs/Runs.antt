@@ -1,6 +1,6 @@
 -- What a whole script prints.
 use Rattle.std.specs.Prelude.{◌≡◌, ℕ, ◌+◌, List, [], ◌∷◌, ◌++◌, Option, Some, None}
-use Rattle.smx_relay.specs.Script.{lines_of}
+use Rattle.smx_script.specs.Script.{lines_of}
 use Rattle.smx_relay.specs.Texts.{bad_line}
 use Rattle.smx_relay.specs.Relay.{Relay, start}
 use Rattle.smx_relay.specs.Turns.{Lines}

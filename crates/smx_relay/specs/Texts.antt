@@ -36,6 +36,10 @@ closed_line c = text_line (codes "closed " ++ decimal c)
 abbrev pub down_line : ℕ → List ℕ
 down_line lane = text_line (codes "down " ++ decimal lane)
 
+-- a lane goes on without so many entries
+abbrev pub turned_line : ℕ → ℕ → List ℕ
+turned_line lane count = text_line (codes "turned " ++ (decimal lane ++ (codes " " ++ decimal count)))
+
 -- the answer to a request, a header with this status
 abbrev pub refusal : ℕ → ℕ → ℕ → Pdu
 refusal command number status = record { command = unwrap_or (response_of command) GENERIC_NACK; status = status; number = number; body = [] }

@@ -4,14 +4,14 @@ use Rattle.std.specs.Fmt.{decimal}
 use Rattle.smx_routes.specs.Routing.{Route, route, has_route}
 use Rattle.smx_history.specs.declared.note.Note.{Note}
 use Rattle.smx_history.specs.Finding.{IsFree}
-use Rattle.smx_relay.specs.declared.command.Command.{Command}
-use Rattle.smx_relay.specs.declared.command.Command.TheVariants.{Skip, Set, Run}
-use Rattle.smx_relay.specs.declared.command.Action.{Action}
-use Rattle.smx_relay.specs.declared.command.Action.TheVariants.{Client, Prefix, In, Take, Back, Collect, History}
-use Rattle.smx_relay.specs.Script.{command_of}
+use Rattle.smx_script.specs.declared.command.Command.{Command}
+use Rattle.smx_script.specs.declared.command.Command.TheVariants.{Skip, Set, Run}
+use Rattle.smx_script.specs.declared.command.Action.{Action}
+use Rattle.smx_script.specs.declared.command.Action.TheVariants.{Client, Prefix, In, Take, Back, Collect, History, Turn}
+use Rattle.smx_script.specs.Script.{command_of}
 use Rattle.smx_relay.specs.Texts.{text_line}
 use Rattle.smx_relay.specs.Links.{ClientLink, may_receive}
-use Rattle.smx_relay.specs.Relay.{Relay, set_turn, begun, last_of, on_lane, take_on, client_turn, collect_lanes, history_on}
+use Rattle.smx_relay.specs.Relay.{Relay, set_turn, begun, last_of, on_lane, take_on, client_turn, collect_lanes, history_on, turn_on}
 use Rattle.smx_relay.specs.Messages.{send_turn}
 use Rattle.smx_relay.specs.ClientTurn.{InTurn, followed_by}
 use Rattle.smx_relay.specs.CentreTurn.{BackTurn, unless_down}
@@ -64,6 +64,7 @@ Acts s (Take i) x = TakeTurn s i x
 Acts s (Back i octets) x = BackTurn s i octets x
 Acts s (Collect c) x = x ≡ collect_turn s c (last_of s.clients c)
 Acts s (History i) x = x ≡ on_lane s i history_on
+Acts s (Turn i) x = x ≡ on_lane s i (turn_on i)
 
 unfoldable pub Does : Relay → Command → Option (List ℕ × Relay) → Type 0
 Does s Skip x = x ≡ Some ([], s)

@@ -4,7 +4,7 @@ ghost use Rattle.smx_session.specs.Pdus.{undecoded};
 ghost use Rattle.smx_relay.specs.Relay.{Relay};
 ghost use Rattle.smx_relay.specs.ClientTurn.{each_pdu};
 ghost use Rattle.smx_relay.specs.CentreTurn.{BackTurn, centre_act, centre_end, centre_pdu, to_lane};
-ghost use Rattle.smx_relay.specs.Agrees.{Agrees, MayPrint, Turned};
+ghost use Rattle.smx_relay.specs.Private.Agrees.{Agrees, MayPrint, Turned};
 
 use crate::messages::message;
 use crate::on_lane::back_on;

@@ -6,7 +6,7 @@ ghost use Rattle.smx_history.specs.declared.note.Note.{Note};
 ghost use Rattle.smx_relay.specs.Relay.{Relay, client_turn, collect_text, collected, entered, entered_and_left, last_of};
 ghost use Rattle.smx_relay.specs.Messages.{leave_turn};
 ghost use Rattle.smx_relay.specs.Turns.{collect_turn};
-ghost use Rattle.smx_relay.specs.Agrees.{Agrees, AreOn, AreReached, Enters, HasLeft, HaveEntered, IsReached, Prints, Turned};
+ghost use Rattle.smx_relay.specs.Private.Agrees.{Agrees, AreOn, AreReached, Enters, HasLeft, HaveEntered, IsReached, Prints, Turned};
 
 use crate::link::ClientLink;
 use crate::messages::{left_lines, send};

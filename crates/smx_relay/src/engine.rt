@@ -7,10 +7,13 @@ use crate::end::RunEnd;
 use crate::line::run_line;
 use crate::settings::new_state;
 use crate::texts::bad_line;
-use crate::transfer::{ReadFault, read_script, write_text};
-use crate::words::parts_of;
+use smx_script::lines_of;
+use smx_text::{ReadFault, read_octets, write_text};
 use std::alloc::Global;
 use std::io::{Read, Write};
+
+/// The most octets that a script has.
+const MAX_SCRIPT: usize = 1_048_576;
 
 // Runs a script that was read.
 fn relay<W: Write>(alloc: Global, script: &[u8], writer: &mut W) -> RunEnd
@@ -20,7 +23,7 @@ fn relay<W: Write>(alloc: Global, script: &[u8], writer: &mut W) -> RunEnd
         return RunEnd::NoMemory;
     };
     let mut state = start;
-    let Ok(lines) = parts_of(alloc, script, b'\n') else {
+    let Ok(lines) = lines_of(alloc, script) else {
         return RunEnd::NoMemory;
     };
     let lines = lines.as_slice();
@@ -52,7 +55,7 @@ pub fn run<R: Read, W: Write>(alloc: Global, reader: &mut R, writer: &mut W) -> 
     ensures { IfSome (R.remaining reader.old) (λ script. (out : List ℕ)
         × Appends (W.contents writer.old) (W.contents writer.new) out × Ends result script out) }
 {
-    match read_script(alloc, reader) {
+    match read_octets(alloc, reader, MAX_SCRIPT) {
         Ok(script) => relay(alloc, &script, writer),
         Err(ReadFault::TooLong) => RunEnd::TooLong,
         Err(ReadFault::Failed) => RunEnd::ReadFault,

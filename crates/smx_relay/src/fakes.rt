@@ -66,33 +66,34 @@ impl Write for Weary {
 }
 
 #[test]
-fn a_reader_that_fails(rt: HostRuntime) {
+fn a_reader_that_fails(rt: HostRuntime) -> Result<(), Fail> {
     for reads in 0..=SCRIPT.len() {
-        let mut out = Vec::new(rt.alloc());
+        let mut out = Vec::with_capacity(rt.alloc(), 1_024)?;
         assert_eq!(rt;
             run(rt.alloc(), &mut Broken { reads, at: 0 }, &mut out),
             RunEnd::ReadFault
         );
         assert!(rt; out.is_empty());
     }
-    let mut out = Vec::new(rt.alloc());
+    let mut out = Vec::with_capacity(rt.alloc(), 1_024)?;
     let mut whole = Broken {
         reads: SCRIPT.len() + 1,
         at: 0,
     };
     assert_eq!(rt; run(rt.alloc(), &mut whole, &mut out), RunEnd::Clean);
     assert_eq!(rt; out.as_slice(), OUTPUT.as_bytes());
+    Ok(())
 }
 
 // Each octet is written alone, or each text at once: in either case what was written is a front.
 #[test]
-fn a_writer_that_fails(rt: HostRuntime) {
+fn a_writer_that_fails(rt: HostRuntime) -> Result<(), Fail> {
     for (takes, most) in [(1, OUTPUT.len()), (1_000, 5)] {
         for turn in 0..2 * most {
             let writes = turn / 2;
             let fails = turn % 2 == 0;
             let mut out = Weary {
-                held: Vec::new(rt.alloc()),
+                held: Vec::with_capacity(rt.alloc(), 1_024)?,
                 writes,
                 takes,
                 fails,
@@ -105,7 +106,7 @@ fn a_writer_that_fails(rt: HostRuntime) {
             }
         }
         let mut out = Weary {
-            held: Vec::new(rt.alloc()),
+            held: Vec::with_capacity(rt.alloc(), 1_024)?,
             writes: most,
             takes,
             fails: true,
@@ -114,12 +115,13 @@ fn a_writer_that_fails(rt: HostRuntime) {
         assert_eq!(rt; run(rt.alloc(), &mut script, &mut out), RunEnd::Clean);
         assert_eq!(rt; out.held.as_slice(), OUTPUT.as_bytes());
     }
+    Ok(())
 }
 
 #[test]
 fn the_longest_script(rt: HostRuntime) -> Result<(), Fail> {
     let mut text = vec![in rt.alloc(); b'#'; 1_048_576]?;
-    let mut out = Vec::new(rt.alloc());
+    let mut out = Vec::with_capacity(rt.alloc(), 1_024)?;
     assert_eq!(rt;
         run(rt.alloc(), &mut text.as_slice(), &mut out),
         RunEnd::Clean

@@ -1,19 +1,18 @@
 //! One line of a script, run on the lanes.
 ghost use Rattle.std.specs.Prelude.{◌≡◌, ℕ, List, Option, IfOk};
-ghost use Rattle.smx_relay.specs.Relay.{Relay, history_on, on_lane};
+ghost use Rattle.smx_relay.specs.Relay.{Relay, history_on, on_lane, turn_on};
 ghost use Rattle.smx_relay.specs.Turns.{Acts, Does, Lines, TakeTurn};
-ghost use Rattle.smx_relay.specs.Agrees.{Agrees, IsReached, MayPrint, Prints};
+ghost use Rattle.smx_relay.specs.Private.Agrees.{Agrees, IsReached, MayPrint, Prints};
 
 use crate::centre_turn::receive_back;
 use crate::client_turn::receive_in;
 use crate::clients::{collect, enter};
-use crate::command::{Action, Command};
 use crate::messages::route;
-use crate::on_lane::{history_on, take_on};
-use crate::script::read_command;
+use crate::on_lane::{history_on, take_on, turn_on};
 use crate::settings::{begin, set};
 use crate::state::State;
 use crate::texts::down_line;
+use smx_script::{Action, Command, read_command};
 use std::alloc::{AllocError, Global};
 
 // Takes the oldest request of a lane that is up. There is no text where there is no such lane.
@@ -33,7 +32,7 @@ fn take(alloc: Global, state: &mut State, lane: u64) -> Result<Option<Vec<u8>>, 
     Ok(Some(take_on(alloc, &mut state.lanes[at], lane)?))
 }
 
-// Lists the entries of a lane. There is no text where there is no such lane.
+// Lists the stored entries of a lane. There is no text where there is no such lane.
 fn history(alloc: Global, state: &State, lane: u64) -> Result<Option<Vec<u8>>, AllocError>
     ensures { (s : Relay) → Agrees state.now s → IfOk result (λ text.
         Prints (on_lane s lane history_on) state.now text) }
@@ -43,6 +42,19 @@ fn history(alloc: Global, state: &State, lane: u64) -> Result<Option<Vec<u8>>, A
         return Ok(None);
     }
     Ok(Some(history_on(alloc, &state.lanes[at])?))
+}
+
+// Lists the stored entries of a lane, which goes on without them. There is no text where there is no
+// such lane.
+fn turn(alloc: Global, state: &mut State, lane: u64) -> Result<Option<Vec<u8>>, AllocError>
+    ensures { (s : Relay) → Agrees state.old s → IfOk result (λ text.
+        Prints (on_lane s lane (turn_on lane)) state.new text) }
+{
+    let at = lane as usize;
+    if at >= state.lanes.len() {
+        return Ok(None);
+    }
+    Ok(Some(turn_on(alloc, &mut state.lanes[at], lane)?))
 }
 
 // Runs an action. There is no text at a bad line.
@@ -63,6 +75,7 @@ fn run_action(
         Action::Back { lane, octets } => receive_back(alloc, state, lane, octets.as_slice()),
         Action::Collect { client } => collect(alloc, state, client),
         Action::History { lane } => history(alloc, state, lane),
+        Action::Turn { lane } => turn(alloc, state, lane),
     }
 }
 

@@ -57,9 +57,9 @@ const ROWS: [(&str, &str, &str); 10] = [
 ];
 
 #[test]
-fn messages_go_to_clients(rt: HostRuntime) {
+fn messages_go_to_clients(rt: HostRuntime) -> Result<(), Fail> {
     for (name, script, output) in ROWS {
-        let mut out = Vec::new(rt.alloc());
+        let mut out = Vec::with_capacity(rt.alloc(), 4_096)?;
         let mut reader = script.as_bytes();
         assert_eq!(rt;
             run(rt.alloc(), &mut reader, &mut out),
@@ -68,6 +68,7 @@ fn messages_go_to_clients(rt: HostRuntime) {
         );
         assert_eq!(rt; out.as_slice(), output.as_bytes(), "{name}");
     }
+    Ok(())
 }
 
 // Scripts that end with a bad line, and its number.
@@ -93,9 +94,9 @@ const BAD: [(&str, u64); 15] = [
 ];
 
 #[test]
-fn bad_lines_of_messages(rt: HostRuntime) {
+fn bad_lines_of_messages(rt: HostRuntime) -> Result<(), Fail> {
     for (script, line) in BAD {
-        let mut out = Vec::new(rt.alloc());
+        let mut out = Vec::with_capacity(rt.alloc(), 4_096)?;
         let mut reader = script.as_bytes();
         assert_eq!(rt;
             run(rt.alloc(), &mut reader, &mut out),
@@ -103,4 +104,5 @@ fn bad_lines_of_messages(rt: HostRuntime) {
             "{script}"
         );
     }
+    Ok(())
 }

@@ -5,16 +5,16 @@ ghost use Rattle.smx_relay.specs.Texts.{pdu_line, refusal, to_client, up_lane};
 ghost use Rattle.smx_relay.specs.Relay.{Relay};
 ghost use Rattle.smx_relay.specs.Messages.{answer_turn, left_line, message_turn, put_to, send_turn};
 ghost use Rattle.smx_relay.specs.Turns.{RouteTurn};
-ghost use Rattle.smx_relay.specs.Agrees.{Agrees, MayPrint, Turned};
+ghost use Rattle.smx_relay.specs.Private.Agrees.{Agrees, MayPrint, Turned};
 
 use crate::clients::last_of;
 use crate::refusal::refusal;
 use crate::state::State;
 use crate::texts::{message_line, push_to_client, push_up, up_line};
 use smx_mailbox::{Message, Unanswered};
-use smx_routes::RouteFault;
 use smx_pdu::status::{ESME_RINVCMDLEN, ESME_RMSGQFUL, ESME_RX_T_APPN};
 use smx_pdu::{Pdu, read_destination};
+use smx_routes::RouteFault;
 use std::alloc::{AllocError, Global};
 
 /// A client that is bound to receive has one prefix more. There is no text where it isn't, or has the

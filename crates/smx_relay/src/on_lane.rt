@@ -3,10 +3,12 @@ ghost use Rattle.std.specs.Prelude.{◌≡◌, ℕ, List, IfOk};
 ghost use Rattle.smx_history.specs.declared.note.Note.{Note};
 ghost use Rattle.smx_history.specs.Contents.{AgreesWith};
 ghost use Rattle.smx_history.specs.Finding.{IsFree};
-ghost use Rattle.smx_relay.specs.Relay.{take_on, back_on, history_on};
-ghost use Rattle.smx_relay.specs.OnLane.{TurnsLane};
+ghost use Rattle.smx_relay.specs.Relay.{take_on, back_on, history_on, turn_on};
+ghost use Rattle.smx_relay.specs.Private.OnLane.{TurnsLane};
 
-use crate::texts::{empty_line, full_line, push_entry, push_to_client, queued_line, up_line};
+use crate::texts::{
+    empty_line, entry_lines, full_line, push_to_client, queued_line, turned_line, up_line,
+};
 use smx_history::{Answered, Request, TakeRefusal};
 use smx_lane::{Lane, Sent};
 use smx_pdu::Pdu;
@@ -57,21 +59,31 @@ pub fn back_on(alloc: Global, lane: &mut Lane, response: Pdu) -> Result<Vec<u8>,
     }
 }
 
-/// Lists the entries.
+/// Lists the stored entries.
 #[tactic(auto, unfolding(crate::specs::Relay::history_on))]
 pub fn history_on(alloc: Global, lane: &Lane) -> Result<Vec<u8>, AllocError>
     ensures { (h : List Note) → AgreesWith h lane.now → IfOk result (λ text.
         TurnsLane (history_on h) lane.now lane.now text.items) }
 {
-    let mut text = Vec::new(alloc);
-    for entry in lane.entries() {
-        push_entry(alloc, &mut text, entry)?;
-    }
+    entry_lines(alloc, lane.entries())
+}
+
+/// Lists the stored entries, and how many there are. The lane goes on without them.
+#[tactic(auto, unfolding(crate::specs::Relay::turn_on))]
+pub fn turn_on(alloc: Global, lane: &mut Lane, at: u64) -> Result<Vec<u8>, AllocError>
+    ensures { (h : List Note) → AgreesWith h lane.old → IfOk result (λ text.
+        TurnsLane (turn_on at h) lane.old lane.new text.items) }
+{
+    let Some(entries) = lane.turn_over(CALLER, 0)? else {
+        unreachable!()
+    };
+    let mut text = entry_lines(alloc, &entries)?;
+    text.extend_from_slice(&turned_line(alloc, at, entries.len() as u64)?)?;
     Ok(text)
 }
 
 ghost use Rattle.smx_relay.specs.Relay.{collect_text, collected};
-ghost use Rattle.smx_relay.specs.OnLane.{AreOurs};
+ghost use Rattle.smx_relay.specs.Private.OnLane.{AreOurs};
 
 /// Collects each response that waits for the client.
 pub fn collect_on(alloc: Global, lane: &mut Lane, client: u64) -> Result<Vec<u8>, AllocError>

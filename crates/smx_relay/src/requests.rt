@@ -8,7 +8,7 @@ ghost use Rattle.smx_history.specs.Contents.{AgreesWith, Content};
 ghost use Rattle.smx_relay.specs.Texts.{refusal_of};
 ghost use Rattle.smx_relay.specs.Relay.{Relay, in_turn_at, lane_for, last_of, request_of, ring};
 ghost use Rattle.smx_relay.specs.ClientTurn.{forward, offer_of};
-ghost use Rattle.smx_relay.specs.Agrees.{Agrees, IsReached, MayAccept, Turned, accepts_in};
+ghost use Rattle.smx_relay.specs.Private.Agrees.{Agrees, IsReached, MayAccept, Turned, accepts_in};
 
 use crate::clients::last_of;
 use crate::offer::Offer;

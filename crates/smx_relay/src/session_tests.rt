@@ -82,9 +82,9 @@ const ROWS: [(&str, &str, &str); 15] = [
 ];
 
 #[test]
-fn sessions_decide(rt: HostRuntime) {
+fn sessions_decide(rt: HostRuntime) -> Result<(), Fail> {
     for (name, script, output) in ROWS {
-        let mut out = Vec::new(rt.alloc());
+        let mut out = Vec::with_capacity(rt.alloc(), 4_096)?;
         let mut reader = script.as_bytes();
         assert_eq!(rt;
             run(rt.alloc(), &mut reader, &mut out),
@@ -93,6 +93,7 @@ fn sessions_decide(rt: HostRuntime) {
         );
         assert_eq!(rt; out.as_slice(), output.as_bytes(), "{name}");
     }
+    Ok(())
 }
 
 // Two requests, and their responses in the other order.
@@ -137,7 +138,7 @@ fn cut_script(rt: HostRuntime, octets: usize) -> Result<Vec<u8>, Fail> {
 fn lines_cut_at_each_octet(rt: HostRuntime) -> Result<(), Fail> {
     for octets in 1..=34 {
         let script = cut_script(rt, octets)?;
-        let mut out = Vec::new(rt.alloc());
+        let mut out = Vec::with_capacity(rt.alloc(), 4_096)?;
         assert_eq!(rt;
             run(rt.alloc(), &mut script.as_slice(), &mut out),
             RunEnd::Clean

@@ -1,14 +1,14 @@
 //! The settings, and the start of the lanes.
 ghost use Rattle.std.specs.Prelude.{◌≡◌, ℕ, List, IfOk, OnOk};
 ghost use Rattle.smx_relay.specs.Relay.{Relay, start, begun, set_turn};
-ghost use Rattle.smx_relay.specs.Agrees.{Agrees, Prints};
+ghost use Rattle.smx_relay.specs.Private.Agrees.{Agrees, Prints};
 
-use crate::command::Setting;
 use crate::link::{CentreLink, ClientLink};
 use crate::state::State;
 use smx_history::Limits;
 use smx_lane::Lane;
 use smx_routes::Routes;
+use smx_script::Setting;
 use std::alloc::{AllocError, Global};
 
 /// The places of a mailbox, unless the script says how many.

@@ -2,7 +2,7 @@ use crate::{RunEnd, run};
 use std::test::*;
 
 // A script, and what it prints when each line is run.
-const ROWS: [(&str, &str, &str); 11] = [
+const ROWS: [(&str, &str, &str); 13] = [
     (
         "one request and its response",
         "client trx\nin 1 00000022000000040000000000000007000000000000310000000000000000000000\ntake 0\nback 0 000000128000000400000000000000013100\ncollect 1\n",
@@ -43,6 +43,16 @@ const ROWS: [(&str, &str, &str); 11] = [
         "lanes 2\nlimits 1 1 3 1000\nclient trx\nin 1 00000022000000040000000000000001000000000000310000000000000000000000\nin 1 00000022000000040000000000000002000000000000310000000000000000000000\nin 1 00000022000000040000000000000003000000000000310000000000000000000000\ntake 1\nhistory 1\n",
         "client 1\naccepted 1 0\naccepted 1 1\nto 1 00000010800000040000001400000003\nup 1 00000022000000040000000000000001000000000000310000000000000000000000\nadmit 1 0 0\naccept 1 2 2\ntake 1 2 1\n",
     ),
+    (
+        "a lane that goes on without its entries",
+        "lanes 2\nlimits 1 1 3 1000\nclient trx\nin 1 00000022000000040000000000000001000000000000310000000000000000000000\nin 1 00000022000000040000000000000002000000000000310000000000000000000000\nin 1 00000022000000040000000000000003000000000000310000000000000000000000\ntake 1\nturn 1\nhistory 1\nback 1 000000128000000400000000000000013100\ncollect 1\nhistory 1\n",
+        "client 1\naccepted 1 0\naccepted 1 1\nto 1 00000010800000040000001400000003\nup 1 00000022000000040000000000000001000000000000310000000000000000000000\nadmit 1 0 0\naccept 1 2 2\ntake 1 2 1\nturned 1 3\nqueued 1\nto 1 000000128000000400000000000000023100\nanswer 1 2 1\ncollect 1 2 0\n",
+    ),
+    (
+        "a lane without entries, which begins with this line",
+        "turn 0\nturn 0\n",
+        "turned 0 0\nturned 0 0\n",
+    ),
     ("no line", "", ""),
     (
         "empty lines and comments with any octet",
@@ -57,7 +67,7 @@ const ROWS: [(&str, &str, &str); 11] = [
 ];
 
 // Lines that are bad after one client entered.
-const BAD_LINES: [&str; 23] = [
+const BAD_LINES: [&str; 25] = [
     "take 1",
     "take 00",
     "take +0",
@@ -77,35 +87,18 @@ const BAD_LINES: [&str; 23] = [
     "in 2 00000022000000040000000000000001000000000000310000000000000000000000",
     "back 1 000000128000000400000000000000013100",
     "history 1",
+    "turn 1",
+    "turn",
     "limits 1 1 3 1000",
     "lanes 1",
     "take 18446744073709551616",
     "nothing",
 ];
 
-// Settings that are bad.
-const BAD_SETTINGS: [&str; 15] = [
-    "account a",
-    "account aaaaaaaaaaaaaaaa p",
-    "account a ppppppppp",
-    "account \x7F p",
-    "account a ",
-    "limits 0 1 1 1000",
-    "limits 65536 1 1 1000",
-    "limits 1 1025 1 1000",
-    "limits 1 1 257 1000",
-    "limits 1 1 1 999",
-    "limits 1 1 1 1000001",
-    "limits 01 1 1 1000",
-    "lanes 0",
-    "lanes 17",
-    "limits 1 1 1",
-];
-
 #[test]
 fn scripts_print_what_their_lines_cause(rt: HostRuntime) -> Result<(), Fail> {
     for (name, script, output) in ROWS {
-        let mut out = Vec::new(rt.alloc());
+        let mut out = Vec::with_capacity(rt.alloc(), 32_768)?;
         let mut reader = script.as_bytes();
         assert_eq!(rt;
             run(rt.alloc(), &mut reader, &mut out),
@@ -116,7 +109,7 @@ fn scripts_print_what_their_lines_cause(rt: HostRuntime) -> Result<(), Fail> {
     }
     for line in BAD_LINES {
         let script = format!(in rt.alloc(); "client trx\n{line}\ncollect 1\n")?;
-        let mut out = Vec::new(rt.alloc());
+        let mut out = Vec::with_capacity(rt.alloc(), 32_768)?;
         let mut reader = script.as_bytes();
         assert_eq!(rt;
             run(rt.alloc(), &mut reader, &mut out),
@@ -129,17 +122,7 @@ fn scripts_print_what_their_lines_cause(rt: HostRuntime) -> Result<(), Fail> {
             "{line}"
         );
     }
-    for line in BAD_SETTINGS {
-        let mut out = Vec::new(rt.alloc());
-        let mut reader = line.as_bytes();
-        assert_eq!(rt;
-            run(rt.alloc(), &mut reader, &mut out),
-            RunEnd::BadLine(1),
-            "{line}"
-        );
-        assert_eq!(rt; out.as_slice(), "bad line 1\n".as_bytes(), "{line}");
-    }
-    let mut out = Vec::new(rt.alloc());
+    let mut out = Vec::with_capacity(rt.alloc(), 32_768)?;
     let mut reader = "take 1".as_bytes();
     assert_eq!(rt; run(rt.alloc(), &mut reader, &mut out), RunEnd::BadLine(1));
     assert_eq!(rt; out.as_slice(), "bad line 1\n".as_bytes());
@@ -158,7 +141,7 @@ fn clients_that_are_refused(rt: HostRuntime) -> Result<(), Fail> {
         script.push_str("client trx\n")?;
     }
     script.push_str("history 0\ncollect 496\n")?;
-    let mut out = Vec::new(rt.alloc());
+    let mut out = Vec::with_capacity(rt.alloc(), 32_768)?;
     let mut reader = script.as_bytes();
     assert_eq!(rt;
         run(rt.alloc(), &mut reader, &mut out),
@@ -170,5 +153,44 @@ fn clients_that_are_refused(rt: HostRuntime) -> Result<(), Fail> {
         "admit 495 0 0\nadmit 496 0 0\nretire 496 0 0\nadmit 497 0 0\nretire 497 0 0\nbad line 506\n";
     assert!(rt; out.as_slice().starts_with(begin.as_bytes()));
     assert!(rt; out.as_slice().ends_with(end.as_bytes()));
+    Ok(())
+}
+
+// A lane with 499 clients has 499 entries and has 499 present, so an admit, which wants 4 places more,
+// goes beyond its 1,000. After a turn over the 499 present alone count.
+#[test]
+fn a_full_lane_that_goes_on(rt: HostRuntime) -> Result<(), Fail> {
+    let mut script = String::from_str(rt.alloc(), "limits 1 1 1 1000\n")?;
+    let mut output = String::new(rt.alloc());
+    let mut entries = String::new(rt.alloc());
+    for client in 1..=499 {
+        script.push_str("client trx\n")?;
+        output.push_str(&format!(in rt.alloc(); "client {client}\n")?)?;
+        entries.push_str(&format!(in rt.alloc(); "admit {client} 0 0\n")?)?;
+    }
+    script.push_str("client trx\nturn 0\nclient trx\nhistory 0\n")?;
+    output.push_str("refused\n")?;
+    output.push_str(&entries)?;
+    output.push_str("turned 0 499\nclient 501\nadmit 501 0 0\n")?;
+    let mut out = Vec::with_capacity(rt.alloc(), 32_768)?;
+    let mut reader = script.as_bytes();
+    assert_eq!(rt; run(rt.alloc(), &mut reader, &mut out), RunEnd::Clean);
+    assert_eq!(rt; out.as_slice(), output.as_bytes());
+    Ok(())
+}
+
+// The 257th account is one too many.
+#[test]
+fn the_most_accounts(rt: HostRuntime) -> Result<(), Fail> {
+    let mut script = String::new(rt.alloc());
+    for _ in 0..256 {
+        script.push_str("account a p\n")?;
+    }
+    for (more, end) in [("", RunEnd::Clean), ("account a p\n", RunEnd::BadLine(257))] {
+        script.push_str(more)?;
+        let mut out = Vec::with_capacity(rt.alloc(), 64)?;
+        let mut reader = script.as_bytes();
+        assert_eq!(rt; run(rt.alloc(), &mut reader, &mut out), end);
+    }
     Ok(())
 }

@@ -1,7 +1,8 @@
 //! The lines that a run prints.
 ghost use Rattle.std.specs.Prelude.{◌≡◌, ◌++◌, IfOk, OnOk, string_bytes, codes};
-ghost use Rattle.smx_relay.specs.Texts.{bad_line, closed_line, down_line, entry_line, kind_name, pdu_line, text_line, to_client, up_lane};
+ghost use Rattle.smx_relay.specs.Texts.{bad_line, closed_line, down_line, entry_line, kind_name, pdu_line, text_line, to_client, turned_line, up_lane};
 ghost use Rattle.std.specs.Fmt.{decimal};
+ghost use Rattle.std.specs.List.{flat_map};
 
 use smx_history::{Entry, Kind};
 use smx_pdu::{Pdu, encode};
@@ -163,8 +164,8 @@ fn kind_name(kind: Kind) -> &'static str
     }
 }
 
-/// Writes an entry's kind, client, ordinal and number at the end.
-pub fn push_entry(alloc: Global, out: &mut Vec<u8>, entry: &Entry) -> Result<(), AllocError>
+// Writes an entry's kind, client, ordinal and number at the end.
+fn push_entry(alloc: Global, out: &mut Vec<u8>, entry: &Entry) -> Result<(), AllocError>
     ensures { OnOk result (out.new.items ≡ out.old.items ++ entry_line entry.now) }
 {
     let kind = kind_name(entry.kind);
@@ -173,4 +174,22 @@ pub fn push_entry(alloc: Global, out: &mut Vec<u8>, entry: &Entry) -> Result<(),
         entry.client, entry.ordinal, entry.number
     )?;
     out.extend_from_slice(line.as_bytes())
+}
+
+/// The lines of entries.
+pub fn entry_lines(alloc: Global, entries: &[Entry]) -> Result<Vec<u8>, AllocError>
+    ensures { IfOk result (λ text. text.items ≡ flat_map entry_line entries.now) }
+{
+    let mut text = Vec::new(alloc);
+    for entry in entries {
+        push_entry(alloc, &mut text, entry)?;
+    }
+    Ok(text)
+}
+
+/// What is printed behind the entries that a lane goes on without.
+pub fn turned_line(alloc: Global, lane: u64, count: u64) -> Result<Vec<u8>, AllocError>
+    ensures { IfOk result (λ line. line.items ≡ turned_line lane count) }
+{
+    Ok(format!(in alloc; "turned {lane} {count}\n")?.into_bytes())
 }

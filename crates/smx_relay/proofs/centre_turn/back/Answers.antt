@@ -1,5 +1,4 @@
-use Rattle.std.proofs.Common.{arith, refl, [], Some}
-use Rattle.std.proofs.lemmas.Result.{IfOk-weaker}
+use Rattle.std.proofs.Common.{arith, refl, []}
 use Rattle.smx_relay.specs.Relay.{on_lane, back_on}
 use Rattle.smx_relay.proofs.StateTurns.{no_lane, backs_one}
 use Rattle.smx_relay.proofs.ActTurns.{none_printed}

@@ -1,9 +1,9 @@
 use Rattle.std.proofs.Common.{arith, refl, ap, ◌∙◌, subst}
 use Rattle.std.specs.Vec.{with_item}
 use Rattle.std.proofs.lemmas.Result.{IfOk-weaker}
-use Rattle.smx_relay.specs.Relay.{Relay, with_link}
+use Rattle.smx_relay.specs.Relay.{with_link}
 use Rattle.smx_relay.specs.ClientTurn.{decides}
-use Rattle.smx_relay.specs.Agrees.{Turned}
+use Rattle.smx_relay.specs.Private.Agrees.{Turned}
 use Rattle.smx_relay.proofs.Turning.{turned_nothing}
 use Rattle.smx_relay.proofs.Links.{linked, still_linked, link_at, no_link, client_pdu_none, client_pdu_some}
 use Rattle.smx_relay.proofs.client_turn.client_pdu.Goals as goal

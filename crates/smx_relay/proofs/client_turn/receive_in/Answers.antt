@@ -1,4 +1,4 @@
-use Rattle.std.proofs.Common.{arith, refl, rules, ◌∙◌, sym}
+use Rattle.std.proofs.Common.{arith, refl, rules, ◌∙◌}
 use Rattle.std.specs.Vec.{with_item}
 use Rattle.smx_relay.specs.Relay.{with_link}
 use Rattle.smx_relay.specs.ClientTurn.{client_pdu, each_pdu}

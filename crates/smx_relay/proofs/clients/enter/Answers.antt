@@ -1,6 +1,6 @@
 use Rattle.std.proofs.Common.{ℕ, rules, arith, refl, subst, Option}
 use Rattle.std.proofs.lemmas.Result.{IfOk-weaker}
-use Rattle.smx_relay.specs.Agrees.{Enters}
+use Rattle.smx_relay.specs.Private.Agrees.{Enters}
 use Rattle.smx_relay.proofs.ClientTurns.{entered_all, entered_none, have_entered}
 use Rattle.smx_relay.proofs.clients.enter.Goals as goal
 

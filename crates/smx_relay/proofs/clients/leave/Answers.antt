@@ -1,7 +1,7 @@
 use Rattle.std.proofs.Common.{arith, refl, rules}
 use Rattle.std.specs.Vec.{with_item}
 use Rattle.std.proofs.lemmas.Result.{IfOk-weaker}
-use Rattle.smx_relay.proofs.Links.{lanes_reached, left_by_all, link_at, no_link}
+use Rattle.smx_relay.proofs.Links.{left_by_all, link_at, no_link}
 use Rattle.smx_relay.proofs.Messaging.{leave_nowhere, leave_emptied}
 use Rattle.smx_relay.proofs.clients.leave.Goals as goal
 

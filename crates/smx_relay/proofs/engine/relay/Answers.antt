@@ -11,8 +11,8 @@ nowhere = record { ref_ptr = (0, 0); now = [] }
 pub returns-in_default : goal.returns-in_default
 returns-in_default g c = stands_nothing (g.W.Write.contents c.args.writer.now) c.args.script.now
 
-pub returns-in_default-parts_of : goal.returns-in_default-parts_of
-returns-in_default-parts_of g c = stands_nothing (g.W.Write.contents c.args.writer.now) c.args.script.now
+pub returns-in_default-lines_of : goal.returns-in_default-lines_of
+returns-in_default-lines_of g c = stands_nothing (g.W.Write.contents c.args.writer.now) c.args.script.now
 
 pub run_line-requires : goal.run_line-requires
 run_line-requires g c = (c.loop-i.invariant.0, c.loop-i.invariant.1)

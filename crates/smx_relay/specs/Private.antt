@@ -1,0 +1,3 @@
+-- What contracts of private functions cite: no public contract does.
+pub mod OnLane
+pub mod Agrees

@@ -1,0 +1,14 @@
+//! The script of the relay: its lines, read as commands.
+#![tactic(auto)]
+
+mod command;
+mod octets;
+mod reading;
+mod words;
+
+pub use command::{Action, Command, Setting};
+pub use octets::Octets;
+pub use reading::{lines_of, read_command};
+
+#[cfg(test)]
+mod tests;
