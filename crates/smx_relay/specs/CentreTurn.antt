@@ -4,7 +4,7 @@ use Rattle.smx_pdu.specs.declared.pdu.Pdu.{Pdu}
 use Rattle.smx_frame.specs.Stream.{Stream}
 use Rattle.smx_session.specs.declared.up_act.UpAct.{UpAct}
 use Rattle.smx_session.specs.declared.up_act.UpAct.TheVariants.{Up, Failed, ToLane, Mo, Answer, Leave, Closed, Ignore}
-use Rattle.smx_session.specs.Pdus.{undecoded}
+use Rattle.smx_pdu.specs.Answers.{undecoded}
 use Rattle.smx_session.specs.Moments.{Upstream, act_on, after_pdu}
 use Rattle.smx_relay.specs.Texts.{pdu_line, up_lane, down_line}
 use Rattle.smx_relay.specs.Links.{CentreLink, Receives, has_failed, has_left, is_down}

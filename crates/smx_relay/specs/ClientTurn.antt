@@ -8,7 +8,7 @@ use Rattle.smx_session.specs.declared.act.Act.{Act}
 use Rattle.smx_session.specs.declared.act.Act.TheVariants.{Answer, Bind, Forward, MoAnswer, Leave, Hangup, Ignore}
 use Rattle.smx_session.specs.declared.client_state.ClientState.{ClientState}
 use Rattle.smx_session.specs.declared.client_state.ClientState.TheVariants.{Ended}
-use Rattle.smx_session.specs.Pdus.{undecoded}
+use Rattle.smx_pdu.specs.Answers.{undecoded}
 use Rattle.smx_session.specs.ClientTable.{client_decides}
 use Rattle.smx_relay.specs.declared.offer.Offer.{Offer}
 use Rattle.smx_relay.specs.Texts.{pdu_line, to_client, closed_line}

@@ -35,7 +35,7 @@ impl Model for ClientLink {
 
 impl ClientLink {
     ghost use Rattle.smx_session.specs.declared.client_state.ClientState.TheVariants.{Ended};
-    ghost use Rattle.smx_session.specs.Pdus.{undecoded};
+    ghost use Rattle.smx_pdu.specs.Answers.{undecoded};
     ghost use Rattle.smx_relay.specs.ClientTurn.{decides};
     ghost use Rattle.smx_routes.specs.Window.{answered};
     ghost use Rattle.smx_routes.specs.declared.mo_window.Waiting.{Waiting};

@@ -1,33 +1,21 @@
 //! Answers to requests that are for nobody.
 ghost use Rattle.std.specs.Prelude.{◌≡◌};
 ghost use Rattle.smx_relay.specs.Texts.{refusal};
-ghost use Rattle.smx_session.specs.Pdus.{undecoded};
+ghost use Rattle.smx_pdu.specs.Answers.{undecoded};
 
-use smx_pdu::command::GENERIC_NACK;
-use smx_pdu::status::ESME_RINVCMDLEN;
-use smx_pdu::{Body, Pdu, response_id};
+use smx_pdu::Pdu;
 use std::alloc::Global;
 
 /// The answer to a request, a header with a status. It takes no memory.
 pub(crate) fn refusal(alloc: Global, command: u32, number: u32, status: u32) -> Pdu
     ensures { result ≡ refusal command number status }
 {
-    Pdu {
-        command: response_id(command).unwrap_or(GENERIC_NACK),
-        status,
-        number,
-        body: Body::empty(alloc),
-    }
+    Pdu::refusal(alloc, command, status, number)
 }
 
 /// generic_nack of what couldn't be decoded (SMPP 3.4, section 4.3). It takes no memory.
 pub(crate) fn undecoded(alloc: Global) -> Pdu
     ensures { result ≡ undecoded }
 {
-    Pdu {
-        command: GENERIC_NACK,
-        status: ESME_RINVCMDLEN,
-        number: 0,
-        body: Body::empty(alloc),
-    }
+    Pdu::undecoded(alloc)
 }
