@@ -1,16 +1,17 @@
 //! Two ports and a tap in threads of their own, beside a loopback centre that answers each request
-//! twice, or once as a stranger: every request comes back to its port once, and the history that
-//! the lane ends with is legal.
+//! twice, or once as a stranger: every request comes back to its port once, and the lane's history is
+//! legal, also where the tap turns the lane over after each 100 takes.
 #![tactic(auto)]
 
 mod caller;
 mod sender;
 
 use caller::{Caller, REQUESTS};
-use sender::{Sender, Tally};
+use sender::{Done, Sender, Tally};
 use smx_centre::{Centre, Mode};
-use smx_lane::{Lane, Limits, is_legal};
+use smx_lane::{Entry, Lane, Limits, is_legal};
 use smx_shared::Exchange;
+use std::alloc::AllocError;
 use std::sync::Wait;
 use std::sync::atomic::AtomicBool;
 use std::thread::{Threads, join};
@@ -41,14 +42,16 @@ enum Difference {
 }
 
 fn main(rt: HostRuntime) -> anyhow::Result<()> {
-    run(&rt, "twice", Mode::Twice)?;
-    run(&rt, "stranger", Mode::Stranger)
+    run(&rt, "twice", Mode::Twice, false)?;
+    run(&rt, "stranger", Mode::Stranger, false)?;
+    run(&rt, "turned over", Mode::Twice, true)
 }
 
 fn run<R: Print + Threads + Wait + AllocGlobal + Sync>(
     rt: &R,
     name: &str,
     mode: Mode,
+    turns: bool,
 ) -> anyhow::Result<()> {
     let Ok((exchange, mut door, mut taps)) = Exchange::new(rt, rt.alloc(), LIMITS, 1) else {
         return Err(Difference::NoMemory.into());
@@ -59,7 +62,12 @@ fn run<R: Print + Threads + Wait + AllocGlobal + Sync>(
     let alloc = rt.alloc();
     let at = &exchange;
     let centre = Centre::new(alloc, mode);
-    let sender = Sender { at, tap, centre };
+    let sender = Sender {
+        at,
+        tap,
+        centre,
+        turns,
+    };
     let Ok(port) = door.enter(at, rt) else {
         return Err(Difference::NotEntered.into());
     };
@@ -70,7 +78,7 @@ fn run<R: Print + Threads + Wait + AllocGlobal + Sync>(
     let two = Caller { alloc, at, port };
     let first = AtomicBool::new(false);
     let second = AtomicBool::new(false);
-    let (served, tally) = join(
+    let (served, done) = join(
         rt,
         || {
             join(
@@ -79,11 +87,12 @@ fn run<R: Print + Threads + Wait + AllocGlobal + Sync>(
                 || two.run(rt, &second, &first),
             )
         },
-        || sender.run(rt),
+        || sender.run(rt, alloc),
     );
     if served != (true, true) {
         return Err(Difference::Port.into());
     }
+    let Done { tally, lists, .. } = done;
     let wanted = Tally {
         queued: 2 * REQUESTS,
         unknown: 2 * REQUESTS,
@@ -91,23 +100,36 @@ fn run<R: Print + Threads + Wait + AllocGlobal + Sync>(
     if tally != wanted {
         return Err(Difference::Tap(tally).into());
     }
+    let handed = lists.len();
     let Ok(mut lanes) = exchange.finish(door) else {
         return Err(Difference::NoLane.into());
     };
-    let entries = check(lanes.pop())?;
-    println!(rt; "{name}: {entries} entries, legal")?;
+    let entries = check(lists, lanes.pop())?;
+    println!(rt; "{name}: {handed} lists handed out, {entries} entries in all, legal")?;
     Ok(())
 }
 
-// How many entries the lane has, which are legal.
-fn check(lane: Option<Lane>) -> Result<usize, Difference> {
+// How many entries the lists and the lane have together, which are legal.
+fn check(lists: Vec<Vec<Entry>>, lane: Option<Lane>) -> Result<usize, Difference> {
     let lane = lane.ok_or(Difference::NoLane)?;
-    let entries = lane.entries();
+    let Ok(entries) = joined(&lists, lane.entries()) else {
+        return Err(Difference::NoMemory);
+    };
     if entries.len() != 1_604 {
         return Err(Difference::Entries(entries.len()));
     }
-    if !is_legal(entries, lane.limits()) {
+    if !is_legal(&entries, lane.limits()) {
         return Err(Difference::Legal);
     }
     Ok(entries.len())
+}
+
+// All the entries in one list.
+fn joined(lists: &Vec<Vec<Entry>>, last: &[Entry]) -> Result<Vec<Entry>, AllocError> {
+    let mut entries = Vec::new(*lists.allocator());
+    for list in lists {
+        entries.extend_from_slice(list)?;
+    }
+    entries.extend_from_slice(last)?;
+    Ok(entries)
 }
