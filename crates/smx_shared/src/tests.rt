@@ -1,4 +1,4 @@
-ghost use Rattle.std.specs.Prelude.{◌≡◌, slice_get, Some, All};
+ghost use Rattle.std.specs.Prelude.{◌≡◌, ◌<◌, length, slice_get, Some, All, IfOk, IfSome};
 ghost use Rattle.smx_shared.specs.Views.{locks_of};
 
 use super::*;
@@ -9,6 +9,8 @@ use smx_pdu::{Body, Pdu};
 use std::alloc::Global;
 use std::sync::Wait;
 use std::test::Fail;
+
+mod turning;
 
 const ROOMY: Limits = Limits {
     queue: 10,
@@ -106,9 +108,23 @@ impl Line<'_> {
         Ok(sent.request.client)
     }
 
+    // The number upstream of the request that it took.
+    fn take_number<R: Wait>(&mut self, rt: &R) -> Result<u32, TakeFault> {
+        let sent = self.tap.take(self.at, rt)?;
+        Ok(sent.upstream)
+    }
+
     fn try_take(&mut self) -> Result<u64, TryTakeFault> {
         let sent = self.tap.try_take(self.at)?;
         Ok(sent.request.client)
+    }
+
+    fn turn_over<R: Wait>(
+        &mut self,
+        rt: &R,
+        least: usize,
+    ) -> Result<Option<Vec<Entry>>, TurnFault> {
+        self.tap.turn_over(self.at, rt, least)
     }
 
     // The number that comes back, where the lane is spent.
@@ -123,6 +139,7 @@ impl Line<'_> {
 
 fn last_line<'a>(alloc: Global, at: &'a Exchange, taps: Vec<Tap>) -> Option<Line<'a>>
     requires { All (λ t. slice_get at.now t.lane ≡ Some t.front.lock) taps.items }
+    ensures { IfSome result (λ line. line.at.now ≡ at.now) }
 {
     let mut taps = taps;
     let tap = taps.pop()?;
@@ -152,6 +169,7 @@ fn tickets_end(rt: HostRuntime) -> Result<(), Fail> {
     assert_eq!(rt; client.try_collect(), Err(TryFault::Spent));
     assert_eq!(rt; line.take(&rt), Err(TakeFault::Spent));
     assert_eq!(rt; line.try_take(), Err(TryTakeFault::Spent));
+    assert_eq!(rt; line.turn_over(&rt, 0), Err(TurnFault::Spent));
     assert!(rt; matches!(line.answer(&rt, 1), Err(1)));
     assert_eq!(rt; client.submit(&rt, 8), Err((8, SubmitFault::Spent)));
     let entered = enter(&rt, rt.alloc(), &exchange, &mut door).err();
@@ -321,6 +339,58 @@ fn refused_client_leaves_again(rt: HostRuntime) -> Result<(), Fail> {
         );
     }
     assert_eq!(rt; lanes.len(), 2);
+    Ok(())
+}
+
+// Compares each two of a door, a port and a tap.
+fn compare_all(at: &Exchange, door: &mut Door, port: &mut Port, tap: &mut Tap)
+    requires lanes { 0 < length at.now }
+    requires door { locks_of door.old.fronts ≡ at.now }
+    requires port { locks_of port.old.fronts ≡ at.now }
+    requires tap { (tap.old.lane ≡ 0) × (slice_get at.now tap.old.lane ≡ Some tap.old.front.lock) }
+    ensures door { door.new ≡ door.old }
+    ensures port { port.new ≡ port.old }
+    ensures tap { tap.new ≡ tap.old }
+{
+    at.compare(door, port, 0);
+    at.compare(port, tap, 0);
+    at.compare(tap, door, 0);
+    at.compare(port, door, 0);
+}
+
+// Tokens that were compared go on as before.
+#[test]
+fn tokens_are_compared(rt: HostRuntime) -> Result<(), Fail> {
+    let Ok((exchange, mut door, taps)) = Exchange::new(&rt, rt.alloc(), ROOMY, 1) else {
+        panic!(rt; "there is memory")
+    };
+    let Some(Line { mut tap, .. }) = last_line(rt.alloc(), &exchange, taps) else {
+        panic!(rt; "there is one lane")
+    };
+    let Ok(mut port) = door.enter(&exchange, &rt) else {
+        panic!(rt; "there is memory")
+    };
+    assert!(rt; port.submit(&exchange, &rt, offer(rt.alloc(), 7)).is_ok());
+    if tap.lane() != 0 {
+        panic!(rt; "there is one lane")
+    }
+    compare_all(&exchange, &mut door, &mut port, &mut tap);
+    assert!(rt; tap.take(&exchange, &rt).is_ok());
+    assert!(rt; door.enter(&exchange, &rt).is_ok());
+    assert!(rt; port.leave(&exchange, &rt).is_ok());
+    let Ok(lanes) = exchange.finish(door) else {
+        panic!(rt; "the lane is out")
+    };
+    let kinds = [
+        Kind::Admit,
+        Kind::Accept,
+        Kind::Take,
+        Kind::Admit,
+        Kind::Retire,
+    ];
+    for lane in &lanes {
+        assert!(rt; lane.entries().iter().map(|entry| entry.kind).eq(kinds));
+    }
     Ok(())
 }
 

@@ -1,17 +1,18 @@
 //! Two ports and a tap in threads of their own, beside a loopback centre that answers each request
-//! twice, or once as a stranger: every request comes back to its port once, and the history that
-//! the lane ends with is legal.
+//! twice, or once as a stranger: every request comes back to its port once, and the lane's history is
+//! legal, also where the tap turns the lane over after each 100 takes.
 #![tactic(auto)]
 
 mod caller;
 mod sender;
 
 use caller::{Caller, REQUESTS};
-use sender::{Sender, Tally};
+use sender::{Done, Sender, Tally};
 use smx_centre::{Centre, Mode};
-use smx_lane::{Lane, Limits};
-use smx_legal::is_legal;
+use smx_lane::{Entry, Lane, Limits};
+use smx_legal::is_legal_shifts;
 use smx_shared::Exchange;
+use std::alloc::AllocError;
 use std::sync::Wait;
 use std::sync::atomic::AtomicBool;
 use std::thread::{Threads, join};
@@ -42,14 +43,16 @@ enum Difference {
 }
 
 fn main(rt: HostRuntime) -> anyhow::Result<()> {
-    run(&rt, "twice", Mode::Twice)?;
-    run(&rt, "stranger", Mode::Stranger)
+    run(&rt, "twice", Mode::Twice, false)?;
+    run(&rt, "stranger", Mode::Stranger, false)?;
+    run(&rt, "turned over", Mode::Twice, true)
 }
 
 fn run<R: Print + Threads + Wait + AllocGlobal + Sync>(
     rt: &R,
     name: &str,
     mode: Mode,
+    turns: bool,
 ) -> anyhow::Result<()> {
     let Ok((exchange, mut door, mut taps)) = Exchange::new(rt, rt.alloc(), LIMITS, 1) else {
         return Err(Difference::NoMemory.into());
@@ -60,7 +63,12 @@ fn run<R: Print + Threads + Wait + AllocGlobal + Sync>(
     let alloc = rt.alloc();
     let at = &exchange;
     let centre = Centre::new(alloc, mode);
-    let sender = Sender { at, tap, centre };
+    let sender = Sender {
+        at,
+        tap,
+        centre,
+        turns,
+    };
     let Ok(port) = door.enter(at, rt) else {
         return Err(Difference::NotEntered.into());
     };
@@ -71,7 +79,7 @@ fn run<R: Print + Threads + Wait + AllocGlobal + Sync>(
     let two = Caller { alloc, at, port };
     let first = AtomicBool::new(false);
     let second = AtomicBool::new(false);
-    let (served, tally) = join(
+    let (served, done) = join(
         rt,
         || {
             join(
@@ -80,11 +88,12 @@ fn run<R: Print + Threads + Wait + AllocGlobal + Sync>(
                 || two.run(rt, &second, &first),
             )
         },
-        || sender.run(rt),
+        || sender.run(rt, alloc),
     );
     if served != (true, true) {
         return Err(Difference::Port.into());
     }
+    let Done { tally, lists, .. } = done;
     let wanted = Tally {
         queued: 2 * REQUESTS,
         unknown: 2 * REQUESTS,
@@ -92,23 +101,38 @@ fn run<R: Print + Threads + Wait + AllocGlobal + Sync>(
     if tally != wanted {
         return Err(Difference::Tap(tally).into());
     }
+    let handed = lists.len();
     let Ok(mut lanes) = exchange.finish(door) else {
         return Err(Difference::NoLane.into());
     };
-    let entries = check(lanes.pop())?;
-    println!(rt; "{name}: {entries} entries, legal")?;
+    let entries = check(lists, lanes.pop())?;
+    println!(rt; "{name}: {handed} lists handed out, {entries} entries in all, legal")?;
     Ok(())
 }
 
-// How many entries the lane has, which are legal.
-fn check(lane: Option<Lane>) -> Result<usize, Difference> {
+// How many entries the lists and the lane have together, which are legal.
+fn check(lists: Vec<Vec<Entry>>, lane: Option<Lane>) -> Result<usize, Difference> {
     let lane = lane.ok_or(Difference::NoLane)?;
-    let entries = lane.entries();
-    if entries.len() != 1_604 {
-        return Err(Difference::Entries(entries.len()));
+    let Ok(lists) = with_last(lists, lane.entries()) else {
+        return Err(Difference::NoMemory);
+    };
+    let mut entries = 0usize;
+    for list in &lists {
+        entries = entries.saturating_add(list.len());
     }
-    if !is_legal(entries, lane.limits()) {
+    if entries != 1_604 {
+        return Err(Difference::Entries(entries));
+    }
+    if !is_legal_shifts(&lists, lane.limits()) {
         return Err(Difference::Legal);
     }
-    Ok(entries.len())
+    Ok(entries)
+}
+
+// The lists, and then these entries as one more.
+fn with_last(lists: Vec<Vec<Entry>>, last: &[Entry]) -> Result<Vec<Vec<Entry>>, AllocError> {
+    let mut lists = lists;
+    let last = Vec::from_slice(*lists.allocator(), last)?;
+    lists.push(last)?;
+    Ok(lists)
 }

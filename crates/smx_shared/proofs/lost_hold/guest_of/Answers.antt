@@ -21,6 +21,6 @@ returns-clause-seat g c =
     let locks : locks_of fronts ≡ c.args.at.now = rw (← c.door.view_is) at (c.requires) in
     let there = ap (λ ls. slice_get ls c.args.lane) (sym locks) ∙ slice_get-map (λ f. f.lock) fronts c.args.lane ∙ ap (option_map (λ f. f.lock)) at in
     elim c.match-split.branch [
-      | in-Ok b ↦ rw b.result-is (there ∙ ap Some (sym (ap (λ f. f.lock) b.into_seat.ensures ∙ b.in-Ok.ensures.served.3)))
+      | in-Ok b ↦ rw b.result-is (there ∙ ap Some (sym (ap (λ f. f.lock) b.into_seat.ensures ∙ b.in-Ok.ensures.served.lock)))
       | in-Err b ↦ rw b.result-is tt
     ]
