@@ -112,9 +112,7 @@ impl ClientSession {
             accounts.now pdu.now.body) }
     {
         match check_bind(accounts, pdu.body.as_slice()) {
-            Checked::Refused(status) => {
-                Ok(Act::Answer(pdu.header_response(self.alloc, status)))
-            }
+            Checked::Refused(status) => { Ok(Act::Answer(pdu.header_response(self.alloc, status))) }
             Checked::Granted { account, version } => {
                 let answer = pdu.response(ESME_ROK, bind_answer(self.alloc, version)?);
                 self.state = bound_state(kind);

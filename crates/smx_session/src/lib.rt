@@ -26,6 +26,4 @@ pub use upstream::UpstreamSession;
 pub use upstream_state::UpstreamState;
 
 #[cfg(test)]
-mod table_tests;
-#[cfg(test)]
 mod tests;

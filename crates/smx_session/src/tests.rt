@@ -1,18 +1,8 @@
 use super::*;
-use smx_pdu::{Bind, Body, Pdu, encode};
+use smx_pdu::{Bind, Pdu, encode};
 use std::alloc::{AllocError, Global};
 use std::process::Abort;
 use std::test::*;
-
-// A PDU with a header alone.
-pub(crate) fn header(alloc: Global, command: u32, status: u32, number: u32) -> Pdu {
-    Pdu {
-        command,
-        status,
-        number,
-        body: Body::empty(alloc),
-    }
-}
 
 // A bind with number 7 and these texts of one octet, as transceiver.
 fn bind(alloc: Global, texts: [u8; 2], version: u8) -> Result<Pdu, Fail> {
@@ -125,8 +115,24 @@ fn kinds(rt: HostRuntime) -> Result<(), Fail> {
     Ok(())
 }
 
+// At a length that no PDU has.
+#[test]
+fn client_fault(rt: HostRuntime) -> Result<(), Fail> {
+    let mut session = ClientSession::bound(rt.alloc(), Kind::Trx);
+    let Act::Hangup(nack) = session.on_fault() else {
+        return Err("no hangup".into());
+    };
+    assert_eq!(rt;
+        (nack.command, nack.status, nack.number),
+        (0x8000_0000, 2, 0)
+    );
+    assert!(rt; nack.body.is_empty());
+    assert_eq!(rt; session.state(), ClientState::Ended);
+    Ok(())
+}
+
 // A session with the system_id `proxy` and the password `pw`, and the silence 1000, at 0.
-pub(crate) fn upstream(rt: &impl Abort, alloc: Global) -> Result<UpstreamSession, AllocError> {
+fn upstream(rt: &impl Abort, alloc: Global) -> Result<UpstreamSession, AllocError> {
     let bind = Bind {
         system_id: b"proxy",
         password: b"pw",
@@ -152,7 +158,7 @@ fn upstream_run(rt: HostRuntime) -> Result<(), Fail> {
         0x79, 0, 0x70, 0x77, 0, 0, 0x34, 0, 0, 0,
     ];
     assert_octets(&rt, alloc, &session.start()?, &wanted)?;
-    let up = header(alloc, 0x8000_0009, 0, 0x7fff_fffd);
+    let up = Pdu::header_only(alloc, 0x8000_0009, 0, 0x7fff_fffd);
     assert!(rt; matches!(session.on_pdu(&up, 5), UpAct::Up));
     assert!(rt; session.on_moment(1004).is_none());
     let enquiry = session.on_moment(1005).ok_or("no enquiry")?;
@@ -168,7 +174,7 @@ fn upstream_run(rt: HostRuntime) -> Result<(), Fail> {
     ];
     assert_octets(&rt, alloc, &unbind, &wanted)?;
     assert!(rt; session.stop().is_none());
-    let closed = header(alloc, 0x8000_0006, 0, 0x7fff_ffff);
+    let closed = Pdu::header_only(alloc, 0x8000_0006, 0, 0x7fff_ffff);
     assert!(rt; matches!(session.on_pdu(&closed, 2006), UpAct::Closed));
     assert_eq!(rt; session.state(), UpstreamState::Ended);
     Ok(())
@@ -183,12 +189,12 @@ fn moments(rt: HostRuntime) -> Result<(), Fail> {
     assert!(rt; session.on_moment(5000).is_none());
     assert!(rt; session.stop().is_none());
     assert_eq!(rt; session.state(), UpstreamState::Binding);
-    let up = header(alloc, 0x8000_0009, 0, 0x7fff_fffd);
+    let up = Pdu::header_only(alloc, 0x8000_0009, 0, 0x7fff_fffd);
     assert!(rt; matches!(session.on_pdu(&up, 10), UpAct::Up));
     assert!(rt; session.on_moment(5999).is_none());
     assert!(rt; session.on_moment(6000).is_some());
     assert!(rt; session.on_moment(9000).is_none());
-    let answer = header(alloc, 0x8000_0015, 0, 1);
+    let answer = Pdu::header_only(alloc, 0x8000_0015, 0, 1);
     assert!(rt; matches!(session.on_pdu(&answer, 20), UpAct::Ignore));
     assert!(rt; !session.is_silent(20_000));
     assert!(rt; session.on_moment(30).is_some());

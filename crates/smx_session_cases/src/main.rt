@@ -1,0 +1,151 @@
+//! Prints what the two sessions do with PDUs in each of their states: the cells of their tables.
+//!
+//! Each line of standard input names a session, `client` or `centre`, and a PDU without a body from
+//! there, by its command_id, command_status and sequence_number in hexadecimal. The line is printed
+//! again, and then a cell for each state: the act, and behind `>` the new state where it is another.
+//! A PDU that is sent is printed by its three numbers and the length of its body.
+#![tactic(auto)]
+
+use anyhow::{Context, bail};
+use smx_pdu::Pdu;
+use smx_session::{Act, ClientSession, ClientState, Kind, UpAct, UpstreamSession, UpstreamState};
+use std::alloc::{AllocError, Global};
+
+const CLIENT_STATES: [ClientState; 5] = [
+    ClientState::Opened,
+    ClientState::BoundTx,
+    ClientState::BoundRx,
+    ClientState::BoundTrx,
+    ClientState::Ended,
+];
+
+const CENTRE_STATES: [UpstreamState; 4] = [
+    UpstreamState::Binding,
+    UpstreamState::Bound,
+    UpstreamState::Unbinding,
+    UpstreamState::Ended,
+];
+
+// The number of the proxy's own bind.
+const BIND_NUMBER: u32 = 0x7FFF_FFFD;
+
+fn sent_text(alloc: Global, act: &str, pdu: &Pdu) -> Result<String, AllocError> {
+    format!(in alloc;
+        "{act}/{:x}/{:x}/{:x}/{}",
+        pdu.command,
+        pdu.status,
+        pdu.number,
+        pdu.body.len()
+    )
+}
+
+fn client_act_text(alloc: Global, act: &Act) -> Result<String, AllocError> {
+    match act {
+        Act::Answer(answer) => sent_text(alloc, "answer", answer),
+        Act::Bind { answer, .. } => sent_text(alloc, "bind", answer),
+        Act::Forward => String::from_str(alloc, "forward"),
+        Act::MoAnswer { number } => format!(in alloc; "message/{number:x}"),
+        Act::Leave(answer) => sent_text(alloc, "leave", answer),
+        Act::Hangup(answer) => sent_text(alloc, "hangup", answer),
+        Act::Ignore => String::from_str(alloc, "ignore"),
+    }
+}
+
+// A client's session in this state.
+fn client_in(alloc: Global, state: ClientState) -> ClientSession {
+    match state {
+        ClientState::Opened => ClientSession::new(alloc),
+        ClientState::BoundTx => ClientSession::bound(alloc, Kind::Tx),
+        ClientState::BoundRx => ClientSession::bound(alloc, Kind::Rx),
+        ClientState::BoundTrx => ClientSession::bound(alloc, Kind::Trx),
+        ClientState::Ended => {
+            let mut session = ClientSession::new(alloc);
+            let _ = session.on_fault();
+            session
+        }
+    }
+}
+
+fn client_cell(alloc: Global, state: ClientState, pdu: &Pdu) -> Result<String, AllocError> {
+    let mut session = client_in(alloc, state);
+    let act = session.on_pdu(pdu, &[])?;
+    let mut text = client_act_text(alloc, &act)?;
+    if session.state() != state {
+        text.push_str(&format!(in alloc; ">{:?}", session.state())?)?;
+    }
+    Ok(text)
+}
+
+fn centre_act_text(alloc: Global, act: &UpAct) -> Result<String, AllocError> {
+    match act {
+        UpAct::Up => String::from_str(alloc, "up"),
+        UpAct::Failed(status) => format!(in alloc; "failed/{status:x}"),
+        UpAct::ToLane => String::from_str(alloc, "lane"),
+        UpAct::Mo => String::from_str(alloc, "message"),
+        UpAct::Answer(answer) => sent_text(alloc, "answer", answer),
+        UpAct::Leave(answer) => sent_text(alloc, "leave", answer),
+        UpAct::Closed => String::from_str(alloc, "closed"),
+        UpAct::Ignore => String::from_str(alloc, "ignore"),
+    }
+}
+
+// The session with a centre in this state.
+fn centre_in(alloc: Global, state: UpstreamState) -> UpstreamSession {
+    let mut session = UpstreamSession::new(alloc, Vec::new(alloc), Vec::new(alloc), 1000, 0);
+    if state == UpstreamState::Bound || state == UpstreamState::Unbinding {
+        let _ = session.on_pdu(&Pdu::header_only(alloc, 0x8000_0009, 0, BIND_NUMBER), 0);
+    }
+    if state == UpstreamState::Unbinding {
+        let _ = session.stop();
+    }
+    if state == UpstreamState::Ended {
+        let _ = session.on_pdu(&Pdu::header_only(alloc, 6, 0, 1), 0);
+    }
+    session
+}
+
+fn centre_cell(alloc: Global, state: UpstreamState, pdu: &Pdu) -> Result<String, AllocError> {
+    let mut session = centre_in(alloc, state);
+    let before = session.state();
+    let act = session.on_pdu(pdu, 0);
+    let mut text = centre_act_text(alloc, &act)?;
+    if session.state() != state || before != state {
+        text.push_str(&format!(in alloc; ">{:?}", session.state())?)?;
+    }
+    Ok(text)
+}
+
+// A number in hexadecimal.
+fn number_in(word: Option<&str>) -> anyhow::Result<u32> {
+    let number = u32::from_str_radix(word.context("three numbers are wanted")?, 16)?;
+    Ok(number)
+}
+
+fn main(rt: HostRuntime) -> anyhow::Result<()> {
+    let alloc = rt.alloc();
+    for line in rt.lines(alloc) {
+        let line = line?;
+        let mut words = line.split_whitespace();
+        let session = words.next();
+        let command = number_in(words.next())?;
+        let status = number_in(words.next())?;
+        let number = number_in(words.next())?;
+        let pdu = Pdu::header_only(alloc, command, status, number);
+        print!(rt; "{line}:")?;
+        match session {
+            Some("client") => {
+                for state in CLIENT_STATES {
+                    print!(rt; " {}", client_cell(alloc, state, &pdu)?)?;
+                }
+            }
+            Some("centre") => {
+                for state in CENTRE_STATES {
+                    print!(rt; " {}", centre_cell(alloc, state, &pdu)?)?;
+                }
+            }
+            _ => bail!("a line begins with client or centre"),
+        }
+        println!(rt;)?;
+    }
+    Ok(())
+}
