@@ -1,5 +1,5 @@
 -- What a link's calls give and take.
-use Rattle.std.specs.Prelude.{ℕ, ◌≤◌, List, [], take, Result, Ok, Err, nat_lt, if◌then◌else◌}
+use Rattle.std.specs.Prelude.{ℕ, ◌≤◌, List, [], ◌∷◌, take, Result, Ok, Err, nat_lt, if◌then◌else◌}
 use Rattle.smx_link.specs.declared.link.Polled.{Polled}
 use Rattle.smx_link.specs.declared.link.Polled.TheVariants.{Octets, Nothing, End}
 use Rattle.smx_link.specs.declared.link.LinkFault.{LinkFault}
@@ -27,9 +27,9 @@ abbrev pub octets_written : Result ℕ LinkFault → List ℕ → List ℕ
 octets_written (Ok n) octets = take n octets
 octets_written (Err fault) octets = []
 
--- a read that asks for no octet isn't counted
-abbrev pub read_count : ℕ → ℕ
-read_count room = if nat_lt 0 room then 1 else 0
+-- a read that asks for no octet doesn't count
+abbrev pub polls_of : ℕ → Result Polled LinkFault → List (Result Polled LinkFault)
+polls_of room answer = if nat_lt 0 room then answer ∷ [] else []
 
 -- how many faults a call answered
 abbrev pub fault_count : {A : Type 0} → Result A LinkFault → ℕ

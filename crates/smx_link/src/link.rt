@@ -1,6 +1,8 @@
 //! A peer's octets, read and written without waiting.
-ghost use Rattle.std.specs.Prelude.{◌≡◌, ℕ, ◌+◌, ◌≤◌, ◌++◌, List, length, IfOk};
-ghost use Rattle.smx_link.specs.Links.{octets_read, octets_written, IsWithin, read_count, fault_count};
+ghost use Rattle.std.specs.Prelude.{◌≡◌, ℕ, ◌+◌, ◌≤◌, ◌++◌, List, length, IfOk, Result};
+ghost use Rattle.smx_link.specs.declared.link.Polled.{Polled};
+ghost use Rattle.smx_link.specs.declared.link.LinkFault.{LinkFault};
+ghost use Rattle.smx_link.specs.Links.{octets_read, octets_written, IsWithin, polls_of, fault_count};
 
 /// What a read found.
 #[derive(Clone, Copy, Debug, PartialEq, Eq)]
@@ -28,8 +30,8 @@ pub trait Link {
     /// The octets that it was offered, those of one write after those of the write before.
     ghost offered: { Self → List ℕ };
 
-    /// How many reads asked for at least one octet.
-    ghost reads: { Self → ℕ };
+    /// The answers of the reads that asked for at least one octet, in order.
+    ghost polls: { Self → List (Result Polled LinkFault) };
 
     /// How many calls failed.
     ghost failures: { Self → ℕ };
@@ -39,7 +41,7 @@ pub trait Link {
         ensures given { given self.new ≡ given self.old ++ octets_read result buffer.new }
         ensures taken { taken self.new ≡ taken self.old }
         ensures offered { offered self.new ≡ offered self.old }
-        ensures reads { reads self.new ≡ reads self.old + read_count (length buffer.new) }
+        ensures polls { polls self.new ≡ polls self.old ++ polls_of (length buffer.new) result }
         ensures failures { failures self.new ≡ failures self.old + fault_count result }
         ensures within { IsWithin result (length buffer.new) };
 
@@ -48,7 +50,7 @@ pub trait Link {
         ensures taken { taken self.new ≡ taken self.old ++ octets_written result octets.now }
         ensures given { given self.new ≡ given self.old }
         ensures offered { offered self.new ≡ offered self.old ++ octets.now }
-        ensures reads { reads self.new ≡ reads self.old }
+        ensures polls { polls self.new ≡ polls self.old }
         ensures failures { failures self.new ≡ failures self.old + fault_count result }
         ensures within { IfOk result (λ n. n ≤ length octets.now) };
 

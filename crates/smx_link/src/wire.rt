@@ -93,7 +93,7 @@ impl<L: Link + Drop> Wire<L> {
     /// Offers the link what it has not taken, where there is any, by one write.
     pub fn offer(&mut self) -> Result<(), LinkFault>
         ensures offered { L.offered self.new.link ≡ L.offered self.old.link ++ self.old.unsent }
-        ensures reads { L.reads self.new.link ≡ L.reads self.old.link }
+        ensures polls { L.polls self.new.link ≡ L.polls self.old.link }
         ensures failures { L.failures self.new.link ≡ L.failures self.old.link + fault_count result }
         ensures same { self.new ≡ record self.old { link = self.new.link; unsent = self.new.unsent } }
     {
@@ -155,7 +155,7 @@ impl<L: Link + Drop> Wire<L> {
     pub fn read(&mut self) -> Result<Polled, LinkFault>
         requires goes_on { self.old.failed ≡ None }
         requires intake { 4096 ≤ self.old.intake }
-        ensures reads { L.reads self.new.link ≡ L.reads self.old.link + 1 }
+        ensures polls { L.polls self.new.link ≡ L.polls self.old.link ++ result ∷ [] }
         ensures offered { L.offered self.new.link ≡ L.offered self.old.link }
         ensures failures { L.failures self.new.link ≡ L.failures self.old.link + fault_count result }
         ensures same { self.new ≡ record self.old { link = self.new.link; rest = self.new.rest; intake = self.new.intake } }
