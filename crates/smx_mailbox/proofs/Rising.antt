@@ -4,9 +4,9 @@ use Rattle.std.proofs.lemmas.List.{length-map}
 use Rattle.std.specs.List.{All}
 use Rattle.std.proofs.lemmas.Bool.{cases_lt, le-leb, lt-leb, eq-eqb, ne_eqb}
 use Rattle.std.proofs.lemmas.List.Elements.{All-cons, All-head, All-tail}
-use Rattle.smx_mo.specs.declared.mo_window.Waiting.{Waiting}
-use Rattle.smx_mo.specs.Window.{AreApart, IsFirst, without}
-use Rattle.smx_mo.proofs.Apart.{without-other}
+use Rattle.smx_routes.specs.declared.mo_window.Waiting.{Waiting}
+use Rattle.smx_routes.specs.Window.{AreApart, IsFirst, without}
+use Rattle.smx_routes.proofs.Apart.{without-other}
 use Rattle.smx_mailbox.specs.Mailbox.{Mailbox, among, rising, unanswered}
 
 among-first : (w : Waiting) (vs : List Waiting) → All (λ v. w.given ≤ v.given) vs → among w vs ≡ w ∷ vs

@@ -3,7 +3,7 @@ use Rattle.std.proofs.Common.{◌≡◌, ◌<◌, ◌≤◌, ◌+◌, ◌∷◌,
 use Rattle.std.specs.List.{find, range_with_len}
 use Rattle.std.proofs.lemmas.Bool.{cases_lt, le-leb, lt-leb}
 use Rattle.smx_pdu.specs.declared.pdu.Pdu.{Pdu}
-use Rattle.smx_mo.specs.Window.{Window, IsNext, number_behind, waits}
+use Rattle.smx_routes.specs.Window.{Window, IsNext, number_behind, waits}
 use Rattle.smx_mailbox.specs.declared.message.Message.{Message}
 use Rattle.smx_mailbox.specs.Mailbox.{next_number, given, sent_as, sent, after_sent}
 

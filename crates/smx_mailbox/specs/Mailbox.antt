@@ -2,8 +2,8 @@
 use Rattle.std.specs.Prelude.{ℕ, Bool, List, [], ◌∷◌, ◌++◌, length, map, not, unwrap_or, nat_le, if◌then◌else◌}
 use Rattle.std.specs.List.{find, range_with_len}
 use Rattle.smx_pdu.specs.declared.pdu.Pdu.{Pdu}
-use Rattle.smx_mo.specs.declared.mo_window.Waiting.{Waiting}
-use Rattle.smx_mo.specs.Window.{Window, number_behind, waits, without}
+use Rattle.smx_routes.specs.declared.mo_window.Waiting.{Waiting}
+use Rattle.smx_routes.specs.Window.{Window, number_behind, waits, without}
 use Rattle.smx_mailbox.specs.declared.message.Message.{Message}
 use Rattle.smx_mailbox.specs.declared.message.Unanswered.{Unanswered}
 

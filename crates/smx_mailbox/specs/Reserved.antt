@@ -1,6 +1,6 @@
 -- What the fields of a mailbox show, and what they keep.
 use Rattle.std.specs.Prelude.{◌≡◌, ◌≤◌, length}
-use Rattle.smx_mo.specs.Window.{IsSize}
+use Rattle.smx_routes.specs.Window.{IsSize}
 use Rattle.smx_mailbox.specs.declared.mailbox.Mailbox.TheInside.{Inside}
 use Rattle.smx_mailbox.specs.Mailbox.{Mailbox}
 

@@ -1,13 +1,13 @@
 //! A client's mailbox.
 ghost use Rattle.std.specs.Prelude.{◌≡◌, [], ◌∷◌, true, false, Some, None, IfOk, OnOk, IfErr, OnErr, IfSome, IfNone, MatchOption};
-ghost use Rattle.smx_mo.specs.declared.mo_window.Waiting.{Waiting};
-ghost use Rattle.smx_mo.specs.Window.{IsSize, IsWindowFault, answered};
+ghost use Rattle.smx_routes.specs.declared.mo_window.Waiting.{Waiting};
+ghost use Rattle.smx_routes.specs.Window.{IsSize, IsWindowFault, answered};
 ghost use Rattle.smx_mailbox.specs.Mailbox.{new_mailbox, is_full, with_message, sent, after_sent, settled, unanswered, emptied};
 
 use crate::message::{Message, Unanswered};
 use circular_buffer::HeapCircularBuffer;
-use smx_mo::{BoxFault, MoWindow};
 use smx_pdu::Pdu;
+use smx_routes::{MoWindow, WindowFault};
 use std::alloc::{AllocError, Global};
 use std::marker::Model;
 
@@ -37,7 +37,7 @@ impl Model for Mailbox {
 
 impl Mailbox {
     /// An empty mailbox of 1 to 256 places, all of which it reserves.
-    pub fn new(alloc: Global, places: u32) -> Result<Mailbox, BoxFault>
+    pub fn new(alloc: Global, places: u32) -> Result<Mailbox, WindowFault>
         ensures ok { IfOk result (λ mailbox. IsSize places × (mailbox ≡ new_mailbox places)) }
         ensures err { IfErr result (IsWindowFault places) }
     {
@@ -48,7 +48,7 @@ impl Mailbox {
                 waiting,
                 window,
             }),
-            Err(AllocError) => Err(BoxFault::NoMemory),
+            Err(AllocError) => Err(WindowFault::NoMemory),
         }
     }
 

@@ -109,7 +109,7 @@ fn emptied_when_the_client_leaves(rt: HostRuntime) -> Result<(), Fail> {
 fn refused_memory(rt: HostRuntime) {
     let mut mailbox = match Mailbox::new(rt.alloc(), 2) {
         Ok(mailbox) => mailbox,
-        Err(fault) => return assert_eq!(rt; fault, BoxFault::NoMemory),
+        Err(fault) => return assert_eq!(rt; fault, WindowFault::NoMemory),
     };
     assert!(rt; mailbox.put(deliver(rt.alloc(), 0, 70)).is_ok());
     assert!(rt; mailbox.put(deliver(rt.alloc(), 0, 71)).is_ok());

@@ -1,8 +1,0 @@
-use Rattle.std.proofs.Common.{sym}
-use Rattle.smx_mo.proofs.Apart.{length-settled}
-use Rattle.smx_mo.proofs.mo_window.MoWindow.settle.Goals as goal
-
-pub returns-clause-one : goal.returns-clause-one
-returns-clause-one c =
-    let found = rw c.as_slice.ensures.value at c.in_ok-message.ensures in
-    rw (c.remove.ensures, ← c.self.view_is) (length-settled c.self.inside.waiting.items c.args.number c.args.command c.in_ok-message.message c.self.invariant.apart (sym found))

@@ -1,5 +1,0 @@
-use Rattle.smx_mo.proofs.BoxEnds.{first_receiver}
-use Rattle.smx_mo.proofs.receiver.Receiver.new.Goals as goal
-
-pub invariant_of-result : goal.invariant_of-result
-invariant_of-result g c = first_receiver c.args.end c.args.senders c.requires.number c.requires.mine c.requires.senders

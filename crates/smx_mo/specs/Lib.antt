@@ -1,6 +1,0 @@
-pub mod Letters
-pub mod Boxes
-pub mod Reserved
-pub mod Routing
-pub mod Table
-pub mod Window

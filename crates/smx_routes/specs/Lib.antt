@@ -1,0 +1,4 @@
+pub mod Reserved
+pub mod Routing
+pub mod Table
+pub mod Window

@@ -1,0 +1,194 @@
+//! The messages that a client was sent and has not answered.
+ghost use Rattle.std.specs.Prelude.{◌≡◌, ◌≤◌, ◌<◌, ◌+◌, ◌↔◌, [], ◌∷◌, ◌++◌, length, Some, None, IsTrue, IsErr, IfOk, IfErr, IfSome, IfNone, OnSome, OnErr, MatchOption};
+ghost use Rattle.smx_pdu.specs.Command.{is_response_to};
+ghost use Rattle.smx_routes.specs.Window.{IsSize, IsWindowFault, waits, without, answered, AreApart, IsNext, IsFirst};
+
+use crate::fault::WindowFault;
+use std::alloc::{AllocError, Global};
+use std::marker::Model;
+
+#[cfg(test)]
+mod tests;
+
+// The greatest sequence number (SMPP 3.4, section 5.1.4).
+const GREATEST: u32 = 0x7FFF_FFFF;
+
+/// A message that waits for its answer, as contracts see it.
+#[derive(Clone, Copy, Debug, PartialEq, Eq)]
+pub struct Waiting {
+    /// The sequence number under which the client was sent it.
+    pub given: u32,
+    /// The lane from which it came.
+    pub lane: usize,
+    /// The centre's sequence number.
+    pub number: u32,
+    /// The command id of the centre's request.
+    pub command: u32,
+}
+
+/// All places of the window wait for answers.
+#[derive(Clone, Copy, Debug, PartialEq, Eq, thiserror::Error)]
+#[error("all places of the window wait")]
+pub struct Full;
+
+/// The messages that one client was sent and has not answered, each under a number of its own. Contracts see them
+/// as a list, the oldest first, with the count of its places and the last number given.
+#[derive(Drop)]
+pub struct MoWindow {
+    places: u32,
+    last: u32,
+    waiting: Vec<Waiting>,
+}
+
+impl Model for MoWindow {
+    ghost use Rattle.smx_routes.specs.Window.{Window};
+    ghost use Rattle.smx_routes.specs.Reserved.{window_of, HasPlaces};
+
+    ghost Value = { Window };
+
+    ghost view = { window_of };
+
+    ghost invariant = { HasPlaces };
+}
+
+// Whether a response's command is the request's with the top bit, or generic_nack.
+fn answers(request: u32, command: u32) -> bool
+    ensures { result ≡ is_response_to request command }
+{
+    (command >= 0x8000_0000 && command - 0x8000_0000 == request) || command == 0x8000_0000
+}
+
+// The message that a response with the number and the command answers.
+fn answered(waiting: &[Waiting], number: u32, command: u32) -> Option<Waiting>
+    ensures { result ≡ answered number command waiting.now }
+{
+    waiting.iter().copied().find(|message| message.given == number
+        && answers(message.command, command))
+}
+
+impl MoWindow {
+    /// A window of 1 to 256 places, all of which it reserves.
+    pub fn new(alloc: Global, places: u32) -> Result<MoWindow, WindowFault>
+        ensures ok { IfOk result (λ window. IsSize places × (window ≡ record { places = places; last = 0; waiting = [] })) }
+        ensures err { IfErr result (IsWindowFault places) }
+    {
+        if !(1..=256).contains(&places) {
+            return Err(WindowFault::BadSize);
+        }
+        match Vec::with_capacity(alloc, places as usize) {
+            Ok(waiting) => Ok(MoWindow {
+                places,
+                last: 0,
+                waiting,
+            }),
+            Err(AllocError) => Err(WindowFault::NoMemory),
+        }
+    }
+
+    /// Whether all places wait for answers.
+    pub fn is_full(&self) -> bool
+        ensures { IsTrue result ↔ (length self.now.waiting ≡ self.now.places) }
+    {
+        self.waiting.len() >= self.places as usize
+    }
+
+    // Whether a message waits under the number.
+    fn waits(&self, number: u32) -> bool
+        ensures { result ≡ waits number self.now.waiting }
+    {
+        self.waiting.iter().any(|message| message.given == number)
+    }
+
+    // The number that is given next.
+    fn next(&self) -> u32
+        requires { length self.now.waiting < self.now.places }
+        ensures next { IsNext self.now result }
+    {
+        for passed in 0..self.places {
+            let number = (self.last + passed) % GREATEST + 1;
+            if !self.waits(number) {
+                return number;
+            }
+        }
+        unreachable!()
+    }
+
+    /// Gives a message of the centre the number under which the client is sent it: the next after the last one given,
+    /// from 1 to 0x7FFFFFFF and round, that no message waits under. `number` and `command` are the centre's.
+    /// It takes no memory.
+    pub fn give(&mut self, lane: usize, number: u32, command: u32) -> Result<u32, Full>
+        ensures full { IsErr result ↔ (length self.old.waiting ≡ self.old.places) }
+        ensures next { IfOk result (IsNext self.old) }
+        ensures ok { IfOk result (λ given. self.new ≡ record self.old {
+          last = given;
+          waiting = self.old.waiting ++ record { given = given; lane = lane; number = number; command = command } ∷ [];
+        }) }
+        ensures err { OnErr result (self.new ≡ self.old) }
+    {
+        if self.is_full() {
+            return Err(Full);
+        }
+        let given = self.next();
+        self.last = given;
+        self.waiting.push_reserved(Waiting {
+            given,
+            lane,
+            number,
+            command,
+        });
+        Ok(given)
+    }
+
+    // Takes out what waits under the number.
+    fn remove(&mut self, number: u32)
+        ensures { self.new ≡ record self.old { waiting = without number self.old.waiting } }
+    {
+        self.waiting.retain(|message| message.given != number);
+    }
+
+    /// Takes out the message that a client's response answers: its lane and the centre's number. `number` and
+    /// `command` are the response's. None where no message waits under the number, or the command answers another
+    /// request.
+    pub fn settle(&mut self, number: u32, command: u32) -> Option<(usize, u32)>
+        ensures settled { IfSome result (λ r. (w : Waiting)
+            × (answered number command self.old.waiting ≡ Some w)
+            × (r.0 ≡ w.lane)
+            × (r.1 ≡ w.number)
+            × (self.new ≡ record self.old { waiting = without number self.old.waiting })) }
+        ensures one { OnSome result (length self.new.waiting + 1 ≡ length self.old.waiting) }
+        ensures none { IfNone result ((answered number command self.old.waiting ≡ None) × (self.new ≡ self.old)) }
+    {
+        let message = answered(self.waiting.as_slice(), number, command)?;
+        self.remove(number);
+        Some((message.lane, message.number))
+    }
+
+    // The message with the least number given.
+    fn first(&self) -> Option<Waiting>
+        ensures first { MatchOption result (self.now.waiting ≡ []) (IsFirst self.now.waiting) }
+        ensures apart { AreApart self.now.waiting }
+    {
+        self.waiting
+            .iter()
+            .min_by_key(|message| message.given)
+            .copied()
+    }
+
+    /// Takes out the message with the least number given: its lane, and the centre's number and command. None where
+    /// no message waits.
+    pub fn take_first(&mut self) -> Option<(usize, u32, u32)>
+        ensures first { IfSome result (λ r. (w : Waiting)
+            × IsFirst self.old.waiting w
+            × (r.0 ≡ w.lane)
+            × (r.1 ≡ w.number)
+            × (r.2 ≡ w.command)
+            × (self.new ≡ record self.old { waiting = without w.given self.old.waiting })) }
+        ensures one { OnSome result (length self.new.waiting + 1 ≡ length self.old.waiting) }
+        ensures apart { AreApart self.old.waiting }
+        ensures none { IfNone result ((self.old.waiting ≡ []) × (self.new ≡ self.old)) }
+    {
+        let message = self.first()?;
+        self.remove(message.given);
+        Some((message.lane, message.number, message.command))
+    }
+}
