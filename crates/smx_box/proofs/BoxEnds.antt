@@ -115,20 +115,20 @@ module _ {T : Type 0} where
       pick false e = grind (arith, e)
 
   -- a receiver
-  pub first_receiver : (f : F T) (senders : ℕ) → f.number ≡ 0 → f.mine ≡ [] → f.lock.fixed.senders ≡ senders → IsReceiver f senders 0
-  first_receiver f senders seat mine all = record {
+  pub first_receiver : (f : F T) (s : Sizes) → f.number ≡ 0 → f.mine ≡ [] → f.lock.fixed ≡ s → IsReceiver f s 0
+  first_receiver f s seat mine all = record {
     seat = seat;
     all = all;
     numbered = λ p. subst (λ l. Numbered 0 (of p (gets l))) (sym mine) tt;
-    counted = sym (none_shut senders) ∙ ap (λ l. shut_below senders (λ p. is_open (of p (gets l)))) (sym mine);
+    counted = sym (none_shut s.senders) ∙ ap (λ l. shut_below s.senders (λ p. is_open (of p (gets l)))) (sym mine);
   }
 
-  pub receiver_stays : (f g : F T) (senders shut : ℕ) → SameSeat f g → IsReceiver f senders shut → IsReceiver g senders shut
-  receiver_stays f g senders shut same is = record {
+  pub receiver_stays : (f g : F T) (s : Sizes) (shut : ℕ) → SameSeat f g → IsReceiver f s shut → IsReceiver g s shut
+  receiver_stays f g s shut same is = record {
     seat = same.number ∙ is.seat;
-    all = ap (λ l. l.fixed.senders) same.lock ∙ is.all;
+    all = ap (λ l. l.fixed) same.lock ∙ is.all;
     numbered = λ p. subst (λ l. Numbered 0 (of p (gets l))) (sym same.mine) (is.numbered p);
-    counted = is.counted ∙ ap (λ l. shut_below senders (λ p. is_open (of p (gets l)))) (sym same.mine);
+    counted = is.counted ∙ ap (λ l. shut_below s.senders (λ p. is_open (of p (gets l)))) (sym same.mine);
   }
 
   -- an item leaves each sender as open as it was
@@ -139,29 +139,29 @@ module _ {T : Type 0} where
   opens_same : (got : List (Letter T)) (m : Letter T) → is_item m.content ≡ true → is_open (of m.sender got) ≡ true → (p : ℕ) → is_open (of p (got ++ m ∷ [])) ≡ is_open (of p got)
   opens_same got m e o p = ap is_open (of-append p got (m ∷ [])) ∙ open_more (eqb m.sender p) (of p got) m (λ is. ap (λ q. is_open (of q got)) (sym (eqb-true m.sender p is)) ∙ o) e
 
-  pub receiver_item : (f g : F T) (senders shut : ℕ) (m : Letter T) → Taken f g m → is_item m.content ≡ true → IsReceiver f senders shut → IsReceiver g senders shut
-  receiver_item f g senders shut m t item is = record {
+  pub receiver_item : (f g : F T) (s : Sizes) (shut : ℕ) (m : Letter T) → Taken f g m → is_item m.content ≡ true → IsReceiver f s shut → IsReceiver g s shut
+  receiver_item f g s shut m t item is = record {
     seat = t.number ∙ is.seat;
-    all = ap (λ l. l.fixed.senders) t.lock ∙ is.all;
+    all = ap (λ l. l.fixed) t.lock ∙ is.all;
     numbered = t.numbered;
-    counted = is.counted ∙ sym (shut_same senders (λ p. is_open (of p (gets f.mine))) (λ p. is_open (of p (gets g.mine)))
+    counted = is.counted ∙ sym (shut_same s.senders (λ p. is_open (of p (gets f.mine))) (λ p. is_open (of p (gets g.mine)))
         (λ p. ap (λ l. is_open (of p l)) t.more ∙ opens_same (gets f.mine) m item t.opened p));
   }
 
-  pub receiver_mark : (f g : F T) (senders shut : ℕ) (m : Letter T) → Taken f g m → is_item m.content ≡ false → IsReceiver f senders shut → IsReceiver g senders (shut + 1)
-  receiver_mark f g senders shut m t mark is = record {
+  pub receiver_mark : (f g : F T) (s : Sizes) (shut : ℕ) (m : Letter T) → Taken f g m → is_item m.content ≡ false → IsReceiver f s shut → IsReceiver g s (shut + 1)
+  receiver_mark f g s shut m t mark is = record {
     seat = t.number ∙ is.seat;
-    all = ap (λ l. l.fixed.senders) t.lock ∙ is.all;
+    all = ap (λ l. l.fixed) t.lock ∙ is.all;
     numbered = t.numbered;
-    counted = ap (λ n. n + 1) is.counted ∙ sym (shut_more senders m.sender (λ p. is_open (of p (gets f.mine))) (λ p. is_open (of p (gets g.mine)))
+    counted = ap (λ n. n + 1) is.counted ∙ sym (shut_more s.senders m.sender (λ p. is_open (of p (gets f.mine))) (λ p. is_open (of p (gets g.mine)))
         (λ p other. ap (λ l. is_open (of p l)) t.more ∙ ap is_open (of-append p (gets f.mine) (m ∷ []) ∙ ap (λ l. of p (gets f.mine) ++ l) (of_no p m (λ e. other (sym e))) ∙ append-nil (of p (gets f.mine))))
         t.opened
         (ap (λ l. is_open (of m.sender l)) t.more ∙ ap is_open (of-append m.sender (gets f.mine) (m ∷ []) ∙ ap (λ l. of m.sender (gets f.mine) ++ l) (of_yes m.sender m refl)) ∙ shut_snoc (of m.sender (gets f.mine)) m t.opened mark)
-        (let b = t.below in let a = is.all in omega arith));
+        (let b = t.below in let a = ap (λ z. z.senders) is.all in omega arith));
   }
 
-  pub some_open : (f g : F T) (senders shut : ℕ) (m : Letter T) → Taken f g m → IsReceiver f senders shut → shut < senders
-  some_open f g senders shut m t is = let l = shut_not_all senders m.sender (λ p. is_open (of p (gets f.mine))) t.opened (let b = t.below in let a = is.all in omega arith) in let c = is.counted in omega arith
+  pub some_open : (f g : F T) (s : Sizes) (shut : ℕ) (m : Letter T) → Taken f g m → IsReceiver f s shut → shut < s.senders
+  some_open f g s shut m t is = let l = shut_not_all s.senders m.sender (λ p. is_open (of p (gets f.mine))) t.opened (let b = t.below in let a = ap (λ z. z.senders) is.all in omega arith) in let c = is.counted in omega arith
 
   -- what a get hands out
   item_is : (m : Letter T) (x : T) → m.content ≡ Some x → m ≡ letter m.sender m.number (Some x)
@@ -182,10 +182,10 @@ module _ {T : Type 0} where
   mark_serves f g r m is t e s = subst (λ (z : Receiving T). GetServes z g (Shut m.sender)) is
       (subst (λ l. TakeServes (receiving f) g (Some l)) (mark_is m (length (of m.sender (gets f.mine)) + 1) t.next e) s)
 
-  pub ended_all : (f : F T) (r : Receiving T) (senders shut : ℕ) → receiving f ≡ r → IsReceiver f senders shut → shut ≡ senders → AllShut r.senders r.got
-  ended_all f r senders shut is keeps e = subst (λ (z : Receiving T). AllShut z.senders z.got) is
-      (λ p lt. all_shut senders (λ q. is_open (of q (gets f.mine))) (sym keeps.counted ∙ e) p (let a = keeps.all in omega arith))
+  pub ended_all : (f : F T) (r : Receiving T) (s : Sizes) (shut : ℕ) → receiving f ≡ r → IsReceiver f s shut → shut ≡ s.senders → AllShut r.senders r.got
+  ended_all f r s shut is keeps e = subst (λ (z : Receiving T). AllShut z.senders z.got) is
+      (λ p lt. all_shut s.senders (λ q. is_open (of q (gets f.mine))) (sym keeps.counted ∙ e) p (let a = ap (λ z. z.senders) keeps.all in omega arith))
 
-  pub all_ended : (f : F T) (r : Receiving T) (senders shut : ℕ) → receiving f ≡ r → IsReceiver f senders shut → AllShut r.senders r.got → shut ≡ senders
-  all_ended f r senders shut is keeps all = let here = subst (λ (z : Receiving T). AllShut z.senders z.got) (sym is) all in
-      keeps.counted ∙ shut_all senders (λ q. is_open (of q (gets f.mine))) (λ p lt. here p (let a = keeps.all in omega arith))
+  pub all_ended : (f : F T) (r : Receiving T) (s : Sizes) (shut : ℕ) → receiving f ≡ r → IsReceiver f s shut → AllShut r.senders r.got → shut ≡ s.senders
+  all_ended f r s shut is keeps all = let here = subst (λ (z : Receiving T). AllShut z.senders z.got) (sym is) all in
+      keeps.counted ∙ shut_all s.senders (λ q. is_open (of q (gets f.mine))) (λ p lt. here p (let a = ap (λ z. z.senders) keeps.all in omega arith))

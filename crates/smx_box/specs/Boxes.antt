@@ -116,11 +116,11 @@ module _ {T : Type 0} where
     pub opened : is_open (puts f.mine) ≡ true
 
   -- what a receiver keeps of its seat
-  pub record IsReceiver (f : Front (Note T) Sizes) (senders shut : ℕ) : Type 0 where
+  pub record IsReceiver (f : Front (Note T) Sizes) (s : Sizes) (shut : ℕ) : Type 0 where
     pub seat : f.number ≡ 0
-    pub all : f.lock.fixed.senders ≡ senders
+    pub all : f.lock.fixed ≡ s
     pub numbered : (p : ℕ) → Numbered 0 (of p (gets f.mine))
-    pub counted : shut ≡ shut_below senders (λ p. is_open (of p (gets f.mine)))
+    pub counted : shut ≡ shut_below s.senders (λ p. is_open (of p (gets f.mine)))
 
 -- what clauses see of a sender: which it is, all that it put, and its seat
 pub record Sending (T : Type 0) : Type 0 where

@@ -1,5 +1,5 @@
 //! A new box.
-ghost use Rattle.std.specs.Prelude.{◌≡◌, ◌≢◌, ◌≤◌, ◌⊎◌, ◌↔◌, [], length, vec_len, vec_capacity, IsTrue, IfOk, IfErr};
+ghost use Rattle.std.specs.Prelude.{◌≡◌, ◌≤◌, ◌↔◌, [], length, vec_len, vec_capacity, IsTrue, IfOk, IfErr};
 ghost use Rattle.std.specs.Arc.{arc_value};
 ghost use Rattle.smx_ticket_core.specs.Machine.{most};
 ghost use Rattle.smx_lock.specs.Fronts.{first_front};
@@ -7,7 +7,7 @@ ghost use Rattle.smx_box.specs.Boxes.{AreSizes, Opens, StandFrom, IsBoxFault, si
 
 use crate::end::End;
 use crate::fault::BoxFault;
-use crate::letter::Did;
+use crate::letter::{Did, Sizes};
 use crate::receiver::Receiver;
 use crate::ring::Ring;
 use crate::sender::Sender;
@@ -60,38 +60,30 @@ fn reserve<T: Drop>(
     }
 }
 
-// Splits a seat for each sender. The seats' numbers follow the receiver's, since nobody else
-// splits; the lock's clauses don't say so, so each is looked at.
+// Splits a seat for each sender. The receiver's is the lock's only one so far, so theirs are numbered
+// from 1.
 fn seat_all<T: Drop>(
     lock: &Arc<TicketLock<Ring<T>>, Global>,
     held: &mut Held<Ring<T>>,
     senders: usize,
     room: Vec<Sender<T>>,
-) -> Result<Vec<Sender<T>>, BoxFault>
+) -> Result<Vec<Sender<T>>, AllocError>
     requires lock { held.old.lock ≡ arc_value lock.now }
+    requires alone { held.old.seats ≡ 1 }
     requires senders { held.old.lock.fixed.senders ≡ senders }
+    requires few { senders ≤ 256 }
     requires none { room.items ≡ [] }
     requires room { (vec_len room ≡ 0) × (senders ≤ vec_capacity room) }
     ensures held { held.new ≡ record held.old { seats = held.new.seats } }
     ensures count { IfOk result (λ all. length all.items ≡ senders) }
     ensures each { IfOk result (λ all. StandFrom 0 held.old.lock all.items) }
-    ensures err { IfErr result (λ e. e ≢ BoxFault.BadSize) }
-
-    // `Spent` comes only where no seat is left, or where a seat beside the receiver's was there before.
-    ensures spent { IfErr result (λ e. e ≡ BoxFault.Spent →
-        (most ≤ held.new.seats) ⊎ (held.old.seats ≢ 1)) }
 {
     let mut all = room;
     for sender in 0..senders {
         let Ok(seat) = lock.split(held) else {
-            return Err(BoxFault::Spent);
+            unreachable!()
         };
-        if seat.number() != sender as u64 + 1 {
-            return Err(BoxFault::Spent);
-        }
-        let Ok(owner) = Arc::try_clone(lock) else {
-            return Err(BoxFault::NoMemory);
-        };
+        let owner = Arc::try_clone(lock)?;
         all.push_reserved(Sender::new(End::new(owner, seat), sender));
     }
     Ok(all)
@@ -136,7 +128,12 @@ impl Boxed {
         };
         let seated = seat_all(&lock, &mut held, senders, all);
         let seat = lock.release_told(held, &Did::Nothing);
-        let all = seated?;
-        Ok((Receiver::new(End::new(lock, seat), senders), all))
+        let Ok(all) = seated else {
+            return Err(BoxFault::NoMemory);
+        };
+        Ok((
+            Receiver::new(End::new(lock, seat), Sizes { senders, places }),
+            all,
+        ))
     }
 }

@@ -9,7 +9,7 @@ pub enum BoxFault {
     /// The places could not be reserved.
     #[error("no memory for the places")]
     NoMemory,
-    /// No hold of the lock, or no seat of it that the box needs, is left.
+    /// No hold of the lock is left.
     #[error("no hold of the lock is left")]
     Spent,
 }

@@ -5,7 +5,7 @@ ghost use Rattle.smx_box.specs.Letters.{of, Numbered, AllShut};
 ghost use Rattle.smx_box.specs.Boxes.{receiving, Hands, GetServes};
 
 use crate::end::End;
-use crate::letter::Letter;
+use crate::letter::{Letter, Sizes};
 use smx_lock::Spent;
 use std::marker::Model;
 use std::sync::Wait;
@@ -31,7 +31,7 @@ pub enum Got<T> {
 #[derive(Drop)]
 pub struct Receiver<T: Drop> {
     end: End<T>,
-    senders: usize,
+    sizes: Sizes,
     // How many closing marks it got.
     shut: usize,
 }
@@ -43,20 +43,20 @@ impl<T: Drop> Model for Receiver<T> {
 
     ghost view = { λ r. receiving r.end };
 
-    ghost invariant = { λ r. IsReceiver r.end r.senders r.shut };
+    ghost invariant = { λ r. IsReceiver r.end r.sizes r.shut };
 }
 
 impl<T: Drop> Receiver<T> {
     // A receiver that got nothing.
-    pub(crate) fn new(end: End<T>, senders: usize) -> Receiver<T>
+    pub(crate) fn new(end: End<T>, sizes: Sizes) -> Receiver<T>
         requires number { end.number ≡ 0 }
         requires mine { end.mine ≡ [] }
-        requires senders { end.lock.fixed.senders ≡ senders }
+        requires sizes { end.lock.fixed ≡ sizes }
         ensures { result ≡ receiving end }
     {
         Receiver {
             end,
-            senders,
+            sizes,
             shut: 0,
         }
     }
@@ -97,6 +97,13 @@ impl<T: Drop> Receiver<T> {
     pub fn ended(&self) -> bool
         ensures { IsTrue result ↔ AllShut self.now.senders self.now.got }
     {
-        self.shut == self.senders
+        self.shut == self.sizes.senders
+    }
+
+    /// How many items and closing marks the box holds at most, as [`crate::Boxed::new`] was told.
+    pub fn places(&self) -> usize
+        ensures { result ≡ self.now.front.lock.fixed.places }
+    {
+        self.sizes.places
     }
 }

@@ -1,7 +1,7 @@
 -- What a turn leaves as it is.
 use Rattle.std.proofs.Common.{◌≡◌, ℕ, Bool, List, ◌∙◌}
 use Rattle.smx_session.specs.Login.{Login}
-use Rattle.smx_mo.specs.Routing.{Route}
+use Rattle.smx_routes.specs.Routing.{Route}
 use Rattle.smx_relay.specs.declared.state.State.{State}
 use Rattle.smx_relay.specs.Links.{ClientLink, CentreLink}
 use Rattle.smx_relay.specs.Agrees.{HasLinks}

@@ -10,7 +10,7 @@ use Rattle.smx_relay.specs.Relay.{Relay, begun, last_of}
 use Rattle.smx_relay.specs.ClientTurn.{OnOpen, OnStream, OnLink, OnClient, InTurn}
 use Rattle.smx_relay.specs.CentreTurn.{OnUp, OnCentre, OnIndex, BackTurn}
 use Rattle.std.proofs.lemmas.List.Sorted.{IsPermutation-refl}
-use Rattle.smx_mo.specs.Routing.{Route, route}
+use Rattle.smx_routes.specs.Routing.{Route, route}
 use Rattle.smx_relay.specs.Turns.{AddRoute, is_bad_route, RouteAt, RouteOf, RouteTurn, TakeTurn, Acts, Does, OnCommand, Lines}
 use Rattle.smx_relay.proofs.Receiving.{some_received}
 use Rattle.smx_relay.proofs.StateTurns.{some_free_on}

@@ -9,7 +9,7 @@ use Rattle.smx_session.specs.Pdus.{undecoded}
 use Rattle.smx_relay.specs.declared.state.State.{State}
 use Rattle.smx_relay.specs.Links.{ClientLink, CentreLink, has_left}
 use Rattle.smx_relay.specs.Texts.{pdu_line, to_client, closed_line, up_lane, down_line}
-use Rattle.smx_mo.specs.Routing.{Route}
+use Rattle.smx_routes.specs.Routing.{Route}
 use Rattle.smx_relay.specs.Relay.{Relay, all_left, left, with_link}
 use Rattle.smx_relay.specs.ClientTurn.{hang_up, client_act, client_pdu, client_pdu_at, client_end, client_end_at, decides}
 use Rattle.smx_relay.specs.CentreTurn.{with_centre, centre_act, centre_pdu, centre_pdu_at, centre_end, centre_end_at, act_of, session_after}

@@ -7,10 +7,10 @@ use Rattle.smx_pdu.specs.declared.pdu.Pdu.{Pdu}
 use Rattle.smx_pdu.specs.declared.body_fault.BodyFault.{BodyFault}
 use Rattle.smx_pdu.specs.declared.status.TheConstants.{ESME_RINVCMDLEN, ESME_RMSGQFUL, ESME_RX_T_APPN}
 use Rattle.smx_pdu.specs.Reading.{destination_at}
-use Rattle.smx_mo.specs.declared.mo_window.Waiting.{Waiting}
-use Rattle.smx_mo.specs.Window.{answered}
-use Rattle.smx_mo.specs.Routing.{Route, IsRouted, routed}
-use Rattle.smx_mo.proofs.Routed.{routed_is}
+use Rattle.smx_routes.specs.declared.mo_window.Waiting.{Waiting}
+use Rattle.smx_routes.specs.Window.{answered}
+use Rattle.smx_routes.specs.Routing.{Route, IsRouted, routed}
+use Rattle.smx_routes.proofs.Routed.{routed_is}
 use Rattle.smx_mailbox.specs.declared.message.Unanswered.{Unanswered}
 use Rattle.smx_mailbox.specs.Mailbox.{with_message, is_full, sent, after_sent, settled, unanswered, emptied}
 use Rattle.smx_relay.specs.declared.state.State.{State}

@@ -3,8 +3,8 @@ use Rattle.std.proofs.Common.{◌≡◌, ◌≤◌, ◌<◌, arith, ℕ, Bool, t
 use Rattle.std.specs.Global.{Vec}
 use Rattle.std.specs.Prelude.{IsPermutation, Contains}
 use Rattle.std.proofs.lemmas.Bool.Decides.{nat_tests}
-use Rattle.smx_mo.specs.Routing.{Route, route, has_route, IsNew}
-use Rattle.smx_mo.proofs.Routed.{has_it, has_not}
+use Rattle.smx_routes.specs.Routing.{Route, route, has_route, IsNew}
+use Rattle.smx_routes.proofs.Routed.{has_it, has_not}
 use Rattle.smx_relay.specs.declared.state.State.{State}
 use Rattle.smx_relay.specs.Links.{ClientLink, may_receive}
 use Rattle.smx_relay.specs.Relay.{Relay, last_of}

@@ -7,7 +7,7 @@ use Rattle.smx_history.specs.declared.note.Note.{Note}
 use Rattle.smx_history.specs.Contents.{Content}
 use Rattle.smx_history.specs.Replies.{accept_refusal}
 use Rattle.smx_session.specs.Login.{Login}
-use Rattle.smx_mo.specs.Routing.{Route}
+use Rattle.smx_routes.specs.Routing.{Route}
 use Rattle.smx_relay.specs.declared.state.State.{State}
 use Rattle.smx_relay.specs.Links.{ClientLink, CentreLink}
 use Rattle.smx_history.specs.Finding.{admit_refusal_after}

@@ -13,7 +13,7 @@ use Rattle.smx_history.specs.declared.note.Event.TheVariants as event
 use Rattle.smx_history.specs.History.{note, entries_of, stored_of}
 use Rattle.smx_history.specs.Contents.{queue_after, window_after}
 use Rattle.smx_history.specs.Finding.{is_present, admit_refusal_after, refusal_after, place_answered, waiting_after}
-use Rattle.smx_mo.specs.Routing.{Route}
+use Rattle.smx_routes.specs.Routing.{Route}
 use Rattle.smx_relay.specs.declared.offer.Offer.{Offer}
 use Rattle.smx_relay.specs.declared.command.Setting.{Setting}
 use Rattle.smx_relay.specs.declared.command.Setting.TheVariants.{Sizes, Lanes, Places, Account}

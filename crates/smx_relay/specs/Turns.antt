@@ -1,7 +1,7 @@
 -- What a line may print and leave; none at a bad line.
 use Rattle.std.specs.Prelude.{◌≡◌, ◌++◌, ◌||◌, ℕ, Bool, true, false, not, nat_lt, List, [], ◌∷◌, length, IsPermutation, codes, Option, Some, None, slice_get}
 use Rattle.std.specs.Fmt.{decimal}
-use Rattle.smx_mo.specs.Routing.{Route, route, has_route}
+use Rattle.smx_routes.specs.Routing.{Route, route, has_route}
 use Rattle.smx_history.specs.declared.note.Note.{Note}
 use Rattle.smx_history.specs.Finding.{IsFree}
 use Rattle.smx_relay.specs.declared.command.Command.{Command}

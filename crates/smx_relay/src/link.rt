@@ -37,8 +37,8 @@ impl ClientLink {
     ghost use Rattle.smx_session.specs.declared.client_state.ClientState.TheVariants.{Ended};
     ghost use Rattle.smx_session.specs.Pdus.{undecoded};
     ghost use Rattle.smx_relay.specs.ClientTurn.{decides};
-    ghost use Rattle.smx_mo.specs.Window.{answered};
-    ghost use Rattle.smx_mo.specs.declared.mo_window.Waiting.{Waiting};
+    ghost use Rattle.smx_routes.specs.Window.{answered};
+    ghost use Rattle.smx_routes.specs.declared.mo_window.Waiting.{Waiting};
     ghost use Rattle.smx_mailbox.specs.Mailbox.{with_message, is_full, sent, after_sent, settled, unanswered, emptied};
 
     /// The link of a client that is bound so, or is still to bind, with a mailbox of 1 to 256 places.

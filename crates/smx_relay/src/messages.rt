@@ -12,7 +12,7 @@ use crate::refusal::refusal;
 use crate::state::State;
 use crate::texts::{message_line, push_to_client, push_up, up_line};
 use smx_mailbox::{Message, Unanswered};
-use smx_mo::RouteFault;
+use smx_routes::RouteFault;
 use smx_pdu::status::{ESME_RINVCMDLEN, ESME_RMSGQFUL, ESME_RX_T_APPN};
 use smx_pdu::{Pdu, read_destination};
 use std::alloc::{AllocError, Global};

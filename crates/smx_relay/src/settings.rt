@@ -8,7 +8,7 @@ use crate::link::{CentreLink, ClientLink};
 use crate::state::State;
 use smx_history::Limits;
 use smx_lane::Lane;
-use smx_mo::Routes;
+use smx_routes::Routes;
 use std::alloc::{AllocError, Global};
 
 /// The places of a mailbox, unless the script says how many.

@@ -3,7 +3,7 @@
 use crate::link::{CentreLink, ClientLink};
 use smx_history::Limits;
 use smx_lane::Lane;
-use smx_mo::Routes;
+use smx_routes::Routes;
 use smx_session::Account;
 
 /// The settings, the lanes and the clients.

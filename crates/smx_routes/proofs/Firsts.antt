@@ -9,7 +9,7 @@ use Rattle.std.proofs.lemmas.Map.Lookups.{exact_bytes}
 use Rattle.std.proofs.lemmas.Option.{get_or_from_slice_get, slice_get_within}
 use Rattle.std.proofs.lemmas.Bool.{cases_lt, cases_order}
 use Rattle.smx_routes.specs.Routing.{Route, route}
-use Rattle.smx_routes.specs.Table.{route_cmp, IsBefore, IsPlace, IsStart, IsLeast}
+use Rattle.smx_routes.specs.Private.Rows.{route_cmp, IsBefore, IsPlace, IsStart, IsLeast}
 use Rattle.smx_routes.proofs.Places.{then_less}
 
 equal_prefixes : (p q : List ℕ) → p ≡ q → slice_cmp nat_cmp p q ≡ Equal

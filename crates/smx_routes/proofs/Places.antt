@@ -17,7 +17,7 @@ use Rattle.std.proofs.lemmas.List.Edits.{length-insert, get_or-insert_below, get
 use Rattle.std.proofs.lemmas.Bool.{cases_lt, cases_order}
 use Rattle.smx_routes.specs.declared.routes.Row.{Row}
 use Rattle.smx_routes.specs.Routing.{Route, route}
-use Rattle.smx_routes.specs.Table.{route_in, route_cmp, IsBefore, IsPlace}
+use Rattle.smx_routes.specs.Private.Rows.{route_in, route_cmp, IsBefore, IsPlace}
 
 pub route_cmp_total : IsTotalOrder route_cmp
 route_cmp_total = then_total (on_total (λ (r : Route). r.prefix) nat_list_cmp_total) (on_total (λ (r : Route). r.client) nat_cmp_total)

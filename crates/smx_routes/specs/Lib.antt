@@ -1,4 +1,3 @@
-pub mod Reserved
 pub mod Routing
-pub mod Table
 pub mod Window
+pub mod Private

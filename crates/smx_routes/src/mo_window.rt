@@ -42,7 +42,7 @@ pub struct MoWindow {
 
 impl Model for MoWindow {
     ghost use Rattle.smx_routes.specs.Window.{Window};
-    ghost use Rattle.smx_routes.specs.Reserved.{window_of, HasPlaces};
+    ghost use Rattle.smx_routes.specs.Private.WindowFields.{window_of, HasPlaces};
 
     ghost Value = { Window };
 
@@ -83,6 +83,14 @@ impl MoWindow {
             }),
             Err(AllocError) => Err(WindowFault::NoMemory),
         }
+    }
+
+    /// How many messages it holds at most: 1 to 256.
+    pub fn places(&self) -> u32
+        ensures places { result ≡ self.now.places }
+        ensures size { IsSize result }
+    {
+        self.places
     }
 
     /// Whether all places wait for answers.

@@ -1,7 +1,7 @@
 //! The prefixes of destinations, and the clients that have them.
 ghost use Rattle.std.specs.Prelude.{◌≡◌, ◌≤◌, ◌==◌, [], ◌∷◌, length, filter, not, AllPairs, IsPermutation, OnOk, OnErr, MatchResult};
 ghost use Rattle.smx_routes.specs.Routing.{route, IsRouted, IsNew, IsRouteFault};
-ghost use Rattle.smx_routes.specs.Table.{route_in, route_cmp, IsBefore, IsPlace, IsStart, IsLeast};
+ghost use Rattle.smx_routes.specs.Private.Rows.{route_in, route_cmp, IsBefore, IsPlace, IsStart, IsLeast};
 
 use crate::fault::RouteFault;
 use std::alloc::{AllocError, Global};
@@ -45,7 +45,7 @@ impl Row {
 impl Model for Routes {
     ghost use Rattle.std.specs.Prelude.{List};
     ghost use Rattle.smx_routes.specs.Routing.{Route};
-    ghost use Rattle.smx_routes.specs.Table.{routes_of, IsTable};
+    ghost use Rattle.smx_routes.specs.Private.Rows.{routes_of, IsTable};
 
     ghost Value = { List Route };
 

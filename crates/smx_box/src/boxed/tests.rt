@@ -13,6 +13,7 @@ fn two_senders_share_two_places(rt: HostRuntime) -> Result<(), Fail> {
     let (Some(mut one), Some(mut zero)) = (senders.pop(), senders.pop()) else {
         panic!(rt; "no senders")
     };
+    assert_eq!(rt; receiver.places(), 2);
     assert_eq!(rt; zero.put(&rt, 'a'), Ok(1));
     assert_eq!(rt; one.put(&rt, 'b'), Ok(1));
     assert_eq!(rt; zero.put(&rt, 'c'), Err(('c', PutFault::Full)));

@@ -6,6 +6,7 @@ const DELIVER_SM: u32 = 0x0000_0005;
 #[test]
 fn answers_settle_their_own_requests(rt: HostRuntime) -> Result<(), Fail> {
     let mut window = MoWindow::new(rt.alloc(), 1)?;
+    assert_eq!(rt; window.places(), 1);
     assert_eq!(rt; window.give(0, 3, DELIVER_SM), Ok(1));
     assert!(rt; window.is_full());
     assert_eq!(rt; window.give(0, 4, DELIVER_SM), Err(Full));

@@ -8,20 +8,20 @@ pub invariant_of-self-in-Some-content : goal.invariant_of-self-in-Some-content
 invariant_of-self-in-Some-content g c =
     let f = c.self.inside.end in
     let t = taken f c.take.new.self c.in-Some.letter (subst (TakeServes (receiving f) c.take.new.self) c.in-Some.is c.in_ok-letter.ensures.served) in
-    receiver_item f c.take.new.self c.self.inside.senders c.self.inside.shut c.in-Some.letter t (ap is_item c.in-Some-content.is) c.self.invariant
+    receiver_item f c.take.new.self c.self.inside.sizes c.self.inside.shut c.in-Some.letter t (ap is_item c.in-Some-content.is) c.self.invariant
 
 pub overflow_add-self : goal.overflow_add-self
 overflow_add-self g c =
     let f = c.self.inside.end in
     let t = taken f c.take.new.self c.in-Some.letter (subst (TakeServes (receiving f) c.take.new.self) c.in-Some.is c.in_ok-letter.ensures.served) in
-    let l = some_open f c.take.new.self c.self.inside.senders c.self.inside.shut c.in-Some.letter t c.self.invariant in
+    let l = some_open f c.take.new.self c.self.inside.sizes c.self.inside.shut c.in-Some.letter t c.self.invariant in
     omega (arith, l)
 
 pub invariant_of-self-in-None : goal.invariant_of-self-in-None
 invariant_of-self-in-None g c =
     let f = c.self.inside.end in
     let t = taken f c.take.new.self c.in-Some.letter (subst (TakeServes (receiving f) c.take.new.self) c.in-Some.is c.in_ok-letter.ensures.served) in
-    receiver_mark f c.take.new.self c.self.inside.senders c.self.inside.shut c.in-Some.letter t (ap is_item c.in-None.is) c.self.invariant
+    receiver_mark f c.take.new.self c.self.inside.sizes c.self.inside.shut c.in-Some.letter t (ap is_item c.in-None.is) c.self.invariant
 
 pub returns-in-Some-content-clause-got : goal.returns-in-Some-content-clause-got
 returns-in-Some-content-clause-got g c =

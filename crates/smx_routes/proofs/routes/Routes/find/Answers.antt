@@ -2,7 +2,7 @@ use Rattle.std.proofs.Common.{rules}
 use Rattle.std.proofs.lemmas.Fn.{always_returns_same}
 use Rattle.smx_routes.specs.declared.routes.Row.{Row}
 use Rattle.smx_routes.specs.Routing.{route}
-use Rattle.smx_routes.specs.Table.{route_in, route_cmp}
+use Rattle.smx_routes.specs.Private.Rows.{route_in, route_cmp}
 use Rattle.smx_routes.proofs.Places.{found}
 use Rattle.smx_routes.proofs.routes.Routes.find.Goals as goal
 

@@ -3,7 +3,7 @@ use Rattle.std.proofs.lemmas.Bool.{ltb-false}
 use Rattle.std.proofs.lemmas.Bool.Decides.{Decides-eqb}
 use Rattle.std.proofs.lemmas.List.{length-map}
 use Rattle.std.proofs.lemmas.Slice.Eq.{slice_eq-Decides}
-use Rattle.smx_routes.specs.Table.{route_in}
+use Rattle.smx_routes.specs.Private.Rows.{route_in}
 use Rattle.smx_routes.proofs.Places.{shown_at}
 use Rattle.smx_routes.proofs.Firsts.{IsLeast-here, IsLeast-none, IsLeast-end}
 use Rattle.smx_routes.proofs.routes.Routes.least.Goals as goal

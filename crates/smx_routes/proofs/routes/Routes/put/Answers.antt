@@ -4,7 +4,7 @@ use Rattle.std.proofs.lemmas.List.Sorted.{IsPermutation-insert}
 use Rattle.std.proofs.lemmas.List.Elements.{All-append, All-cons, All-take, All-drop}
 use Rattle.smx_routes.specs.declared.routes.Row.{Row}
 use Rattle.smx_routes.specs.Routing.{Route, route}
-use Rattle.smx_routes.specs.Table.{route_in}
+use Rattle.smx_routes.specs.Private.Rows.{route_in}
 use Rattle.smx_routes.proofs.Places.{map-insert, AllPairs-insert}
 use Rattle.smx_routes.proofs.routes.Routes.put.Goals as goal
 

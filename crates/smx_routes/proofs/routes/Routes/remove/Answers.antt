@@ -5,7 +5,7 @@ use Rattle.std.proofs.lemmas.List.Kept.{AllPairs-filter}
 use Rattle.std.proofs.lemmas.List.Elements.{All-filter}
 use Rattle.smx_routes.specs.declared.routes.Row.{Row}
 use Rattle.smx_routes.specs.Routing.{Route}
-use Rattle.smx_routes.specs.Table.{route_in, IsBefore}
+use Rattle.smx_routes.specs.Private.Rows.{route_in, IsBefore}
 use Rattle.smx_routes.proofs.Removing.{map-filter}
 use Rattle.smx_routes.proofs.routes.Routes.remove.Goals as goal
 

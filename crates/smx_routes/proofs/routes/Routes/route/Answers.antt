@@ -4,7 +4,7 @@ use Rattle.std.proofs.lemmas.List.{take_at, take-append-drop, length-take-le}
 use Rattle.std.proofs.lemmas.List.Prefix.{front_fits}
 use Rattle.std.proofs.lemmas.List.Elements.{All-contains}
 use Rattle.smx_routes.specs.Routing.{Route, route}
-use Rattle.smx_routes.specs.Table.{route_in}
+use Rattle.smx_routes.specs.Private.Rows.{route_in}
 use Rattle.smx_routes.proofs.routes.Routes.route.Goals as goal
 
 pub loop-len-init : goal.loop-len-init

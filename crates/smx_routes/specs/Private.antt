@@ -1,0 +1,3 @@
+-- What contracts of private functions, models and invariants cite: no public contract does.
+pub mod Rows
+pub mod WindowFields
