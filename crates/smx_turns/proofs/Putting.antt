@@ -6,11 +6,11 @@ use Rattle.std.proofs.lemmas.Option.{slice_get-get_or, slice_get_within, slice_g
 use Rattle.std.specs.Prelude.{if◌then◌else◌, map}
 use Rattle.smx_ticket_core.specs.Machine.{most}
 use Rattle.smx_lock.specs.Fronts.{IsSpent}
-use Rattle.smx_mo.specs.declared.sender.PutFault.{PutFault}
-use Rattle.smx_mo.specs.declared.sender.PutFault.TheVariants.{Full, Spent}
-use Rattle.smx_mo.specs.declared.letter.Letter.{Letter}
-use Rattle.smx_mo.specs.Letters.{letter}
-use Rattle.smx_mo.specs.Boxes.{Sending, PutServes, FullServes}
+use Rattle.smx_box.specs.declared.sender.PutFault.{PutFault}
+use Rattle.smx_box.specs.declared.sender.PutFault.TheVariants.{Full, Spent}
+use Rattle.smx_box.specs.declared.letter.Letter.{Letter}
+use Rattle.smx_box.specs.Letters.{letter}
+use Rattle.smx_box.specs.Boxes.{Sending, PutServes, FullServes}
 use Rattle.smx_turns.specs.Puts.{AtIndex, PutAnswers, Puts, contents, contents_in, put_on}
 use Rattle.smx_turns.proofs.Chains.{pushed}
 

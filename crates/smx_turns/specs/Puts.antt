@@ -2,11 +2,11 @@
 use Rattle.std.specs.Prelude.{◌≡◌, ◌≤◌, ◌⊎◌, ℕ, List, [], ◌∷◌, ◌++◌, ◌==◌, length, map, set, slice_get, Option, Some, None, Result, Ok, Err, if◌then◌else◌}
 use Rattle.smx_ticket_core.specs.Machine.{most}
 use Rattle.smx_lock.specs.Fronts.{IsSpent}
-use Rattle.smx_mo.specs.declared.sender.PutFault.{PutFault}
-use Rattle.smx_mo.specs.declared.sender.PutFault.TheVariants.{Full, Spent}
-use Rattle.smx_mo.specs.declared.letter.Letter.{Letter}
-use Rattle.smx_mo.specs.Letters.{letter}
-use Rattle.smx_mo.specs.Boxes.{Sending, PutServes, FullServes}
+use Rattle.smx_box.specs.declared.sender.PutFault.{PutFault}
+use Rattle.smx_box.specs.declared.sender.PutFault.TheVariants.{Full, Spent}
+use Rattle.smx_box.specs.declared.letter.Letter.{Letter}
+use Rattle.smx_box.specs.Letters.{letter}
+use Rattle.smx_box.specs.Boxes.{Sending, PutServes, FullServes}
 
 module _ {T : Type 0} where
   -- of the senders just this one changed, so

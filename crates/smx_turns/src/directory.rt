@@ -3,7 +3,7 @@ ghost use Rattle.std.specs.Prelude.{◌≡◌, ◌++◌, ◌∷◌, [], List};
 ghost use Rattle.smx_turns.specs.declared.directory.Query.{Query};
 ghost use Rattle.smx_turns.specs.declared.directory.Query.TheVariants as query;
 
-use smx_mo::RouteFault;
+use smx_routes::RouteFault;
 use smx_trace::Trace;
 use std::sync::Wait;
 

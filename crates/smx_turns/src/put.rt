@@ -2,7 +2,7 @@
 ghost use Rattle.std.specs.Prelude.{◌≡◌, ◌++◌, ◌<◌, ℕ, length, slice_get};
 ghost use Rattle.smx_turns.specs.Puts.{AtIndex, PutAnswers, contents_in, put_on};
 
-use smx_mo::{PutFault, Sender};
+use smx_box::{PutFault, Sender};
 use std::sync::Wait;
 
 /// Puts an item by the sender at this index, and answers how many items that sender has put with
