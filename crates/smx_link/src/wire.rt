@@ -1,0 +1,202 @@
+//! PDUs over a link.
+ghost use Rattle.std.specs.Prelude.{◌≡◌, ℕ, ◌+◌, ◌<◌, ◌≤◌, ◌++◌, ◌⊎◌, [], ◌∷◌, length, IfOk, IfErr, IfSome, OnOk, IsTrue, ◌↔◌, Some, None, Ok, Err};
+ghost use Rattle.smx_pdu.specs.Pdu.{spelling};
+ghost use Rattle.smx_frame.specs.Stream.{TakesFirst, HasNone, fault_at};
+ghost use Rattle.smx_link.specs.Links.{fault_count};
+ghost use Rattle.smx_link.specs.Wiring.{Balances};
+
+use crate::buffer::compact;
+use crate::link::{Link, LinkFault, Polled};
+use smx_frame::{FrameFault, Framer};
+use smx_pdu::{MAX_PDU, Pdu, encode_within};
+use smx_trace::Trace;
+use std::alloc::{AllocError, Global};
+use std::marker::Model;
+use std::snapshot::Snapshot;
+
+/// The most octets that one read asks for.
+const MOST: usize = 4_096;
+
+/// PDUs over a link (SMPP 3.4, section 3.2). Contracts see the link, all PDUs that were heard and
+/// said over it, and the octets between.
+#[derive(Drop)]
+pub struct Wire<L: Link + Drop> {
+    link: L,
+    framer: Framer,
+    // What was said, as far as it was not let go again.
+    waiting: Vec<u8>,
+    // How many of these octets the link took.
+    sent: usize,
+    start: Snapshot<L>,
+    heard: Trace<Pdu>,
+    said: Trace<Pdu>,
+}
+
+impl<L: Link + Drop> Model for Wire<L> {
+    ghost use Rattle.std.specs.Prelude.{◌-◌, ◌≤◌, ◌≡◌, drop, vec_len, vec_capacity};
+    ghost use Rattle.smx_link.specs.Wiring.{Wiring, Balances};
+
+    ghost Value = { Wiring L };
+
+    ghost view = { λ w. record {
+      link = w.link;
+      start = w.start.value;
+      heard = w.heard;
+      said = w.said;
+      rest = w.framer.stream.rest;
+      unsent = drop w.sent w.waiting.items;
+      failed = w.framer.stream.failed;
+      intake = w.framer.room;
+      room = vec_capacity w.waiting - vec_len w.waiting;
+    } };
+
+    ghost invariant = { λ w. ((w.sent ≤ vec_len w.waiting) × (w.framer.stream.max ≡ 65536)) × Balances L.given L.taken (record {
+      link = w.link;
+      start = w.start.value;
+      heard = w.heard;
+      said = w.said;
+      rest = w.framer.stream.rest;
+      unsent = drop w.sent w.waiting.items;
+      failed = w.framer.stream.failed;
+      intake = w.framer.room;
+      room = vec_capacity w.waiting - vec_len w.waiting;
+    }) };
+}
+
+impl<L: Link + Drop> Wire<L> {
+    /// A wire over a link, which may have a past. It takes no memory.
+    pub fn new(alloc: Global, link: L) -> Wire<L>
+        ensures link { (result.link ≡ link) × (result.start ≡ link) }
+        ensures none { (result.heard ≡ []) × (result.said ≡ []) }
+        ensures octets { (result.rest ≡ []) × (result.unsent ≡ []) }
+        ensures failed { result.failed ≡ None }
+    {
+        let start = Snapshot::of(&link);
+        Wire {
+            link,
+            framer: Framer::new(alloc, 65_536),
+            waiting: Vec::new(alloc),
+            sent: 0,
+            start,
+            heard: Trace::new(),
+            said: Trace::new(),
+        }
+    }
+
+    /// The link again. Octets that it has not taken are let go.
+    pub fn into_link(self) -> L
+        ensures { result ≡ self.link }
+    {
+        self.link
+    }
+
+    /// Offers the link what it has not taken, where there is any, by one write.
+    pub fn offer(&mut self) -> Result<(), LinkFault>
+        ensures offered { L.offered self.new.link ≡ L.offered self.old.link ++ self.old.unsent }
+        ensures polls { L.polls self.new.link ≡ L.polls self.old.link }
+        ensures failures { L.failures self.new.link ≡ L.failures self.old.link + fault_count result }
+        ensures same { self.new ≡ record self.old { link = self.new.link; unsent = self.new.unsent } }
+    {
+        if self.sent == self.waiting.len() {
+            return Ok(());
+        }
+        match self.link.write(&self.waiting[self.sent..]) {
+            Ok(count) => {
+                self.sent += count;
+                Ok(())
+            }
+            Err(fault) => Err(fault),
+        }
+    }
+
+    /// How many octets of what was said the link has not taken.
+    pub fn unsent(&self) -> usize
+        ensures { result ≡ length self.now.unsent }
+    {
+        self.waiting.len() - self.sent
+    }
+
+    /// Whether the link has taken all that was said.
+    pub fn is_clear(&self) -> bool
+        ensures { IsTrue result ↔ (self.now.unsent ≡ []) }
+    {
+        self.sent == self.waiting.len()
+    }
+
+    /// Makes room for one PDU more to be said, however long it is.
+    pub fn make_room(&mut self) -> Result<(), AllocError>
+        ensures room { OnOk result (65536 ≤ self.new.room) }
+        ensures same { self.new ≡ record self.old { room = self.new.room } }
+    {
+        compact(&mut self.waiting, &mut self.sent);
+        self.waiting.reserve(MAX_PDU)
+    }
+
+    /// Says a PDU: its octets are to go to the link. It takes no memory.
+    pub fn say(&mut self, pdu: &Pdu)
+        requires room { 65536 ≤ self.old.room }
+        ensures said { self.new.said ≡ self.old.said ++ pdu.now ∷ [] }
+        ensures unsent { self.new.unsent ≡ self.old.unsent ++ spelling pdu.now }
+        ensures same { self.new ≡ record self.old { said = self.new.said; unsent = self.new.unsent; room = self.new.room } }
+    {
+        encode_within(pdu, &mut self.waiting);
+        self.said = self.said.and(pdu);
+    }
+
+    /// Makes room for what one read may give.
+    pub fn make_ready(&mut self) -> Result<(), AllocError>
+        ensures intake { OnOk result (4096 ≤ self.new.intake) }
+        ensures same { self.new ≡ record self.old { intake = self.new.intake } }
+    {
+        self.framer.reserve(MOST)
+    }
+
+    /// Reads once, at most 4,096 octets. It takes no memory, so nothing that the link gave is lost.
+    pub fn read(&mut self) -> Result<Polled, LinkFault>
+        requires goes_on { self.old.failed ≡ None }
+        requires intake { 4096 ≤ self.old.intake }
+        ensures polls { L.polls self.new.link ≡ L.polls self.old.link ++ result ∷ [] }
+        ensures offered { L.offered self.new.link ≡ L.offered self.old.link }
+        ensures failures { L.failures self.new.link ≡ L.failures self.old.link + fault_count result }
+        ensures same { self.new ≡ record self.old { link = self.new.link; rest = self.new.rest; intake = self.new.intake } }
+    {
+        let mut buffer = [0u8; MOST];
+        match self.link.poll_read(&mut buffer) {
+            Ok(Polled::Octets(count)) => match self.framer.feed(&buffer[..count]) {
+                Ok(()) => Ok(Polled::Octets(count)),
+                Err(_) => unreachable!(),
+            },
+            Ok(polled) => Ok(polled),
+            Err(fault) => Err(fault),
+        }
+    }
+
+    /// Hears the next whole PDU, where there is one. The fault is that of a bad length, which ends
+    /// the stream, or `NoMemory` for the PDU's body.
+    pub fn hear(&mut self) -> Result<Option<Pdu>, FrameFault>
+        ensures some { IfOk result (λ found. IfSome found (λ p. (self.new.heard ≡ self.old.heard ++ p ∷ [])
+            × TakesFirst 65536 self.old.rest p self.new.rest × (self.new.failed ≡ None))) }
+        ensures none { result ≡ Ok None → HasNone 65536 self.old.rest × (self.new ≡ self.old) }
+        ensures bad { IfErr result (λ e. ((e ≡ FrameFault.NoMemory) × (self.new ≡ self.old))
+            ⊎ ((fault_at 65536 self.old.rest ≡ Some e) × (self.new ≡ record self.old { failed = Some e }))) }
+        ensures memory { result ≡ Err FrameFault.NoMemory → self.new ≡ self.old }
+        ensures less { IfOk result (λ found. IfSome found (λ p. length self.new.rest < length self.old.rest)) }
+        ensures same { self.new ≡ record self.old { heard = self.new.heard; rest = self.new.rest; failed = self.new.failed } }
+    {
+        match self.framer.next_pdu() {
+            Ok(Some(pdu)) => {
+                self.heard = self.heard.and(&pdu);
+                Ok(Some(pdu))
+            }
+            Ok(None) => Ok(None),
+            Err(fault) => Err(fault),
+        }
+    }
+
+    /// What a wire keeps at every call.
+    pub fn law(&self)
+        ensures { Balances L.given L.taken self.now }
+    {
+        let _ = &self.sent;
+    }
+}

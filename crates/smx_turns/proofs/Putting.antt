@@ -1,0 +1,56 @@
+-- One put, as the sender's own clauses say it and as the senders' lists do.
+use Rattle.std.proofs.Common.{◌≡◌, ◌≤◌, ◌<◌, ◌⊎◌, ℕ, arith, List, [], ◌∷◌, ◌++◌, length, refl, sym, ap, ◌∙◌, subst, Option, Some, None, Result, Ok, Err, IfOk, IfErr, slice_get, set, inl, inr}
+use Rattle.std.proofs.lemmas.List.{append-nil, get_or-set_same, get_or-set_other, length-set}
+use Rattle.std.proofs.lemmas.Bool.{cases_eq, cases_lt, eq-eqb, ne_eqb}
+use Rattle.std.proofs.lemmas.Option.{slice_get-get_or, slice_get_within, slice_get_past}
+use Rattle.std.specs.Prelude.{if◌then◌else◌, map}
+use Rattle.smx_ticket_core.specs.Machine.{most}
+use Rattle.smx_lock.specs.Fronts.{IsSpent}
+use Rattle.smx_box.specs.declared.sender.PutFault.{PutFault}
+use Rattle.smx_box.specs.declared.sender.PutFault.TheVariants.{Full, Spent}
+use Rattle.smx_box.specs.declared.letter.Letter.{Letter}
+use Rattle.smx_box.specs.Letters.{letter}
+use Rattle.smx_box.specs.Boxes.{Sending, PutServes, FullServes}
+use Rattle.smx_turns.specs.Puts.{AtIndex, PutAnswers, Puts, contents, contents_in, put_on}
+use Rattle.smx_turns.proofs.Chains.{pushed}
+
+module _ {T : Type 0} where
+  -- what the contract of a put says
+  pub answers : (x y : Sending T) (item : T) (r : Result ℕ (T × PutFault)) → IfOk r (λ n. n ≡ length y.put) → IfOk r (λ n. y.put ≡ x.put ++ letter x.sender n (Some item) ∷ [])
+      → IfErr r (λ e. (e.0 ≡ item) × (y.put ≡ x.put)) → IfOk r (λ n. PutServes x y.front (letter x.sender n (Some item)))
+      → IfErr r (λ e. e.1 ≡ Full → FullServes x y.front) → IfErr r (λ e. e.1 ≡ Spent → IsSpent x.front y.front ⊎ ((y.front ≡ x.front) × (most ≤ length x.put))) → PutAnswers item r x y
+  answers x y item (Ok n) number ok err served full spent = record { number = number; put = ok; served = served }
+  answers x y item (Err (back, Full)) number ok err served full spent = (err.0, record { put = err.1; served = full refl })
+  answers x y item (Err (back, Spent)) number ok err served full spent = (err.0, record { put = err.1; spent = spent refl })
+
+  contents_push : (ms : List (Letter T)) (m : Letter T) → contents (ms ++ m ∷ []) ≡ contents ms ++ m.content ∷ []
+  contents_push [] m = refl
+  contents_push (x ∷ ms) m = ap (λ l. x.content ∷ l) (contents_push ms m)
+
+  put_here : (i : ℕ) (x y : Sending T) (item : T) (r : Result ℕ (T × PutFault)) → PutAnswers item r x y → contents y.put ≡ contents x.put ++ put_on i i item r
+  put_here i x y item (Ok n) p =
+      ap contents p.put ∙ contents_push x.put (letter x.sender n (Some item)) ∙ ap (λ b. contents x.put ++ (if b then Some item ∷ [] else [])) (sym (eq-eqb i i refl))
+  put_here i x y item (Err (back, Full)) p = ap contents p.1.put ∙ sym (append-nil (contents x.put))
+  put_here i x y item (Err (back, Spent)) p = ap contents p.1.put ∙ sym (append-nil (contents x.put))
+
+  put_there : (k i : ℕ) (item : T) (r : Result ℕ (T × PutFault)) → (k ≡ i → ⊥) → put_on k i item r ≡ []
+  put_there k i item (Ok n) apart = ap (λ b. if b then Some item ∷ [] else []) (ne_eqb k i apart)
+  put_there k i item (Err e) apart = refl
+
+  pub put_is : (xs ys : List (Sending T)) (i : ℕ) (item : T) (r : Result ℕ (T × PutFault)) (k : ℕ) → AtIndex i xs ys (PutAnswers item r)
+      → contents_in (slice_get ys k) ≡ contents_in (slice_get xs k) ++ put_on k i item r
+  put_is xs ys i item r k (x, y, at, now, p) = elim (cases_eq k i) [
+    | inl here ↦ subst (λ j. contents_in (slice_get ys j) ≡ contents_in (slice_get xs j) ++ put_on j i item r) (sym here)
+        (ap (λ l. contents_in (slice_get l i)) now ∙ ap contents_in (got_same xs i y (slice_get_within xs i x at)) ∙ put_here i x y item r p ∙ ap (λ o. contents_in o ++ put_on i i item r) (sym at))
+    | inr apart ↦ ap (λ l. contents_in (slice_get l k)) now ∙ ap contents_in (got_other xs i k y apart) ∙ sym (append-nil (contents_in (slice_get xs k)))
+        ∙ ap (λ l. contents_in (slice_get xs k) ++ l) (sym (put_there k i item r apart))
+  ]
+    where
+      got_same : {X : Type 0} (xs : List X) (i : ℕ) (y : X) → i < length xs → slice_get (set xs i y) i ≡ Some y
+      got_same xs i y h = slice_get-get_or (set xs i y) i y (omega (arith, length-set xs i y)) ∙ ap Some (get_or-set_same xs i y y h)
+
+      got_other : {X : Type 0} (xs : List X) (i k : ℕ) (y : X) → (k ≡ i → ⊥) → slice_get (set xs i y) k ≡ slice_get xs k
+      got_other xs i k y apart = elim (cases_lt k (length xs)) [
+        | inl within ↦ slice_get-get_or (set xs i y) k y (omega (arith, length-set xs i y)) ∙ ap Some (get_or-set_other xs i k y y apart) ∙ sym (slice_get-get_or xs k y within)
+        | inr past ↦ slice_get_past (set xs i y) k (omega (arith, length-set xs i y)) ∙ sym (slice_get_past xs k past)
+      ]

@@ -1,0 +1,19 @@
+//! What the workers on both sides of the proxy turn on: the gate that lets them go on, the
+//! directory of clients, how a turn ends, and the list of what a turn did.
+#![tactic(auto)]
+
+mod directory;
+mod end;
+mod gate;
+mod mo_item;
+mod put;
+mod refusals;
+mod step;
+
+pub use directory::{Directory, Place, Query};
+pub use end::{Fault, RunEnd, TurnEnd};
+pub use gate::{Gate, Party, Point, Question};
+pub use mo_item::MoItem;
+pub use put::put_at;
+pub use refusals::{refusal, undecoded};
+pub use step::{Deed, Log, Step, ask};

@@ -1,0 +1,13 @@
+//! A message of the centre on its way to a client.
+
+use smx_pdu::Pdu;
+
+/// A message of the centre, for the client with this number, from the lane and with the centre's
+/// number.
+#[derive(Debug, Drop)]
+pub struct MoItem {
+    pub client: u64,
+    pub lane: usize,
+    pub number: u32,
+    pub pdu: Pdu,
+}
