@@ -7,6 +7,7 @@ mod frame;
 mod lane;
 mod lock;
 mod shared;
+mod shifts;
 
 use std::env;
 

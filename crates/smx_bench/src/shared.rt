@@ -5,6 +5,7 @@ ghost use Rattle.std.specs.Arc.{arc_value};
 ghost use Rattle.smx_shared.specs.Views.{locks_of};
 
 use crate::figures::{Hundredths, nanos_since};
+use crate::shifts;
 use smx_lane::{Answered, Limits};
 use smx_lock::Spent;
 use smx_pdu::command::{RESPONSE, SUBMIT_SM};
@@ -35,7 +36,8 @@ const AHEAD: u64 = 16;
 const LOOKS: usize = 1_000_000_000;
 
 /// Prints the requests in thousands a second, from the submit to the collected response, of 1, 2 and
-/// 4 ports on one lane and on four. The starts and ends of the threads are in the time.
+/// 4 ports on one lane and on four. The starts and ends of the threads are in the time. Then of one
+/// port on one lane that is turned over all the while.
 pub(crate) fn run<R: Threads + Wait + Sync + Print + Clock + AllocGlobal>(
     rt: &R,
 ) -> anyhow::Result<()> {
@@ -48,7 +50,7 @@ pub(crate) fn run<R: Threads + Wait + Sync + Print + Clock + AllocGlobal>(
             )?;
         }
     }
-    Ok(())
+    shifts::run(rt)
 }
 
 // The nanoseconds of a case.
