@@ -1,0 +1,6 @@
+pub mod Events
+pub mod Quiet
+pub mod Standing
+pub mod Working
+pub mod Phases
+pub mod Laws
