@@ -11,8 +11,8 @@ use Rattle.smx_turns.specs.declared.step.Step.TheVariants.{Asked, Read, Marked, 
 use Rattle.smx_upstream.specs.declared.mark.Mark.{Mark}
 use Rattle.smx_upstream.specs.declared.mark.Mark.TheVariants.{Offered, Full, Part}
 use Rattle.smx_upstream.specs.declared.event.Event.{Event}
-use Rattle.smx_upstream.specs.declared.event.Event.TheVariants.{Looked, Sought, Decided, Took, Broke}
-use Rattle.smx_upstream.specs.Phases.{Phase, Opening, Written, Clogged, Watched, Sated, Brimming, MayRead, Failed, Deciding, Closing, Settled, MayTake, HasTried, Stopped, Refrained, Ending, Over, Gone, Wrong, go, from_opening, from_written, from_watched, from_sated, from_may_read, from_deciding, from_closing, from_settled, from_may_take, phase_from, phase_of, after_offer, unless_left, when_looked, when_decided, when_part, when_full, when_read, when_may_read, when_may_take, ends, is_end, is_settled, end_of, quiet_end, Waits, IsTurnEnd, IsTurn, EndsEarly, EndsOr, IsPart, LeadsTo}
+use Rattle.smx_upstream.specs.declared.event.Event.TheVariants.{Opened, Looked, Young, Shifted, Sought, Decided, Took, Broke}
+use Rattle.smx_upstream.specs.Phases.{Phase, Opening, Ready, Written, Clogged, Watched, Clear, Sated, Brimming, MayRead, Failed, Deciding, Closing, Settled, MayTake, HasTried, Stopped, Refrained, Ending, Over, Gone, Wrong, go, from_opening, from_ready, from_written, from_watched, from_clear, from_sated, from_may_read, from_deciding, from_closing, from_settled, from_may_take, phase_from, phase_of, after_offer, unless_left, when_looked, when_kept, when_decided, when_part, when_full, when_read, when_may_read, when_may_take, ends, is_end, is_settled, end_of, quiet_end, Waits, IsTurnEnd, IsTurn, EndsEarly, EndsOr, IsPart, LeadsTo}
 
 phase_append : (p : Phase) (xs ys : List (Step Mark Event)) → phase_from p (xs ++ ys) ≡ phase_from (phase_from p xs) ys
 unfolding phase_from
@@ -35,8 +35,8 @@ stepped ss ss' s p q grown cell was = ap (phase_from Opening) grown ∙ phase_ap
 pub kept_phase : (ss ss' : List (Step Mark Event)) (p : Phase) → ss' ≡ ss → phase_of ss ≡ p → phase_of ss' ≡ p
 kept_phase ss ss' p same was = ap phase_of same ∙ was
 
-pub cell_offered : (ending waited left : Bool) → go Opening (Marked (Offered ending waited left)) ≡ after_offer ending left
-unfolding go from_opening
+pub cell_offered : (ending waited left : Bool) → go Ready (Marked (Offered ending waited left)) ≡ after_offer ending left
+unfolding go from_ready
 cell_offered ending waited left = refl
 
 pub cell_closed : (waited left : Bool) → go Closing (Marked (Offered true waited left)) ≡ unless_left left
@@ -47,8 +47,20 @@ pub cell_looked : (left : Bool) (now : _) (due : _) (silent : Bool) → go (Writ
 unfolding go from_written
 cell_looked left now due silent = refl
 
-pub cell_sought : (r : _) → go Watched (Did (Sought r)) ≡ Sated
+pub cell_opened : (n : _) → go Opening (Did (Opened n)) ≡ Ready
+unfolding go from_opening
+cell_opened n = refl
+
+pub cell_young : (left : Bool) → go (Watched left) (Did Young) ≡ when_kept left
 unfolding go from_watched
+cell_young left = refl
+
+pub cell_shifted : (left : Bool) (least : _) (r : _) → go (Watched left) (Did (Shifted least r)) ≡ when_kept left
+unfolding go from_watched
+cell_shifted left least r = refl
+
+pub cell_sought : (r : _) → go Clear (Did (Sought r)) ≡ Sated
+unfolding go from_clear
 cell_sought r = refl
 
 pub cell_full : go Sated (Marked Full) ≡ Brimming
@@ -149,3 +161,7 @@ ends_unbound bound quiet end p same b e = subst (λ (x : Phase). IsTurnEnd bound
 pub ends_tried : (bound quiet : Bool) (end : TurnEnd) (p : Phase) → p ≡ HasTried → end ≡ quiet_end quiet → IsTurnEnd bound quiet end p
 ends_tried bound quiet end p same e = subst (λ (x : Phase). IsTurnEnd bound quiet end x) (sym same)
     (subst (λ (x : TurnEnd). IsTurnEnd bound quiet x HasTried) (sym e) (tried_end bound quiet))
+
+pub kept_right : (left : Bool) → is_right (when_kept left) ≡ true
+kept_right true = refl
+kept_right false = refl

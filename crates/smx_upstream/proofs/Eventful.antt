@@ -27,6 +27,7 @@ use Rattle.smx_turns.specs.Steps.{ask_of, poll_of, event_of}
 use Rattle.smx_turns.proofs.Logged.{turned_none, turned_did, turned_step}
 use Rattle.smx_link.specs.declared.link.Polled.{Polled}
 use Rattle.smx_link.specs.declared.link.LinkFault.{LinkFault}
+use Rattle.smx_upstream.specs.declared.age.Age.{Age}
 use Rattle.smx_upstream.specs.declared.mark.Mark.{Mark}
 use Rattle.smx_upstream.specs.declared.event.Event.{Event}
 use Rattle.smx_upstream.specs.declared.event.Fate.{Fate}
@@ -114,8 +115,9 @@ pub gets_from : (a b : Receiving Pdu) (r : Result (Got Pdu) Spent) → IfOk r (H
 gets_from a b (Ok found) h s e = (s, h)
 gets_from a b (Err fault) h s e = (e.1, e.0)
 
-pub stands_same : {u u' : Upstream} {t t' : TapView} {a a' : Receiving Pdu} {ss ss' : List (Sending MoItem)} → u' ≡ u → t' ≡ t → a' ≡ a → ss' ≡ ss → stand u' t' a' ss' ≡ stand u t a ss
-stands_same d e f g = cc
+pub stands_same : {u u' : Upstream} {t t' : TapView} {a a' : Receiving Pdu} {ss ss' : List (Sending MoItem)} {b b' : Age} → u' ≡ u → t' ≡ t → a' ≡ a → ss' ≡ ss → b' ≡ b
+    → stand u' t' a' ss' b' ≡ stand u t a ss b
+stands_same d e f g h = cc
 
 -- a bad length leaves what was heard and what was said
 pub bad_heard : {L : Type 0} (old new : Wiring L) (e : FrameFault) → ((e ≡ NoMemory) × (new ≡ old)) ⊎ ((fault_at 65536 old.rest ≡ Some e) × (new ≡ record old { failed = Some e })) → new.heard ≡ old.heard
@@ -136,3 +138,6 @@ goes_first n a b ss ss' none f = f a (subst (λ (l : List (Step Mark Event)). Tu
 pub turns_as : (n n' : ℕ) (a a' b b' : Side Stand Event) (ss ss' : List (Step Mark Event)) → n' ≡ n → a ≡ a' → b' ≡ b → ss' ≡ ss → Turns n a b ss → Turns n' a' b' ss'
 turns_as n n' a a' b b' ss ss' d e f g t = subst (λ (k : ℕ). Turns k a' b' ss') (sym d) (subst (λ (x : Side Stand Event). Turns n x b' ss') e
     (subst (λ (x : Side Stand Event). Turns n a x ss') (sym f) (subst (λ (l : List (Step Mark Event)). Turns n a b l) (sym g) t)))
+
+pub goes_at : (n n' : ℕ) (a b : Side Stand Event) (ss ss' : List (Step Mark Event)) → n' ≡ n → Goes n a b ss ss' → Goes n' a b ss ss'
+goes_at n n' a b ss ss' same f = subst (λ (k : ℕ). Goes k a b ss ss') (sym same) f

@@ -23,9 +23,14 @@ use Rattle.smx_session.specs.declared.up_act.UpAct.{UpAct}
 use Rattle.smx_shared.specs.Views.{TapView}
 use Rattle.smx_shared.specs.declared.fault.TakeFault.{TakeFault}
 use Rattle.smx_shared.specs.declared.fault.TakeFault.TheVariants as takes
+use Rattle.std.specs.declared.vec.Vec.{Vec}
+use Rattle.std.specs.declared.alloc.Global.{Global}
+use Rattle.smx_history.specs.declared.entry.Entry.{Entry}
+use Rattle.smx_shared.specs.declared.fault.TurnFault.{TurnFault}
+use Rattle.smx_shared.specs.declared.fault.TurnFault.TheVariants as turns
 use Rattle.smx_shared.specs.Serving.{Takes, AnswerServes}
 use Rattle.smx_shared.specs.Taps.{known_of}
-use Rattle.smx_shared.proofs.Knowing.{takes_known, answers_known}
+use Rattle.smx_shared.proofs.Knowing.{takes_known, answers_known, turns_known, turn_spent_known}
 use Rattle.smx_turns.specs.declared.mo_item.MoItem.{MoItem}
 use Rattle.smx_turns.specs.Puts.{AtIndex, Puts, FindsFull, contents, contents_in}
 use Rattle.smx_turns.specs.Runs.{Runs}
@@ -33,7 +38,7 @@ use Rattle.smx_upstream.specs.declared.event.Event.{Event}
 use Rattle.smx_upstream.specs.declared.event.Event.TheVariants as event
 use Rattle.smx_upstream.specs.declared.event.Fate.{Fate}
 use Rattle.smx_upstream.specs.declared.event.Fate.TheVariants as fate
-use Rattle.smx_upstream.specs.Standing.{Stand, Does, Becomes, item_for}
+use Rattle.smx_upstream.specs.Standing.{Stand, Does, Becomes, Shifts, item_for}
 use Rattle.smx_upstream.specs.Laws.{answer_known, fate_known, known_by, knowns, fate_put, put_by, puts_at, Kept}
 
 nothing : {A : Type 0} (xs ys : List A) → ys ≡ xs → ys ≡ xs ++ []
@@ -55,9 +60,18 @@ fate_note p a (fate.Put place n) t ss t' ss' b = nothing _ _ (ap (λ x. known_of
 fate_note p a (fate.Full place) t ss t' ss' b = nothing _ _ (ap (λ x. known_of x.front.mine) b.3)
 fate_note p a (fate.BoxSpent place) t ss t' ss' b = nothing _ _ (ap (λ x. known_of x.front.mine) b.3)
 
+shift_note : (f g : Front Note Limits) (least : ℕ) (r : Result (Option (Vec Entry Global)) TurnFault)
+    → Shifts f g least r → known_of g.mine ≡ known_of f.mine
+shift_note f g least (Ok o) h = turns_known {E = TurnFault} (λ (es : Vec Entry Global). es.items) f g least (Ok o) h
+shift_note f g least (Err turns.Spent) h = turn_spent_known f g h
+shift_note f g least (Err turns.NoMemory) h = turns_known {E = TurnFault} (λ (es : Vec Entry Global). es.items) f g least (Err turns.NoMemory) h
+
 note_step : (s t : Stand) (e : Event) → Does s e t → known_of t.tap.front.mine ≡ known_of s.tap.front.mine ++ known_by e
 note_step s t (event.Began p) d = nothing _ _ (ap (λ x. known_of x.tap.front.mine) d.1)
+note_step s t (event.Opened n) d = nothing _ _ (ap (λ x. known_of x.tap.front.mine) d.1)
 note_step s t (event.Looked now due silent) d = nothing _ _ (ap (λ x. known_of x.tap.front.mine) d.2)
+note_step s t event.Young d = nothing _ _ (ap (λ x. known_of x.tap.front.mine) d.1)
+note_step s t (event.Shifted least r) d = nothing _ _ (shift_note s.tap.front t.tap.front least r.value d.1)
 note_step s t (event.Sought r) d = nothing _ _ (ap (λ x. known_of x.tap.front.mine) d.1)
 note_step s t (event.Decided p now a f) d = fate_note p.value a.value f s.tap s.senders t.tap t.senders d.1
 note_step s t (event.Took r) d = takes_known s.tap.front t.tap.front r.value d.0
@@ -86,6 +100,13 @@ take_seen f g (Ok sent) h = served_seen f g _ _ h.2.serves
 take_seen f g (Err (takes.Refused e)) h = served_seen f g _ _ h.2.serves
 take_seen f g (Err takes.Spent) h = spent_seen f g h
 
+shift_seen : (f g : Front Note Limits) (least : ℕ) (r : Result (Option (Vec Entry Global)) TurnFault)
+    → Shifts f g least r → IsPrefix f.seen g.seen
+shift_seen f g least (Ok None) h = served_seen f g _ _ h.2.serves
+shift_seen f g least (Ok (Some es)) h = served_seen f g _ _ h.2.serves
+shift_seen f g least (Err turns.Spent) h = spent_seen f g h
+shift_seen f g least (Err turns.NoMemory) h = served_seen f g _ _ h.2.serves
+
 fate_seen : (p : Pdu) (a : UpAct) (f : Fate) (t : TapView) (ss : List (Sending MoItem)) (t' : TapView) (ss' : List (Sending MoItem)) → Becomes p a f t ss t' ss' → IsPrefix t.front.seen t'.front.seen
 fate_seen p a fate.Own t ss t' ss' b = self _ _ (ap (λ x. x.front.seen) b.1)
 fate_seen p a (fate.Lane at r) t ss t' ss' b = answer_seen t.front t'.front p r.value b.1
@@ -98,7 +119,10 @@ fate_seen p a (fate.BoxSpent place) t ss t' ss' b = self _ _ (ap (λ x. x.front.
 
 seen_step : (s t : Stand) (e : Event) → Does s e t → IsPrefix s.tap.front.seen t.tap.front.seen
 seen_step s t (event.Began p) d = self _ _ (ap (λ x. x.tap.front.seen) d.1)
+seen_step s t (event.Opened n) d = self _ _ (ap (λ x. x.tap.front.seen) d.1)
 seen_step s t (event.Looked now due silent) d = self _ _ (ap (λ x. x.tap.front.seen) d.2)
+seen_step s t event.Young d = self _ _ (ap (λ x. x.tap.front.seen) d.1)
+seen_step s t (event.Shifted least r) d = shift_seen s.tap.front t.tap.front least r.value d.1
 seen_step s t (event.Sought r) d = self _ _ (ap (λ x. x.tap.front.seen) d.1)
 seen_step s t (event.Decided p now a f) d = fate_seen p.value a.value f s.tap s.senders t.tap t.senders d.1
 seen_step s t (event.Took r) d = take_seen s.tap.front t.tap.front r.value d.0
@@ -117,7 +141,10 @@ fate_lane p a (fate.BoxSpent place) t ss t' ss' b = ap (λ x. x.lane) b.3
 
 lane_step : (s t : Stand) (e : Event) → Does s e t → t.tap.lane ≡ s.tap.lane
 lane_step s t (event.Began p) d = ap (λ x. x.tap.lane) d.1
+lane_step s t (event.Opened n) d = ap (λ x. x.tap.lane) d.1
 lane_step s t (event.Looked now due silent) d = ap (λ x. x.tap.lane) d.2
+lane_step s t event.Young d = ap (λ x. x.tap.lane) d.1
+lane_step s t (event.Shifted least r) d = d.2
 lane_step s t (event.Sought r) d = ap (λ x. x.tap.lane) d.1
 lane_step s t (event.Decided p now a f) d = fate_lane p.value a.value f s.tap s.senders t.tap t.senders d.1
 lane_step s t (event.Took r) d = d.1
@@ -154,7 +181,10 @@ fate_puts slot p a (fate.BoxSpent place) t ss t' ss' b = nothing _ _ (same_put s
 
 put_step : (slot : ℕ) (s t : Stand) (e : Event) → Does s e t → contents_in (slice_get t.senders slot) ≡ contents_in (slice_get s.senders slot) ++ put_by slot s.tap.lane e
 put_step slot s t (event.Began p) d = nothing _ _ (ap (λ x. contents_in (slice_get x.senders slot)) d.1)
+put_step slot s t (event.Opened n) d = nothing _ _ (ap (λ x. contents_in (slice_get x.senders slot)) d.1)
 put_step slot s t (event.Looked now due silent) d = nothing _ _ (ap (λ x. contents_in (slice_get x.senders slot)) d.2)
+put_step slot s t event.Young d = nothing _ _ (ap (λ x. contents_in (slice_get x.senders slot)) d.1)
+put_step slot s t (event.Shifted least r) d = nothing _ _ (ap (λ x. contents_in (slice_get x.senders slot)) d.3)
 put_step slot s t (event.Sought r) d = nothing _ _ (ap (λ x. contents_in (slice_get x.senders slot)) d.1)
 put_step slot s t (event.Decided p now a f) d = fate_puts slot p.value a.value f s.tap s.senders t.tap t.senders d.1
 put_step slot s t (event.Took r) d = nothing _ _ (ap (λ x. contents_in (slice_get x.senders slot)) d.2)

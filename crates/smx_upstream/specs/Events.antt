@@ -22,7 +22,7 @@ use Rattle.smx_turns.specs.Refusals.{refusal}
 use Rattle.smx_history.specs.declared.reply.Answered.{Answered}
 use Rattle.smx_history.specs.declared.reply.Answered.TheVariants as answered
 use Rattle.smx_upstream.specs.declared.event.Event.{Event}
-use Rattle.smx_upstream.specs.declared.event.Event.TheVariants.{Began, Looked, Sought, Decided, Took, Broke}
+use Rattle.smx_upstream.specs.declared.event.Event.TheVariants.{Began, Opened, Looked, Young, Shifted, Sought, Decided, Took, Broke}
 use Rattle.smx_upstream.specs.declared.event.Fate.{Fate}
 use Rattle.smx_upstream.specs.declared.event.Fate.TheVariants as fate
 
@@ -73,7 +73,10 @@ fate_out p (fate.BoxSpent place) = []
 -- the PDUs that an event sends
 abbrev pub out_of : Event → List Pdu
 out_of (Began p) = p.value ∷ []
+out_of (Opened n) = []
 out_of (Looked now due silent) = those due.value
+out_of Young = []
+out_of (Shifted least r) = []
 out_of (Sought r) = got_out r.value
 out_of (Decided p now a f) = act_out a.value ++ fate_out p.value f
 out_of (Took r) = taken_out r.value
@@ -97,7 +100,10 @@ unless_kept p (Some q) = []
 -- the PDUs that an event decided, those apart that still wait
 abbrev pub in_of : Event → List Pdu
 in_of (Began p) = []
+in_of (Opened n) = []
 in_of (Looked now due silent) = []
+in_of Young = []
+in_of (Shifted least r) = []
 in_of (Sought r) = []
 in_of (Decided p now a f) = unless_kept p.value (kept_by p.value f)
 in_of (Took r) = []
@@ -129,7 +135,10 @@ fate_finds p (fate.BoxSpent place) = Found (read_of (destination_at p.body)) (So
 
 abbrev pub find_of : Event → List Query
 find_of (Began p) = []
+find_of (Opened n) = []
 find_of (Looked now due silent) = []
+find_of Young = []
+find_of (Shifted least r) = []
 find_of (Sought r) = []
 find_of (Decided p now a f) = fate_finds p.value f
 find_of (Took r) = []
@@ -155,7 +164,10 @@ fate_tells (fate.BoxSpent place) = []
 -- whom the gate is told of
 abbrev pub tell_of : Event → List Party
 tell_of (Began p) = []
+tell_of (Opened n) = []
 tell_of (Looked now due silent) = []
+tell_of Young = []
+tell_of (Shifted least r) = []
 tell_of (Sought r) = []
 tell_of (Decided p now a f) = fate_tells f
 tell_of (Took r) = []

@@ -35,7 +35,10 @@ fate_known p (fate.BoxSpent place) = []
 -- what an event added to the tap's notes, as far as the worker knows
 abbrev pub known_by : Event → List Known
 known_by (event.Began p) = []
+known_by (event.Opened n) = []
 known_by (event.Looked now due silent) = []
+known_by event.Young = []
+known_by (event.Shifted least r) = []
 known_by (event.Sought r) = []
 known_by (event.Decided p now a f) = fate_known p.value f
 known_by (event.Took r) = known_by_take r.value
@@ -57,7 +60,10 @@ fate_put slot lane p (fate.BoxSpent place) = []
 -- what an event put by the sender of this slot
 abbrev pub put_by : ℕ → ℕ → Event → List (Option MoItem)
 put_by slot lane (event.Began p) = []
+put_by slot lane (event.Opened n) = []
 put_by slot lane (event.Looked now due silent) = []
+put_by slot lane event.Young = []
+put_by slot lane (event.Shifted least r) = []
 put_by slot lane (event.Sought r) = []
 put_by slot lane (event.Decided p now a f) = fate_put slot lane p.value f
 put_by slot lane (event.Took r) = []

@@ -1,5 +1,6 @@
 pub mod Events
 pub mod Quiet
+pub mod Ages
 pub mod Standing
 pub mod Working
 pub mod Phases

@@ -22,18 +22,22 @@ use Rattle.smx_upstream.specs.declared.turning.Progress.TheVariants as progress
 use Rattle.smx_upstream.specs.declared.mark.Mark.{Mark}
 use Rattle.smx_upstream.specs.declared.mark.Mark.TheVariants.{Offered, Full, Part}
 use Rattle.smx_upstream.specs.declared.event.Event.{Event}
-use Rattle.smx_upstream.specs.declared.event.Event.TheVariants.{Began, Looked, Sought, Decided, Took, Broke}
+use Rattle.smx_upstream.specs.declared.event.Event.TheVariants.{Began, Opened, Looked, Young, Shifted, Sought, Decided, Took, Broke}
 
 -- where a turn stands
 pub data Phase : Type 0 where
   -- nothing was done yet
   Opening : Phase
+  -- the turn has its number
+  Ready : Phase
   -- what waited was offered; whether octets are left
   Written : Bool → Phase
   -- octets are left, so no more is done
   Clogged : Phase
-  -- the moment was handed in, and the session isn't silent
-  Watched : Phase
+  -- the moment was handed in, and the session isn't silent; whether octets are left
+  Watched : Bool → Phase
+  -- the lane was turned over, or it was too early; no octets are left
+  Clear : Phase
   -- the return box was held
   Sated : Phase
   -- too many octets wait, so no more is done
@@ -93,8 +97,11 @@ after_offer false left = Written left
 
 abbrev pub when_looked : Bool → Bool → Phase
 when_looked left true = Gone
-when_looked true false = Clogged
-when_looked false false = Watched
+when_looked left false = Watched left
+
+abbrev pub when_kept : Bool → Phase
+when_kept true = Clogged
+when_kept false = Clear
 
 abbrev pub when_decided : Bool → Bool → Phase
 when_decided ended true = Closing
@@ -122,16 +129,25 @@ when_may_take true = MayTake
 when_may_take false = Refrained
 
 unfoldable pub from_opening : Step Mark Event → Phase
-from_opening (Marked (Offered ending waited left)) = after_offer ending left
+from_opening (Did (Opened n)) = Ready
 from_opening _ = Wrong
+
+unfoldable pub from_ready : Step Mark Event → Phase
+from_ready (Marked (Offered ending waited left)) = after_offer ending left
+from_ready _ = Wrong
 
 unfoldable pub from_written : Bool → Step Mark Event → Phase
 from_written left (Did (Looked now due silent)) = when_looked left silent
 from_written left _ = Wrong
 
-unfoldable pub from_watched : Step Mark Event → Phase
-from_watched (Did (Sought r)) = Sated
-from_watched _ = Wrong
+unfoldable pub from_watched : Bool → Step Mark Event → Phase
+from_watched left (Did Young) = when_kept left
+from_watched left (Did (Shifted least r)) = when_kept left
+from_watched left _ = Wrong
+
+unfoldable pub from_clear : Step Mark Event → Phase
+from_clear (Did (Sought r)) = Sated
+from_clear _ = Wrong
 
 unfoldable pub from_sated : Step Mark Event → Phase
 from_sated (Marked Full) = Brimming
@@ -164,8 +180,10 @@ from_may_take _ = Wrong
 -- the table of an upstream turn
 unfoldable pub go : Phase → Step Mark Event → Phase
 go Opening s = from_opening s
+go Ready s = from_ready s
 go (Written left) s = from_written left s
-go Watched s = from_watched s
+go (Watched left) s = from_watched left s
+go Clear s = from_clear s
 go Sated s = from_sated s
 go MayRead s = from_may_read s
 go (Deciding ended) s = from_deciding ended s

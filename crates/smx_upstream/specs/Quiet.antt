@@ -11,7 +11,7 @@ use Rattle.smx_turns.specs.declared.step.Step.{Step}
 use Rattle.smx_upstream.specs.declared.mark.Mark.{Mark}
 use Rattle.smx_upstream.specs.declared.mark.Mark.TheVariants.{Offered, Full, Part}
 use Rattle.smx_upstream.specs.declared.event.Event.{Event}
-use Rattle.smx_upstream.specs.declared.event.Event.TheVariants.{Began, Looked, Sought, Decided, Took, Broke}
+use Rattle.smx_upstream.specs.declared.event.Event.TheVariants.{Began, Opened, Looked, Young, Shifted, Sought, Decided, Took, Broke}
 
 -- no octets waited
 abbrev pub is_quiet_mark : Mark → Bool
@@ -32,7 +32,10 @@ takes_nothing (Err e) = true
 -- no PDU was made, got, decided or taken
 abbrev pub is_quiet_event : Event → Bool
 is_quiet_event (Began p) = false
+is_quiet_event (Opened n) = true
 is_quiet_event (Looked now due silent) = is_none due.value
+is_quiet_event Young = true
+is_quiet_event (Shifted least r) = true
 is_quiet_event (Sought r) = finds_nothing r.value
 is_quiet_event (Decided p now a f) = false
 is_quiet_event (Took r) = takes_nothing r.value

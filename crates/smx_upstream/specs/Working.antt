@@ -25,8 +25,6 @@ pub record Working (L : Type 0) : Type 0 where
   pub held : Option Pdu
   -- whether nothing but writing is left to do
   pub ending : Bool
-  -- how many turns were made
-  pub turns : ℕ
   -- all that it did
   pub events : List Event
   -- the steps of its last turn

@@ -5,6 +5,7 @@ ghost use Rattle.smx_pdu.specs.Reading.{destination_at};
 ghost use Rattle.smx_turns.specs.declared.directory.Query.TheVariants.{Found};
 ghost use Rattle.smx_turns.specs.Refusals.{refusal};
 ghost use Rattle.smx_upstream.specs.Events.{those, act_out, fate_out, fate_finds, fate_tells, kept_by, read_of};
+ghost use Rattle.smx_upstream.specs.Ages.{answer_notes, fate_notes};
 ghost use Rattle.smx_upstream.specs.Standing.{Becomes, Reads};
 
 use crate::event::Fate;
@@ -25,17 +26,31 @@ pub(crate) struct Outcome {
     pub fate: Fate,
     pub answer: Option<Pdu>,
     pub back: Option<Pdu>,
+    // How many notes the tap made.
+    pub notes: usize,
 }
 
 fn settled(fate: Fate, answer: Option<Pdu>) -> Outcome
     ensures fate { result.fate ≡ fate }
     ensures answer { result.answer ≡ answer }
     ensures back { result.back ≡ None }
+    ensures notes { result.notes ≡ 0 }
 {
     Outcome {
         fate,
         answer,
         back: None,
+        notes: 0,
+    }
+}
+
+// How many notes an answer of the lane tells.
+fn answer_notes(answered: &Answered) -> usize
+    ensures { result ≡ answer_notes answered.now }
+{
+    match answered {
+        Answered::Queued { .. } | Answered::Late => 1,
+        Answered::Unknown(_) => 0,
     }
 }
 
@@ -55,6 +70,7 @@ pub(crate) fn to_lane<R: Wait, G: Gate>(
     ensures finds { fate_finds pdu result.fate ≡ [] }
     ensures asked { G.asked gate.new ≡ G.asked gate.old }
     ensures told { G.told gate.new ≡ G.told gate.old ++ fate_tells result.fate }
+    ensures notes { result.notes ≡ fate_notes result.fate }
 {
     let lane = tap.lane();
     match tap.answer(at, rt, pdu) {
@@ -65,12 +81,18 @@ pub(crate) fn to_lane<R: Wait, G: Gate>(
                     lane,
                 });
             }
-            settled(Fate::Lane(lane, Snapshot::of(&answered)), None)
+            Outcome {
+                fate: Fate::Lane(lane, Snapshot::of(&answered)),
+                answer: None,
+                back: None,
+                notes: answer_notes(&answered),
+            }
         }
         Err((pdu, _)) => Outcome {
             fate: Fate::LaneSpent,
             answer: None,
             back: Some(pdu),
+            notes: 0,
         },
     }
 }
@@ -82,6 +104,7 @@ fn refused(alloc: Global, pdu: &Pdu, fate: Fate, status: u32) -> Outcome
     ensures fate { result.fate ≡ fate }
     ensures answer { fate_out pdu.now result.fate ≡ those result.answer }
     ensures back { result.back ≡ kept_by pdu.now result.fate }
+    ensures notes { result.notes ≡ 0 }
 {
     let answer = refusal(alloc, pdu.command, pdu.number, status);
     settled(fate, Some(answer))
@@ -105,6 +128,7 @@ pub(crate) fn to_box<R: Wait, G: Gate>(
     ensures finds { fate_finds pdu result.fate ≡ Found (read_of (destination_at pdu.body)) (Some place) ∷ [] }
     ensures asked { G.asked gate.new ≡ G.asked gate.old }
     ensures told { G.told gate.new ≡ G.told gate.old ++ fate_tells result.fate }
+    ensures notes { result.notes ≡ fate_notes result.fate }
 {
     let item = MoItem {
         client: place.client,
@@ -122,6 +146,7 @@ pub(crate) fn to_box<R: Wait, G: Gate>(
             fate: Fate::BoxSpent(place),
             answer: None,
             back: Some(item.pdu),
+            notes: 0,
         },
     }
 }
@@ -142,6 +167,7 @@ pub(crate) fn route<R: Wait, G: Gate, D: Directory>(
     ensures finds { D.queries directory.new ≡ D.queries directory.old ++ fate_finds pdu result.fate }
     ensures asked { G.asked gate.new ≡ G.asked gate.old }
     ensures told { G.told gate.new ≡ G.told gate.old ++ fate_tells result.fate }
+    ensures notes { result.notes ≡ fate_notes result.fate }
 {
     let found = match read_destination(pdu.body.as_slice()) {
         Ok(destination) => directory.find(rt, destination),
@@ -176,6 +202,7 @@ pub(crate) fn carry<R: Wait, G: Gate, D: Directory>(
     ensures finds { D.queries directory.new ≡ D.queries directory.old ++ fate_finds pdu result.fate }
     ensures asked { G.asked gate.new ≡ G.asked gate.old }
     ensures told { G.told gate.new ≡ G.told gate.old ++ fate_tells result.fate }
+    ensures notes { result.notes ≡ fate_notes result.fate }
 {
     match act {
         UpAct::ToLane => to_lane(tap, at, rt, gate, pdu),

@@ -1,13 +1,13 @@
 //! What a worker did.
 ghost use Rattle.smx_upstream.specs.Quiet.{is_quiet_event};
 
-use smx_history::Answered;
+use smx_history::{Answered, Entry};
 use smx_lane::Sent;
 use smx_lock::Spent;
 use smx_mo::Got;
 use smx_pdu::Pdu;
 use smx_session::UpAct;
-use smx_shared::TakeFault;
+use smx_shared::{TakeFault, TurnFault};
 use smx_turns::{Deed, Place};
 use std::snapshot::Snapshot;
 
@@ -37,8 +37,14 @@ pub enum Fate {
 pub enum Event {
     /// The session's bind was made.
     Began(Snapshot<Pdu>),
+    /// A turn of this number began.
+    Opened(u64),
     /// The moment was handed in: the enquiry that was due, and whether the session was silent.
     Looked(u64, Snapshot<Option<Pdu>>, bool),
+    /// It was too early to turn the lane over.
+    Young,
+    /// The lane was to be turned over, for at least so many entries, and gave this.
+    Shifted(usize, Snapshot<Result<Option<Vec<Entry>>, TurnFault>>),
     /// The return box was held, and gave this.
     Sought(Snapshot<Result<Got<Pdu>, Spent>>),
     /// A PDU was decided at a moment: the session's act, and what became of the PDU.

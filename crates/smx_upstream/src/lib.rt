@@ -2,6 +2,7 @@
 #![tactic(auto)]
 
 mod acting;
+mod age;
 mod carry;
 mod event;
 mod laws;

@@ -1,9 +1,10 @@
 //! Turns of the upstream worker, one after another, and its end.
-ghost use Rattle.std.specs.Prelude.{◌≡◌, ◌+◌, ◌^◌, ◌-◌, ◌++◌, [], true, min, slice_get, Some, None, Ok, Err, OnOk};
+ghost use Rattle.std.specs.Prelude.{◌≡◌, ◌+◌, ◌++◌, true, slice_get, Some, None, Ok, Err, OnOk};
 ghost use mathlib.Core.List.{IsPrefix};
 ghost use Rattle.smx_frame.specs.Stream.{HasNone};
 ghost use Rattle.smx_session.specs.Moments.{is_bound};
 ghost use Rattle.smx_turns.specs.Runs.{Ran};
+ghost use Rattle.smx_upstream.specs.Ages.{next_turn};
 ghost use Rattle.smx_upstream.specs.Quiet.{are_all_quiet};
 ghost use Rattle.smx_upstream.specs.Standing.{Does};
 ghost use Rattle.smx_upstream.specs.Working.{side_of, Turns};
@@ -27,16 +28,6 @@ pub struct Closed<L: Link + Drop> {
     pub senders: Vec<Sender<MoItem>>,
 }
 
-// The number of the next turn. The count stays at its greatest.
-fn after(turns: u64) -> u64
-    ensures { result ≡ min (turns + 1) (2 ^ 64 - 1) }
-{
-    if turns < u64::MAX {
-        return turns + 1;
-    }
-    turns
-}
-
 impl<L: Link + Drop> UpstreamWorker<L> {
     /// One turn: it writes what waits, hands in the moment (in milliseconds), gets at most one
     /// answer from the return box, reads at most 4,096 octets, decides each whole PDU and takes at
@@ -54,7 +45,7 @@ impl<L: Link + Drop> UpstreamWorker<L> {
         ensures lock { slice_get at.now self.new.stand.tap.lane ≡ Some self.new.stand.tap.front.lock }
 
         // The turn's steps, and nothing else, lead from what was to what is, in the table's order.
-        ensures turned { Turns self.new.turns (side_of L.polls (G.asked gate.old) (G.told gate.old) (D.queries directory.old) self.old)
+        ensures turned { Turns self.new.stand.age.turns (side_of L.polls (G.asked gate.old) (G.told gate.old) (D.queries directory.old) self.old)
             (side_of L.polls (G.asked gate.new) (G.told gate.new) (D.queries directory.new) self.new) self.new.steps }
         ensures order { IsTurn (is_bound self.new.stand.session.state) (are_all_quiet self.new.steps) result (phase_of self.new.steps) }
         ensures waits { OnOk result (Waits (phase_of self.new.steps) self.new.wire.unsent) }
@@ -62,13 +53,11 @@ impl<L: Link + Drop> UpstreamWorker<L> {
         ensures offered { IsPrefix (L.offered self.old.wire.link ++ self.old.wire.unsent) (L.offered self.new.wire.link) }
         ensures failures { L.failures self.new.wire.link ≡ L.failures self.old.wire.link + link_faults result }
         ensures held { OnOk result (self.new.held ≡ None) }
-        ensures count { self.new.turns ≡ min (self.old.turns + 1) (2 ^ 64 - 1) }
+        ensures count { self.new.stand.age.turns ≡ (next_turn self.old.stand.age).turns }
         ensures first { self.new.first ≡ self.old.first }
     {
-        let turn = after(self.turns);
-        self.turns = turn;
         let mut log = Log::new();
-        let end = self.run_turn(at, rt, gate, directory, now, turn, &mut log);
+        let end = self.run_turn(at, rt, gate, directory, now, &mut log);
         self.steps = log.into_steps();
         end
     }

@@ -3,9 +3,10 @@ ghost use Rattle.std.specs.Prelude.{◌≡◌, ◌≢◌, ◌+◌, ◌≤◌, �
 ghost use mathlib.Core.List.{IsPrefix};
 ghost use Rattle.smx_frame.specs.Stream.{HasNone};
 ghost use Rattle.smx_session.specs.Moments.{is_bound};
+ghost use Rattle.smx_upstream.specs.Ages.{next_turn};
 ghost use Rattle.smx_upstream.specs.Working.{side_of, Goes};
 ghost use Rattle.smx_upstream.specs.Quiet.{are_all_quiet};
-ghost use Rattle.smx_upstream.specs.Phases.{phase_of, when_next, when_progress, is_settled, end_of, quiet_end, link_faults, Waits, LeadsTo, IsPart, IsTurn, Opening, Sated, MayRead, Deciding, Settled};
+ghost use Rattle.smx_upstream.specs.Phases.{phase_of, when_next, when_progress, is_settled, end_of, quiet_end, link_faults, Waits, LeadsTo, IsPart, IsTurn, Opening, Ready, Sated, MayRead, Deciding, Settled};
 
 use crate::event::Event;
 use crate::mark::Mark;
@@ -87,7 +88,7 @@ impl<L: Link + Drop> UpstreamWorker<L> {
         ensures faults { link_faults result ≡ 0 }
         ensures goes { (turn : _) → Goes turn (side_of L.polls (G.asked gate.old) (G.told gate.old) (D.queries directory.old) self.old)
             (side_of L.polls (G.asked gate.new) (G.told gate.new) (D.queries directory.new) self.new) log.old log.new }
-        ensures kept { (self.new.wire.link ≡ self.old.wire.link) × (self.new.turns ≡ self.old.turns) × (self.new.first ≡ self.old.first) }
+        ensures kept { (self.new.wire.link ≡ self.old.wire.link) × (self.new.stand.age.turns ≡ self.old.stand.age.turns) × (self.new.first ≡ self.old.first) }
     {
         self.make_room()?;
         match self.fetch(log)? {
@@ -126,7 +127,7 @@ impl<L: Link + Drop> UpstreamWorker<L> {
         ensures faults { link_faults result ≡ 0 }
         ensures goes { (turn : _) → Goes turn (side_of L.polls (G.asked gate.old) (G.told gate.old) (D.queries directory.old) self.old)
             (side_of L.polls (G.asked gate.new) (G.told gate.new) (D.queries directory.new) self.new) log.old log.new }
-        ensures kept { (self.new.wire.link ≡ self.old.wire.link) × (self.new.turns ≡ self.old.turns) × (self.new.first ≡ self.old.first) }
+        ensures kept { (self.new.wire.link ≡ self.old.wire.link) × (self.new.stand.age.turns ≡ self.old.stand.age.turns) × (self.new.first ≡ self.old.first) }
     {
         loop {
             if !ended && self.wire.unsent() >= MAX_PDU {
@@ -141,21 +142,24 @@ impl<L: Link + Drop> UpstreamWorker<L> {
         }
     }
 
-    // Writes what waits, hands in the moment and gets at most one answer. `None` where the turn
+    // Writes what waits, hands in the moment, turns the lane over where it is time, and gets at most one answer. `None` where the turn
     // goes on.
     pub(crate) fn open_part<R: Wait>(
         &mut self,
+        at: &Exchange,
         rt: &R,
         now: u64,
         log: &mut Log<Mark, Event>,
     ) -> Result<Option<TurnEnd>, Fault>
-        ensures phase { phase_of log.old ≡ Opening → IsPart Sated result (phase_of log.new) }
-        ensures waits { phase_of log.old ≡ Opening → OnOk result (Waits (phase_of log.new) self.new.wire.unsent) }
+        requires lock { slice_get at.now self.old.stand.tap.lane ≡ Some self.old.stand.tap.front.lock }
+        ensures lock { slice_get at.now self.new.stand.tap.lane ≡ Some self.new.stand.tap.front.lock }
+        ensures phase { phase_of log.old ≡ Ready → IsPart Sated result (phase_of log.new) }
+        ensures waits { phase_of log.old ≡ Ready → OnOk result (Waits (phase_of log.new) self.new.wire.unsent) }
         ensures goes_on { result ≡ Ok None → self.new.ending ≡ false }
         ensures offered { IsPrefix (L.offered self.old.wire.link ++ self.old.wire.unsent) (L.offered self.new.wire.link) }
         ensures failures { L.failures self.new.wire.link ≡ L.failures self.old.wire.link + link_faults result }
         ensures goes { (turn asked told queries : _) → Goes turn (side_of L.polls asked told queries self.old) (side_of L.polls asked told queries self.new) log.old log.new }
-        ensures kept { (self.new.held ≡ self.old.held) × (self.new.stand.tap ≡ self.old.stand.tap) × (self.new.turns ≡ self.old.turns) × (self.new.first ≡ self.old.first) }
+        ensures kept { (self.new.held ≡ self.old.held) × (self.new.stand.age.turns ≡ self.old.stand.age.turns) × (self.new.first ≡ self.old.first) }
     {
         let left = self.offer(log)?;
         if self.ending {
@@ -165,6 +169,7 @@ impl<L: Link + Drop> UpstreamWorker<L> {
         if self.look(now, log) {
             return Ok(Some(TurnEnd::Done));
         }
+        self.renew(at, rt, log)?;
         if left {
             return Ok(Some(TurnEnd::Worked));
         }
@@ -196,7 +201,7 @@ impl<L: Link + Drop> UpstreamWorker<L> {
         ensures failures { L.failures self.new.wire.link ≡ L.failures self.old.wire.link + link_faults result }
         ensures goes { (turn : _) → Goes turn (side_of L.polls (G.asked gate.old) (G.told gate.old) (D.queries directory.old) self.old)
             (side_of L.polls (G.asked gate.new) (G.told gate.new) (D.queries directory.new) self.new) log.old log.new }
-        ensures kept { (self.new.turns ≡ self.old.turns) × (self.new.first ≡ self.old.first) }
+        ensures kept { (self.new.stand.age.turns ≡ self.old.stand.age.turns) × (self.new.first ≡ self.old.first) }
     {
         let ended = self.read(log)?;
         match self.decide_all(ended, at, rt, gate, directory, now, log)? {
@@ -236,7 +241,7 @@ impl<L: Link + Drop> UpstreamWorker<L> {
         ensures failures { L.failures self.new.wire.link ≡ L.failures self.old.wire.link + link_faults result }
         ensures goes { Goes turn (side_of L.polls (G.asked gate.old) (G.told gate.old) (D.queries directory.old) self.old)
             (side_of L.polls (G.asked gate.new) (G.told gate.new) (D.queries directory.new) self.new) log.old log.new }
-        ensures kept { (self.new.turns ≡ self.old.turns) × (self.new.first ≡ self.old.first) }
+        ensures kept { (self.new.stand.age.turns ≡ self.old.stand.age.turns) × (self.new.first ≡ self.old.first) }
     {
         self.make_ready()?;
         if self.wire.unsent() >= MAX_PDU {
@@ -266,7 +271,7 @@ impl<L: Link + Drop> UpstreamWorker<L> {
         ensures faults { link_faults result ≡ 0 }
         ensures goes { (queries : _) → Goes turn (side_of L.polls (G.asked gate.old) (G.told gate.old) queries self.old)
             (side_of L.polls (G.asked gate.new) (G.told gate.new) queries self.new) log.old log.new }
-        ensures kept { (self.new.held ≡ self.old.held) × (self.new.wire.link ≡ self.old.wire.link) × (self.new.wire.rest ≡ self.old.wire.rest) × (self.new.turns ≡ self.old.turns) × (self.new.first ≡ self.old.first) }
+        ensures kept { (self.new.held ≡ self.old.held) × (self.new.wire.link ≡ self.old.wire.link) × (self.new.wire.rest ≡ self.old.wire.rest) × (self.new.stand.age.turns ≡ self.old.stand.age.turns) × (self.new.first ≡ self.old.first) }
     {
         self.make_room()?;
         let may = ask(log, gate, Point::Taking, turn);
@@ -289,7 +294,6 @@ impl<L: Link + Drop> UpstreamWorker<L> {
         gate: &mut G,
         directory: &mut D,
         now: u64,
-        turn: u64,
         log: &mut Log<Mark, Event>,
     ) -> Result<TurnEnd, Fault>
         requires lock { slice_get at.now self.old.stand.tap.lane ≡ Some self.old.stand.tap.front.lock }
@@ -302,11 +306,13 @@ impl<L: Link + Drop> UpstreamWorker<L> {
         ensures held { OnOk result (self.new.held ≡ None) }
         ensures offered { IsPrefix (L.offered self.old.wire.link ++ self.old.wire.unsent) (L.offered self.new.wire.link) }
         ensures failures { L.failures self.new.wire.link ≡ L.failures self.old.wire.link + link_faults result }
-        ensures goes { Goes turn (side_of L.polls (G.asked gate.old) (G.told gate.old) (D.queries directory.old) self.old)
+        ensures goes { Goes self.new.stand.age.turns (side_of L.polls (G.asked gate.old) (G.told gate.old) (D.queries directory.old) self.old)
             (side_of L.polls (G.asked gate.new) (G.told gate.new) (D.queries directory.new) self.new) log.old log.new }
-        ensures kept { (self.new.turns ≡ self.old.turns) × (self.new.first ≡ self.old.first) }
+        ensures count { self.new.stand.age.turns ≡ (next_turn self.old.stand.age).turns }
+        ensures first { self.new.first ≡ self.old.first }
     {
-        match self.open_part(rt, now, log) {
+        let turn = self.open(log);
+        match self.open_part(at, rt, now, log) {
             Ok(None) => {}
             Ok(Some(end)) => return Ok(end),
             Err(fault) => return Err(fault),

@@ -6,7 +6,7 @@ ghost use Rattle.smx_turns.specs.declared.step.Step.TheVariants.{Did};
 ghost use Rattle.smx_upstream.specs.declared.event.Event.TheVariants.{Broke};
 ghost use Rattle.smx_upstream.specs.Events.{out_of};
 ghost use Rattle.smx_upstream.specs.Working.{side_of, Goes};
-ghost use Rattle.smx_upstream.specs.Phases.{phase_of, after_offer, unless_left, when_front, is_end, LeadsTo, link_faults, Opening, Closing, MayRead, Deciding};
+ghost use Rattle.smx_upstream.specs.Phases.{phase_of, after_offer, unless_left, when_front, is_end, LeadsTo, link_faults, Ready, Closing, MayRead, Deciding};
 
 use crate::event::Event;
 use crate::mark::Mark;
@@ -61,7 +61,7 @@ fn break_off<L: Link + Drop>(
 impl<L: Link + Drop> UpstreamWorker<L> {
     // Offers what waits to the link. True where octets are left.
     pub(crate) fn offer(&mut self, log: &mut Log<Mark, Event>) -> Result<bool, Fault>
-        ensures opening { phase_of log.old ≡ Opening → LeadsTo result (after_offer self.old.ending) (phase_of log.new) }
+        ensures opening { phase_of log.old ≡ Ready → LeadsTo result (after_offer self.old.ending) (phase_of log.new) }
         ensures closing { phase_of log.old ≡ Closing → self.old.ending ≡ true → LeadsTo result unless_left (phase_of log.new) }
         ensures left { IfOk result (λ left. (left ≡ true → self.new.wire.unsent ≢ []) × (left ≡ false → self.new.wire.unsent ≡ [])) }
         ensures offered { L.offered self.new.wire.link ≡ L.offered self.old.wire.link ++ self.old.wire.unsent }

@@ -8,6 +8,7 @@ ghost use Rattle.smx_upstream.specs.Events.{out_of, those};
 ghost use Rattle.smx_upstream.specs.Quiet.{is_quiet_event};
 ghost use Rattle.smx_upstream.specs.Standing.{stand};
 
+use crate::age::Age;
 use crate::event::Event;
 use crate::mark::Mark;
 use smx_link::{Link, Wire};
@@ -40,6 +41,7 @@ pub(crate) struct Origin {
     pub session: Snapshot<UpstreamSession>,
     pub answers: Snapshot<Receiver<Pdu>>,
     pub senders: Snapshot<Vec<Sender<MoItem>>>,
+    pub age: Snapshot<Age>,
 }
 
 /// Serves one bind with the centre. Contracts see the PDUs over its link, what it stands on, now
@@ -56,7 +58,7 @@ pub struct UpstreamWorker<L: Link + Drop> {
     pub(crate) held: Option<Pdu>,
     // Nothing but writing is left to do.
     pub(crate) ending: bool,
-    pub(crate) turns: u64,
+    pub(crate) age: Age,
     pub(crate) origin: Origin,
     pub(crate) events: Trace<Event>,
     // Those of the last turn.
@@ -71,25 +73,33 @@ impl<L: Link + Drop> Model for UpstreamWorker<L> {
 
     ghost view = { λ w. record {
       wire = w.wire;
-      stand = stand w.session w.tap w.answers w.senders.items;
-      first = stand w.origin.session.value w.origin.tap.value w.origin.answers.value w.origin.senders.value.items;
+      stand = stand w.session w.tap w.answers w.senders.items w.age;
+      first = stand w.origin.session.value w.origin.tap.value w.origin.answers.value w.origin.senders.value.items w.origin.age.value;
       held = w.held;
       ending = w.ending;
-      turns = w.turns;
       events = w.events;
       steps = w.steps;
     } };
 
     ghost invariant = { λ w. IsWorker (record {
       wire = w.wire;
-      stand = stand w.session w.tap w.answers w.senders.items;
-      first = stand w.origin.session.value w.origin.tap.value w.origin.answers.value w.origin.senders.value.items;
+      stand = stand w.session w.tap w.answers w.senders.items w.age;
+      first = stand w.origin.session.value w.origin.tap.value w.origin.answers.value w.origin.senders.value.items w.origin.age.value;
       held = w.held;
       ending = w.ending;
-      turns = w.turns;
       events = w.events;
       steps = w.steps;
     }) };
+}
+
+// Writes down an event that sends nothing.
+pub(crate) fn jot(event: Event, quiet: bool, events: &mut Trace<Event>, log: &mut Log<Mark, Event>)
+    requires quiet { quiet ≡ is_quiet_event event }
+    ensures events { events.new ≡ events.old ++ event ∷ [] }
+    ensures log { log.new ≡ log.old ++ Did event ∷ [] }
+{
+    *events = events.and(&event);
+    log.push(&Step::Did(event), quiet);
 }
 
 // Writes down an event, and says what it sends.
@@ -113,19 +123,23 @@ pub(crate) fn note<L: Link + Drop>(
     if let Some(pdu) = sent {
         wire.say(pdu);
     }
-    *events = events.and(&event);
-    log.push(&Step::Did(event), quiet);
+    jot(event, quiet, events, log);
 }
 
 impl<L: Link + Drop> UpstreamWorker<L> {
     /// A worker whose first PDU is the session's bind (SMPP 3.4, section 4.1.5). It takes memory
-    /// for 65,536 octets; where that is wanted the parts come back.
-    pub fn new(alloc: Global, parts: Parts<L>) -> Result<UpstreamWorker<L>, Parts<L>>
+    /// for 65,536 octets; where that is wanted the parts come back. Its lane's history may have
+    /// `history` entries, an eighth of which is worth a shift.
+    pub fn new(
+        alloc: Global,
+        parts: Parts<L>,
+        history: usize,
+    ) -> Result<UpstreamWorker<L>, Parts<L>>
         requires state { parts.session.state ≡ Binding }
         ensures link { IfOk result (λ w. (w.wire.link ≡ parts.link) × (w.wire.start ≡ parts.link)) }
-        ensures stand { IfOk result (λ w. w.stand ≡ stand parts.session parts.tap parts.answers parts.senders.items) }
+        ensures stand { IfOk result (λ w. w.stand ≡ stand parts.session parts.tap parts.answers parts.senders.items (record { turns = 0; history = history; noted = 0 })) }
         ensures first { IfOk result (λ w. w.first ≡ w.stand) }
-        ensures ready { IfOk result (λ w. (w.held ≡ None) × (w.ending ≡ false) × (w.turns ≡ 0)) }
+        ensures ready { IfOk result (λ w. (w.held ≡ None) × (w.ending ≡ false)) }
         ensures err { IfErr result (λ p. p ≡ parts) }
     {
         let Ok(bind) = parts.session.start() else {
@@ -149,11 +163,17 @@ impl<L: Link + Drop> UpstreamWorker<L> {
                 senders,
             });
         }
+        let age = Age {
+            turns: 0,
+            history,
+            noted: 0,
+        };
         let origin = Origin {
             tap: Snapshot::of(&tap),
             session: Snapshot::of(&session),
             answers: Snapshot::of(&answers),
             senders: Snapshot::of(&senders),
+            age: Snapshot::of(&age),
         };
         let event = Event::Began(Snapshot::of(&bind));
         wire.say(&bind);
@@ -166,7 +186,7 @@ impl<L: Link + Drop> UpstreamWorker<L> {
             senders,
             held: None,
             ending: false,
-            turns: 0,
+            age,
             origin,
             events: Trace::new().and(&event),
             steps: Trace::new(),

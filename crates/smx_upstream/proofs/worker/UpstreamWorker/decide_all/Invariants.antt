@@ -9,7 +9,7 @@ invariant-loop-self g l = record {
   on : l.self.ending ≡ false;
   lock : slice_get l.fn.at l.self.stand.tap.lane ≡ Some l.self.stand.tap.front.lock;
   link : l.self.wire.link ≡ l.fn.self.wire.link;
-  turns : l.self.turns ≡ l.fn.self.turns;
+  turns : l.self.stand.age.turns ≡ l.fn.self.stand.age.turns;
   first : l.self.first ≡ l.fn.self.first;
   phase : phase_of l.fn.log ≡ Deciding l.fn.ended → phase_of l.log ≡ Deciding l.fn.ended;
   goes : (turn : ℕ) → Goes turn (side_of g.L.Link.polls (g.G.Gate.asked l.fn.gate) (g.G.Gate.told l.fn.gate) (g.D.Directory.queries l.fn.directory) l.fn.self)
