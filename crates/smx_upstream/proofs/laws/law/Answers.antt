@@ -1,0 +1,19 @@
+use Rattle.std.proofs.Common.{◌++◌, ap, ◌∙◌}
+use Rattle.std.proofs.Math.Logic.{∥∥₁_map}
+use Rattle.smx_link.specs.Wiring.{spellings}
+use Rattle.smx_upstream.proofs.Keeping.{runs_kept}
+use Rattle.smx_upstream.proofs.laws.law.Goals as goal
+
+pub returns-clause-kept : goal.returns-clause-kept
+returns-clause-kept g c = rw (← c.worker.view_is) (∥∥₁_map c.worker.invariant.runs (runs_kept _ _ _))
+
+pub returns-clause-given : goal.returns-clause-given
+returns-clause-given g c = rw (← c.worker.view_is)
+    (c.law.ensures.hears ∙ ap (λ l. g.L.Link.given c.worker.inside.wire.start ++ (spellings l ++ c.worker.inside.wire.rest)) c.worker.invariant.heard)
+
+pub returns-clause-taken : goal.returns-clause-taken
+returns-clause-taken g c = rw (← c.worker.view_is)
+    (c.law.ensures.says ∙ ap (λ l. g.L.Link.taken c.worker.inside.wire.start ++ spellings l) c.worker.invariant.said)
+
+pub returns-clause-runs : goal.returns-clause-runs
+returns-clause-runs g c = rw (← c.worker.view_is) c.worker.invariant.runs

@@ -1,0 +1,14 @@
+use Rattle.std.proofs.Common.{◌≡◌, None, Some, slice_get}
+use denote.Param.Always.{always_mut}
+use Rattle.smx_turns.specs.Runs.{Ran}
+use Rattle.smx_upstream.specs.Standing.{Does}
+use Rattle.smx_upstream.proofs.running.run_upstream.Given as goal
+
+abbrev pub invariant-loop-turn : goal.invariant-loop-turn
+invariant-loop-turn g l = record {
+  clock : always_mut g.C.FnMut l.initial.clock → always_mut g.C.FnMut l.clock;
+  held : l.worker.held ≡ None;
+  lock : slice_get l.fn.at l.worker.stand.tap.lane ≡ Some l.worker.stand.tap.front.lock;
+  first : l.worker.first ≡ l.fn.worker.first;
+  ran : Ran Does l.fn.worker.stand l.fn.worker.events l.worker.stand l.worker.events;
+}

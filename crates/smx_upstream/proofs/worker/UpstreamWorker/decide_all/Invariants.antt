@@ -1,0 +1,20 @@
+use Rattle.std.proofs.Common.{◌≡◌, ℕ, false, None, Some, length, slice_get}
+use Rattle.smx_upstream.specs.Working.{side_of, Goes}
+use Rattle.smx_upstream.specs.Phases.{phase_of, Deciding}
+use Rattle.smx_upstream.proofs.worker.UpstreamWorker.decide_all.Given as goal
+
+abbrev pub invariant-loop-self : goal.invariant-loop-self
+invariant-loop-self g l = record {
+  held : l.self.held ≡ None;
+  on : l.self.ending ≡ false;
+  lock : slice_get l.fn.at l.self.stand.tap.lane ≡ Some l.self.stand.tap.front.lock;
+  link : l.self.wire.link ≡ l.fn.self.wire.link;
+  turns : l.self.stand.age.turns ≡ l.fn.self.stand.age.turns;
+  first : l.self.first ≡ l.fn.self.first;
+  phase : phase_of l.fn.log ≡ Deciding l.fn.ended → phase_of l.log ≡ Deciding l.fn.ended;
+  goes : (turn : ℕ) → Goes turn (side_of g.L.Link.polls (g.G.Gate.asked l.fn.gate) (g.G.Gate.told l.fn.gate) (g.D.Directory.queries l.fn.directory) l.fn.self)
+      (side_of g.L.Link.polls (g.G.Gate.asked l.gate) (g.G.Gate.told l.gate) (g.D.Directory.queries l.directory) l.self) l.fn.log l.log;
+}
+
+abbrev pub decreases-loop-self : goal.decreases-loop-self
+decreases-loop-self g l = length l.self.wire.rest

@@ -1,0 +1,73 @@
+use Rattle.std.proofs.Common.{rules, arith, ◌≡◌, ◌≢◌, ◌++◌, [], ◌∷◌, List, ℕ, refl, sym, ap, ◌∙◌, subst, Some, None, Ok, Err, Bool, true, false}
+use Rattle.std.proofs.lemmas.List.{append-nil}
+use Rattle.smx_pdu.specs.declared.pdu.Pdu.{Pdu}
+use Rattle.smx_session.specs.Moments.{is_bound, Upstream, at, act_on, after_pdu, enquiry, after_moment, is_silent}
+use Rattle.smx_session.specs.declared.up_act.UpAct.{UpAct}
+use Rattle.smx_shared.specs.Serving.{Takes}
+use Rattle.smx_turns.specs.declared.gate.Point.TheVariants.{Reading, Taking}
+use Rattle.smx_turns.specs.declared.step.Step.TheVariants.{Asked, Read, Marked, Did}
+use Rattle.smx_upstream.specs.declared.mark.Mark.TheVariants.{Offered, Full, Part}
+use Rattle.smx_upstream.specs.declared.event.Event.TheVariants.{Began, Opened, Looked, Young, Shifted, Sought, Decided, Took, Broke}
+use Rattle.smx_upstream.specs.Events.{out_of, in_of, those, unless_kept, kept_by, fate_finds, fate_out, act_out}
+use Rattle.smx_upstream.specs.Standing.{Shifts, stand, Gets, Becomes}
+use Rattle.smx_upstream.specs.Ages.{next_turn, noted_more, take_notes, after_shift, has_shifted, shift_due}
+use Rattle.smx_upstream.specs.Working.{side_of}
+use Rattle.smx_upstream.specs.Phases.{Phase, Opening, Ready, Written, Watched, Clear, when_kept, Sated, MayRead, Failed, Deciding, Closing, Settled, MayTake, HasTried, ends, when_decided, after_offer, when_looked, when_may_take, when_may_read, quiet_end, phase_of, Refrained, Clogged, Brimming, Stopped}
+use Rattle.smx_upstream.proofs.Eventful.{turns_as, goes_at, goes_first, did, began, goes_did, goes_mark, goes_read, goes_ask, goes_same, goes_then, goes_from, goes_to, kept_or_in, gets_from, stands_same, bad_heard}
+use Rattle.smx_upstream.proofs.Cells.{stepped, kept_phase, cell_offered, cell_closed, cell_opened, cell_looked, cell_young, cell_shifted, kept_right, cell_sought, cell_full, cell_reading, cell_read, cell_decided, cell_broke, cell_part, cell_brim, cell_taking, cell_took, right, decided_right, early, ends_clogged, ends_brimming, ends_stopped, ends_gone, ends_left, part_err, turn_err, waits_as, phase_none, refrained, ends_unbound, ends_tried}
+use Rattle.smx_upstream.proofs.worker.UpstreamWorker.renew.Goals as goal
+
+pub invariant_of-self : goal.invariant_of-self
+invariant_of-self g c =
+    did _ _ (Young) c.self.invariant c.jot.ensures.events refl refl (sym (append-nil _)) refl
+    (sym c.shift_due.ensures ∙ c.in_default.is, refl) c.self.invariant.goes_on
+
+pub returns-in_default-clause-goes : goal.returns-in_default-clause-goes
+returns-in_default-clause-goes g c = rw (← c.self.view_is)
+    (λ turn asked told queries. goes_did turn _ _ _ _ (Young) c.jot.ensures.log refl (sym (append-nil told)) (sym (append-nil queries)) c.jot.ensures.events
+    (sym c.shift_due.ensures ∙ c.in_default.is, refl) refl)
+
+pub returns-in_default-clause-phase : goal.returns-in_default-clause-phase
+returns-in_default-clause-phase g c = λ left. stepped _ _ (Did (Young)) (Watched left) _ c.jot.ensures.log (cell_young left)
+
+pub invariant_of-self-in-Ok : goal.invariant_of-self-in-Ok
+invariant_of-self-in-Ok g c =
+    did _ _ (Shifted c.in-Some.least c.of.result) c.self.invariant c.jot-2.ensures.events refl refl (sym (append-nil _)) refl (
+      sym c.shift_due.ensures ∙ c.in-Some.is,
+      subst (Shifts c.self.inside.tap.front c.turn_over-entries.new.self.front c.in-Some.least) (sym c.of.ensures) c.turn_over-entries.ensures.served,
+      c.turn_over-entries.ensures.same.0,
+      stands_same refl refl refl refl (c.after_shift-age.ensures ∙ ap (λ b. after_shift b c.self.inside.age) (c.has_shifted.ensures ∙ ap has_shifted (sym c.of.ensures))),
+    ) c.self.invariant.goes_on
+
+pub invariant_of-self-2 : goal.invariant_of-self-2
+invariant_of-self-2 g c =
+    did _ _ (Shifted c.in-Some.least c.of.result) c.self.invariant c.jot-2.ensures.events refl refl (sym (append-nil _)) refl (
+      sym c.shift_due.ensures ∙ c.in-Some.is,
+      subst (Shifts c.self.inside.tap.front c.turn_over-entries.new.self.front c.in-Some.least) (sym c.of.ensures) c.turn_over-entries.ensures.served,
+      c.turn_over-entries.ensures.same.0,
+      stands_same refl refl refl refl (c.after_shift-age.ensures ∙ ap (λ b. after_shift b c.self.inside.age) (c.has_shifted.ensures ∙ ap has_shifted (sym c.of.ensures))),
+    ) c.self.invariant.goes_on
+
+pub returns-in-Ok-clause-goes : goal.returns-in-Ok-clause-goes
+returns-in-Ok-clause-goes g c = rw (← c.self.view_is)
+    (λ turn asked told queries. goes_did turn _ _ _ _ (Shifted c.in-Some.least c.of.result) c.jot-2.ensures.log refl (sym (append-nil told)) (sym (append-nil queries)) c.jot-2.ensures.events (
+      sym c.shift_due.ensures ∙ c.in-Some.is,
+      subst (Shifts c.self.inside.tap.front c.turn_over-entries.new.self.front c.in-Some.least) (sym c.of.ensures) c.turn_over-entries.ensures.served,
+      c.turn_over-entries.ensures.same.0,
+      stands_same refl refl refl refl (c.after_shift-age.ensures ∙ ap (λ b. after_shift b c.self.inside.age) (c.has_shifted.ensures ∙ ap has_shifted (sym c.of.ensures))),
+    ) refl)
+
+pub returns-clause-goes : goal.returns-clause-goes
+returns-clause-goes g c = rw (← c.self.view_is)
+    (λ turn asked told queries. goes_did turn _ _ _ _ (Shifted c.in-Some.least c.of.result) c.jot-2.ensures.log refl (sym (append-nil told)) (sym (append-nil queries)) c.jot-2.ensures.events (
+      sym c.shift_due.ensures ∙ c.in-Some.is,
+      subst (Shifts c.self.inside.tap.front c.turn_over-entries.new.self.front c.in-Some.least) (sym c.of.ensures) c.turn_over-entries.ensures.served,
+      c.turn_over-entries.ensures.same.0,
+      stands_same refl refl refl refl (c.after_shift-age.ensures ∙ ap (λ b. after_shift b c.self.inside.age) (c.has_shifted.ensures ∙ ap has_shifted (sym c.of.ensures))),
+    ) refl)
+
+pub returns-in-Ok-clause-phase : goal.returns-in-Ok-clause-phase
+returns-in-Ok-clause-phase g c = λ left. stepped _ _ (Did (Shifted c.in-Some.least c.of.result)) (Watched left) _ c.jot-2.ensures.log (cell_shifted left _ _)
+
+pub returns-clause-phase : goal.returns-clause-phase
+returns-clause-phase g c = λ left. stepped _ _ (Did (Shifted c.in-Some.least c.of.result)) (Watched left) _ c.jot-2.ensures.log (cell_shifted left _ _)

@@ -1,0 +1,57 @@
+-- When a worker turns its lane over.
+use Rattle.std.specs.Prelude.{ℕ, ◌+◌, ◌-◌, ◌^◌, ◌/◌, ◌%◌, min, Bool, true, false, ◌&&◌, nat_lt, nat_le, ◌==◌, Option, Some, None, Result, Ok, Err, if◌then◌else◌}
+use Rattle.std.specs.declared.vec.Vec.{Vec}
+use Rattle.std.specs.declared.alloc.Global.{Global}
+use Rattle.smx_history.specs.declared.entry.Entry.{Entry}
+use Rattle.smx_history.specs.declared.reply.Answered.{Answered}
+use Rattle.smx_history.specs.declared.reply.Answered.TheVariants as answered
+use Rattle.smx_lane.specs.declared.sent.Sent.{Sent}
+use Rattle.smx_shared.specs.declared.fault.TakeFault.{TakeFault}
+use Rattle.smx_shared.specs.declared.fault.TurnFault.{TurnFault}
+use Rattle.smx_upstream.specs.declared.age.Age.{Age}
+use Rattle.smx_upstream.specs.declared.event.Fate.{Fate}
+use Rattle.smx_upstream.specs.declared.event.Fate.TheVariants as fate
+
+-- the count of turns stays at its greatest
+abbrev pub next_turn : Age → Age
+next_turn a = record a { turns = min (a.turns + 1) (2 ^ 64 - 1) }
+
+abbrev pub noted_more : ℕ → Age → Age
+noted_more notes a = record a { noted = min (a.noted + notes) (2 ^ 64 - 1) }
+
+abbrev pub after_shift : Bool → Age → Age
+after_shift true a = record a { noted = 0 }
+after_shift false a = a
+
+-- in every 1,000th turn half of the history; and an eighth, where the tap has noted so much since the last shift
+abbrev pub shift_due : Age → Option ℕ
+shift_due a =
+    if a.turns % 1000 == 0 then Some (a.history / 2)
+    else if nat_lt 0 a.noted && nat_le (a.history / 8) a.noted then Some (a.history / 8)
+    else None
+
+-- how many notes an answer of the lane tells
+abbrev pub answer_notes : Answered → ℕ
+answer_notes (answered.Queued c) = 1
+answer_notes answered.Late = 1
+answer_notes (answered.Unknown back) = 0
+
+abbrev pub fate_notes : Fate → ℕ
+fate_notes fate.Own = 0
+fate_notes (fate.Lane lane a) = answer_notes a.value
+fate_notes fate.LaneSpent = 0
+fate_notes fate.Unread = 0
+fate_notes (fate.Unrouted found) = 0
+fate_notes (fate.Put place n) = 0
+fate_notes (fate.Full place) = 0
+fate_notes (fate.BoxSpent place) = 0
+
+abbrev pub take_notes : Result Sent TakeFault → ℕ
+take_notes (Ok sent) = 1
+take_notes (Err e) = 0
+
+-- whether the lane handed its entries out
+abbrev pub has_shifted : Result (Option (Vec Entry Global)) TurnFault → Bool
+has_shifted (Ok (Some es)) = true
+has_shifted (Ok None) = false
+has_shifted (Err e) = false

@@ -1,0 +1,7 @@
+pub mod Events
+pub mod Quiet
+pub mod Ages
+pub mod Standing
+pub mod Working
+pub mod Phases
+pub mod Laws

@@ -1,0 +1,280 @@
+//! What a worker does once: each of these is one event.
+ghost use Rattle.std.specs.Prelude.{◌≡◌, ◌≢◌, ◌≤◌, [], slice_get, Some, None, Ok, Err, OnOk, OnErr, IfOk, IsSome};
+ghost use Rattle.smx_upstream.specs.Events.{those, got_out, taken_out, was_served};
+ghost use Rattle.smx_upstream.specs.Quiet.{finds_nothing, takes_nothing};
+ghost use Rattle.smx_upstream.specs.Ages.{next_turn, take_notes, has_shifted};
+ghost use Rattle.smx_upstream.specs.Working.{side_of, Goes};
+ghost use Rattle.smx_upstream.specs.Phases.{phase_of, ends, when_looked, when_kept, when_decided, LeadsTo, Opening, Ready, Written, Watched, Clear, Sated, Deciding, MayTake, HasTried};
+
+use crate::carry::{Outcome, carry};
+use crate::event::Event;
+use crate::mark::Mark;
+use crate::worker::{UpstreamWorker, jot, note};
+use smx_history::Entry;
+use smx_lane::Sent;
+use smx_link::Link;
+use smx_lock::Spent;
+use smx_mo::Got;
+use smx_pdu::Pdu;
+use smx_session::UpAct;
+use smx_shared::{Exchange, TakeFault, TurnFault};
+use smx_turns::{Directory, Fault, Gate, Log};
+use std::snapshot::Snapshot;
+use std::sync::Wait;
+
+// Whether a get from the return box found nothing.
+fn finds_nothing(found: &Result<Got<Pdu>, Spent>) -> bool
+    ensures { result ≡ finds_nothing found.now }
+{
+    !matches!(found, Ok(Got::Item { .. } | Got::Shut { .. }))
+}
+
+// What a get from the return box sends.
+fn answer_in(found: Result<Got<Pdu>, Spent>) -> Option<Pdu>
+    ensures { got_out found ≡ those result }
+{
+    match found {
+        Ok(Got::Item { content, .. }) => Some(content),
+        Ok(Got::Shut { .. } | Got::Empty) => None,
+        Err(_) => None,
+    }
+}
+
+// Whether a take took nothing.
+fn takes_nothing(taken: &Result<Sent, TakeFault>) -> bool
+    ensures { result ≡ takes_nothing taken.now }
+{
+    taken.is_err()
+}
+
+// What a take sends.
+fn request_in(taken: Result<Sent, TakeFault>) -> Option<Pdu>
+    ensures { taken_out taken ≡ those result }
+{
+    match taken {
+        Ok(Sent { request, upstream }) => Some(Pdu {
+            command: request.command,
+            status: 0,
+            number: upstream,
+            body: request.body,
+        }),
+        Err(_) => None,
+    }
+}
+
+// How many notes a take tells.
+fn take_notes(taken: &Result<Sent, TakeFault>) -> usize
+    ensures { result ≡ take_notes taken.now }
+{
+    match taken {
+        Ok(_) => 1,
+        Err(_) => 0,
+    }
+}
+
+// Whether the lane handed its entries out.
+fn has_shifted(entries: &Result<Option<Vec<Entry>>, TurnFault>) -> bool
+    ensures { result ≡ has_shifted entries.now }
+{
+    matches!(entries, Ok(Some(_)))
+}
+
+// Whether the lane was held.
+fn was_served(taken: &Result<Sent, TakeFault>) -> bool
+    ensures { result ≡ was_served taken.now }
+{
+    !matches!(taken, Err(TakeFault::Spent))
+}
+
+// Whether nothing is decided after this act.
+fn is_last(act: &UpAct) -> bool
+    ensures { result ≡ ends act.now }
+{
+    matches!(act, UpAct::Failed(_) | UpAct::Leave(_) | UpAct::Closed)
+}
+
+impl<L: Link + Drop> UpstreamWorker<L> {
+    // Hands in the moment. True where the session is silent.
+    pub(crate) fn look(&mut self, now: u64, log: &mut Log<Mark, Event>) -> bool
+        requires room { 65536 ≤ self.old.wire.room }
+        ensures phase { (left : _) → phase_of log.old ≡ Written left → phase_of log.new ≡ when_looked left result }
+        ensures left { self.old.wire.unsent ≢ [] → self.new.wire.unsent ≢ [] }
+        ensures goes { (turn asked told queries : _) → Goes turn (side_of L.polls asked told queries self.old) (side_of L.polls asked told queries self.new) log.old log.new }
+        ensures same { self.new ≡ record self.old {
+          wire = record self.old.wire { said = self.new.wire.said; unsent = self.new.wire.unsent; room = self.new.wire.room };
+          stand = record self.old.stand { session = self.new.stand.session };
+          events = self.new.events;
+        } }
+    {
+        let due = self.session.on_moment(now);
+        let silent = self.session.is_silent(now);
+        let event = Event::Looked(now, Snapshot::of(&due), silent);
+        let quiet = due.is_none();
+        note(event, quiet, &due, &mut self.wire, &mut self.events, log);
+        silent
+    }
+
+    // Begins a turn, and answers its number.
+    pub(crate) fn open(&mut self, log: &mut Log<Mark, Event>) -> u64
+        ensures turn { result ≡ (next_turn self.old.stand.age).turns }
+        ensures phase { phase_of log.old ≡ Opening → phase_of log.new ≡ Ready }
+        ensures goes { (turn asked told queries : _) → Goes turn (side_of L.polls asked told queries self.old) (side_of L.polls asked told queries self.new) log.old log.new }
+        ensures same { self.new ≡ record self.old { stand = record self.old.stand { age = next_turn self.old.stand.age }; events = self.new.events } }
+    {
+        let age = self.age.next_turn();
+        self.age = age;
+        let turn = age.turns;
+        jot(Event::Opened(turn), true, &mut self.events, log);
+        turn
+    }
+
+    // Turns the lane over where it is time. Want of memory there is no fault.
+    pub(crate) fn renew<R: Wait>(
+        &mut self,
+        at: &Exchange,
+        rt: &R,
+        log: &mut Log<Mark, Event>,
+    ) -> Result<(), Fault>
+        requires lock { slice_get at.now self.old.stand.tap.lane ≡ Some self.old.stand.tap.front.lock }
+        ensures lock { slice_get at.now self.new.stand.tap.lane ≡ Some self.new.stand.tap.front.lock }
+        ensures phase { (left : _) → phase_of log.old ≡ Watched left → phase_of log.new ≡ when_kept left }
+        ensures err { OnErr result (result ≡ Err Fault.Spent) }
+        ensures goes { (turn asked told queries : _) → Goes turn (side_of L.polls asked told queries self.old) (side_of L.polls asked told queries self.new) log.old log.new }
+        ensures same { self.new ≡ record self.old {
+          stand = record self.old.stand { tap = self.new.stand.tap; age = record self.old.stand.age { noted = self.new.stand.age.noted } };
+          events = self.new.events;
+        } }
+    {
+        let Some(least) = self.age.shift_due() else {
+            jot(Event::Young, true, &mut self.events, log);
+            return Ok(());
+        };
+        let entries = self.tap.turn_over(at, rt, least);
+        let age = self.age.after_shift(has_shifted(&entries));
+        self.age = age;
+        let event = Event::Shifted(least, Snapshot::of(&entries));
+        jot(event, true, &mut self.events, log);
+        match entries {
+            Ok(_) | Err(TurnFault::NoMemory) => Ok(()),
+            Err(TurnFault::Spent) => Err(Fault::Spent),
+        }
+    }
+
+    // Gets at most one answer.
+    pub(crate) fn seek<R: Wait>(&mut self, rt: &R, log: &mut Log<Mark, Event>) -> Result<(), Fault>
+        requires room { 65536 ≤ self.old.wire.room }
+        ensures phase { phase_of log.old ≡ Clear → phase_of log.new ≡ Sated }
+        ensures err { OnErr result (result ≡ Err Fault.Spent) }
+        ensures goes { (turn asked told queries : _) → Goes turn (side_of L.polls asked told queries self.old) (side_of L.polls asked told queries self.new) log.old log.new }
+        ensures same { self.new ≡ record self.old {
+          wire = record self.old.wire { said = self.new.wire.said; unsent = self.new.wire.unsent; room = self.new.wire.room };
+          stand = record self.old.stand { answers = self.new.stand.answers };
+          events = self.new.events;
+        } }
+    {
+        let found = self.answers.get(rt);
+        let event = Event::Sought(Snapshot::of(&found));
+        let served = found.is_ok();
+        let quiet = finds_nothing(&found);
+        let answer = answer_in(found);
+        note(event, quiet, &answer, &mut self.wire, &mut self.events, log);
+        if served { Ok(()) } else { Err(Fault::Spent) }
+    }
+
+    // Takes at most one request.
+    pub(crate) fn take_one<R: Wait>(
+        &mut self,
+        at: &Exchange,
+        rt: &R,
+        log: &mut Log<Mark, Event>,
+    ) -> Result<(), Fault>
+        requires room { 65536 ≤ self.old.wire.room }
+        requires lock { slice_get at.now self.old.stand.tap.lane ≡ Some self.old.stand.tap.front.lock }
+        ensures lock { slice_get at.now self.new.stand.tap.lane ≡ Some self.new.stand.tap.front.lock }
+        ensures phase { phase_of log.old ≡ MayTake → phase_of log.new ≡ HasTried }
+        ensures err { OnErr result (result ≡ Err Fault.Spent) }
+        ensures goes { (turn asked told queries : _) → Goes turn (side_of L.polls asked told queries self.old) (side_of L.polls asked told queries self.new) log.old log.new }
+        ensures same { self.new ≡ record self.old {
+          wire = record self.old.wire { said = self.new.wire.said; unsent = self.new.wire.unsent; room = self.new.wire.room };
+          stand = record self.old.stand { tap = self.new.stand.tap; age = record self.old.stand.age { noted = self.new.stand.age.noted } };
+          events = self.new.events;
+        } }
+    {
+        let taken = self.tap.take(at, rt);
+        let event = Event::Took(Snapshot::of(&taken));
+        let served = was_served(&taken);
+        let quiet = takes_nothing(&taken);
+        let age = self.age.noted_more(take_notes(&taken));
+        self.age = age;
+        let request = request_in(taken);
+        note(
+            event,
+            quiet,
+            &request,
+            &mut self.wire,
+            &mut self.events,
+            log,
+        );
+        if served { Ok(()) } else { Err(Fault::Spent) }
+    }
+
+    // Decides the PDU that waits. True where nothing is decided after it.
+    pub(crate) fn decide<R: Wait, G: Gate, D: Directory>(
+        &mut self,
+        at: &Exchange,
+        rt: &R,
+        gate: &mut G,
+        directory: &mut D,
+        now: u64,
+        log: &mut Log<Mark, Event>,
+    ) -> Result<bool, Fault>
+        requires room { 65536 ≤ self.old.wire.room }
+        requires lock { slice_get at.now self.old.stand.tap.lane ≡ Some self.old.stand.tap.front.lock }
+        requires some { IsSome self.old.held }
+        ensures lock { slice_get at.now self.new.stand.tap.lane ≡ Some self.new.stand.tap.front.lock }
+        ensures phase { (ended : _) → phase_of log.old ≡ Deciding ended → LeadsTo result (when_decided ended) (phase_of log.new) }
+        ensures held { OnOk result (self.new.held ≡ None) }
+        ensures err { OnErr result (result ≡ Err Fault.Spent) }
+        ensures goes { (turn : _) → Goes turn (side_of L.polls (G.asked gate.old) (G.told gate.old) (D.queries directory.old) self.old)
+            (side_of L.polls (G.asked gate.new) (G.told gate.new) (D.queries directory.new) self.new) log.old log.new }
+        ensures same { self.new ≡ record self.old {
+          wire = record self.old.wire { said = self.new.wire.said; unsent = self.new.wire.unsent; room = self.new.wire.room };
+          stand = record self.new.stand { answers = self.old.stand.answers; age = record self.old.stand.age { noted = self.new.stand.age.noted } };
+          held = self.new.held;
+          events = self.new.events;
+        } }
+    {
+        let Some(pdu) = self.held.take() else {
+            unreachable!()
+        };
+        let read = Snapshot::of(&pdu);
+        let act = self.session.on_pdu(&pdu, now);
+        let chosen = Snapshot::of(&act);
+        let last = is_last(&act);
+        let Outcome {
+            fate,
+            answer,
+            back,
+            notes,
+        } = carry(
+            self.alloc,
+            &mut self.tap,
+            &mut self.senders,
+            at,
+            rt,
+            gate,
+            directory,
+            act,
+            pdu,
+        );
+        self.held = back;
+        let age = self.age.noted_more(notes);
+        self.age = age;
+        let event = Event::Decided(read, now, chosen, fate);
+        note(event, false, &answer, &mut self.wire, &mut self.events, log);
+        if self.held.is_some() {
+            return Err(Fault::Spent);
+        }
+        Ok(last)
+    }
+}

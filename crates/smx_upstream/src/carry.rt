@@ -1,0 +1,213 @@
+//! What becomes of a PDU that the session has decided.
+ghost use Rattle.std.specs.Prelude.{◌≡◌, ◌++◌, ◌∷◌, ◌<◌, [], slice_get, length, Some, None};
+ghost use Rattle.smx_session.specs.declared.up_act.UpAct.TheVariants as act;
+ghost use Rattle.smx_pdu.specs.Reading.{destination_at};
+ghost use Rattle.smx_turns.specs.declared.directory.Query.TheVariants.{Found};
+ghost use Rattle.smx_turns.specs.Refusals.{refusal};
+ghost use Rattle.smx_upstream.specs.Events.{those, act_out, fate_out, fate_finds, fate_tells, kept_by, read_of};
+ghost use Rattle.smx_upstream.specs.Ages.{answer_notes, fate_notes};
+ghost use Rattle.smx_upstream.specs.Standing.{Becomes, Reads};
+
+use crate::event::Fate;
+use smx_history::Answered;
+use smx_mo::{PutFault, Sender};
+use smx_pdu::status::{ESME_RINVCMDLEN, ESME_RMSGQFUL, ESME_RX_T_APPN};
+use smx_pdu::{Pdu, read_destination};
+use smx_session::UpAct;
+use smx_shared::{Exchange, Tap};
+use smx_turns::{Directory, Gate, MoItem, Party, Place, put_at, refusal};
+use std::alloc::Global;
+use std::snapshot::Snapshot;
+use std::sync::Wait;
+
+// What became of a PDU, its answer, and the PDU itself where it waits.
+#[derive(Drop)]
+pub(crate) struct Outcome {
+    pub fate: Fate,
+    pub answer: Option<Pdu>,
+    pub back: Option<Pdu>,
+    // How many notes the tap made.
+    pub notes: usize,
+}
+
+fn settled(fate: Fate, answer: Option<Pdu>) -> Outcome
+    ensures fate { result.fate ≡ fate }
+    ensures answer { result.answer ≡ answer }
+    ensures back { result.back ≡ None }
+    ensures notes { result.notes ≡ 0 }
+{
+    Outcome {
+        fate,
+        answer,
+        back: None,
+        notes: 0,
+    }
+}
+
+// How many notes an answer of the lane tells.
+fn answer_notes(answered: &Answered) -> usize
+    ensures { result ≡ answer_notes answered.now }
+{
+    match answered {
+        Answered::Queued { .. } | Answered::Late => 1,
+        Answered::Unknown(_) => 0,
+    }
+}
+
+// A response goes to the lane.
+pub(crate) fn to_lane<R: Wait, G: Gate>(
+    tap: &mut Tap,
+    at: &Exchange,
+    rt: &R,
+    gate: &mut G,
+    pdu: Pdu,
+) -> Outcome
+    requires lock { slice_get at.now tap.old.lane ≡ Some tap.old.front.lock }
+    ensures lock { (tap.new.lane ≡ tap.old.lane) × (tap.new.front.lock ≡ tap.old.front.lock) }
+    ensures becomes { (ss : _) → Becomes pdu act.ToLane result.fate tap.old ss tap.new ss }
+    ensures answer { fate_out pdu result.fate ≡ those result.answer }
+    ensures back { result.back ≡ kept_by pdu result.fate }
+    ensures finds { fate_finds pdu result.fate ≡ [] }
+    ensures asked { G.asked gate.new ≡ G.asked gate.old }
+    ensures told { G.told gate.new ≡ G.told gate.old ++ fate_tells result.fate }
+    ensures notes { result.notes ≡ fate_notes result.fate }
+{
+    let lane = tap.lane();
+    match tap.answer(at, rt, pdu) {
+        Ok(answered) => {
+            if let Answered::Queued { client } = &answered {
+                gate.ready(Party::Client {
+                    client: *client,
+                    lane,
+                });
+            }
+            Outcome {
+                fate: Fate::Lane(lane, Snapshot::of(&answered)),
+                answer: None,
+                back: None,
+                notes: answer_notes(&answered),
+            }
+        }
+        Err((pdu, _)) => Outcome {
+            fate: Fate::LaneSpent,
+            answer: None,
+            back: Some(pdu),
+            notes: 0,
+        },
+    }
+}
+
+// A message whose client has no sender here, or no place for it, is answered.
+fn refused(alloc: Global, pdu: &Pdu, fate: Fate, status: u32) -> Outcome
+    requires out { fate_out pdu.now fate ≡ refusal pdu.now.command pdu.now.number status ∷ [] }
+    requires none { kept_by pdu.now fate ≡ None }
+    ensures fate { result.fate ≡ fate }
+    ensures answer { fate_out pdu.now result.fate ≡ those result.answer }
+    ensures back { result.back ≡ kept_by pdu.now result.fate }
+    ensures notes { result.notes ≡ 0 }
+{
+    let answer = refusal(alloc, pdu.command, pdu.number, status);
+    settled(fate, Some(answer))
+}
+
+// A message goes into the box of the slot that the directory names.
+pub(crate) fn to_box<R: Wait, G: Gate>(
+    alloc: Global,
+    tap: &Tap,
+    senders: &mut Vec<Sender<MoItem>>,
+    rt: &R,
+    gate: &mut G,
+    place: Place,
+    pdu: Pdu,
+) -> Outcome
+    requires slot { place.slot < length senders.old.items }
+    requires read { Reads pdu }
+    ensures becomes { Becomes pdu act.Mo result.fate tap.now senders.old.items tap.now senders.new.items }
+    ensures answer { fate_out pdu result.fate ≡ those result.answer }
+    ensures back { result.back ≡ kept_by pdu result.fate }
+    ensures finds { fate_finds pdu result.fate ≡ Found (read_of (destination_at pdu.body)) (Some place) ∷ [] }
+    ensures asked { G.asked gate.new ≡ G.asked gate.old }
+    ensures told { G.told gate.new ≡ G.told gate.old ++ fate_tells result.fate }
+    ensures notes { result.notes ≡ fate_notes result.fate }
+{
+    let item = MoItem {
+        client: place.client,
+        lane: tap.lane(),
+        number: pdu.number,
+        pdu,
+    };
+    match put_at(rt, senders, place.slot, item) {
+        Ok(number) => {
+            gate.ready(Party::Slot(place.slot));
+            settled(Fate::Put(place, number), None)
+        }
+        Err((item, PutFault::Full)) => refused(alloc, &item.pdu, Fate::Full(place), ESME_RMSGQFUL),
+        Err((item, PutFault::Spent)) => Outcome {
+            fate: Fate::BoxSpent(place),
+            answer: None,
+            back: Some(item.pdu),
+            notes: 0,
+        },
+    }
+}
+
+// A message goes to the client to which its destination is routed.
+pub(crate) fn route<R: Wait, G: Gate, D: Directory>(
+    alloc: Global,
+    tap: &Tap,
+    senders: &mut Vec<Sender<MoItem>>,
+    rt: &R,
+    gate: &mut G,
+    directory: &mut D,
+    pdu: Pdu,
+) -> Outcome
+    ensures becomes { Becomes pdu act.Mo result.fate tap.now senders.old.items tap.now senders.new.items }
+    ensures answer { fate_out pdu result.fate ≡ those result.answer }
+    ensures back { result.back ≡ kept_by pdu result.fate }
+    ensures finds { D.queries directory.new ≡ D.queries directory.old ++ fate_finds pdu result.fate }
+    ensures asked { G.asked gate.new ≡ G.asked gate.old }
+    ensures told { G.told gate.new ≡ G.told gate.old ++ fate_tells result.fate }
+    ensures notes { result.notes ≡ fate_notes result.fate }
+{
+    let found = match read_destination(pdu.body.as_slice()) {
+        Ok(destination) => directory.find(rt, destination),
+        Err(_) => return refused(alloc, &pdu, Fate::Unread, ESME_RINVCMDLEN),
+    };
+    let Some(place) = found else {
+        return refused(alloc, &pdu, Fate::Unrouted(None), ESME_RX_T_APPN);
+    };
+    if place.slot >= senders.len() {
+        return refused(alloc, &pdu, Fate::Unrouted(Some(place)), ESME_RX_T_APPN);
+    }
+    to_box(alloc, tap, senders, rt, gate, place, pdu)
+}
+
+// What becomes of a PDU that the session decided so.
+pub(crate) fn carry<R: Wait, G: Gate, D: Directory>(
+    alloc: Global,
+    tap: &mut Tap,
+    senders: &mut Vec<Sender<MoItem>>,
+    at: &Exchange,
+    rt: &R,
+    gate: &mut G,
+    directory: &mut D,
+    act: UpAct,
+    pdu: Pdu,
+) -> Outcome
+    requires lock { slice_get at.now tap.old.lane ≡ Some tap.old.front.lock }
+    ensures lock { (tap.new.lane ≡ tap.old.lane) × (tap.new.front.lock ≡ tap.old.front.lock) }
+    ensures becomes { Becomes pdu act result.fate tap.old senders.old.items tap.new senders.new.items }
+    ensures answer { act_out act ++ fate_out pdu result.fate ≡ those result.answer }
+    ensures back { result.back ≡ kept_by pdu result.fate }
+    ensures finds { D.queries directory.new ≡ D.queries directory.old ++ fate_finds pdu result.fate }
+    ensures asked { G.asked gate.new ≡ G.asked gate.old }
+    ensures told { G.told gate.new ≡ G.told gate.old ++ fate_tells result.fate }
+    ensures notes { result.notes ≡ fate_notes result.fate }
+{
+    match act {
+        UpAct::ToLane => to_lane(tap, at, rt, gate, pdu),
+        UpAct::Mo => route(alloc, tap, senders, rt, gate, directory, pdu),
+        UpAct::Answer(answer) | UpAct::Leave(answer) => settled(Fate::Own, Some(answer)),
+        UpAct::Up | UpAct::Failed(_) | UpAct::Closed | UpAct::Ignore => settled(Fate::Own, None),
+    }
+}

@@ -1,0 +1,60 @@
+//! What a worker did.
+ghost use Rattle.smx_upstream.specs.Quiet.{is_quiet_event};
+
+use smx_history::{Answered, Entry};
+use smx_lane::Sent;
+use smx_lock::Spent;
+use smx_mo::Got;
+use smx_pdu::Pdu;
+use smx_session::UpAct;
+use smx_shared::{TakeFault, TurnFault};
+use smx_turns::{Deed, Place};
+use std::snapshot::Snapshot;
+
+/// What became of a PDU, beside what the session did.
+#[derive(Drop)]
+pub enum Fate {
+    /// Nothing more.
+    Own,
+    /// The lane of this number was asked, and said this.
+    Lane(usize, Snapshot<Answered>),
+    /// The lane's tickets are spent, and the PDU waits.
+    LaneSpent,
+    /// No destination can be read.
+    Unread,
+    /// The directory said this, and there is no sender.
+    Unrouted(Option<Place>),
+    /// That slot's sender put it, as its item of this number.
+    Put(Place, u64),
+    /// That slot's box is full.
+    Full(Place),
+    /// That slot's box takes no more calls, and the PDU waits.
+    BoxSpent(Place),
+}
+
+/// What a worker did once, whole.
+#[derive(Drop)]
+pub enum Event {
+    /// The session's bind was made.
+    Began(Snapshot<Pdu>),
+    /// A turn of this number began.
+    Opened(u64),
+    /// The moment was handed in: the enquiry that was due, and whether the session was silent.
+    Looked(u64, Snapshot<Option<Pdu>>, bool),
+    /// It was too early to turn the lane over.
+    Young,
+    /// The lane was to be turned over, for at least so many entries, and gave this.
+    Shifted(usize, Snapshot<Result<Option<Vec<Entry>>, TurnFault>>),
+    /// The return box was held, and gave this.
+    Sought(Snapshot<Result<Got<Pdu>, Spent>>),
+    /// A PDU was decided at a moment: the session's act, and what became of the PDU.
+    Decided(Snapshot<Pdu>, u64, Snapshot<UpAct>, Fate),
+    /// The lane was asked for a request, and gave this.
+    Took(Snapshot<Result<Sent, TakeFault>>),
+    /// A bad length was answered.
+    Broke,
+}
+
+impl Deed for Event {
+    ghost is_quiet = { is_quiet_event };
+}

@@ -1,0 +1,24 @@
+//! What is true of a worker at every moment.
+ghost use Rattle.std.specs.Prelude.{◌≡◌, ◌++◌};
+ghost use Rattle.smx_link.specs.Wiring.{spellings};
+ghost use Rattle.smx_turns.specs.Runs.{Runs};
+ghost use Rattle.smx_upstream.specs.Events.{ins, outs, those};
+ghost use Rattle.smx_upstream.specs.Standing.{Does};
+ghost use Rattle.smx_upstream.specs.Laws.{Kept};
+
+use crate::worker::UpstreamWorker;
+use smx_link::Link;
+
+/// The octets that the link gave are the spellings of the PDUs that were decided, at most one that
+/// waits, and a rest; those that it took, followed by those that wait, are the spellings of the
+/// PDUs that the events send. Each event did what its call did, one after another.
+pub fn law<L: Link + Drop>(worker: &UpstreamWorker<L>)
+    ensures given { L.given worker.now.wire.link ≡ L.given worker.now.wire.start ++ (spellings (ins worker.now.events ++ those worker.now.held) ++ worker.now.wire.rest) }
+    ensures taken { L.taken worker.now.wire.link ++ worker.now.wire.unsent ≡ L.taken worker.now.wire.start ++ spellings (outs worker.now.events) }
+    ensures runs { ∥ Runs Does worker.now.first worker.now.events worker.now.stand ∥₁ }
+
+    // The tap's notes and each sender's items, in order.
+    ensures kept { ∥ Kept worker.now.first worker.now.events worker.now.stand ∥₁ }
+{
+    worker.wire.law();
+}

@@ -1,0 +1,19 @@
+//! The worker towards the centre: turns over a link, a lane's tap and the boxes of messages.
+#![tactic(auto)]
+
+mod acting;
+mod age;
+mod carry;
+mod event;
+mod laws;
+mod mark;
+mod running;
+mod turning;
+mod wiring;
+mod worker;
+
+pub use event::{Event, Fate};
+pub use laws::law;
+pub use mark::Mark;
+pub use running::{Closed, run_upstream};
+pub use worker::{Parts, UpstreamWorker};

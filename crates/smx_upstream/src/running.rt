@@ -1,0 +1,115 @@
+//! Turns of the upstream worker, one after another, and its end.
+ghost use Rattle.std.specs.Prelude.{◌≡◌, ◌+◌, ◌++◌, true, slice_get, Some, None, Ok, Err, OnOk};
+ghost use mathlib.Core.List.{IsPrefix};
+ghost use Rattle.smx_frame.specs.Stream.{HasNone};
+ghost use Rattle.smx_session.specs.Moments.{is_bound};
+ghost use Rattle.smx_turns.specs.Runs.{Ran};
+ghost use Rattle.smx_upstream.specs.Ages.{next_turn};
+ghost use Rattle.smx_upstream.specs.Quiet.{are_all_quiet};
+ghost use Rattle.smx_upstream.specs.Standing.{Does};
+ghost use Rattle.smx_upstream.specs.Working.{side_of, Turns};
+ghost use Rattle.smx_upstream.specs.Phases.{phase_of, is_settled, link_faults, Waits, IsTurn, IsOver};
+
+use crate::worker::UpstreamWorker;
+use smx_link::Link;
+use smx_mo::{Receiver, Sender};
+use smx_pdu::Pdu;
+use smx_shared::{Exchange, Tap};
+use smx_turns::{Directory, Fault, Gate, Log, MoItem, RunEnd, TurnEnd};
+use std::sync::Wait;
+
+/// What a worker leaves.
+#[derive(Drop)]
+pub struct Closed<L: Link + Drop> {
+    /// Octets that it has not taken are let go.
+    pub link: L,
+    pub tap: Tap,
+    pub answers: Receiver<Pdu>,
+    pub senders: Vec<Sender<MoItem>>,
+}
+
+impl<L: Link + Drop> UpstreamWorker<L> {
+    /// One turn: it writes what waits, hands in the moment (in milliseconds), gets at most one
+    /// answer from the return box, reads at most 4,096 octets, decides each whole PDU and takes at
+    /// most one request. After a fault only `close` is called.
+    pub fn turn<R: Wait, G: Gate, D: Directory>(
+        &mut self,
+        at: &Exchange,
+        rt: &R,
+        gate: &mut G,
+        directory: &mut D,
+        now: u64,
+    ) -> Result<TurnEnd, Fault>
+        requires lock { slice_get at.now self.old.stand.tap.lane ≡ Some self.old.stand.tap.front.lock }
+        requires none { self.old.held ≡ None }
+        ensures lock { slice_get at.now self.new.stand.tap.lane ≡ Some self.new.stand.tap.front.lock }
+
+        // The turn's steps, and nothing else, lead from what was to what is, in the table's order.
+        ensures turned { Turns self.new.stand.age.turns (side_of L.polls (G.asked gate.old) (G.told gate.old) (D.queries directory.old) self.old)
+            (side_of L.polls (G.asked gate.new) (G.told gate.new) (D.queries directory.new) self.new) self.new.steps }
+        ensures order { IsTurn (is_bound self.new.stand.session.state) (are_all_quiet self.new.steps) result (phase_of self.new.steps) }
+        ensures waits { OnOk result (Waits (phase_of self.new.steps) self.new.wire.unsent) }
+        ensures whole { OnOk result (is_settled (phase_of self.new.steps) ≡ true → HasNone 65536 self.new.wire.rest) }
+        ensures offered { IsPrefix (L.offered self.old.wire.link ++ self.old.wire.unsent) (L.offered self.new.wire.link) }
+        ensures failures { L.failures self.new.wire.link ≡ L.failures self.old.wire.link + link_faults result }
+        ensures held { OnOk result (self.new.held ≡ None) }
+        ensures count { self.new.stand.age.turns ≡ (next_turn self.old.stand.age).turns }
+        ensures first { self.new.first ≡ self.old.first }
+    {
+        let mut log = Log::new();
+        let end = self.run_turn(at, rt, gate, directory, now, &mut log);
+        self.steps = log.into_steps();
+        end
+    }
+
+    /// Ends the worker, and hands back what it was given. It touches no lane.
+    pub fn close<R: Wait>(self, _at: &Exchange, _rt: &R) -> Closed<L>
+        ensures link { result.link ≡ self.wire.link }
+        ensures tap { result.tap ≡ self.stand.tap }
+        ensures answers { result.answers ≡ self.stand.answers }
+        ensures senders { result.senders.items ≡ self.stand.senders }
+    {
+        let UpstreamWorker {
+            wire,
+            tap,
+            answers,
+            senders,
+            ..
+        } = self;
+        Closed {
+            link: wire.into_link(),
+            tap,
+            answers,
+            senders,
+        }
+    }
+}
+
+/// Turns a worker for as long as there is something to do, at most so often.
+pub fn run_upstream<L: Link + Drop, R: Wait, G: Gate, D: Directory, C: FnMut() -> u64>(
+    worker: &mut UpstreamWorker<L>,
+    at: &Exchange,
+    rt: &R,
+    gate: &mut G,
+    directory: &mut D,
+    mut clock: C,
+    turns: u64,
+) -> RunEnd
+    requires lock { slice_get at.now worker.old.stand.tap.lane ≡ Some worker.old.stand.tap.front.lock }
+    requires none { worker.old.held ≡ None }
+    requires clock { C.IsAlwaysCallable clock }
+    ensures first { worker.new.first ≡ worker.old.first }
+    ensures left { result ≡ RunEnd.Left → IsOver (phase_of worker.new.steps) }
+    ensures ran { Ran Does worker.old.stand worker.old.events worker.new.stand worker.new.events }
+{
+    for _turn in 0..turns {
+        let now = clock();
+        match worker.turn(at, rt, gate, directory, now) {
+            Ok(TurnEnd::Done) => return RunEnd::Left,
+            Ok(TurnEnd::Idle) => return RunEnd::Idle,
+            Ok(TurnEnd::Worked) => {}
+            Err(fault) => return RunEnd::Fault(fault),
+        }
+    }
+    RunEnd::Turns
+}

@@ -1,0 +1,195 @@
+//! The upstream worker.
+ghost use Rattle.std.specs.Prelude.{◌≡◌, ◌≤◌, ◌++◌, [], ◌∷◌, false, None, IfOk, IfErr};
+ghost use Rattle.std.specs.List.{flat_map};
+ghost use Rattle.smx_pdu.specs.Pdu.{spelling};
+ghost use Rattle.smx_session.specs.declared.upstream_state.UpstreamState.TheVariants.{Binding};
+ghost use Rattle.smx_turns.specs.declared.step.Step.TheVariants.{Did};
+ghost use Rattle.smx_upstream.specs.Events.{out_of, those};
+ghost use Rattle.smx_upstream.specs.Quiet.{is_quiet_event};
+ghost use Rattle.smx_upstream.specs.Standing.{stand};
+
+use crate::age::Age;
+use crate::event::Event;
+use crate::mark::Mark;
+use smx_link::{Link, Wire};
+use smx_mo::{Receiver, Sender};
+use smx_pdu::Pdu;
+use smx_session::UpstreamSession;
+use smx_shared::Tap;
+use smx_trace::Trace;
+use smx_turns::{Log, MoItem, Step};
+use std::alloc::Global;
+use std::marker::Model;
+use std::snapshot::Snapshot;
+
+/// What a worker is made of.
+#[derive(Drop)]
+pub struct Parts<L: Link + Drop> {
+    pub link: L,
+    pub tap: Tap,
+    pub session: UpstreamSession,
+    /// The lane's return box: answers of clients to the centre's messages.
+    pub answers: Receiver<Pdu>,
+    /// The senders of the clients' boxes, at the index of their slot.
+    pub senders: Vec<Sender<MoItem>>,
+}
+
+// The parts as a worker was handed them, for contracts alone.
+#[derive(Drop)]
+pub(crate) struct Origin {
+    pub tap: Snapshot<Tap>,
+    pub session: Snapshot<UpstreamSession>,
+    pub answers: Snapshot<Receiver<Pdu>>,
+    pub senders: Snapshot<Vec<Sender<MoItem>>>,
+    pub age: Snapshot<Age>,
+}
+
+/// Serves one bind with the centre. Contracts see the PDUs over its link, what it stands on, now
+/// and as it was handed over, and all that it did.
+#[derive(Drop)]
+pub struct UpstreamWorker<L: Link + Drop> {
+    pub(crate) alloc: Global,
+    pub(crate) wire: Wire<L>,
+    pub(crate) tap: Tap,
+    pub(crate) session: UpstreamSession,
+    pub(crate) answers: Receiver<Pdu>,
+    pub(crate) senders: Vec<Sender<MoItem>>,
+    // A whole PDU that isn't decided yet.
+    pub(crate) held: Option<Pdu>,
+    // Nothing but writing is left to do.
+    pub(crate) ending: bool,
+    pub(crate) age: Age,
+    pub(crate) origin: Origin,
+    pub(crate) events: Trace<Event>,
+    // Those of the last turn.
+    pub(crate) steps: Trace<Step<Mark, Event>>,
+}
+
+impl<L: Link + Drop> Model for UpstreamWorker<L> {
+    ghost use Rattle.smx_upstream.specs.Standing.{stand};
+    ghost use Rattle.smx_upstream.specs.Working.{Working, IsWorker};
+
+    ghost Value = { Working L };
+
+    ghost view = { λ w. record {
+      wire = w.wire;
+      stand = stand w.session w.tap w.answers w.senders.items w.age;
+      first = stand w.origin.session.value w.origin.tap.value w.origin.answers.value w.origin.senders.value.items w.origin.age.value;
+      held = w.held;
+      ending = w.ending;
+      events = w.events;
+      steps = w.steps;
+    } };
+
+    ghost invariant = { λ w. IsWorker (record {
+      wire = w.wire;
+      stand = stand w.session w.tap w.answers w.senders.items w.age;
+      first = stand w.origin.session.value w.origin.tap.value w.origin.answers.value w.origin.senders.value.items w.origin.age.value;
+      held = w.held;
+      ending = w.ending;
+      events = w.events;
+      steps = w.steps;
+    }) };
+}
+
+// Writes down an event that sends nothing.
+pub(crate) fn jot(event: Event, quiet: bool, events: &mut Trace<Event>, log: &mut Log<Mark, Event>)
+    requires quiet { quiet ≡ is_quiet_event event }
+    ensures events { events.new ≡ events.old ++ event ∷ [] }
+    ensures log { log.new ≡ log.old ++ Did event ∷ [] }
+{
+    *events = events.and(&event);
+    log.push(&Step::Did(event), quiet);
+}
+
+// Writes down an event, and says what it sends.
+pub(crate) fn note<L: Link + Drop>(
+    event: Event,
+    quiet: bool,
+    sent: &Option<Pdu>,
+    wire: &mut Wire<L>,
+    events: &mut Trace<Event>,
+    log: &mut Log<Mark, Event>,
+)
+    requires room { 65536 ≤ wire.old.room }
+    requires sent { out_of event ≡ those sent.now }
+    requires quiet { quiet ≡ is_quiet_event event }
+    ensures said { wire.new.said ≡ wire.old.said ++ out_of event }
+    ensures unsent { wire.new.unsent ≡ wire.old.unsent ++ flat_map spelling (out_of event) }
+    ensures same { wire.new ≡ record wire.old { said = wire.new.said; unsent = wire.new.unsent; room = wire.new.room } }
+    ensures events { events.new ≡ events.old ++ event ∷ [] }
+    ensures log { log.new ≡ log.old ++ Did event ∷ [] }
+{
+    if let Some(pdu) = sent {
+        wire.say(pdu);
+    }
+    jot(event, quiet, events, log);
+}
+
+impl<L: Link + Drop> UpstreamWorker<L> {
+    /// A worker whose first PDU is the session's bind (SMPP 3.4, section 4.1.5). It takes memory
+    /// for 65,536 octets; where that is wanted the parts come back. Its lane's history may have
+    /// `history` entries, an eighth of which is worth a shift.
+    pub fn new(
+        alloc: Global,
+        parts: Parts<L>,
+        history: usize,
+    ) -> Result<UpstreamWorker<L>, Parts<L>>
+        requires state { parts.session.state ≡ Binding }
+        ensures link { IfOk result (λ w. (w.wire.link ≡ parts.link) × (w.wire.start ≡ parts.link)) }
+        ensures stand { IfOk result (λ w. w.stand ≡ stand parts.session parts.tap parts.answers parts.senders.items (record { turns = 0; history = history; noted = 0 })) }
+        ensures first { IfOk result (λ w. w.first ≡ w.stand) }
+        ensures ready { IfOk result (λ w. (w.held ≡ None) × (w.ending ≡ false)) }
+        ensures err { IfErr result (λ p. p ≡ parts) }
+    {
+        let Ok(bind) = parts.session.start() else {
+            return Err(parts);
+        };
+        let Parts {
+            link,
+            tap,
+            session,
+            answers,
+            senders,
+        } = parts;
+        let mut wire = Wire::new(alloc, link);
+        if wire.make_room().is_err() {
+            let link = wire.into_link();
+            return Err(Parts {
+                link,
+                tap,
+                session,
+                answers,
+                senders,
+            });
+        }
+        let age = Age {
+            turns: 0,
+            history,
+            noted: 0,
+        };
+        let origin = Origin {
+            tap: Snapshot::of(&tap),
+            session: Snapshot::of(&session),
+            answers: Snapshot::of(&answers),
+            senders: Snapshot::of(&senders),
+            age: Snapshot::of(&age),
+        };
+        let event = Event::Began(Snapshot::of(&bind));
+        wire.say(&bind);
+        Ok(UpstreamWorker {
+            alloc,
+            wire,
+            tap,
+            session,
+            answers,
+            senders,
+            held: None,
+            ending: false,
+            age,
+            origin,
+            events: Trace::new().and(&event),
+            steps: Trace::new(),
+        })
+    }
+}
