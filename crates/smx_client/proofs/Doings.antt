@@ -1,0 +1,185 @@
+-- Each event as one step of the parts, said of plain values.
+use Rattle.std.proofs.Common.{◌≡◌, ◌≢◌, ◌<◌, ℕ, List, [], ◌∷◌, ◌++◌, length, sym, ◌∙◌, ap, refl, subst, Option, Some, None, Result, Ok, Err, IfOk, IfErr, IfSome, IfNone}
+use Rattle.std.proofs.lemmas.List.{append-nil}
+use Rattle.std.specs.declared.snapshot.Snapshot.{Snapshot}
+use Rattle.smx_pdu.specs.declared.pdu.Pdu.{Pdu}
+use Rattle.smx_session.specs.Pdus.{undecoded}
+use Rattle.smx_session.specs.ClientTable.{client_decides}
+use Rattle.smx_session.specs.declared.act.Act.{Act}
+use Rattle.smx_session.specs.declared.act.Act.TheVariants as act
+use Rattle.smx_session.specs.declared.client_state.ClientState.{ClientState}
+use Rattle.smx_session.specs.declared.client_state.ClientState.TheVariants.{Ended}
+use Rattle.smx_lock.specs.Fronts.{IsSpent}
+use Rattle.smx_lock.specs.declared.faults.Spent.{Spent}
+use Rattle.smx_shared.specs.Views.{PortView}
+use Rattle.smx_shared.specs.Offers.{Accepted, accepted_by}
+use Rattle.smx_shared.specs.Ports.{HasAccepted}
+use Rattle.smx_shared.specs.declared.offer.Offer.{Offer}
+use Rattle.smx_shared.specs.declared.fault.SubmitFault.{SubmitFault}
+use Rattle.smx_box.specs.declared.receiver.Got.{Got}
+use Rattle.smx_box.specs.Boxes.{Sending, Receiving}
+use Rattle.smx_routes.specs.Window.{Window}
+use Rattle.smx_turns.specs.declared.mo_item.MoItem.{MoItem}
+use Rattle.smx_client.specs.declared.desk.Desk.{Desk}
+use Rattle.smx_client.specs.declared.reply.Parked.{Parked}
+use Rattle.smx_client.specs.declared.reply.Reply.{Reply}
+use Rattle.smx_client.specs.declared.event.Event.TheVariants.{Decided, Broke, Collected, PutAgain, Got as Fetched}
+use Rattle.smx_client.specs.declared.event.Fate.TheVariants.{Own, Submitted, Settled}
+use Rattle.smx_client.specs.declared.event.Delivery.{Delivery}
+use Rattle.smx_client.specs.declared.event.Delivery.TheVariants.{Dropped}
+use Rattle.smx_client.specs.Replies.{Parks, put_in, parked_on, if_taken, on_lane}
+use Rattle.smx_client.specs.Events.{act_out, refusal_out, response_out, got_out, got_answers, delivery_puts, settled_out}
+use Rattle.smx_client.specs.Parts.{parts, Does, Suits, collect_step, submit_step, settle_step, got_step, Gets, delivery_parks, IsOfferOf}
+
+-- nothing is put, and nothing is to be answered
+still : (l : List (Option Pdu)) → l ≡ l ++ []
+still l = sym (append-nil l)
+
+same_put : (x : List (Sending Pdu)) (h : Option Parked) (k : ℕ) → put_in x k ++ parked_on k h ≡ put_in x k ++ parked_on k h ++ []
+same_put x h k = still (put_in x k ++ parked_on k h)
+
+no_accept : (p : PortView) (all : List Accepted) → HasAccepted p all → HasAccepted p (all ++ [])
+no_accept p all has = subst (HasAccepted p) (sym (append-nil all)) has
+
+module _ (d : Desk) (said said' : List Pdu) (s : ClientState) (w : Window) (i : Receiving MoItem) (x : List (Sending Pdu)) (h : Option Parked) where
+  pub collected : (p p' : PortView) (lane : ℕ) (r0 : Result (Option Pdu) Spent) (r : Snapshot (Result (Option Pdu) Spent)) → r.value ≡ r0 → said' ≡ said ++ response_out r0
+      → collect_step lane r0 p p' → ((all : List Accepted) → HasAccepted p all → HasAccepted p' all) → Does (parts d said p s w i x h) (Collected lane r) (parts d said' p' s w i x h)
+  collected p p' lane r0 r seen says step lists = record {
+    says = says ∙ ap (λ o. said ++ response_out o) (sym seen);
+    port = subst (λ o. collect_step lane o p p') (sym seen) step;
+    lists = λ all has. no_accept p' all (lists all has);
+    session = refl;
+    window = refl;
+    inbox = refl;
+    puts = λ k within. still (put_in x k);
+    answers = λ k within. same_put x h k;
+    parked = refl;
+    desk = refl;
+    lanes = refl;
+  }
+
+  pub broke : (p : PortView) (s' : ClientState) (a0 : Act) (a : Snapshot Act) → a.value ≡ a0 → a0 ≡ act.Hangup undecoded → s' ≡ Ended → said' ≡ said ++ act_out a0
+      → Does (parts d said p s w i x h) (Broke a) (parts d said' p s' w i x h)
+  broke p s' a0 a chosen is ended says = record {
+    says = says ∙ ap (λ o. said ++ act_out o) (sym chosen);
+    port = refl;
+    lists = λ all has. no_accept p all has;
+    session = (chosen ∙ is, ended);
+    window = refl;
+    inbox = refl;
+    puts = λ k within. still (put_in x k);
+    answers = λ k within. same_put x h k;
+    parked = refl;
+    desk = refl;
+    lanes = refl;
+  }
+
+  -- the session alone decided
+  pub owned : (p : PortView) (s' : ClientState) (q : Snapshot Pdu) (a : Snapshot Act) → said' ≡ said ++ (act_out a.value ++ [])
+      → ((a.value, s') ≡ client_decides d.accounts.items s q.value) × Suits a.value Own → Does (parts d said p s w i x h) (Decided q a Own) (parts d said' p s' w i x h)
+  owned p s' q a says session = record {
+    says = says;
+    port = refl;
+    lists = λ all has. no_accept p all has;
+    session = session;
+    window = refl;
+    inbox = refl;
+    puts = λ k within. still (put_in x k);
+    answers = λ k within. same_put x h k;
+    parked = refl;
+    desk = refl;
+    lanes = refl;
+  }
+
+  pub submitted : (p p' : PortView) (q : Snapshot Pdu) (a : Snapshot Act) (o : Snapshot Offer) (r : Snapshot (Result ℕ (Offer × SubmitFault)))
+      → said' ≡ said ++ (act_out a.value ++ refusal_out q.value r.value) → IsOfferOf q.value o.value × submit_step o.value r.value p p'
+      → ((all : List Accepted) → HasAccepted p all → HasAccepted p' (all ++ accepted_by o.value r.value))
+      → ((a.value, s) ≡ client_decides d.accounts.items s q.value) × Suits a.value (Submitted o r)
+      → Does (parts d said p s w i x h) (Decided q a (Submitted o r)) (parts d said' p' s w i x h)
+  submitted p p' q a o r says step lists session = record {
+    says = says;
+    port = step;
+    lists = lists;
+    session = session;
+    window = refl;
+    inbox = refl;
+    puts = λ k within. still (put_in x k);
+    answers = λ k within. same_put x h k;
+    parked = refl;
+    desk = refl;
+    lanes = refl;
+  }
+
+  pub settled : (p : PortView) (w' : Window) (x' : List (Sending Pdu)) (h' : Option Parked) (p0 : Pdu) (q : Snapshot Pdu) (a : Snapshot Act) (found : Option (ℕ × ℕ)) (reply : Reply)
+      → q.value ≡ p0 → said' ≡ said ++ (act_out a.value ++ []) → ((a.value, s) ≡ client_decides d.accounts.items s q.value) × Suits a.value (Settled found reply)
+      → settle_step q.value found w w' → h ≡ None → Parks reply h' → length x' ≡ length x
+      → ((k : ℕ) → k < length x → put_in x' k ≡ put_in x k ++ if_taken reply (settled_out k p0 found))
+      → ((k : ℕ) → k < length x → put_in x' k ++ parked_on k h' ≡ put_in x k ++ parked_on k h ++ settled_out k p0 found)
+      → Does (parts d said p s w i x h) (Decided q a (Settled found reply)) (parts d said' p s w' i x' h')
+  settled p w' x' h' p0 q a found reply seen says session window none parks count puts answers = record {
+    says = says;
+    port = refl;
+    lists = λ all has. no_accept p all has;
+    session = session;
+    window = window;
+    inbox = refl;
+    puts = λ k within. puts k within ∙ ap (λ o. put_in x k ++ if_taken reply (settled_out k o found)) (sym seen);
+    answers = λ k within. answers k within ∙ ap (λ o. put_in x k ++ parked_on k h ++ settled_out k o found) (sym seen);
+    parked = (none, parks);
+    desk = refl;
+    lanes = count;
+  }
+
+  pub got : (p : PortView) (w' : Window) (i' : Receiving MoItem) (x' : List (Sending Pdu)) (h' : Option Parked) (r0 : Result (Got MoItem) Spent) (r : Snapshot (Result (Got MoItem) Spent)) (e : Delivery)
+      → r.value ≡ r0 → said' ≡ said ++ got_out r0 e → got_step r0 e w w' → Gets p.client (length x) i r0 e i' → delivery_parks e h h' → length x' ≡ length x
+      → ((k : ℕ) → k < length x → put_in x' k ≡ put_in x k ++ delivery_puts k r0 e)
+      → ((k : ℕ) → k < length x → put_in x' k ++ parked_on k h' ≡ put_in x k ++ parked_on k h ++ got_answers k r0 e)
+      → Does (parts d said p s w i x h) (Fetched r e) (parts d said' p s w' i' x' h')
+  got p w' i' x' h' r0 r e seen says window gets parks count puts answers = record {
+    says = says ∙ ap (λ o. said ++ got_out o e) (sym seen);
+    port = refl;
+    lists = λ all has. no_accept p all has;
+    session = refl;
+    window = subst (λ o. got_step o e w w') (sym seen) window;
+    inbox = subst (λ o. Gets p.client (length x) i o e i') (sym seen) gets;
+    puts = λ k within. puts k within ∙ ap (λ o. put_in x k ++ delivery_puts k o e) (sym seen);
+    answers = λ k within. answers k within ∙ ap (λ o. put_in x k ++ parked_on k h ++ got_answers k o e) (sym seen);
+    parked = parks;
+    desk = refl;
+    lanes = count;
+  }
+
+-- the box takes no more calls
+pub got_none : (d : Desk) (said : List Pdu) (s : ClientState) (w : Window) (i i' : Receiving MoItem) (x : List (Sending Pdu)) (h : Option Parked) (p : PortView) (e : Spent) (r : Snapshot (Result (Got MoItem) Spent))
+    → r.value ≡ Err e → (i'.got ≡ i.got) × IsSpent i.front i'.front → Does (parts d said p s w i x h) (Fetched r Dropped) (parts d said p s w i' x h)
+got_none d said s w i i' x h p e r seen spent =
+    got d said said s w i x h p w i' x h (Err e) r Dropped seen (sym (append-nil said)) refl (spent.1, spent.0, refl) refl refl
+    (λ k within. still (put_in x k)) (λ k within. same_put x h k)
+
+-- the answer that waits no more, or again
+again : (x x' : List (Sending Pdu)) (h h0 h' : Option Parked) (a : Parked) (k : ℕ) → Some a ≡ h → h0 ≡ None
+    → put_in x' k ++ parked_on k h' ≡ put_in x k ++ parked_on k h0 ++ on_lane k a.lane (a.answer ∷ [])
+    → put_in x' k ++ parked_on k h' ≡ put_in x k ++ parked_on k h ++ []
+again x x' h h0 h' a k had none was =
+    was ∙ ap (λ o. put_in x k ++ parked_on k o ++ on_lane k a.lane (a.answer ∷ [])) none
+    ∙ ap (λ l. l ++ on_lane k a.lane (a.answer ∷ [])) (append-nil (put_in x k))
+    ∙ ap (λ o. put_in x k ++ parked_on k o) had ∙ still (put_in x k ++ parked_on k h)
+
+pub put_again : (d : Desk) (said : List Pdu) (s : ClientState) (w : Window) (i : Receiving MoItem) (x x' : List (Sending Pdu)) (h h0 h' : Option Parked) (p : PortView) (a : Parked) (reply : Reply)
+    → Some a ≡ h → h0 ≡ None → Parks reply h' → length x' ≡ length x
+    → ((k : ℕ) → k < length x → put_in x' k ≡ put_in x k ++ if_taken reply (on_lane k a.lane (a.answer ∷ [])))
+    → ((k : ℕ) → k < length x → put_in x' k ++ parked_on k h' ≡ put_in x k ++ parked_on k h0 ++ on_lane k a.lane (a.answer ∷ []))
+    → Does (parts d said p s w i x h) (PutAgain a.lane reply) (parts d said p s w i x' h')
+put_again d said s w i x x' h h0 h' p a reply had none parks count puts answers = record {
+  says = sym (append-nil said);
+  port = refl;
+  lists = λ all has. no_accept p all has;
+  session = refl;
+  window = refl;
+  inbox = refl;
+  puts = λ k within. puts k within ∙ ap (λ o. put_in x k ++ if_taken reply (parked_on k o)) had;
+  answers = λ k within. again x x' h h0 h' a k had none (answers k within);
+  parked = (a, sym had, refl, parks);
+  desk = refl;
+  lanes = count;
+}

@@ -1,0 +1,106 @@
+-- What becomes of a PDU, said of plain values.
+use Rattle.std.proofs.Common.{◌≡◌, ◌≢◌, ℕ, ◌<◌, List, [], ◌∷◌, ◌++◌, sym, ◌∙◌, ap, refl, subst, Option, Some, None, Result, Ok, Err, IfOk, IfErr, IfSome, IfNone}
+use Rattle.std.proofs.lemmas.List.{append-nil}
+use Rattle.smx_pdu.specs.declared.pdu.Pdu.{Pdu}
+use Rattle.smx_session.specs.Login.{Login}
+use Rattle.smx_session.specs.ClientTable.{client_decides, client_decision, client_cell, client_row, bind_decision, ClientCell}
+use Rattle.smx_session.specs.ClientTable.ClientCell.{checks, answer, nack, forward, message_answer, leave, ignore}
+use Rattle.smx_session.specs.Binds.{check_bind}
+use Rattle.smx_session.specs.declared.kind.Kind.{Kind}
+use Rattle.smx_session.specs.declared.bind_check.Checked.{Checked}
+use Rattle.smx_session.specs.declared.bind_check.Checked.TheVariants.{Refused, Granted}
+use Rattle.smx_session.specs.declared.act.Act.{Act}
+use Rattle.smx_session.specs.declared.act.Act.TheVariants as act
+use Rattle.smx_session.specs.declared.client_state.ClientState.{ClientState}
+use Rattle.smx_shared.specs.Views.{PortView}
+use Rattle.smx_shared.specs.Offers.{Accepted, accepted_by}
+use Rattle.smx_shared.specs.Ports.{HasAccepted}
+use Rattle.smx_shared.specs.Submits.{Submitted as Lands, Refuses}
+use Rattle.smx_shared.specs.declared.offer.Offer.{Offer}
+use Rattle.smx_shared.specs.declared.fault.SubmitFault.{SubmitFault}
+use Rattle.smx_routes.specs.declared.mo_window.Waiting.{Waiting}
+use Rattle.smx_routes.specs.Window.{Window, answered, without}
+use Rattle.smx_client.specs.declared.event.Fate.{Fate}
+use Rattle.smx_client.specs.declared.event.Fate.TheVariants.{Own, Submitted, Settled}
+use Rattle.smx_client.specs.Events.{act_out, fate_out, refusal_out, settled_out}
+use Rattle.smx_client.specs.Parts.{submit_step, settle_step, IsOfferOf, Suits}
+use Rattle.smx_client.specs.Sayings.{asked_of}
+
+refusal_same : (p : Pdu) (r : Result ℕ (Offer × SubmitFault)) → refusal_out (asked_of p.command p.number) r ≡ refusal_out p r
+refusal_same p (Ok lane) = refl
+refusal_same p (Err e) = refl
+
+-- what the event of a submit says
+pub forward_out : (p q : Pdu) (a : Act) (r s : Result ℕ (Offer × SubmitFault)) → a ≡ act.Forward → q ≡ p → s ≡ r → refusal_out (asked_of p.command p.number) r ≡ act_out a ++ refusal_out q s
+forward_out p q a r s is same landed =
+    refusal_same p r ∙ sym (ap (λ x. act_out x ++ refusal_out q s) is ∙ ap (λ x. refusal_out x s) same ∙ ap (λ x. refusal_out p x) landed)
+
+submit_is : (o : Offer) (r : Result ℕ (Offer × SubmitFault)) (v w : PortView) → IfOk r (Lands v o w) → IfErr r (λ e. (e.0 ≡ o) × Refuses v o w e.1) → submit_step o r v w
+submit_is o (Ok lane) v w ok err = ok
+submit_is o (Err e) v w ok err = err
+
+pub forward_port : (p q : Pdu) (o o' : Offer) (r s : Result ℕ (Offer × SubmitFault)) (v w : PortView) → q ≡ p → o' ≡ o → s ≡ r
+    → IsOfferOf p o → IfOk r (Lands v o w) → IfErr r (λ e. (e.0 ≡ o) × Refuses v o w e.1) → IsOfferOf q o' × submit_step o' s v w
+forward_port p q o o' r s v w same offered landed is ok err = (
+  subst (λ x. IsOfferOf x o') (sym same) (subst (IsOfferOf p) (sym offered) is),
+  subst (λ x. submit_step x s v w) (sym offered) (subst (λ x. submit_step o x v w) (sym landed) (submit_is o r v w ok err)),
+)
+
+pub forward_lists : (o o' : Offer) (r s : Result ℕ (Offer × SubmitFault)) (w : PortView) (all : List Accepted) → o' ≡ o → s ≡ r
+    → HasAccepted w (all ++ accepted_by o r) → HasAccepted w (all ++ accepted_by o' s)
+forward_lists o o' r s w all offered landed has =
+    subst (λ x. HasAccepted w (all ++ accepted_by x s)) (sym offered) (subst (λ x. HasAccepted w (all ++ accepted_by o x)) (sym landed) has)
+
+suits_forward : (a : Act) (f : Fate) (g : Suits act.Forward f) → a ≡ act.Forward → Suits a f
+suits_forward a f g e = subst (λ x. Suits x f) (sym e) g
+
+-- the session's state stays
+pub stays : (accounts : List Login) (s : ClientState) (h : Option Pdu) (p q : Pdu) (a b : Act) (f : Fate) → Some p ≡ h → q ≡ p → b ≡ a → Suits a f
+    → IfSome h (λ x. client_decides accounts s x ≡ (a, s)) → ((b, s) ≡ client_decides accounts s q) × Suits b f
+stays accounts s h p q a b f had same chosen suits decides =
+    let here : client_decides accounts s p ≡ (a, s) = subst (λ x. IfSome x (λ y. client_decides accounts s y ≡ (a, s))) (sym had) decides in
+    (ap (λ x. (x, s)) chosen ∙ sym here ∙ sym (ap (client_decides accounts s) same), subst (λ x. Suits x f) (sym chosen) suits)
+
+-- what the event of a decision by the session alone says
+pub own_out : (a b : Act) → b ≡ a → act_out a ≡ act_out b ++ []
+own_out a b chosen = sym (append-nil (act_out b) ∙ ap act_out chosen)
+
+settle_is : (p : Pdu) (found : Option (ℕ × ℕ)) (w u : Window)
+    → IfSome found (λ r. (row : Waiting) × (answered p.number p.command w.waiting ≡ Some row) × (r.0 ≡ row.lane) × (r.1 ≡ row.number) × (u ≡ record w { waiting = without p.number w.waiting }))
+    → IfNone found ((answered p.number p.command w.waiting ≡ None) × (u ≡ w)) → settle_step p found w u
+settle_is p (Some r) w u some none = some
+settle_is p None w u some none = none
+
+pub settle_window : (p q : Pdu) (found : Option (ℕ × ℕ)) (w u : Window) → q ≡ p
+    → IfSome found (λ r. (row : Waiting) × (answered p.number p.command w.waiting ≡ Some row) × (r.0 ≡ row.lane) × (r.1 ≡ row.number) × (u ≡ record w { waiting = without p.number w.waiting }))
+    → IfNone found ((answered p.number p.command w.waiting ≡ None) × (u ≡ w)) → settle_step q found w u
+settle_window p q found w u same some none = subst (λ x. settle_step x found w u) (sym same) (settle_is p found w u some none)
+
+-- of the PDU that waits
+pub settles : (accounts : List Login) (s : ClientState) (h : Option Pdu) (p : Pdu) → Some p ≡ h → IfSome h (λ x. client_decides accounts s x ≡ (act.MoAnswer x.number, s))
+    → IfSome h (λ x. client_decides accounts s x ≡ (act.MoAnswer p.number, s))
+settles accounts s h p had decides =
+    subst (λ x. IfSome x (λ y. client_decides accounts s y ≡ (act.MoAnswer p.number, s))) had
+    (subst (λ x. IfSome x (λ y. client_decides accounts s y ≡ (act.MoAnswer y.number, s))) (sym had) decides)
+
+says_bind : (k : Kind) (x : Checked) (s : ClientState) (p : Pdu) → Suits (bind_decision k x s p).0 Own
+says_bind k (Refused status) s p = tt
+says_bind k (Granted i version) s p = tt
+
+says_cell : (c : ClientCell) (accounts : List Login) (s : ClientState) (p : Pdu) (a : Act) → a ≡ (client_decision c accounts s p).0 → a ≢ act.Forward → ((n : ℕ) → a ≢ act.MoAnswer n)
+    → Suits (client_decision c accounts s p).0 Own
+says_cell (checks k) accounts s p a e f m = says_bind k (check_bind accounts p.body) s p
+says_cell (answer status) accounts s p a e f m = tt
+says_cell nack accounts s p a e f m = tt
+says_cell forward accounts s p a e f m = f e
+says_cell message_answer accounts s p a e f m = m p.number e
+says_cell leave accounts s p a e f m = tt
+says_cell ignore accounts s p a e f m = tt
+
+-- the session alone decides
+pub says_session : (accounts : List Login) (s t : ClientState) (p q : Pdu) (a b : Act) → q ≡ p → b ≡ a → a ≡ (client_decides accounts s p).0 → t ≡ (client_decides accounts s p).1
+    → a ≢ act.Forward → ((n : ℕ) → a ≢ act.MoAnswer n) → ((b, t) ≡ client_decides accounts s q) × Suits b Own
+says_session accounts s t p q a b same chosen act state f m = (
+  ap (λ x. (x, t)) (chosen ∙ act) ∙ ap (λ x. ((client_decides accounts s p).0, x)) state ∙ ap (client_decides accounts s) (sym same),
+  subst (λ x. Suits x Own) (sym (chosen ∙ act)) (says_cell (client_cell (client_row p.command) s) accounts s p a act f m),
+)

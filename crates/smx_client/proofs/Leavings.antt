@@ -1,0 +1,44 @@
+-- One step of a client's leaving more.
+use Rattle.std.proofs.Common.{◌≡◌, ℕ, ◌+◌, List, [], ◌∷◌, ◌++◌, sym, ◌∙◌, ap, refl, subst, arith, Result, Ok, Err, IfOk, OnErr, inl, inr, ◌⊎◌, true, Bool, Option}
+use Rattle.smx_lock.specs.Fronts.{IsSpent}
+use Rattle.smx_lock.specs.declared.faults.Spent.{Spent}
+use Rattle.smx_box.specs.declared.receiver.Got.{Got}
+use Rattle.smx_box.specs.Boxes.{Receiving, Sending, GetServes, Hands}
+use Rattle.smx_routes.specs.Window.{Window}
+use Rattle.smx_pdu.specs.declared.pdu.Pdu.{Pdu}
+use Rattle.smx_client.specs.declared.reply.Parked.{Parked}
+use Rattle.smx_turns.specs.declared.mo_item.MoItem.{MoItem}
+use Rattle.smx_turns.proofs.Chains.{runs_none}
+use Rattle.smx_client.specs.declared.leaver.Leaving.{Leaving}
+use Rattle.smx_client.specs.Leaving.{Rest, Left, Leaves, rest_of, Gives, gets, get_of, FoundNothing, IsEmptied}
+
+gets_more : (es : List Leaving) (e : Leaving) → gets (es ++ e ∷ []) ≡ gets es + get_of e
+unfolding gets
+gets_more [] e = omega arith
+gets_more (x ∷ es) e = let h = gets_more es e in omega (arith, h)
+
+pub gets_push : (es es' : List Leaving) (e : Leaving) → es' ≡ es ++ e ∷ [] → gets es' ≡ gets es + get_of e
+gets_push es es' e grown = ap gets grown ∙ gets_more es e
+
+-- a step that asks the box nothing
+pub gets_same : (es es' : List Leaving) (e : Leaving) → es' ≡ es ++ e ∷ [] → get_of e ≡ 0 → gets es' ≡ gets es
+gets_same es es' e grown none = let h = gets_push es es' e grown in omega (arith, h, none)
+
+pub gives_is : (a b : Receiving MoItem) (r : Result (Got MoItem) Spent) → IfOk r (λ f. GetServes a b.front f) → IfOk r (λ f. Hands a.got b.got f)
+    → OnErr r ((b.got ≡ a.got) × IsSpent a.front b.front) → Gives a r b
+gives_is a b (Ok found) served hands spent = (served, hands)
+gives_is a b (Err e) served hands spent = (spent.1, spent.0)
+
+pub left_first : (h h' : Option Parked) (w w' : Window) (i i' : Receiving MoItem) (x x' : List (Sending Pdu)) (es : List Leaving)
+    → es ≡ [] → h' ≡ h → w' ≡ w → i' ≡ i → x' ≡ x → Left (rest_of h' w' i' x') es (rest_of h w i x)
+left_first h h' w w' i i' x x' es none parked window inbox senders =
+    subst (λ l. Left (rest_of h' w' i' x') l (rest_of h w i x)) (sym none)
+    (subst (λ o. Left (rest_of o w' i' x') [] (rest_of h w i x)) (sym parked)
+    (subst (λ o. Left (rest_of h o i' x') [] (rest_of h w i x)) (sym window)
+    (subst (λ o. Left (rest_of h w o x') [] (rest_of h w i x)) (sym inbox)
+    (subst (λ o. Left (rest_of h w i o) [] (rest_of h w i x)) (sym senders)
+    ∣ runs_none Leaves (rest_of h w i x) ∣₁))))
+
+pub gets_none : (es : List Leaving) → es ≡ [] → gets es ≡ 0
+unfolding gets
+gets_none es none = ap gets none

@@ -1,0 +1,12 @@
+pub mod Steps
+pub mod Fates
+pub mod Doings
+pub mod Starts
+pub mod Laws
+pub mod Scenes
+pub mod Cells
+pub mod Filters
+pub mod Replying
+pub mod Leavings
+pub mod Entering
+pub mod Rounding

@@ -1,0 +1,21 @@
+use Rattle.std.proofs.Common.{◌≡◌, List, length}
+use Rattle.smx_shared.specs.Views.{locks_of}
+use Rattle.smx_turns.specs.declared.directory.Query.{Query}
+use Rattle.smx_client.specs.Scenes.{scene_of}
+use Rattle.smx_client.specs.Table.{Before, phase_of, Written, MayCollect}
+use Rattle.smx_client.specs.Turns.{Leads}
+use Rattle.smx_client.proofs.worker.ClientWorker.collect_part.Given as goal
+
+abbrev pub invariant-loop-lane : goal.invariant-loop-lane
+invariant-loop-lane g l = record {
+  locks : locks_of l.self.port.fronts ≡ locks_of l.fn.self.port.fronts;
+  origin : l.self.origin ≡ l.fn.self.origin;
+  held : l.self.held ≡ l.fn.self.held;
+  parked : l.self.parked ≡ l.fn.self.parked;
+  stage : l.self.stage ≡ l.fn.self.stage;
+  failed : l.self.wire.failed ≡ l.fn.self.wire.failed;
+  counts : (l.self.turns ≡ l.fn.self.turns) × (l.self.ends ≡ l.fn.self.ends);
+  phase : (t : Before) → phase_of t l.fn.log ≡ Written → phase_of t l.log ≡ MayCollect l.lane;
+  leads : (queries : List Query) → Leads l.fn.turn (scene_of (g.G.Gate.asked l.fn.gate) (g.G.Gate.told l.fn.gate) queries l.fn.self) l.fn.log
+      (scene_of (g.G.Gate.asked l.gate) (g.G.Gate.told l.gate) queries l.self) l.log;
+}

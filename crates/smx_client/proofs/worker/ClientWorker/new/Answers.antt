@@ -1,0 +1,11 @@
+use Rattle.std.proofs.Common.{rules, ◌≡◌, ◌≢◌, ◌<◌, ◌++◌, [], ◌∷◌, ℕ, List, length, refl, sym, ap, ◌∙◌, subst, Some, None, Ok, Err, Option, Result, true, false}
+use Rattle.std.proofs.lemmas.List.{append-nil}
+use Rattle.smx_client.proofs.Starts.{started, heard_first}
+use Rattle.smx_client.proofs.worker.ClientWorker.new.Goals as goal
+
+pub invariant_of-result-clause-heard_is : goal.invariant_of-result-clause-heard_is
+invariant_of-result-clause-heard_is g c = heard_first _ _ c.new-3.ensures.none.0 c.new-6.ensures
+
+pub invariant_of-result-clause-run_is : goal.invariant_of-result-clause-run_is
+invariant_of-result-clause-run_is g c =
+    started _ _ _ _ _ _ _ _ _ _ _ _ c.new-6.ensures c.new-3.ensures.none.1 c.of.ensures c.new-2.ensures c.of-2.ensures c.of-3.ensures (ap (λ v. v.items) c.of-4.ensures)

@@ -1,0 +1,45 @@
+use Rattle.std.proofs.Common.{rules, ◌≡◌, ◌≢◌, ◌<◌, ◌++◌, [], ◌∷◌, ℕ, List, length, refl, sym, ap, ◌∙◌, subst, Some, None, Ok, Err, Option, Result, true, false}
+use Rattle.std.proofs.lemmas.List.{append-nil}
+use Rattle.smx_link.specs.Wiring.{spellings, Wiring}
+use Rattle.smx_turns.proofs.Chains.{chain_push}
+use Rattle.smx_client.specs.Parts.{Does}
+use Rattle.smx_client.proofs.Steps.{keeps, takes}
+use Rattle.smx_client.proofs.Scenes.{happens}
+use Rattle.smx_client.proofs.Replying.{waits, clears, others}
+use Rattle.smx_client.specs.declared.event.Event.TheVariants.{PutAgain}
+use Rattle.smx_client.specs.Table.{IsPart}
+use Rattle.smx_client.proofs.Doings as doing
+use Rattle.smx_client.proofs.worker.ClientWorker.put_again.Goals as goal
+
+pub invariant_of-self-clause-heard_is : goal.invariant_of-self-clause-heard_is
+invariant_of-self-clause-heard_is g c =
+    let s = c.args.self.now in
+    keeps _ _ _ _ (PutAgain c.in-Some.field-0.lane c.put_or_park-reply.result) c.note.ensures.events refl s.heard_is
+
+pub invariant_of-self-clause-run_is : goal.invariant_of-self-clause-run_is
+invariant_of-self-clause-run_is g c =
+    let s = c.args.self.now in
+    let e = c.put_or_park-reply.ensures in
+    chain_push Does _ _ _ _ _ (PutAgain c.in-Some.field-0.lane c.put_or_park-reply.result) c.note.ensures.events
+    (doing.put_again _ _ _ _ _ _ _ s.parked c.take.new.self _ _ c.in-Some.field-0 c.put_or_park-reply.result c.in-Some.ensures.value c.take.ensures.after e.parks e.count e.put e.answer) s.run_is
+
+pub returns-clause-leads : goal.returns-clause-leads
+returns-clause-leads g c = λ n queries base was.
+    let s = c.args.self.now in
+    let e = c.put_or_park-reply.ensures in
+    c.note.ensures.leads n _ _ (happens g.L.Link.offered g.L.Link.polls g.L.Link.failures _ _ _ _ queries _ _ _ _ _ _ _ _ (PutAgain c.in-Some.field-0.lane c.put_or_park-reply.result)
+    (doing.put_again _ _ _ _ _ _ _ s.parked c.take.new.self _ _ c.in-Some.field-0 c.put_or_park-reply.result c.in-Some.ensures.value c.take.ensures.after e.parks e.count e.put e.answer)
+    c.tell.ensures.asked c.tell.ensures.told c.note.ensures.events (sym (append-nil s.wire.unsent)) refl) base was
+
+pub returns-clause-phase : goal.returns-clause-phase
+returns-clause-phase g c = λ t p q was cells.
+    subst (λ x. IsPart q c.progress.result x) (sym (c.note.ensures.phase t p was ∙ cells c.in-Some.field-0.lane c.put_or_park-reply.result)) (c.progress.ensures.phase q)
+
+pub returns-clause-parked : goal.returns-clause-parked
+returns-clause-parked g c = waits c.put_or_park-reply.result _ c.progress.result c.progress.ensures.which c.put_or_park-reply.ensures.parks
+
+pub returns-clause-clear : goal.returns-clause-clear
+returns-clause-clear g c = clears c.put_or_park-reply.result _ c.progress.result c.progress.ensures.which c.put_or_park-reply.ensures.parks
+
+pub returns-clause-which : goal.returns-clause-which
+returns-clause-which g c = others c.put_or_park-reply.result c.progress.result c.progress.ensures.which

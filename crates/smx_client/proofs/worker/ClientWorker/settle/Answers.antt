@@ -1,0 +1,63 @@
+use Rattle.std.proofs.Common.{rules, ◌≡◌, ◌≢◌, ◌<◌, ◌++◌, [], ◌∷◌, ℕ, List, length, refl, sym, ap, ◌∙◌, subst, Some, None, Ok, Err, Option, Result, true, false}
+use Rattle.std.proofs.lemmas.List.{append-nil}
+use Rattle.smx_link.specs.Wiring.{spellings, Wiring}
+use Rattle.smx_turns.proofs.Chains.{chain_push}
+use Rattle.smx_client.specs.Parts.{Does}
+use Rattle.smx_client.proofs.Steps.{keeps, takes}
+use Rattle.smx_client.proofs.Scenes.{happens}
+use Rattle.smx_client.proofs.Replying.{waits, clears, others}
+use Rattle.smx_pdu.specs.declared.pdu.Pdu.{Pdu}
+use Rattle.smx_session.specs.declared.act.Act.TheVariants as act
+use Rattle.smx_client.specs.declared.event.Event.TheVariants.{Decided}
+use Rattle.smx_client.specs.declared.event.Fate.TheVariants.{Settled}
+use Rattle.smx_client.specs.Table.{IsPart, Deciding}
+use Rattle.smx_client.proofs.Doings as doing
+use Rattle.smx_client.proofs.Cells as cell
+use Rattle.smx_client.proofs.Fates.{own_out, stays, settles, settle_window}
+use Rattle.smx_client.proofs.worker.ClientWorker.settle.Goals as goal
+
+pub invariant_of-self-clause-heard_is : goal.invariant_of-self-clause-heard_is
+invariant_of-self-clause-heard_is g c =
+    let s = c.args.self.now in
+    takes _ s.held c.take.new.self _ _ (Decided c.of-read.result c.of.result (Settled c.settle-found.result c.answer_settled-reply.result)) c.in-Some.pdu c.note.ensures.events
+    (ap (λ (p : Pdu). p ∷ []) c.of-read.ensures) c.in-Some.ensures.value c.take.ensures.after s.heard_is
+
+pub invariant_of-self-clause-run_is : goal.invariant_of-self-clause-run_is
+invariant_of-self-clause-run_is g c =
+    let s = c.args.self.now in
+    let e = c.answer_settled-reply.ensures in
+    chain_push Does _ _ _ _ _ (Decided c.of-read.result c.of.result (Settled c.settle-found.result c.answer_settled-reply.result)) c.note.ensures.events
+    (doing.settled _ _ _ _ _ _ _ _ _ _ _ _ c.in-Some.pdu c.of-read.result c.of.result c.settle-found.result c.answer_settled-reply.result c.of-read.ensures
+    (sym (append-nil s.wire.said) ∙ ap (λ l. s.wire.said ++ l) (own_out (act.MoAnswer c.in-Some.pdu.number) _ c.of.ensures))
+    (stays _ _ s.held c.in-Some.pdu _ (act.MoAnswer c.in-Some.pdu.number) _ (Settled c.settle-found.result c.answer_settled-reply.result) c.in-Some.ensures.value c.of-read.ensures c.of.ensures tt
+    (settles _ _ s.held c.in-Some.pdu c.in-Some.ensures.value c.requires.held))
+    (settle_window c.in-Some.pdu _ c.settle-found.result _ _ c.of-read.ensures c.settle-found.ensures.settled c.settle-found.ensures.none)
+    c.requires.none e.parks e.count e.put e.answer) s.run_is
+
+pub returns-clause-leads : goal.returns-clause-leads
+returns-clause-leads g c = λ n queries base was.
+    let s = c.args.self.now in
+    let e = c.answer_settled-reply.ensures in
+    c.note.ensures.leads n _ _ (happens g.L.Link.offered g.L.Link.polls g.L.Link.failures _ _ _ _ queries _ _ _ _ _ _ _ _ (Decided c.of-read.result c.of.result (Settled c.settle-found.result c.answer_settled-reply.result))
+    (doing.settled _ _ _ _ _ _ _ _ _ _ _ _ c.in-Some.pdu c.of-read.result c.of.result c.settle-found.result c.answer_settled-reply.result c.of-read.ensures
+    (sym (append-nil s.wire.said) ∙ ap (λ l. s.wire.said ++ l) (own_out (act.MoAnswer c.in-Some.pdu.number) _ c.of.ensures))
+    (stays _ _ s.held c.in-Some.pdu _ (act.MoAnswer c.in-Some.pdu.number) _ (Settled c.settle-found.result c.answer_settled-reply.result) c.in-Some.ensures.value c.of-read.ensures c.of.ensures tt
+    (settles _ _ s.held c.in-Some.pdu c.in-Some.ensures.value c.requires.held))
+    (settle_window c.in-Some.pdu _ c.settle-found.result _ _ c.of-read.ensures c.settle-found.ensures.settled c.settle-found.ensures.none)
+    c.requires.none e.parks e.count e.put e.answer)
+    e.asked e.told c.note.ensures.events
+    (sym (append-nil s.wire.unsent) ∙ ap (λ l. s.wire.unsent ++ spellings l) (own_out (act.MoAnswer c.in-Some.pdu.number) _ c.of.ensures)) refl) base was
+
+pub returns-clause-phase : goal.returns-clause-phase
+returns-clause-phase g c = λ t ended was.
+    subst (λ p. IsPart (Deciding ended) c.progress.result p) (sym (c.note.ensures.phase t _ was ∙ cell.settles t ended c.of-read.result c.of.result c.settle-found.result c.answer_settled-reply.result))
+    (c.progress.ensures.phase (Deciding ended))
+
+pub returns-clause-which : goal.returns-clause-which
+returns-clause-which g c = others c.answer_settled-reply.result c.progress.result c.progress.ensures.which
+
+pub returns-clause-waits : goal.returns-clause-waits
+returns-clause-waits g c = waits c.answer_settled-reply.result _ c.progress.result c.progress.ensures.which c.answer_settled-reply.ensures.parks
+
+pub returns-clause-clear : goal.returns-clause-clear
+returns-clause-clear g c = clears c.answer_settled-reply.result _ c.progress.result c.progress.ensures.which c.answer_settled-reply.ensures.parks

@@ -1,0 +1,233 @@
+-- In, Out and the other filters of a worker's events.
+use Rattle.std.specs.Prelude.{ℕ, Bool, true, false, List, [], ◌∷◌, ◌++◌, Option, Some, None, Result, Ok, Err}
+use Rattle.std.specs.List.{flat_map}
+use Rattle.smx_pdu.specs.declared.pdu.Pdu.{Pdu}
+use Rattle.smx_pdu.specs.declared.status.TheConstants.{ESME_RSYSERR, ESME_RMSGQFUL}
+use Rattle.smx_pdu.specs.Command.{response_of}
+use Rattle.smx_session.specs.Pdus.{response}
+use Rattle.smx_session.specs.declared.act.Act.{Act}
+use Rattle.smx_session.specs.declared.act.Act.TheVariants as act
+use Rattle.smx_shared.specs.declared.offer.Offer.{Offer}
+use Rattle.smx_shared.specs.declared.fault.SubmitFault.{SubmitFault}
+use Rattle.smx_shared.specs.declared.fault.SubmitFault.TheVariants as submit
+use Rattle.smx_shared.specs.Offers.{Accepted, accepted_by}
+use Rattle.smx_lock.specs.declared.faults.Spent.{Spent}
+use Rattle.smx_box.specs.declared.receiver.Got.{Got}
+use Rattle.smx_box.specs.declared.receiver.Got.TheVariants.{Item, Shut, Empty}
+use Rattle.smx_turns.specs.declared.mo_item.MoItem.{MoItem}
+use Rattle.smx_turns.specs.declared.gate.Party.{Party}
+use Rattle.smx_turns.specs.declared.gate.Party.TheVariants.{Lane}
+use Rattle.smx_client.specs.declared.event.Event.{Event}
+use Rattle.smx_client.specs.declared.event.Event.TheVariants.{Decided, Broke, Collected, PutAgain, Got as Fetched}
+use Rattle.smx_client.specs.declared.event.Fate.{Fate}
+use Rattle.smx_client.specs.declared.event.Fate.TheVariants.{Own, Submitted, Settled}
+use Rattle.smx_client.specs.declared.event.Delivery.{Delivery}
+use Rattle.smx_client.specs.declared.event.Delivery.TheVariants.{Given, Refused, Dropped}
+use Rattle.smx_client.specs.declared.reply.Parked.{Parked}
+use Rattle.smx_client.specs.declared.reply.Reply.{Reply}
+use Rattle.smx_client.specs.declared.reply.Reply.TheVariants as reply
+use Rattle.smx_client.specs.Replies.{answer_up, refused_up, on_lane, if_taken, parked_on}
+
+-- the status that answers a refused request
+abbrev pub status_of : SubmitFault → ℕ
+status_of submit.Exhausted = ESME_RSYSERR
+status_of submit.Spent = ESME_RSYSERR
+status_of submit.AllFull = ESME_RMSGQFUL
+
+-- what the session's act says
+abbrev pub act_out : Act → List Pdu
+act_out (act.Answer p) = p ∷ []
+act_out (act.Bind k i p) = p ∷ []
+act_out act.Forward = []
+act_out (act.MoAnswer n) = []
+act_out (act.Leave p) = p ∷ []
+act_out (act.Hangup p) = p ∷ []
+act_out act.Ignore = []
+
+-- the answer to a refused request
+abbrev pub refusal_out : Pdu → Result ℕ (Offer × SubmitFault) → List Pdu
+refusal_out p (Ok lane) = []
+refusal_out p (Err e) = response p (status_of e.1) [] ∷ []
+
+abbrev pub fate_out : Pdu → Fate → List Pdu
+fate_out p Own = []
+fate_out p (Submitted o r) = refusal_out p r.value
+fate_out p (Settled found reply) = []
+
+abbrev pub response_out : Result (Option Pdu) Spent → List Pdu
+response_out (Ok (Some p)) = p ∷ []
+response_out (Ok None) = []
+response_out (Err e) = []
+
+-- a message as the client is sent it
+abbrev pub message_as : ℕ → MoItem → Pdu
+message_as n item = record { command = item.pdu.command; status = 0; number = n; body = item.pdu.body }
+
+abbrev pub item_out : Got MoItem → Delivery → List Pdu
+item_out (Item p n item) (Given number) = message_as number item ∷ []
+item_out _ _ = []
+
+abbrev pub got_out : Result (Got MoItem) Spent → Delivery → List Pdu
+got_out (Ok found) d = item_out found d
+got_out (Err e) d = []
+
+-- the PDUs that an event says to the client
+abbrev pub out_of : Event → List Pdu
+out_of (Decided p a f) = act_out a.value ++ fate_out p.value f
+out_of (Broke a) = act_out a.value
+out_of (Collected lane r) = response_out r.value
+out_of (Fetched g d) = got_out g.value d
+out_of (PutAgain lane reply) = []
+
+-- the PDUs that an event decided
+abbrev pub in_of : Event → List Pdu
+in_of (Decided p a f) = p.value ∷ []
+in_of (Broke a) = []
+in_of (Collected lane r) = []
+in_of (Fetched g d) = []
+in_of (PutAgain lane reply) = []
+
+-- the accepts that an event leaves in the port's notes
+abbrev pub fate_accepts : Fate → List Accepted
+fate_accepts Own = []
+fate_accepts (Submitted o r) = accepted_by o.value r.value
+fate_accepts (Settled found reply) = []
+
+abbrev pub accepts_of : Event → List Accepted
+accepts_of (Decided p a f) = fate_accepts f
+accepts_of (Broke a) = []
+accepts_of (Collected lane r) = []
+accepts_of (Fetched g d) = []
+accepts_of (PutAgain lane reply) = []
+
+abbrev pub settled_out : ℕ → Pdu → Option (ℕ × ℕ) → List (Option Pdu)
+settled_out k p None = []
+settled_out k p (Some found) = on_lane k found.0 (answer_up p found.1 ∷ [])
+
+abbrev pub fate_answers : ℕ → Pdu → Fate → List (Option Pdu)
+fate_answers k p Own = []
+fate_answers k p (Submitted o r) = []
+fate_answers k p (Settled found reply) = settled_out k p found
+
+abbrev pub item_answers : ℕ → Got MoItem → Delivery → List (Option Pdu)
+item_answers k (Item p n item) (Refused reply) = on_lane k item.lane (refused_up (response_of item.pdu.command) item.number)
+item_answers k _ _ = []
+
+abbrev pub got_answers : ℕ → Result (Got MoItem) Spent → Delivery → List (Option Pdu)
+got_answers k (Ok found) d = item_answers k found d
+got_answers k (Err e) d = []
+
+-- the answers that an event has for the return box of lane k
+abbrev pub answers_of : ℕ → Event → List (Option Pdu)
+answers_of k (Decided p a f) = fate_answers k p.value f
+answers_of k (Broke a) = []
+answers_of k (Collected lane r) = []
+answers_of k (Fetched g d) = got_answers k g.value d
+answers_of k (PutAgain lane reply) = []
+
+abbrev pub fate_puts : ℕ → Pdu → Fate → List (Option Pdu)
+fate_puts k p Own = []
+fate_puts k p (Submitted o r) = []
+fate_puts k p (Settled found reply) = if_taken reply (settled_out k p found)
+
+abbrev pub delivery_puts : ℕ → Result (Got MoItem) Spent → Delivery → List (Option Pdu)
+delivery_puts k r (Given number) = []
+delivery_puts k r (Refused reply) = if_taken reply (got_answers k r (Refused reply))
+delivery_puts k r Dropped = []
+
+-- what an event puts into the return box of lane k, where this answer waits
+abbrev pub puts_of : ℕ → Option Parked → Event → List (Option Pdu)
+puts_of k h (Decided p a f) = fate_puts k p.value f
+puts_of k h (Broke a) = []
+puts_of k h (Collected lane r) = []
+puts_of k h (Fetched g d) = delivery_puts k g.value d
+puts_of k h (PutAgain lane reply) = if_taken reply (parked_on k h)
+
+-- the lane, where its return box took an answer
+abbrev pub lane_told : ℕ → Reply → List Party
+lane_told lane reply.Taken = Lane lane ∷ []
+lane_told lane reply.Full = []
+lane_told lane reply.Spent = []
+lane_told lane reply.Nobody = []
+
+-- the lane that accepted a request
+abbrev pub submit_told : Result ℕ (Offer × SubmitFault) → List Party
+submit_told (Ok lane) = Lane lane ∷ []
+submit_told (Err e) = []
+
+abbrev pub settled_told : Option (ℕ × ℕ) → Reply → List Party
+settled_told None reply = []
+settled_told (Some found) reply = lane_told found.0 reply
+
+abbrev pub fate_told : Fate → List Party
+fate_told Own = []
+fate_told (Submitted o r) = submit_told r.value
+fate_told (Settled found reply) = settled_told found reply
+
+abbrev pub item_told : Got MoItem → Reply → List Party
+item_told (Item p n item) reply = lane_told item.lane reply
+item_told (Shut p) reply = []
+item_told Empty reply = []
+
+abbrev pub refused_told : Result (Got MoItem) Spent → Reply → List Party
+refused_told (Ok found) reply = item_told found reply
+refused_told (Err e) reply = []
+
+abbrev pub got_told : Result (Got MoItem) Spent → Delivery → List Party
+got_told r (Given number) = []
+got_told r (Refused reply) = refused_told r reply
+got_told r Dropped = []
+
+-- for whom something waits after an event
+abbrev pub tells_of : Event → List Party
+tells_of (Decided p a f) = fate_told f
+tells_of (Broke a) = []
+tells_of (Collected lane r) = []
+tells_of (Fetched g d) = got_told g.value d
+tells_of (PutAgain lane reply) = lane_told lane reply
+
+-- in order
+unfoldable pub tells : List Event → List Party
+tells es = flat_map tells_of es
+
+abbrev pub is_none_found : Result (Option Pdu) Spent → Bool
+is_none_found (Ok (Some p)) = false
+is_none_found (Ok None) = true
+is_none_found (Err e) = true
+
+abbrev pub is_empty_got : Result (Got MoItem) Spent → Bool
+is_empty_got (Ok (Item p n item)) = false
+is_empty_got (Ok (Shut p)) = false
+is_empty_got (Ok Empty) = true
+is_empty_got (Err e) = true
+
+abbrev pub is_refused : Reply → Bool
+is_refused reply.Taken = false
+is_refused reply.Full = true
+is_refused reply.Spent = true
+is_refused reply.Nobody = false
+
+-- whether nothing came of an event
+abbrev pub is_quiet_event : Event → Bool
+is_quiet_event (Decided p a f) = false
+is_quiet_event (Broke a) = false
+is_quiet_event (Collected lane r) = is_none_found r.value
+is_quiet_event (Fetched g d) = is_empty_got g.value
+is_quiet_event (PutAgain lane reply) = is_refused reply
+
+unfoldable pub ins : List Event → List Pdu
+ins es = flat_map in_of es
+
+unfoldable pub outs : List Event → List Pdu
+outs es = flat_map out_of es
+
+unfoldable pub accepts : List Event → List Accepted
+accepts es = flat_map accepts_of es
+
+unfoldable pub answers : ℕ → List Event → List (Option Pdu)
+answers k es = flat_map (answers_of k) es
+
+-- the PDU that waits
+abbrev pub held_list : Option Pdu → List Pdu
+held_list None = []
+held_list (Some p) = p ∷ []

@@ -1,0 +1,11 @@
+pub mod Marks
+pub mod Replies
+pub mod Events
+pub mod Prefixes
+pub mod Parts
+pub mod Sayings
+pub mod Table
+pub mod Turns
+pub mod Scenes
+pub mod Rounds
+pub mod Leaving

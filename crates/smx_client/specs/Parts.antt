@@ -1,0 +1,195 @@
+-- The parts of a worker, and what an event does to them.
+use Rattle.std.specs.Prelude.{◌≡◌, ◌<◌, ◌++◌, length, ℕ, List, [], ◌∷◌, Option, Some, None, Result, Ok, Err}
+use Rattle.smx_pdu.specs.declared.pdu.Pdu.{Pdu}
+use Rattle.smx_session.specs.Login.{Login}
+use Rattle.smx_session.specs.Pdus.{undecoded}
+use Rattle.smx_session.specs.ClientTable.{client_decides}
+use Rattle.smx_session.specs.declared.act.Act.{Act}
+use Rattle.smx_session.specs.declared.act.Act.TheVariants as act
+use Rattle.smx_session.specs.declared.client_state.ClientState.{ClientState}
+use Rattle.smx_session.specs.declared.client_state.ClientState.TheVariants.{Ended}
+use Rattle.smx_lock.specs.Fronts.{IsSpent}
+use Rattle.smx_lock.specs.declared.faults.Spent.{Spent}
+use Rattle.smx_shared.specs.Views.{PortView}
+use Rattle.smx_shared.specs.Offers.{Accepted}
+use Rattle.smx_shared.specs.Ports.{HasAccepted}
+use Rattle.smx_shared.specs.Serving.{CollectServes, Waited}
+use Rattle.smx_shared.specs.Submits.{OnLane, Submitted as Lands, Refuses}
+use Rattle.smx_shared.specs.declared.offer.Offer.{Offer}
+use Rattle.smx_shared.specs.declared.fault.SubmitFault.{SubmitFault}
+use Rattle.smx_box.specs.declared.receiver.Got.{Got}
+use Rattle.smx_box.specs.declared.receiver.Got.TheVariants.{Item, Shut, Empty}
+use Rattle.smx_routes.specs.declared.mo_window.Waiting.{Waiting}
+use Rattle.smx_box.specs.Boxes.{Sending, Receiving, GetServes, Hands}
+use Rattle.smx_routes.specs.Window.{Window, IsNext, answered, without}
+use Rattle.smx_turns.specs.Runs.{Runs}
+use Rattle.smx_turns.specs.declared.mo_item.MoItem.{MoItem}
+use Rattle.smx_client.specs.declared.desk.Desk.{Desk}
+use Rattle.smx_client.specs.declared.reply.Parked.{Parked}
+use Rattle.smx_client.specs.declared.event.Event.{Event}
+use Rattle.smx_client.specs.declared.event.Event.TheVariants.{Decided, Broke, Collected, PutAgain, Got as Fetched}
+use Rattle.smx_client.specs.declared.event.Fate.{Fate}
+use Rattle.smx_client.specs.declared.event.Fate.TheVariants.{Own, Submitted, Settled}
+use Rattle.smx_client.specs.declared.event.Delivery.{Delivery}
+use Rattle.smx_client.specs.declared.event.Delivery.TheVariants.{Given, Refused, Dropped}
+use Rattle.smx_client.specs.Replies.{Parks, put_in, parked_on}
+use Rattle.smx_client.specs.Events.{out_of, accepts_of, answers_of, puts_of}
+
+-- the offer is the request that the PDU asks for
+pub record IsOfferOf (p : Pdu) (o : Offer) : Type 0 where
+  pub own : o.own ≡ p.number
+  pub command : o.command ≡ p.command
+  pub body : o.body ≡ p.body
+
+-- what a submit did to the port
+abbrev pub submit_step : Offer → Result ℕ (Offer × SubmitFault) → PortView → PortView → Type 0
+submit_step o (Ok lane) v w = Lands v o w lane
+submit_step o (Err e) v w = (e.0 ≡ o) × Refuses v o w e.1
+
+-- what a collect on lane k did to the port
+abbrev pub collect_step : ℕ → Result (Option Pdu) Spent → PortView → PortView → Type 0
+collect_step k r v w = OnLane k v.fronts w.fronts (λ f g. Waited (CollectServes f g v.client) f g r) × (w ≡ record v { fronts = w.fronts })
+
+abbrev pub fate_port : Pdu → Fate → PortView → PortView → Type 0
+fate_port p Own v w = w ≡ v
+fate_port p (Submitted o r) v w = IsOfferOf p o.value × submit_step o.value r.value v w
+fate_port p (Settled found reply) v w = w ≡ v
+
+abbrev pub port_step : PortView → Event → PortView → Type 0
+port_step v (Decided p a f) w = fate_port p.value f v w
+port_step v (Broke a) w = w ≡ v
+port_step v (Collected k r) w = collect_step k r.value v w
+port_step v (Fetched g d) w = w ≡ v
+port_step v (PutAgain lane reply) w = w ≡ v
+
+-- what may become of a PDU under that act
+abbrev pub Suits : Act → Fate → Type 0
+Suits act.Forward (Submitted o r) = Unit {0}
+Suits (act.MoAnswer n) (Settled found reply) = Unit {0}
+Suits (act.Answer p) Own = Unit {0}
+Suits (act.Bind k i p) Own = Unit {0}
+Suits (act.Leave p) Own = Unit {0}
+Suits act.Ignore Own = Unit {0}
+Suits _ _ = ⊥
+
+-- the session's table
+abbrev pub session_step : List Login → ClientState → Event → ClientState → Type 0
+session_step accounts s (Decided p a f) t = ((a.value, t) ≡ client_decides accounts s p.value) × Suits a.value f
+session_step accounts s (Broke a) t = (a.value ≡ act.Hangup undecoded) × (t ≡ Ended)
+session_step accounts s (Collected k r) t = t ≡ s
+session_step accounts s (Fetched g d) t = t ≡ s
+session_step accounts s (PutAgain lane reply) t = t ≡ s
+
+-- the message that a response answers leaves the window, where there is one
+abbrev pub settle_step : Pdu → Option (ℕ × ℕ) → Window → Window → Type 0
+settle_step p None w u = (answered p.number p.command w.waiting ≡ None) × (u ≡ w)
+settle_step p (Some found) w u = (row : Waiting) × (answered p.number p.command w.waiting ≡ Some row) × (found.0 ≡ row.lane) × (found.1 ≡ row.number)
+    × (u ≡ record w { waiting = without p.number w.waiting })
+
+abbrev pub fate_window : Pdu → Fate → Window → Window → Type 0
+fate_window p Own w u = u ≡ w
+fate_window p (Submitted o r) w u = u ≡ w
+fate_window p (Settled found reply) w u = settle_step p found w u
+
+-- an item waits under the number that it is given
+abbrev pub item_step : Got MoItem → Delivery → Window → Window → Type 0
+item_step (Item p n item) (Given number) w u = IsNext w number × (u ≡ record w {
+  last = number;
+  waiting = w.waiting ++ record { given = number; lane = item.lane; number = item.number; command = item.pdu.command } ∷ [];
+})
+item_step _ (Given number) w u = ⊥
+item_step _ _ w u = u ≡ w
+
+abbrev pub got_step : Result (Got MoItem) Spent → Delivery → Window → Window → Type 0
+got_step (Ok found) d w u = item_step found d w u
+got_step (Err e) d w u = u ≡ w
+
+abbrev pub window_step : Window → Event → Window → Type 0
+window_step w (Decided p a f) u = fate_window p.value f w u
+window_step w (Broke a) u = u ≡ w
+window_step w (Collected k r) u = u ≡ w
+window_step w (Fetched g d) u = got_step g.value d w u
+window_step w (PutAgain lane reply) u = u ≡ w
+
+-- which delivery an item gets: dropped where its lane has no sender, refused where it is for another client
+abbrev pub IsDelivered : ℕ → ℕ → Got MoItem → Delivery → Type 0
+IsDelivered client lanes (Item p n item) (Given number) = (item.lane < lanes) × (item.client ≡ client)
+IsDelivered client lanes (Item p n item) (Refused reply) = (item.lane < lanes) × ¬ (item.client ≡ client)
+IsDelivered client lanes (Item p n item) Dropped = ¬ (item.lane < lanes)
+IsDelivered client lanes (Shut p) Dropped = Unit {0}
+IsDelivered client lanes Empty Dropped = Unit {0}
+IsDelivered client lanes _ _ = ⊥
+
+-- one hold of the box served a get, or its tickets are spent
+abbrev pub Gets : ℕ → ℕ → Receiving MoItem → Result (Got MoItem) Spent → Delivery → Receiving MoItem → Type 0
+Gets client lanes a (Ok found) d b = GetServes a b.front found × Hands a.got b.got found × IsDelivered client lanes found d
+Gets client lanes a (Err e) d b = IsSpent a.front b.front × (b.got ≡ a.got) × (d ≡ Dropped)
+
+abbrev pub inbox_step : ℕ → ℕ → Receiving MoItem → Event → Receiving MoItem → Type 0
+inbox_step client lanes a (Decided p act f) b = b ≡ a
+inbox_step client lanes a (Broke act) b = b ≡ a
+inbox_step client lanes a (Collected k r) b = b ≡ a
+inbox_step client lanes a (Fetched g d) b = Gets client lanes a g.value d b
+inbox_step client lanes a (PutAgain lane reply) b = b ≡ a
+
+abbrev pub fate_parks : Fate → Option Parked → Option Parked → Type 0
+fate_parks Own h i = i ≡ h
+fate_parks (Submitted o r) h i = i ≡ h
+fate_parks (Settled found reply) h i = (h ≡ None) × Parks reply i
+
+abbrev pub delivery_parks : Delivery → Option Parked → Option Parked → Type 0
+delivery_parks (Given number) h i = i ≡ h
+delivery_parks (Refused reply) h i = (h ≡ None) × Parks reply i
+delivery_parks Dropped h i = i ≡ h
+
+-- the answer that waits
+abbrev pub parked_step : Option Parked → Event → Option Parked → Type 0
+parked_step h (Decided p a f) i = fate_parks f h i
+parked_step h (Broke a) i = i ≡ h
+parked_step h (Collected k r) i = i ≡ h
+parked_step h (Fetched g d) i = delivery_parks d h i
+parked_step h (PutAgain lane reply) i = (a : Parked) × (h ≡ Some a) × (lane ≡ a.lane) × Parks reply i
+
+pub record Parts : Type 0 where
+  -- who may bind, and what was said to the client
+  pub desk : Desk
+  pub said : List Pdu
+  pub port : PortView
+  pub session : ClientState
+  pub window : Window
+  pub inbox : Receiving MoItem
+  -- what the return box of each lane was put, the answer that waits for one, and how many there are
+  pub put : ℕ → List (Option Pdu)
+  pub parked : Option Parked
+  pub lanes : ℕ
+
+-- one event is one step of the parts, as their own contracts say
+pub record Does (v : Parts) (e : Event) (w : Parts) : Type 0 where
+  pub says : w.said ≡ v.said ++ out_of e
+  pub port : port_step v.port e w.port
+  pub lists : (all : List Accepted) → HasAccepted v.port all → HasAccepted w.port (all ++ accepts_of e)
+  pub session : session_step v.desk.accounts.items v.session e w.session
+  pub window : window_step v.window e w.window
+  pub inbox : inbox_step v.port.client v.lanes v.inbox e w.inbox
+  pub puts : (k : ℕ) → k < v.lanes → w.put k ≡ v.put k ++ puts_of k v.parked e
+  pub answers : (k : ℕ) → k < v.lanes → w.put k ++ parked_on k w.parked ≡ v.put k ++ parked_on k v.parked ++ answers_of k e
+  pub parked : parked_step v.parked e w.parked
+  pub desk : w.desk ≡ v.desk
+  pub lanes : w.lanes ≡ v.lanes
+
+abbrev pub parts : Desk → List Pdu → PortView → ClientState → Window → Receiving MoItem → List (Sending Pdu) → Option Parked → Parts
+parts desk said port session window inbox senders parked = record {
+  desk = desk;
+  said = said;
+  port = port;
+  session = session;
+  window = window;
+  inbox = inbox;
+  put = put_in senders;
+  parked = parked;
+  lanes = length senders;
+}
+
+-- from the parts a the events lead to the parts b
+abbrev pub Chain : Parts → List Event → Parts → Type 0
+Chain a es b = ∥ Runs Does a es b ∥₁

@@ -1,0 +1,47 @@
+-- Answers to messages, for the return boxes of the lanes.
+use Rattle.std.specs.Prelude.{◌≡◌, ◌==◌, ℕ, Bool, true, false, List, [], ◌∷◌, map, Option, Some, None, IsSome, slice_get, if◌then◌else◌}
+use Rattle.smx_pdu.specs.declared.pdu.Pdu.{Pdu}
+use Rattle.smx_pdu.specs.declared.status.TheConstants.{ESME_RX_T_APPN}
+use Rattle.smx_box.specs.Boxes.{Sending}
+use Rattle.smx_turns.specs.Puts.{contents_in}
+use Rattle.smx_client.specs.declared.reply.Parked.{Parked}
+use Rattle.smx_client.specs.declared.reply.Reply.{Reply}
+use Rattle.smx_client.specs.declared.reply.Reply.TheVariants.{Taken, Full, Spent, Nobody}
+
+-- an answer goes upstream with the centre's number
+abbrev pub answer_up : Pdu → ℕ → Pdu
+answer_up p number = record { command = p.command; status = p.status; number = number; body = p.body }
+
+-- what a message that reaches nobody is answered, where its command has a response
+abbrev pub refused_up : Option ℕ → ℕ → List Pdu
+refused_up None number = []
+refused_up (Some id) number = record { command = id; status = ESME_RX_T_APPN; number = number; body = [] } ∷ []
+
+-- those for this lane, as its return box holds them
+abbrev pub on_lane : ℕ → ℕ → List Pdu → List (Option Pdu)
+on_lane k lane ps = if k == lane then map Some ps else []
+
+abbrev pub is_taken : Reply → Bool
+is_taken Taken = true
+is_taken Full = false
+is_taken Spent = false
+is_taken Nobody = false
+
+-- those that a return box took
+abbrev pub if_taken : Reply → List (Option Pdu) → List (Option Pdu)
+if_taken reply ps = if is_taken reply then ps else []
+
+-- the answer waits then where its box refused it
+abbrev pub Parks : Reply → Option Parked → Type 0
+Parks Taken h = h ≡ None
+Parks Full h = IsSome h
+Parks Spent h = IsSome h
+Parks Nobody h = h ≡ None
+
+-- what the return box of lane k was put
+abbrev pub put_in : List (Sending Pdu) → ℕ → List (Option Pdu)
+put_in senders k = contents_in (slice_get senders k)
+
+abbrev pub parked_on : ℕ → Option Parked → List (Option Pdu)
+parked_on k None = []
+parked_on k (Some a) = on_lane k a.lane (a.answer ∷ [])

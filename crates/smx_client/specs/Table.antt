@@ -1,0 +1,350 @@
+-- The order of a client's turn.
+use Rattle.std.specs.Prelude.{◌≡◌, ◌≢◌, ◌==◌, ◌≤◌, ℕ, ◌+◌, ◌*◌, Bool, true, false, List, [], ◌∷◌, length, Option, Some, None, IsSome, Result, Ok, Err, if◌then◌else◌}
+use Rattle.smx_pdu.specs.declared.pdu.Pdu.{Pdu}
+use Rattle.smx_frame.specs.Stream.{HasNone}
+use Rattle.smx_lock.specs.declared.faults.Spent.{Spent}
+use Rattle.smx_box.specs.declared.receiver.Got.{Got}
+use Rattle.smx_session.specs.declared.kind.Kind.{Kind}
+use Rattle.smx_session.specs.declared.kind.Kind.TheVariants as kind
+use Rattle.smx_session.specs.declared.act.Act.{Act}
+use Rattle.smx_session.specs.declared.act.Act.TheVariants as act
+use Rattle.smx_link.specs.declared.link.Polled.{Polled}
+use Rattle.smx_link.specs.declared.link.Polled.TheVariants as polled
+use Rattle.smx_link.specs.declared.link.LinkFault.{LinkFault}
+use Rattle.smx_turns.specs.declared.gate.Point.TheVariants.{Reading, Submitting, Collecting, Taking}
+use Rattle.smx_turns.specs.declared.end.Fault.{Fault}
+use Rattle.smx_turns.specs.declared.end.Fault.TheVariants as fault
+use Rattle.smx_turns.specs.declared.end.TurnEnd.{TurnEnd}
+use Rattle.smx_turns.specs.declared.end.TurnEnd.TheVariants.{Worked, Idle, Done}
+use Rattle.smx_turns.specs.declared.mo_item.MoItem.{MoItem}
+use Rattle.smx_turns.specs.declared.step.Step.{Step}
+use Rattle.smx_turns.specs.declared.step.Step.TheVariants.{Asked, Read, Marked, Did}
+use Rattle.smx_client.specs.declared.mark.Stage.{Stage}
+use Rattle.smx_client.specs.declared.mark.Stage.TheVariants.{Open, Drained, Closed}
+use Rattle.smx_client.specs.declared.mark.Mark.{Mark}
+use Rattle.smx_client.specs.declared.mark.Mark.TheVariants.{Offered, WriteFailed, Waited, NoRoom, Part, Entered, Full as Clogs}
+use Rattle.smx_client.specs.declared.reply.Reply.{Reply}
+use Rattle.smx_client.specs.declared.reply.Reply.TheVariants as reply
+use Rattle.smx_client.specs.declared.event.Event.{Event}
+use Rattle.smx_client.specs.declared.event.Event.TheVariants.{Decided, Broke, Collected, PutAgain, Got as Fetched}
+use Rattle.smx_client.specs.declared.event.Fate.{Fate}
+use Rattle.smx_client.specs.declared.event.Fate.TheVariants.{Own, Submitted, Settled as Settles}
+use Rattle.smx_client.specs.declared.event.Delivery.{Delivery}
+use Rattle.smx_client.specs.declared.event.Delivery.TheVariants.{Given, Refused, Dropped}
+use Rattle.smx_client.specs.declared.event.Verdict.{Verdict}
+use Rattle.smx_client.specs.declared.event.Verdict.TheVariants as verdict
+use Rattle.smx_client.specs.declared.event.Progress.{Progress}
+use Rattle.smx_client.specs.declared.event.Progress.TheVariants as progress
+
+-- where a turn stands
+pub data Phase : Type 0 where
+  -- nothing was done yet
+  Opening : Phase
+  -- what waited was written
+  Written : Phase
+  -- octets are left
+  Left : Phase
+  -- the lanes below this one were held
+  MayCollect : ℕ → Phase
+  -- no answer waits
+  Clear : Phase
+  -- the link has ended, and an answer waits
+  Draining : Phase
+  -- the gate said yes to a read
+  MayRead : Phase
+  -- PDUs are decided; whether the link has ended
+  Deciding : Bool → Phase
+  -- the gate said yes to a submit
+  MaySubmit : Bool → Phase
+  -- the client has bound with this account, and is to be sent messages
+  Entering : Bool → ℕ → Phase
+  -- there was no memory for all prefixes
+  Unentered : Phase
+  -- no whole PDU is left, and the link goes on
+  Settled : Phase
+  -- an answer waits for its box
+  Parked : Phase
+  -- the gate said no
+  Stopped : Phase
+  -- as many octets wait as a PDU can have
+  Clogged : Phase
+  -- nothing more is decided, and what waits is to be written
+  Closing : Phase
+  -- it was offered, and some is left
+  Ending : Phase
+  Over : Phase
+  -- the link failed
+  Failed : Phase
+  -- a lane or a box takes no more calls
+  Exhausted : Phase
+  -- what no turn does
+  Wrong : Phase
+
+-- what a turn's order depends on: how many lanes there are, and whether a PDU and an answer wait at its start
+pub record Before : Type 0 where
+  pub lanes : ℕ
+  pub held : Bool
+  pub parked : Bool
+
+abbrev pub step_of : Type 0
+step_of = Step Mark Event
+
+-- an answer that waits goes before the PDUs that are left
+abbrev pub when_drained : Bool → Phase
+when_drained true = Draining
+when_drained false = Deciding true
+
+-- where a turn stands once what waited was written
+abbrev pub begins : Before → Stage → Phase
+begins t Open = Written
+begins t Drained = when_drained t.parked
+begins t Closed = Over
+
+-- where it stands where some is left
+abbrev pub halts : Stage → Phase
+halts Open = Left
+halts Drained = Left
+halts Closed = Ending
+
+abbrev pub when_offered : Before → Stage → Bool → Phase
+when_offered t stage false = begins t stage
+when_offered t stage true = halts stage
+
+unfoldable pub from_opening : Before → step_of → Phase
+from_opening t (Marked (Offered stage wrote left)) = when_offered t stage left
+from_opening t (Marked WriteFailed) = Failed
+from_opening t _ = Wrong
+
+unfoldable pub from_written : step_of → Phase
+from_written (Asked Collecting true) = MayCollect 0
+from_written (Asked Collecting false) = Stopped
+from_written _ = Wrong
+
+-- what becomes of a turn by an answer to a message
+abbrev pub after_reply : Phase → Reply → Phase
+after_reply p reply.Taken = p
+after_reply p reply.Full = Parked
+after_reply p reply.Spent = Exhausted
+after_reply p reply.Nobody = p
+
+-- how far it comes then
+abbrev pub progress_of : Reply → Result (Option Progress) Fault
+progress_of reply.Taken = Ok None
+progress_of reply.Full = Ok (Some progress.Parked)
+progress_of reply.Spent = Err fault.Spent
+progress_of reply.Nobody = Ok None
+
+abbrev pub delivery_progress : Delivery → Result (Option Progress) Fault
+delivery_progress (Given number) = Ok None
+delivery_progress (Refused reply) = progress_of reply
+delivery_progress Dropped = Ok None
+
+abbrev pub after_delivery : Delivery → Phase
+after_delivery (Given number) = Clear
+after_delivery (Refused reply) = after_reply Clear reply
+after_delivery Dropped = Clear
+
+abbrev pub after_got : Result (Got MoItem) Spent → Delivery → Phase
+after_got (Ok found) d = after_delivery d
+after_got (Err e) d = Exhausted
+
+-- the box: an answer that waits goes before an item
+unfoldable pub from_boxing : Bool → step_of → Phase
+from_boxing true (Did (PutAgain lane reply)) = after_reply Clear reply
+from_boxing true _ = Wrong
+from_boxing false (Did (Fetched r d)) = after_got r.value d
+from_boxing false (Marked NoRoom) = Clear
+from_boxing false _ = Wrong
+
+abbrev pub after_collect : ℕ → {A : Type 0} → Result A Spent → Phase
+after_collect n (Ok found) = MayCollect (n + 1)
+after_collect n (Err e) = Exhausted
+
+unfoldable pub from_collecting : Before → ℕ → step_of → Phase
+from_collecting t n (Marked Clogs) = Clogged
+from_collecting t n (Did (Collected k r)) = if k == n then after_collect n r.value else Wrong
+from_collecting t n s = if n == t.lanes then from_boxing t.parked s else Wrong
+
+unfoldable pub from_draining : step_of → Phase
+from_draining (Did (PutAgain lane reply)) = after_reply (Deciding true) reply
+from_draining _ = Wrong
+
+unfoldable pub from_clear : step_of → Phase
+from_clear (Asked Reading true) = MayRead
+from_clear (Asked Reading false) = Stopped
+from_clear _ = Wrong
+
+abbrev pub is_end : Polled → Bool
+is_end (polled.Octets n) = false
+is_end polled.Nothing = false
+is_end polled.End = true
+
+abbrev pub after_read : Result Polled LinkFault → Phase
+after_read (Ok found) = Deciding (is_end found)
+after_read (Err e) = Failed
+
+-- a PDU that waits goes before a read
+unfoldable pub from_may_read : Bool → step_of → Phase
+from_may_read false (Read answer) = after_read answer
+from_may_read false _ = Wrong
+from_may_read true (Marked Waited) = Deciding false
+from_may_read true _ = Wrong
+
+-- a receiver and a transceiver are sent messages
+abbrev pub after_bind : Bool → Kind → ℕ → Phase
+after_bind ended kind.Tx account = Deciding ended
+after_bind ended kind.Rx account = Entering ended account
+after_bind ended kind.Trx account = Entering ended account
+
+abbrev pub after_act : Bool → Act → Phase
+after_act ended (act.Answer p) = Deciding ended
+after_act ended (act.Bind k account p) = after_bind ended k account
+after_act ended act.Forward = Wrong
+after_act ended (act.MoAnswer n) = Wrong
+after_act ended (act.Leave p) = Closing
+after_act ended (act.Hangup p) = Closing
+after_act ended act.Ignore = Deciding ended
+
+abbrev pub after_fate : Bool → Act → Fate → Phase
+after_fate ended a Own = after_act ended a
+after_fate ended a (Submitted o r) = Wrong
+after_fate ended a (Settles found reply) = after_reply (Deciding ended) reply
+
+unfoldable pub from_deciding : Bool → step_of → Phase
+from_deciding ended (Marked Clogs) = Clogged
+from_deciding ended (Asked Submitting true) = MaySubmit ended
+from_deciding ended (Asked Submitting false) = Stopped
+from_deciding ended (Did (Decided p a f)) = after_fate ended a.value f
+from_deciding ended (Did (Broke a)) = Closing
+from_deciding ended (Marked Part) = if ended then Closing else Settled
+from_deciding ended _ = Wrong
+
+unfoldable pub from_may_submit : Bool → step_of → Phase
+from_may_submit ended (Did (Decided p a (Submitted o r))) = Deciding ended
+from_may_submit ended _ = Wrong
+
+unfoldable pub from_entering : Bool → ℕ → step_of → Phase
+from_entering ended account (Marked (Entered i whole)) = if i == account then (if whole then Deciding ended else Unentered) else Wrong
+from_entering ended account _ = Wrong
+
+unfoldable pub from_closing : step_of → Phase
+from_closing (Marked (Offered Closed wrote true)) = Ending
+from_closing (Marked (Offered Closed wrote false)) = Over
+from_closing (Marked WriteFailed) = Failed
+from_closing _ = Wrong
+
+-- the table of a client's turn
+unfoldable pub go : Before → Phase → step_of → Phase
+go t Opening s = from_opening t s
+go t Written s = from_written s
+go t (MayCollect n) s = from_collecting t n s
+go t Clear s = from_clear s
+go t Draining s = from_draining s
+go t MayRead s = from_may_read t.held s
+go t (Deciding ended) s = from_deciding ended s
+go t (MaySubmit ended) s = from_may_submit ended s
+go t (Entering ended account) s = from_entering ended account s
+go t Closing s = from_closing s
+go t _ s = Wrong
+
+abbrev pub phase_from : Before → Phase → List step_of → Phase
+phase_from t p [] = p
+phase_from t p (s ∷ ss) = phase_from t (go t p s) ss
+
+unfoldable pub phase_of : Before → List step_of → Phase
+phase_of t ss = phase_from t Opening ss
+
+-- memory may be wanted there
+abbrev pub Wants : Phase → Type 0
+Wants Opening = ⊥
+Wants Failed = ⊥
+Wants Exhausted = ⊥
+Wants Wrong = ⊥
+Wants _ = Unit {0}
+
+-- where a turn stands that a fault ends
+abbrev pub Faulted : Fault → Phase → Type 0
+Faulted fault.Link p = p ≡ Failed
+Faulted fault.Spent p = p ≡ Exhausted
+Faulted fault.NoMemory p = Wants p
+
+-- how a turn may end; whether nothing came of it
+abbrev pub EndsIn : TurnEnd → Bool → Phase → Type 0
+EndsIn Done quiet p = p ≡ Over
+EndsIn Idle quiet Stopped = Unit {0}
+EndsIn Idle quiet Settled = quiet ≡ true
+EndsIn Idle quiet _ = ⊥
+EndsIn Worked quiet Left = Unit {0}
+EndsIn Worked quiet Parked = Unit {0}
+EndsIn Worked quiet Clogged = Unit {0}
+EndsIn Worked quiet Settled = quiet ≡ false
+EndsIn Worked quiet Ending = Unit {0}
+EndsIn Worked quiet _ = ⊥
+
+-- how a turn ends that only writes: whether some is left
+abbrev pub last_end : Bool → TurnEnd
+last_end true = Worked
+last_end false = Done
+
+abbrev pub IsTurn : Result TurnEnd Fault → Bool → Phase → Type 0
+IsTurn (Ok end) quiet p = EndsIn end quiet p
+IsTurn (Err e) quiet p = Faulted e p
+
+-- what is true where a turn stands so: of the octets that the link has not taken, of those that no PDU has, of the PDU and of the answer that wait
+abbrev pub Stands : Phase → {A : Type 0} → List ℕ → List ℕ → Option Pdu → Option A → Type 0
+Stands Left unsent rest held parked = unsent ≢ []
+Stands Ending unsent rest held parked = unsent ≢ []
+Stands Over unsent rest held parked = unsent ≡ []
+Stands Clogged unsent rest held parked = 65536 ≤ length unsent
+Stands Settled unsent rest held parked = (held ≡ None) × HasNone 65536 rest
+Stands Parked unsent rest held parked = IsSome parked
+Stands _ unsent rest held parked = Unit {0}
+
+-- the parts of a turn: what an offer, a collect and a decision lead to
+abbrev pub IsOffered : Before → Phase → Stage → Result Bool Fault → Phase → Type 0
+IsOffered t p stage (Ok left) q = (wrote : Bool) × (q ≡ go t p (Marked (Offered stage wrote left)))
+IsOffered t p stage (Err e) q = (e ≡ fault.Link) × (q ≡ go t p (Marked WriteFailed))
+
+abbrev pub IsCollected : ℕ → Result (Unit {0}) Fault → Phase → Type 0
+IsCollected n (Ok _) p = p ≡ MayCollect (n + 1)
+IsCollected n (Err e) p = Faulted e p
+
+abbrev pub IsAt : Progress → Phase → Type 0
+IsAt progress.Settled p = p ≡ Settled
+IsAt progress.Parked p = p ≡ Parked
+IsAt progress.Stopped p = p ≡ Stopped
+IsAt progress.Clogged p = p ≡ Clogged
+IsAt progress.Closed p = p ≡ Closing
+
+-- a part goes on to this phase, or comes so far
+abbrev pub IsPart : Phase → Result (Option Progress) Fault → Phase → Type 0
+IsPart q (Ok None) p = p ≡ q
+IsPart q (Ok (Some at)) p = IsAt at p
+IsPart q (Err e) p = Faulted e p
+
+-- whether the link has ended, or how far the turn comes
+abbrev pub IsFront : Result (Result Bool Progress) Fault → Phase → Type 0
+IsFront (Ok (Ok ended)) p = p ≡ Deciding ended
+IsFront (Ok (Err at)) p = IsAt at p
+IsFront (Err e) p = Faulted e p
+
+abbrev pub ComesTo : Result Progress Fault → Phase → Type 0
+ComesTo (Ok at) p = IsAt at p
+ComesTo (Err e) p = Faulted e p
+
+-- what the session's decision leads to; a request and an answer to a message are still to be dealt with
+abbrev pub after_verdict : Bool → Verdict → Phase
+after_verdict ended verdict.Next = Deciding ended
+after_verdict ended verdict.Forward = Deciding ended
+after_verdict ended verdict.Settle = Deciding ended
+after_verdict ended (verdict.Bound k account) = after_bind ended k account
+after_verdict ended verdict.Over = Closing
+
+abbrev pub IsDecided : Bool → Result Verdict Fault → Phase → Type 0
+IsDecided ended (Ok v) p = p ≡ after_verdict ended v
+IsDecided ended (Err e) p = Faulted e p
+
+-- how much is still to be decided
+abbrev pub weight : Option Pdu → List ℕ → ℕ
+weight None rest = 2 * length rest
+weight (Some p) rest = 2 * length rest + 1

@@ -1,0 +1,90 @@
+//! What a client's worker did.
+ghost use Rattle.smx_client.specs.Events.{is_quiet_event};
+
+use crate::reply::Reply;
+use smx_box::Got;
+use smx_lock::Spent;
+use smx_pdu::Pdu;
+use smx_session::{Act, Kind};
+use smx_shared::{Offer, SubmitFault};
+use smx_turns::{Deed, MoItem};
+use std::snapshot::Snapshot;
+
+/// What became of a PDU, beside what the session did.
+#[derive(Drop)]
+pub enum Fate {
+    /// Nothing more.
+    Own,
+    /// It was offered so to the lanes, and this is what the port answered.
+    Submitted(Snapshot<Offer>, Snapshot<Result<usize, (Offer, SubmitFault)>>),
+    /// The message that it answers, its lane and the centre's number, and what became of the answer.
+    Settled(Option<(usize, u32)>, Reply),
+}
+
+/// What became of an item that was got.
+#[derive(Clone, Copy, Debug, PartialEq, Eq)]
+pub enum Delivery {
+    /// The client is sent it under this number.
+    Given(u32),
+    /// It is for an earlier client of this slot, and the centre is told so.
+    Refused(Reply),
+    /// Its lane has no sender, or there was no item.
+    Dropped,
+}
+
+/// What a client's worker did once, whole.
+#[derive(Drop)]
+pub enum Event {
+    /// A PDU that was read, the session's act, and what became of it.
+    Decided(Snapshot<Pdu>, Snapshot<Act>, Fate),
+    /// A bad length was met, and this is the session's act.
+    Broke(Snapshot<Act>),
+    /// A lane was asked for a response, and gave this.
+    Collected(usize, Snapshot<Result<Option<Pdu>, Spent>>),
+    /// The box was asked for an item, and gave this.
+    Got(Snapshot<Result<Got<MoItem>, Spent>>, Delivery),
+    /// The answer that waited for the return box of this lane was put again.
+    PutAgain(usize, Reply),
+}
+
+impl Deed for Event {
+    ghost is_quiet = { is_quiet_event };
+}
+
+// What the front of the octets is.
+#[derive(Clone, Copy, Debug, PartialEq, Eq)]
+pub(crate) enum Front {
+    Whole,
+    Part,
+    Broken,
+}
+
+// What is still to be done with a PDU that the session has seen.
+#[derive(Clone, Copy, Debug, PartialEq, Eq)]
+pub(crate) enum Verdict {
+    // Nothing.
+    Next,
+    // It waits to be submitted.
+    Forward,
+    // It waits to settle a message.
+    Settle,
+    // The client is bound so, with this account.
+    Bound(Kind, usize),
+    // The client has left.
+    Over,
+}
+
+// How far the PDUs that came were decided.
+#[derive(Clone, Copy, Debug, PartialEq, Eq)]
+pub(crate) enum Progress {
+    // No whole PDU is left.
+    Settled,
+    // An answer waits for its box.
+    Parked,
+    // The gate said no.
+    Stopped,
+    // Many octets wait.
+    Clogged,
+    // Nothing more is decided.
+    Closed,
+}

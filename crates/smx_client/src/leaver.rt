@@ -1,0 +1,224 @@
+//! What becomes of a client's messages when it leaves.
+ghost use Rattle.std.specs.Prelude.{◌≡◌, ◌+◌, ◌++◌, ◌<◌, [], ◌∷◌, ℕ, length, None, true, false};
+ghost use Rattle.smx_pdu.specs.Command.{response_of};
+ghost use Rattle.smx_client.specs.Replies.{put_in, refused_up, on_lane};
+ghost use Rattle.smx_client.specs.Leaving.{Left, rest_of, when, item_refused, gets, FoundNothing, IsEmptied, IsNothing};
+
+use crate::reply::Parked;
+use smx_box::{Got, Receiver, Sender};
+use smx_lock::Spent;
+use smx_pdu::status::ESME_RX_T_APPN;
+use smx_pdu::{Body, Pdu, response_id};
+use smx_routes::MoWindow;
+use smx_trace::Trace;
+use smx_turns::{MoItem, put_at};
+use std::alloc::Global;
+use std::snapshot::Snapshot;
+use std::sync::Wait;
+
+/// What was done with messages that the client never answered; the last is whether the return box
+/// of the lane took the answer.
+#[derive(Drop)]
+pub enum Leaving {
+    /// The answer that waited was put.
+    Kept(bool),
+    /// A message that the client was sent, of this lane with the centre's number and command, was
+    /// refused.
+    Row(usize, u32, u32, bool),
+    /// The box was asked for an item, which was refused.
+    Item(Snapshot<Result<Got<MoItem>, Spent>>, bool),
+}
+
+// Puts an answer once. True where the return box took it.
+fn put_once<R: Wait>(rt: &R, senders: &mut Vec<Sender<Pdu>>, lane: usize, answer: Pdu) -> bool
+    ensures count { length senders.new.items ≡ length senders.old.items }
+    ensures put { (k : ℕ) → k < length senders.old.items → put_in senders.new.items k ≡ put_in senders.old.items k ++ when result (on_lane k lane (answer ∷ [])) }
+{
+    if lane >= senders.len() {
+        return false;
+    }
+    put_at(rt, senders, lane, answer).is_ok()
+}
+
+// Refuses a message once. True where the return box took the answer.
+fn refuse_once<R: Wait>(
+    rt: &R,
+    alloc: Global,
+    senders: &mut Vec<Sender<Pdu>>,
+    lane: usize,
+    number: u32,
+    command: u32,
+) -> bool
+    ensures count { length senders.new.items ≡ length senders.old.items }
+    ensures put { (k : ℕ) → k < length senders.old.items
+        → put_in senders.new.items k ≡ put_in senders.old.items k ++ when result (on_lane k lane (refused_up (response_of command) number)) }
+{
+    let Some(id) = response_id(command) else {
+        return false;
+    };
+    let answer = Pdu {
+        command: id,
+        status: ESME_RX_T_APPN,
+        number,
+        body: Body::empty(alloc),
+    };
+    put_once(rt, senders, lane, answer)
+}
+
+// Refuses what the box gave, where it is an item. True where the return box took the answer.
+fn refuse_got<R: Wait>(
+    rt: &R,
+    alloc: Global,
+    senders: &mut Vec<Sender<Pdu>>,
+    got: Result<Got<MoItem>, Spent>,
+) -> bool
+    ensures count { length senders.new.items ≡ length senders.old.items }
+    ensures put { (k : ℕ) → k < length senders.old.items → put_in senders.new.items k ≡ put_in senders.old.items k ++ when result (item_refused k got) }
+{
+    let Ok(Got::Item { content: item, .. }) = got else {
+        return false;
+    };
+    refuse_once(rt, alloc, senders, item.lane, item.number, item.pdu.command)
+}
+
+// Whether the box gave neither an item nor a mark.
+fn is_nothing(got: &Result<Got<MoItem>, Spent>) -> bool
+    ensures { result ≡ true → IsNothing got.now }
+{
+    matches!(got, Ok(Got::Empty) | Err(_))
+}
+
+/// The messages of a client that leaves.
+#[derive(Drop)]
+pub struct Leaver {
+    alloc: Global,
+    inbox: Receiver<MoItem>,
+    senders: Vec<Sender<Pdu>>,
+    window: MoWindow,
+    parked: Option<Parked>,
+    first_inbox: Snapshot<Receiver<MoItem>>,
+    first_senders: Snapshot<Vec<Sender<Pdu>>>,
+    first_window: Snapshot<MoWindow>,
+    first_parked: Snapshot<Option<Parked>>,
+    closing: Trace<Leaving>,
+    ghost left_is: { Left
+        (rest_of first_parked.value first_window.value first_inbox.value first_senders.value.items)
+        closing
+        (rest_of parked window inbox senders.items) },
+}
+
+impl Leaver {
+    // A leaver that has answered nothing yet.
+    pub(crate) fn new(
+        alloc: Global,
+        inbox: Receiver<MoItem>,
+        senders: Vec<Sender<Pdu>>,
+        window: MoWindow,
+        parked: Option<Parked>,
+    ) -> Leaver
+        ensures first_parked { result.first_parked.value ≡ parked }
+        ensures first_window { result.first_window.value ≡ window }
+        ensures first_inbox { result.first_inbox.value ≡ inbox }
+        ensures first_senders { result.first_senders.value ≡ senders }
+        ensures inbox { result.inbox ≡ inbox }
+        ensures none { result.closing ≡ [] }
+    {
+        let first_inbox = Snapshot::of(&inbox);
+        let first_senders = Snapshot::of(&senders);
+        let first_window = Snapshot::of(&window);
+        let first_parked = Snapshot::of(&parked);
+        Leaver {
+            alloc,
+            inbox,
+            senders,
+            window,
+            parked,
+            first_inbox,
+            first_senders,
+            first_window,
+            first_parked,
+            closing: Trace::new(),
+        }
+    }
+
+    // Puts the answer that waits.
+    fn put_parked<R: Wait>(&mut self, rt: &R)
+        ensures none { self.new.parked ≡ None }
+        ensures gets { gets self.new.closing ≡ gets self.old.closing }
+        ensures inbox { self.new.inbox ≡ self.old.inbox }
+        ensures first { (self.new.first_parked ≡ self.old.first_parked) × (self.new.first_window ≡ self.old.first_window)
+            × (self.new.first_inbox ≡ self.old.first_inbox) × (self.new.first_senders ≡ self.old.first_senders) }
+    {
+        let Some(Parked { lane, answer }) = self.parked.take() else {
+            return;
+        };
+        let put = put_once(rt, &mut self.senders, lane, answer);
+        self.closing = self.closing.and(&Leaving::Kept(put));
+    }
+
+    // Refuses the message that was sent under the least number. False where none waits.
+    fn refuse_row<R: Wait>(&mut self, rt: &R) -> bool
+        requires none { self.old.parked ≡ None }
+        ensures parked { self.new.parked ≡ None }
+        ensures more { result ≡ true → length self.new.window.waiting < length self.old.window.waiting }
+        ensures last { result ≡ false → self.new.window.waiting ≡ [] }
+        ensures gets { gets self.new.closing ≡ gets self.old.closing }
+        ensures inbox { self.new.inbox ≡ self.old.inbox }
+        ensures first { (self.new.first_parked ≡ self.old.first_parked) × (self.new.first_window ≡ self.old.first_window)
+            × (self.new.first_inbox ≡ self.old.first_inbox) × (self.new.first_senders ≡ self.old.first_senders) }
+    {
+        let Some((lane, number, command)) = self.window.take_first() else {
+            return false;
+        };
+        let put = refuse_once(rt, self.alloc, &mut self.senders, lane, number, command);
+        self.closing = self.closing.and(&Leaving::Row(lane, number, command, put));
+        true
+    }
+
+    // Asks the box for an item and refuses it. False where it gave nothing.
+    fn refuse_item<R: Wait>(&mut self, rt: &R) -> bool
+        requires none { self.old.parked ≡ None }
+        requires rows { self.old.window.waiting ≡ [] }
+        ensures parked { self.new.parked ≡ None }
+        ensures window { self.new.window ≡ self.old.window }
+        ensures gets { gets self.new.closing ≡ gets self.old.closing + 1 }
+        ensures last { result ≡ false → (last : Leaving) × (self.new.closing ≡ self.old.closing ++ last ∷ []) × FoundNothing last }
+        ensures sizes { self.new.inbox.front.lock ≡ self.old.inbox.front.lock }
+        ensures first { (self.new.first_parked ≡ self.old.first_parked) × (self.new.first_window ≡ self.old.first_window)
+            × (self.new.first_inbox ≡ self.old.first_inbox) × (self.new.first_senders ≡ self.old.first_senders) }
+    {
+        let got = self.inbox.get(rt);
+        let found = Snapshot::of(&got);
+        let nothing = is_nothing(&got);
+        let put = refuse_got(rt, self.alloc, &mut self.senders, got);
+        self.closing = self.closing.and(&Leaving::Item(found, put));
+        !nothing
+    }
+
+    // Answers the messages: that whose answer waits, those that the client was sent, by rising
+    // number, and those in its box, which it asks until it gives nothing, or as often as it has
+    // places, since senders may go on. What a return box refuses is dropped.
+    pub(crate) fn answer_all<R: Wait>(&mut self, rt: &R)
+        requires none { self.old.closing ≡ [] }
+        ensures over { (self.new.parked ≡ None) × (self.new.window.waiting ≡ []) }
+        ensures emptied { IsEmptied self.old.inbox.front.lock.fixed.places self.new.closing }
+        ensures first { (self.new.first_parked ≡ self.old.first_parked) × (self.new.first_window ≡ self.old.first_window)
+            × (self.new.first_inbox ≡ self.old.first_inbox) × (self.new.first_senders ≡ self.old.first_senders) }
+    {
+        self.put_parked(rt);
+        while self.refuse_row(rt) {}
+        for _item in 0..self.inbox.places() {
+            if !self.refuse_item(rt) {
+                return;
+            }
+        }
+    }
+
+    /// The receiver of the slot's box, and the senders, for the slot's next client.
+    pub fn into_parts(self) -> (Receiver<MoItem>, Vec<Sender<Pdu>>)
+        ensures { (result.0 ≡ self.inbox) × (result.1 ≡ self.senders) }
+    {
+        let Leaver { inbox, senders, .. } = self;
+        (inbox, senders)
+    }
+}

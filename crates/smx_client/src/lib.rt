@@ -1,0 +1,23 @@
+//! The worker of one client: it turns the client's link.
+#![tactic(auto)]
+
+mod deliver;
+mod desk;
+mod event;
+mod leaver;
+mod ledger;
+mod mark;
+mod prefixes;
+mod reply;
+mod saying;
+mod worker;
+
+pub use desk::Desk;
+pub use event::{Delivery, Event, Fate};
+pub use leaver::{Leaver, Leaving};
+pub use mark::{Mark, Stage};
+pub use reply::{Parked, Reply};
+pub use worker::{ClientWorker, Origin, run_client};
+
+#[cfg(test)]
+mod tests;

@@ -1,0 +1,139 @@
+//! What is said to a client.
+ghost use Rattle.std.specs.Prelude.{◌≡◌, ◌++◌, ◌≤◌, ◌<◌, [], ◌∷◌, true, length};
+ghost use Rattle.smx_pdu.specs.Command.{is_forwarded};
+ghost use Rattle.smx_client.specs.Events.{act_out, refusal_out, response_out, status_of, is_none_found, submit_told};
+ghost use Rattle.smx_client.specs.Parts.{IsOfferOf};
+ghost use Rattle.smx_client.specs.Sayings.{Spoke, IsVerdict, asked_of};
+
+use crate::event::Verdict;
+use smx_link::{Link, Wire};
+use smx_lock::Spent;
+use smx_pdu::command::RESPONSE;
+use smx_pdu::status::{ESME_RMSGQFUL, ESME_RSYSERR};
+use smx_pdu::{Body, Pdu};
+use smx_session::Act;
+use smx_shared::{Offer, SubmitFault};
+use smx_turns::{Gate, Party};
+use std::alloc::Global;
+
+// Says one PDU.
+pub(crate) fn say_one<L: Link + Drop>(wire: &mut Wire<L>, pdu: &Pdu)
+    requires room { 65536 ≤ wire.old.room }
+    ensures { Spoke wire.old wire.new (pdu.now ∷ []) }
+{
+    wire.say(pdu);
+}
+
+// Says nothing.
+pub(crate) fn say_none<L: Link + Drop>(wire: &mut Wire<L>)
+    ensures { Spoke wire.old wire.new [] }
+{
+    let _ = wire;
+}
+
+// Says the response that was found, where there is one. True where there is none.
+pub(crate) fn say_found<L: Link + Drop>(
+    wire: &mut Wire<L>,
+    found: &Result<Option<Pdu>, Spent>,
+) -> bool
+    requires room { 65536 ≤ wire.old.room }
+    ensures spoke { Spoke wire.old wire.new (response_out found.now) }
+    ensures none { result ≡ is_none_found found.now }
+{
+    if let Ok(Some(response)) = found {
+        say_one(wire, response);
+        return false;
+    }
+    say_none(wire);
+    true
+}
+
+// Says what the session's act says.
+pub(crate) fn say_act<L: Link + Drop>(wire: &mut Wire<L>, act: &Act)
+    requires room { 65536 ≤ wire.old.room }
+    ensures { Spoke wire.old wire.new (act_out act.now) }
+{
+    match act {
+        Act::Answer(answer) => say_one(wire, answer),
+        Act::Bind { answer, .. } => say_one(wire, answer),
+        Act::Leave(answer) => say_one(wire, answer),
+        Act::Hangup(answer) => say_one(wire, answer),
+        Act::Forward | Act::MoAnswer { .. } | Act::Ignore => say_none(wire),
+    }
+}
+
+fn status_of(fault: SubmitFault) -> u32
+    ensures { result ≡ status_of fault }
+{
+    match fault {
+        SubmitFault::Exhausted | SubmitFault::Spent => ESME_RSYSERR,
+        SubmitFault::AllFull => ESME_RMSGQFUL,
+    }
+}
+
+// Says the answer to a request that was refused.
+pub(crate) fn say_refusal<L: Link + Drop>(
+    wire: &mut Wire<L>,
+    alloc: Global,
+    command: u32,
+    number: u32,
+    landed: &Result<usize, (Offer, SubmitFault)>,
+)
+    requires room { 65536 ≤ wire.old.room }
+    requires request { command < RESPONSE }
+    ensures { Spoke wire.old wire.new (refusal_out (asked_of command number) landed.now) }
+{
+    match landed {
+        Ok(_) => say_none(wire),
+        Err((_, fault)) => {
+            let answer = Pdu {
+                command: RESPONSE + command,
+                status: status_of(*fault),
+                number,
+                body: Body::empty(alloc),
+            };
+            say_one(wire, &answer);
+        }
+    }
+}
+
+// Tells the lane that accepted a request.
+pub(crate) fn tell_accepted<G: Gate>(gate: &mut G, landed: &Result<usize, (Offer, SubmitFault)>)
+    ensures told { G.told gate.new ≡ G.told gate.old ++ submit_told landed.now }
+    ensures asked { G.asked gate.new ≡ G.asked gate.old }
+{
+    if let Ok(lane) = landed {
+        gate.ready(Party::Lane(*lane));
+    }
+}
+
+// The request that a PDU asks for.
+pub(crate) fn offer_of(pdu: Pdu) -> Offer
+    requires { is_forwarded pdu.command ≡ true }
+    ensures { IsOfferOf pdu result }
+{
+    let Pdu {
+        command,
+        status: _,
+        number,
+        body,
+    } = pdu;
+    Offer {
+        own: number,
+        command,
+        body,
+    }
+}
+
+// What is still to be done after the act.
+pub(crate) fn verdict_of(act: &Act) -> Verdict
+    ensures { IsVerdict act.now result }
+{
+    match act {
+        Act::Forward => Verdict::Forward,
+        Act::MoAnswer { .. } => Verdict::Settle,
+        Act::Bind { kind, account, .. } => Verdict::Bound(*kind, *account),
+        Act::Leave(_) | Act::Hangup(_) => Verdict::Over,
+        Act::Answer(_) | Act::Ignore => Verdict::Next,
+    }
+}

@@ -1,0 +1,157 @@
+//! A client's worker, and what it keeps at every call.
+ghost use Rattle.std.specs.Prelude.{◌≡◌, ◌++◌, ◌<◌, ℕ, List, [], length, None, IfOk, IfErr};
+ghost use Rattle.smx_link.specs.Wiring.{spellings};
+ghost use Rattle.smx_routes.specs.Window.{IsSize};
+ghost use Rattle.smx_session.specs.declared.client_state.ClientState.TheVariants.{Opened};
+ghost use Rattle.smx_shared.specs.Offers.{Accepted};
+ghost use Rattle.smx_shared.specs.Ports.{HasAccepted};
+ghost use Rattle.smx_client.specs.Replies.{put_in, parked_on};
+ghost use Rattle.smx_client.specs.Events.{ins, outs, accepts, answers, held_list};
+ghost use Rattle.smx_client.specs.Parts.{parts, Chain};
+
+use crate::desk::Desk;
+use crate::event::Event;
+use crate::mark::{Mark, Stage};
+use crate::reply::Parked;
+use smx_box::{Receiver, Sender};
+use smx_link::{Link, Wire};
+use smx_pdu::Pdu;
+use smx_routes::MoWindow;
+use smx_session::ClientSession;
+use smx_shared::Port;
+use smx_trace::Trace;
+use smx_turns::{Fault, MoItem, Step, TurnEnd};
+use std::alloc::Global;
+use std::snapshot::Snapshot;
+
+mod boxing;
+mod closing;
+mod collecting;
+mod deciding;
+mod running;
+mod turning;
+
+pub use running::run_client;
+
+/// The parts as they were handed over, for contracts alone.
+#[derive(Drop)]
+pub struct Origin {
+    port: Snapshot<Port>,
+    window: Snapshot<MoWindow>,
+    inbox: Snapshot<Receiver<MoItem>>,
+    senders: Snapshot<Vec<Sender<Pdu>>>,
+}
+
+/// A client's worker. Its turns read PDUs from the link, decide each once and in order, submit
+/// requests to the lanes, and write to the link what they collected, got and decided.
+#[derive(Drop)]
+pub struct ClientWorker<'d, L: Link + Drop> {
+    alloc: Global,
+    desk: &'d Desk,
+    port: Port,
+    session: ClientSession,
+    inbox: Receiver<MoItem>,
+    senders: Vec<Sender<Pdu>>,
+    window: MoWindow,
+    wire: Wire<L>,
+    // The PDU that was heard and not decided yet.
+    held: Option<Pdu>,
+    // The answer to a message that a return box refused.
+    parked: Option<Parked>,
+    stage: Stage,
+    turns: u64,
+    // The steps of the last turn.
+    steps: Trace<Step<Mark, Event>>,
+    // How each turn ended.
+    ends: Trace<Result<TurnEnd, Fault>>,
+    origin: Origin,
+    events: Trace<Event>,
+    ghost heard_is: { wire.heard ≡ ins events ++ held_list held },
+    ghost run_is: { Chain
+        (parts desk.now [] origin.port.value Opened origin.window.value origin.inbox.value origin.senders.value.items None)
+        events
+        (parts desk.now wire.said port session window inbox senders.items parked) },
+}
+
+impl<'d, L: Link + Drop> ClientWorker<'d, L> {
+    /// A worker over these parts: the client's port, who may bind, the box of its slot, a sender
+    /// for the return box of each lane in their order, how many messages may wait for an answer (1
+    /// to 256), and its link. All parts come back where there is no memory for the window.
+    pub fn new(
+        alloc: Global,
+        port: Port,
+        desk: &'d Desk,
+        inbox: Receiver<MoItem>,
+        senders: Vec<Sender<Pdu>>,
+        places: u32,
+        link: L,
+    ) -> Result<ClientWorker<'d, L>, (Port, Receiver<MoItem>, Vec<Sender<Pdu>>, L)>
+        requires lanes { length senders.items ≡ length port.fronts }
+        requires places { IsSize places }
+        ensures port { IfOk result (λ w. (w.port ≡ port) × (w.origin.port.value ≡ port)) }
+        ensures boxes { IfOk result (λ w. (w.origin.inbox.value ≡ inbox) × (w.origin.senders.value ≡ senders)) }
+        ensures window { IfOk result (λ w. (w.origin.window.value.waiting ≡ []) × (w.origin.window.value.places ≡ places)) }
+        ensures link { IfOk result (λ w. (w.wire.start ≡ link) × (w.wire.failed ≡ None)) }
+        ensures none { IfOk result (λ w. (w.held ≡ None) × (w.parked ≡ None) × (w.events ≡ []) × (w.turns ≡ 0)) }
+        ensures stage { IfOk result (λ w. w.stage ≡ Stage.Open) }
+        ensures back { IfErr result (λ e. (e.0 ≡ port) × (e.1 ≡ inbox) × (e.2 ≡ senders) × (e.3 ≡ link)) }
+    {
+        let Ok(window) = MoWindow::new(alloc, places) else {
+            return Err((port, inbox, senders, link));
+        };
+        let origin = Origin {
+            port: Snapshot::of(&port),
+            window: Snapshot::of(&window),
+            inbox: Snapshot::of(&inbox),
+            senders: Snapshot::of(&senders),
+        };
+        Ok(ClientWorker {
+            alloc,
+            desk,
+            port,
+            session: ClientSession::new(alloc),
+            inbox,
+            senders,
+            window,
+            wire: Wire::new(alloc, link),
+            held: None,
+            parked: None,
+            stage: Stage::Open,
+            turns: 0,
+            steps: Trace::new(),
+            ends: Trace::new(),
+            origin,
+            events: Trace::new(),
+        })
+    }
+
+    /// What the worker keeps at every call. In: what the link gave are the PDUs that were decided,
+    /// then one that waits, then octets that no PDU has. Out: what it took, and then what waits, is
+    /// what the events say. The port accepted what the events submitted. Each return box was put,
+    /// or is to be put, the answers of the events. Each event is one step of the parts.
+    pub fn law(&self)
+        ensures given { L.given self.now.wire.link ≡ L.given self.now.wire.start ++ (spellings (ins self.now.events ++ held_list self.now.held) ++ self.now.wire.rest) }
+        ensures taken { L.taken self.now.wire.link ++ self.now.wire.unsent ≡ L.taken self.now.wire.start ++ spellings (outs self.now.events) }
+        ensures accepts { ∥ ((all : List Accepted) → HasAccepted self.now.origin.port.value all → HasAccepted self.now.port (all ++ accepts self.now.events)) ∥₁ }
+        ensures answers { (k : ℕ) → k < length self.now.origin.senders.value.items
+            → put_in self.now.senders.items k ++ parked_on k self.now.parked ≡ put_in self.now.origin.senders.value.items k ++ answers k self.now.events }
+        ensures chain { Chain
+            (parts self.now.desk.now [] self.now.origin.port.value Opened self.now.origin.window.value self.now.origin.inbox.value self.now.origin.senders.value.items None)
+            self.now.events
+            (parts self.now.desk.now self.now.wire.said self.now.port self.now.session self.now.window self.now.inbox self.now.senders.items self.now.parked) }
+    {
+        self.wire.law();
+    }
+
+    /// How many octets wait to be written.
+    pub fn unsent(&self) -> usize
+        ensures { result ≡ length self.now.wire.unsent }
+    {
+        self.wire.unsent()
+    }
+
+    #[cfg(test)]
+    pub(crate) fn into_link(self) -> L {
+        self.wire.into_link()
+    }
+}

@@ -1,0 +1,165 @@
+//! The first part of a turn: what waits is offered, and each lane is asked for a response.
+ghost use Rattle.std.specs.Prelude.{◌≡◌, ◌≢◌, ◌≤◌, ◌<◌, ℕ, List, [], length, true, false, not, ◌==◌, None, Some, Ok, IfOk, OnOk, OnErr, IsTrue, ◌↔◌};
+ghost use Rattle.smx_shared.specs.Views.{locks_of};
+ghost use Rattle.smx_turns.specs.declared.directory.Query.{Query};
+ghost use Rattle.smx_client.specs.Scenes.{scene_of, Moves};
+ghost use Rattle.smx_client.specs.Table.{Before, Phase, phase_of, Written, MayCollect, IsOffered, IsCollected, IsPart};
+ghost use Rattle.smx_client.specs.Turns.{Leads, is_some_left};
+
+use super::ClientWorker;
+use crate::event::{Event, Progress};
+use crate::ledger::{ask, mark, note};
+use crate::mark::Mark;
+use crate::saying::say_found;
+use smx_link::{Link, Wire};
+use smx_pdu::MAX_PDU;
+use smx_shared::Exchange;
+use smx_turns::{Fault, Gate, Log, Point};
+use std::snapshot::Snapshot;
+use std::sync::Wait;
+
+// Whether some of what was said waits.
+fn has_unsent<L: Link + Drop>(wire: &Wire<L>) -> bool
+    ensures left { result ≡ is_some_left wire.now.unsent }
+    ensures some { result ≡ true → wire.now.unsent ≢ [] }
+    ensures none { result ≡ false → wire.now.unsent ≡ [] }
+{
+    !wire.is_clear()
+}
+
+fn differ(a: usize, b: usize) -> bool
+    ensures { result ≡ not (a == b) }
+{
+    a != b
+}
+
+impl<'d, L: Link + Drop> ClientWorker<'d, L> {
+    // Offers the link what waits. True where some is left.
+    pub(super) fn offer_part(&mut self, log: &mut Log<Mark, Event>) -> Result<bool, Fault>
+        ensures moves { Moves self.old log.old self.new log.new }
+        ensures phase { (t : Before) (p : Phase) → phase_of t log.old ≡ p → IsOffered t p self.old.stage result (phase_of t log.new) }
+        ensures some { result ≡ Ok true → self.new.wire.unsent ≢ [] }
+        ensures none { result ≡ Ok false → self.new.wire.unsent ≡ [] }
+        ensures port { self.new.port ≡ self.old.port }
+        ensures origin { self.new.origin ≡ self.old.origin }
+        ensures held { self.new.held ≡ self.old.held }
+        ensures parked { self.new.parked ≡ self.old.parked }
+        ensures stage { self.new.stage ≡ self.old.stage }
+        ensures failed { self.new.wire.failed ≡ self.old.wire.failed }
+        ensures counts { (self.new.turns ≡ self.old.turns) × (self.new.ends ≡ self.old.ends) }
+    {
+        let waited = self.wire.unsent();
+        match self.wire.offer() {
+            Err(_) => {
+                mark(log, Mark::WriteFailed, true);
+                Err(Fault::Link)
+            }
+            Ok(()) => {
+                let left = has_unsent(&self.wire);
+                let wrote = differ(self.wire.unsent(), waited);
+                mark(log, Mark::Offered(self.stage, wrote, left), !wrote);
+                Ok(left)
+            }
+        }
+    }
+
+    // Makes room for what one event may say.
+    pub(super) fn make_room(&mut self) -> Result<(), Fault>
+        ensures room { OnOk result (65536 ≤ self.new.wire.room) }
+        ensures err { OnErr result (result ≡ Err Fault.NoMemory) }
+        ensures port { self.new.port ≡ self.old.port }
+        ensures origin { self.new.origin ≡ self.old.origin }
+        ensures held { self.new.held ≡ self.old.held }
+        ensures parked { self.new.parked ≡ self.old.parked }
+        ensures window { self.new.window ≡ self.old.window }
+        ensures inbox { self.new.inbox ≡ self.old.inbox }
+        ensures senders { self.new.senders ≡ self.old.senders }
+        ensures stage { self.new.stage ≡ self.old.stage }
+        ensures events { self.new.events ≡ self.old.events }
+        ensures session { self.new.session ≡ self.old.session }
+        ensures desk { self.new.desk ≡ self.old.desk }
+        ensures counts { (self.new.turns ≡ self.old.turns) × (self.new.ends ≡ self.old.ends) }
+        ensures wire { self.new.wire ≡ record self.old.wire { room = self.new.wire.room } }
+    {
+        match self.wire.make_room() {
+            Ok(()) => Ok(()),
+            Err(_) => Err(Fault::NoMemory),
+        }
+    }
+
+    // Whether as many octets wait as a PDU can have.
+    pub(super) fn is_clogged(&self) -> bool
+        ensures { IsTrue result ↔ (65536 ≤ length self.now.wire.unsent) }
+    {
+        self.wire.unsent() >= MAX_PDU
+    }
+
+    // Asks a lane for the client's oldest response.
+    fn collect_one<R: Wait>(
+        &mut self,
+        at: &Exchange,
+        rt: &R,
+        lane: usize,
+        log: &mut Log<Mark, Event>,
+    ) -> Result<(), Fault>
+        requires locks { locks_of self.old.port.fronts ≡ at.now }
+        requires lane { lane < length self.old.port.fronts }
+        requires room { 65536 ≤ self.old.wire.room }
+        ensures moves { Moves self.old log.old self.new log.new }
+        ensures phase { (t : Before) → phase_of t log.old ≡ MayCollect lane → IsCollected lane result (phase_of t log.new) }
+        ensures locks { locks_of self.new.port.fronts ≡ locks_of self.old.port.fronts }
+        ensures origin { self.new.origin ≡ self.old.origin }
+        ensures held { self.new.held ≡ self.old.held }
+        ensures parked { self.new.parked ≡ self.old.parked }
+        ensures stage { self.new.stage ≡ self.old.stage }
+        ensures failed { self.new.wire.failed ≡ self.old.wire.failed }
+        ensures counts { (self.new.turns ≡ self.old.turns) × (self.new.ends ≡ self.old.ends) }
+    {
+        let found = self.port.collect(at, rt, lane);
+        let event = Event::Collected(lane, Snapshot::of(&found));
+        let none = say_found(&mut self.wire, &found);
+        note(&mut self.events, log, event, none);
+        match found {
+            Ok(_) => Ok(()),
+            Err(_) => Err(Fault::Spent),
+        }
+    }
+
+    // Asks for leave to collect, and asks each lane. `None` where the turn goes on.
+    pub(super) fn collect_part<R: Wait, G: Gate>(
+        &mut self,
+        at: &Exchange,
+        rt: &R,
+        gate: &mut G,
+        turn: u64,
+        log: &mut Log<Mark, Event>,
+    ) -> Result<Option<Progress>, Fault>
+        requires locks { locks_of self.old.port.fronts ≡ at.now }
+        ensures leads { (queries : List Query) → Leads turn (scene_of (G.asked gate.old) (G.told gate.old) queries self.old) log.old
+            (scene_of (G.asked gate.new) (G.told gate.new) queries self.new) log.new }
+        ensures phase { (t : Before) → phase_of t log.old ≡ Written → IsPart (MayCollect (length self.old.port.fronts)) result (phase_of t log.new) }
+        ensures clogged { result ≡ Ok (Some Progress.Clogged) → 65536 ≤ length self.new.wire.unsent }
+        ensures which { (result ≢ Ok (Some Progress.Settled)) × (result ≢ Ok (Some Progress.Closed)) × (result ≢ Ok (Some Progress.Parked)) }
+        ensures locks { locks_of self.new.port.fronts ≡ locks_of self.old.port.fronts }
+        ensures origin { self.new.origin ≡ self.old.origin }
+        ensures held { self.new.held ≡ self.old.held }
+        ensures parked { self.new.parked ≡ self.old.parked }
+        ensures stage { self.new.stage ≡ self.old.stage }
+        ensures failed { self.new.wire.failed ≡ self.old.wire.failed }
+        ensures counts { (self.new.turns ≡ self.old.turns) × (self.new.ends ≡ self.old.ends) }
+    {
+        if !ask(log, gate, Point::Collecting, turn) {
+            return Ok(Some(Progress::Stopped));
+        }
+        let lanes = self.port.lanes();
+        for lane in 0..lanes {
+            if self.is_clogged() {
+                mark(log, Mark::Full, true);
+                return Ok(Some(Progress::Clogged));
+            }
+            self.make_room()?;
+            self.collect_one(at, rt, lane, log)?;
+        }
+        Ok(None)
+    }
+}

@@ -1,0 +1,237 @@
+//! The PDUs that came, each decided once and in order.
+ghost use Rattle.std.specs.Prelude.{◌≡◌, ◌≢◌, ◌⊎◌, ◌≤◌, ◌<◌, ℕ, Bool, List, [], length, Some, None, Ok, Err, OnOk, OnErr, IfSome, IsSome};
+ghost use Rattle.smx_frame.specs.Stream.{HasNone};
+ghost use Rattle.smx_session.specs.ClientTable.{client_decides};
+ghost use Rattle.smx_session.specs.declared.act.Act.{Act};
+ghost use Rattle.smx_shared.specs.Views.{locks_of};
+ghost use Rattle.smx_turns.specs.declared.directory.Query.{Query};
+ghost use Rattle.smx_client.specs.Scenes.{scene_of, Moves};
+ghost use Rattle.smx_client.specs.Table.{Before, Phase, phase_of, Deciding, MaySubmit, Closing, after_reply, IsDecided, IsPart, weight};
+ghost use Rattle.smx_client.specs.Turns.{Leads};
+
+use super::ClientWorker;
+use crate::event::{Event, Fate, Front, Progress, Verdict};
+use crate::ledger::{mark, note};
+use crate::mark::Mark;
+use crate::reply::answer_settled;
+use crate::saying::{offer_of, say_act, say_refusal, tell_accepted, verdict_of};
+use smx_frame::FrameFault;
+use smx_link::Link;
+use smx_session::Act;
+use smx_shared::Exchange;
+use smx_turns::{Fault, Gate, Log};
+use std::snapshot::Snapshot;
+use std::sync::Wait;
+
+impl<'d, L: Link + Drop> ClientWorker<'d, L> {
+    // Sets the next whole PDU apart.
+    fn fetch(&mut self) -> Result<Front, Fault>
+        requires none { self.old.held ≡ None }
+        ensures whole { result ≡ Ok Front.Whole → IsSome self.new.held × (length self.new.wire.rest < length self.old.wire.rest) }
+        ensures part { result ≢ Ok Front.Whole → self.new.held ≡ None }
+        ensures none_left { result ≡ Ok Front.Part → HasNone 65536 self.new.wire.rest }
+        ensures events { self.new.events ≡ self.old.events }
+        ensures port { self.new.port ≡ self.old.port }
+        ensures session { self.new.session ≡ self.old.session }
+        ensures window { self.new.window ≡ self.old.window }
+        ensures inbox { self.new.inbox ≡ self.old.inbox }
+        ensures senders { self.new.senders ≡ self.old.senders }
+        ensures parked { self.new.parked ≡ self.old.parked }
+        ensures desk { self.new.desk ≡ self.old.desk }
+        ensures origin { self.new.origin ≡ self.old.origin }
+        ensures stage { self.new.stage ≡ self.old.stage }
+        ensures counts { (self.new.turns ≡ self.old.turns) × (self.new.ends ≡ self.old.ends) }
+        ensures said { self.new.wire.said ≡ self.old.wire.said }
+        ensures unsent { self.new.wire.unsent ≡ self.old.wire.unsent }
+        ensures link { self.new.wire.link ≡ self.old.wire.link }
+        ensures failed { result ≢ Ok Front.Broken → self.old.wire.failed ≡ None → self.new.wire.failed ≡ None }
+        ensures err { OnErr result ((result ≡ Err Fault.NoMemory) × (self.new.wire.failed ≡ self.old.wire.failed)) }
+    {
+        match self.wire.hear() {
+            Ok(Some(pdu)) => {
+                self.held = Some(pdu);
+                Ok(Front::Whole)
+            }
+            Ok(None) => Ok(Front::Part),
+            Err(FrameFault::NoMemory) => Err(Fault::NoMemory),
+            Err(_) => Ok(Front::Broken),
+        }
+    }
+
+    // Ends the session at a bad length.
+    fn break_off(&mut self, log: &mut Log<Mark, Event>)
+        requires room { 65536 ≤ self.old.wire.room }
+        ensures moves { Moves self.old log.old self.new log.new }
+        ensures phase { (t : Before) (ended : Bool) → phase_of t log.old ≡ Deciding ended → phase_of t log.new ≡ Closing }
+        ensures port { self.new.port ≡ self.old.port }
+        ensures origin { self.new.origin ≡ self.old.origin }
+        ensures held { self.new.held ≡ self.old.held }
+        ensures stage { self.new.stage ≡ self.old.stage }
+        ensures parked { self.new.parked ≡ self.old.parked }
+        ensures counts { (self.new.turns ≡ self.old.turns) × (self.new.ends ≡ self.old.ends) }
+    {
+        let act = self.session.on_fault();
+        say_act(&mut self.wire, &act);
+        let event = Event::Broke(Snapshot::of(&act));
+        note(&mut self.events, log, event, false);
+    }
+
+    // Sets the next whole PDU apart, unless one waits. `None` where one waits then.
+    pub(super) fn next_up(
+        &mut self,
+        ended: bool,
+        log: &mut Log<Mark, Event>,
+    ) -> Result<Option<Progress>, Fault>
+        ensures moves { Moves self.old log.old self.new log.new }
+        ensures phase { (t : Before) → phase_of t log.old ≡ Deciding ended → IsPart (Deciding ended) result (phase_of t log.new) }
+        ensures waits { result ≡ Ok None → IsSome self.new.held × (weight self.new.held self.new.wire.rest ≤ weight self.old.held self.old.wire.rest) }
+        ensures settled { result ≡ Ok (Some Progress.Settled) → (self.new.held ≡ None) × HasNone 65536 self.new.wire.rest }
+        ensures failed { OnOk result (result ≢ Ok (Some Progress.Closed) → self.old.wire.failed ≡ None → self.new.wire.failed ≡ None) }
+        ensures which { (result ≢ Ok (Some Progress.Parked)) × (result ≢ Ok (Some Progress.Clogged)) }
+        ensures port { self.new.port ≡ self.old.port }
+        ensures origin { self.new.origin ≡ self.old.origin }
+        ensures stage { self.new.stage ≡ self.old.stage }
+        ensures parked { self.new.parked ≡ self.old.parked }
+        ensures counts { (self.new.turns ≡ self.old.turns) × (self.new.ends ≡ self.old.ends) }
+    {
+        if self.held.is_some() {
+            return Ok(None);
+        }
+        match self.fetch()? {
+            Front::Whole => Ok(None),
+            Front::Part => {
+                mark(log, Mark::Part, true);
+                Ok(Some(if ended {
+                    Progress::Closed
+                } else {
+                    Progress::Settled
+                }))
+            }
+            Front::Broken => {
+                self.make_room()?;
+                self.break_off(log);
+                Ok(Some(Progress::Closed))
+            }
+        }
+    }
+
+    // Decides the PDU that waits, as far as the session alone does.
+    pub(super) fn decide(&mut self, log: &mut Log<Mark, Event>) -> Result<Verdict, Fault>
+        requires room { 65536 ≤ self.old.wire.room }
+        requires some { IsSome self.old.held }
+        ensures moves { Moves self.old log.old self.new log.new }
+        ensures phase { (t : Before) (ended : Bool) → phase_of t log.old ≡ Deciding ended → IsDecided ended result (phase_of t log.new) }
+        ensures held { OnOk result ((result ≢ Ok Verdict.Forward) → (result ≢ Ok Verdict.Settle) → self.new.held ≡ None) }
+        ensures forward { result ≡ Ok Verdict.Forward → IfSome self.new.held (λ p. client_decides self.new.desk.now.accounts.items self.new.session p ≡ (Act.Forward, self.new.session)) }
+        ensures settle { result ≡ Ok Verdict.Settle → IfSome self.new.held (λ p. client_decides self.new.desk.now.accounts.items self.new.session p ≡ (Act.MoAnswer p.number, self.new.session)) }
+        ensures waits { (result ≡ Ok Verdict.Forward) ⊎ (result ≡ Ok Verdict.Settle) → IsSome self.new.held × (self.new.wire ≡ self.old.wire) }
+        ensures port { self.new.port ≡ self.old.port }
+        ensures origin { self.new.origin ≡ self.old.origin }
+        ensures stage { self.new.stage ≡ self.old.stage }
+        ensures parked { self.new.parked ≡ self.old.parked }
+        ensures rest { self.new.wire.rest ≡ self.old.wire.rest }
+        ensures failed { self.new.wire.failed ≡ self.old.wire.failed }
+        ensures counts { (self.new.turns ≡ self.old.turns) × (self.new.ends ≡ self.old.ends) }
+    {
+        let Some(pdu) = self.held.take() else {
+            unreachable!()
+        };
+        let Ok(act) = self.session.on_pdu(&pdu, self.desk.accounts.as_slice()) else {
+            self.held = Some(pdu);
+            return Err(Fault::NoMemory);
+        };
+        match act {
+            Act::Forward => {
+                self.held = Some(pdu);
+                Ok(Verdict::Forward)
+            }
+            Act::MoAnswer { .. } => {
+                self.held = Some(pdu);
+                Ok(Verdict::Settle)
+            }
+            act => {
+                let verdict = verdict_of(&act);
+                say_act(&mut self.wire, &act);
+                let event = Event::Decided(Snapshot::of(&pdu), Snapshot::of(&act), Fate::Own);
+                note(&mut self.events, log, event, false);
+                Ok(verdict)
+            }
+        }
+    }
+
+    // Submits the PDU that waits, and says the answer where it is refused.
+    pub(super) fn forward<R: Wait, G: Gate>(
+        &mut self,
+        at: &Exchange,
+        rt: &R,
+        gate: &mut G,
+        log: &mut Log<Mark, Event>,
+    )
+        requires locks { locks_of self.old.port.fronts ≡ at.now }
+        requires room { 65536 ≤ self.old.wire.room }
+        requires held { IfSome self.old.held (λ p. client_decides self.old.desk.now.accounts.items self.old.session p ≡ (Act.Forward, self.old.session)) }
+        requires some { IsSome self.old.held }
+        ensures leads { (n : ℕ) (queries : List Query) → Leads n (scene_of (G.asked gate.old) (G.told gate.old) queries self.old) log.old
+            (scene_of (G.asked gate.new) (G.told gate.new) queries self.new) log.new }
+        ensures phase { (t : Before) (ended : Bool) → phase_of t log.old ≡ MaySubmit ended → phase_of t log.new ≡ Deciding ended }
+        ensures locks { locks_of self.new.port.fronts ≡ locks_of self.old.port.fronts }
+        ensures origin { self.new.origin ≡ self.old.origin }
+        ensures held { self.new.held ≡ None }
+        ensures stage { self.new.stage ≡ self.old.stage }
+        ensures parked { self.new.parked ≡ self.old.parked }
+        ensures rest { self.new.wire.rest ≡ self.old.wire.rest }
+        ensures failed { self.new.wire.failed ≡ self.old.wire.failed }
+        ensures counts { (self.new.turns ≡ self.old.turns) × (self.new.ends ≡ self.old.ends) }
+    {
+        let Some(pdu) = self.held.take() else {
+            unreachable!()
+        };
+        let act = Act::Forward;
+        let read = Snapshot::of(&pdu);
+        let command = pdu.command;
+        let number = pdu.number;
+        let offer = offer_of(pdu);
+        let offered = Snapshot::of(&offer);
+        let landed = self.port.submit(at, rt, offer);
+        let fate = Fate::Submitted(offered, Snapshot::of(&landed));
+        let event = Event::Decided(read, Snapshot::of(&act), fate);
+        say_refusal(&mut self.wire, self.alloc, command, number, &landed);
+        tell_accepted(gate, &landed);
+        note(&mut self.events, log, event, false);
+    }
+
+    // Settles the message that the PDU answers, where there is one. `None` where the turn goes on.
+    pub(super) fn settle<R: Wait, G: Gate>(
+        &mut self,
+        rt: &R,
+        gate: &mut G,
+        log: &mut Log<Mark, Event>,
+    ) -> Result<Option<Progress>, Fault>
+        requires none { self.old.parked ≡ None }
+        requires held { IfSome self.old.held (λ p. client_decides self.old.desk.now.accounts.items self.old.session p ≡ (Act.MoAnswer p.number, self.old.session)) }
+        requires some { IsSome self.old.held }
+        ensures leads { (n : ℕ) (queries : List Query) → Leads n (scene_of (G.asked gate.old) (G.told gate.old) queries self.old) log.old
+            (scene_of (G.asked gate.new) (G.told gate.new) queries self.new) log.new }
+        ensures phase { (t : Before) (ended : Bool) → phase_of t log.old ≡ Deciding ended → IsPart (Deciding ended) result (phase_of t log.new) }
+        ensures which { (result ≢ Ok (Some Progress.Settled)) × (result ≢ Ok (Some Progress.Closed)) × (result ≢ Ok (Some Progress.Clogged)) }
+        ensures waits { result ≡ Ok (Some Progress.Parked) → IsSome self.new.parked }
+        ensures clear { result ≡ Ok None → self.new.parked ≡ None }
+        ensures port { self.new.port ≡ self.old.port }
+        ensures origin { self.new.origin ≡ self.old.origin }
+        ensures held { self.new.held ≡ None }
+        ensures stage { self.new.stage ≡ self.old.stage }
+        ensures wire { self.new.wire ≡ self.old.wire }
+        ensures counts { (self.new.turns ≡ self.old.turns) × (self.new.ends ≡ self.old.ends) }
+    {
+        let Some(pdu) = self.held.take() else {
+            unreachable!()
+        };
+        let act = Act::MoAnswer { number: pdu.number };
+        let read = Snapshot::of(&pdu);
+        let found = self.window.settle(pdu.number, pdu.command);
+        let reply = answer_settled(rt, gate, &mut self.senders, &mut self.parked, pdu, found);
+        let event = Event::Decided(read, Snapshot::of(&act), Fate::Settled(found, reply));
+        note(&mut self.events, log, event, false);
+        reply.progress()
+    }
+}

@@ -1,0 +1,297 @@
+//! A turn, part by part.
+ghost use Rattle.std.specs.Prelude.{◌≡◌, ◌≢◌, ◌≤◌, ◌<◌, ℕ, Bool, true, false, List, length, Some, None, Ok, Err, IfOk, OnOk, IsSome};
+ghost use Rattle.smx_frame.specs.Stream.{HasNone};
+ghost use Rattle.smx_shared.specs.Views.{locks_of};
+ghost use Rattle.smx_turns.specs.declared.gate.Question.{Question};
+ghost use Rattle.smx_turns.specs.declared.gate.Party.{Party};
+ghost use Rattle.smx_turns.specs.declared.directory.Query.{Query};
+ghost use Rattle.smx_client.specs.Scenes.{scene_of, is_there, before};
+ghost use Rattle.smx_client.specs.Table.{Before, Phase, phase_of, Written, Clear, Deciding, when_drained, IsFront, IsPart, ComesTo, after_bind, begins, is_end};
+ghost use Rattle.smx_client.specs.Turns.{Leads};
+
+use super::ClientWorker;
+use super::boxing::is_waiting;
+use crate::event::{Event, Progress, Verdict};
+use crate::ledger::{ask, mark, reading};
+use crate::mark::{Mark, Stage};
+use crate::prefixes::{add_all, prefixes_at};
+use smx_link::{Link, Polled};
+use smx_session::Kind;
+use smx_shared::Exchange;
+use smx_turns::{Directory, Fault, Gate, Log, Point};
+use std::sync::Wait;
+
+// Whether a client that is bound so is sent messages.
+fn is_sent(kind: Kind) -> bool
+    ensures other { result ≡ true → kind ≢ Kind.Tx }
+    ensures tx { result ≡ false → kind ≡ Kind.Tx }
+{
+    match kind {
+        Kind::Tx => false,
+        Kind::Rx | Kind::Trx => true,
+    }
+}
+
+fn is_end(polled: Polled) -> bool
+    ensures { result ≡ is_end polled }
+{
+    matches!(polled, Polled::End)
+}
+
+fn stage_after(ended: bool) -> Stage
+    ensures { result ≢ Stage.Closed }
+{
+    if ended { Stage::Drained } else { Stage::Open }
+}
+
+impl<'d, L: Link + Drop> ClientWorker<'d, L> {
+    // Asks for leave to read, and reads unless a PDU waits: whether the link has ended.
+    fn read_part<G: Gate>(
+        &mut self,
+        gate: &mut G,
+        turn: u64,
+        log: &mut Log<Mark, Event>,
+    ) -> Result<Result<bool, Progress>, Fault>
+        requires goes_on { self.old.wire.failed ≡ None }
+        ensures leads { (queries : List Query) → Leads turn (scene_of (G.asked gate.old) (G.told gate.old) queries self.old) log.old
+            (scene_of (G.asked gate.new) (G.told gate.new) queries self.new) log.new }
+        ensures phase { (t : Before) → phase_of t log.old ≡ Clear → t.held ≡ is_there self.old.held → IsFront result (phase_of t log.new) }
+        ensures which { IfOk result (λ r. (r ≢ Err Progress.Parked) × (r ≢ Err Progress.Clogged) × (r ≢ Err Progress.Settled) × (r ≢ Err Progress.Closed)) }
+        ensures port { self.new.port ≡ self.old.port }
+        ensures origin { self.new.origin ≡ self.old.origin }
+        ensures held { self.new.held ≡ self.old.held }
+        ensures parked { self.new.parked ≡ self.old.parked }
+        ensures stage { self.new.stage ≡ self.old.stage }
+        ensures failed { self.new.wire.failed ≡ self.old.wire.failed }
+        ensures counts { (self.new.turns ≡ self.old.turns) × (self.new.ends ≡ self.old.ends) }
+    {
+        if self.wire.make_ready().is_err() {
+            return Err(Fault::NoMemory);
+        }
+        if !ask(log, gate, Point::Reading, turn) {
+            return Ok(Err(Progress::Stopped));
+        }
+        if is_waiting(&self.held) {
+            mark(log, Mark::Waited, true);
+            return Ok(Ok(false));
+        }
+        let answer = self.wire.read();
+        reading(log, answer);
+        match answer {
+            Ok(polled) => Ok(Ok(is_end(polled))),
+            Err(_) => Err(Fault::Link),
+        }
+    }
+
+    // What comes before PDUs are decided: whether the link has ended, or how far the turn comes.
+    fn front_part<R: Wait, G: Gate>(
+        &mut self,
+        at: &Exchange,
+        rt: &R,
+        gate: &mut G,
+        turn: u64,
+        log: &mut Log<Mark, Event>,
+    ) -> Result<Result<bool, Progress>, Fault>
+        requires locks { locks_of self.old.port.fronts ≡ at.now }
+        requires goes_on { self.old.wire.failed ≡ None }
+        ensures leads { (queries : List Query) → Leads turn (scene_of (G.asked gate.old) (G.told gate.old) queries self.old) log.old
+            (scene_of (G.asked gate.new) (G.told gate.new) queries self.new) log.new }
+        ensures phase { (t : Before) → phase_of t log.old ≡ Written → t.lanes ≡ length self.old.port.fronts → t.held ≡ is_there self.old.held → t.parked ≡ is_there self.old.parked
+            → IsFront result (phase_of t log.new) }
+        ensures clear { IfOk result (λ r. IfOk r (λ ended. self.new.parked ≡ None)) }
+        ensures waits { result ≡ Ok (Err Progress.Parked) → IsSome self.new.parked }
+        ensures clogged { result ≡ Ok (Err Progress.Clogged) → 65536 ≤ length self.new.wire.unsent }
+        ensures which { (result ≢ Ok (Err Progress.Settled)) × (result ≢ Ok (Err Progress.Closed)) }
+        ensures locks { locks_of self.new.port.fronts ≡ locks_of self.old.port.fronts }
+        ensures origin { self.new.origin ≡ self.old.origin }
+        ensures stage { self.new.stage ≡ self.old.stage }
+        ensures failed { self.new.wire.failed ≡ self.old.wire.failed }
+        ensures counts { (self.new.turns ≡ self.old.turns) × (self.new.ends ≡ self.old.ends) }
+    {
+        if let Some(progress) = self.collect_part(at, rt, gate, turn, log)? {
+            return Ok(Err(progress));
+        }
+        if let Some(progress) = self.box_part(rt, gate, log)? {
+            return Ok(Err(progress));
+        }
+        self.read_part(gate, turn, log)
+    }
+
+    // Enters the client that has bound into the directory, where it is to be sent messages.
+    fn enter<R: Wait, D: Directory>(
+        &mut self,
+        rt: &R,
+        directory: &mut D,
+        kind: Kind,
+        account: usize,
+        log: &mut Log<Mark, Event>,
+    ) -> Result<Option<Progress>, Fault>
+        ensures leads { (n : ℕ) (asked : List Question) (told : List Party) → Leads n (scene_of asked told (D.queries directory.old) self.old) log.old
+            (scene_of asked told (D.queries directory.new) self.new) log.new }
+        ensures phase { (t : Before) (ended : Bool) → phase_of t log.old ≡ after_bind ended kind account → IsPart (Deciding ended) result (phase_of t log.new) }
+        ensures none { OnOk result (result ≡ Ok None) }
+        ensures same { self.new ≡ self.old }
+    {
+        if !is_sent(kind) {
+            return Ok(None);
+        }
+        let prefixes = prefixes_at(self.desk, account);
+        let whole = add_all(rt, directory, prefixes, self.port.client());
+        mark(log, Mark::Entered(account, whole), true);
+        if whole {
+            Ok(None)
+        } else {
+            Err(Fault::NoMemory)
+        }
+    }
+
+    // Decides the PDU that waits. `None` where the next one may be decided.
+    fn decide_one<R: Wait, G: Gate, D: Directory>(
+        &mut self,
+        at: &Exchange,
+        rt: &R,
+        gate: &mut G,
+        directory: &mut D,
+        turn: u64,
+        ended: bool,
+        log: &mut Log<Mark, Event>,
+    ) -> Result<Option<Progress>, Fault>
+        requires locks { locks_of self.old.port.fronts ≡ at.now }
+        requires none { self.old.parked ≡ None }
+        requires some { IsSome self.old.held }
+        ensures leads { Leads turn (scene_of (G.asked gate.old) (G.told gate.old) (D.queries directory.old) self.old) log.old
+            (scene_of (G.asked gate.new) (G.told gate.new) (D.queries directory.new) self.new) log.new }
+        ensures phase { (t : Before) → phase_of t log.old ≡ Deciding ended → IsPart (Deciding ended) result (phase_of t log.new) }
+        ensures next { result ≡ Ok None → (self.new.held ≡ None) × (self.new.parked ≡ None) }
+        ensures which { (result ≢ Ok (Some Progress.Settled)) × (result ≢ Ok (Some Progress.Clogged)) }
+        ensures waits { result ≡ Ok (Some Progress.Parked) → IsSome self.new.parked }
+        ensures locks { locks_of self.new.port.fronts ≡ locks_of self.old.port.fronts }
+        ensures origin { self.new.origin ≡ self.old.origin }
+        ensures stage { self.new.stage ≡ self.old.stage }
+        ensures rest { self.new.wire.rest ≡ self.old.wire.rest }
+        ensures failed { self.new.wire.failed ≡ self.old.wire.failed }
+        ensures counts { (self.new.turns ≡ self.old.turns) × (self.new.ends ≡ self.old.ends) }
+    {
+        self.make_room()?;
+        match self.decide(log)? {
+            Verdict::Next => Ok(None),
+            Verdict::Over => Ok(Some(Progress::Closed)),
+            Verdict::Bound(kind, account) => self.enter(rt, directory, kind, account, log),
+            Verdict::Forward => {
+                if !ask(log, gate, Point::Submitting, turn) {
+                    return Ok(Some(Progress::Stopped));
+                }
+                self.forward(at, rt, gate, log);
+                Ok(None)
+            }
+            Verdict::Settle => self.settle(rt, gate, log),
+        }
+    }
+
+    // Decides each whole PDU, as far as the turn may.
+    fn decide_part<R: Wait, G: Gate, D: Directory>(
+        &mut self,
+        at: &Exchange,
+        rt: &R,
+        gate: &mut G,
+        directory: &mut D,
+        turn: u64,
+        ended: bool,
+        log: &mut Log<Mark, Event>,
+    ) -> Result<Progress, Fault>
+        requires locks { locks_of self.old.port.fronts ≡ at.now }
+        requires none { self.old.parked ≡ None }
+        ensures leads { Leads turn (scene_of (G.asked gate.old) (G.told gate.old) (D.queries directory.old) self.old) log.old
+            (scene_of (G.asked gate.new) (G.told gate.new) (D.queries directory.new) self.new) log.new }
+        ensures phase { (t : Before) → phase_of t log.old ≡ Deciding ended → ComesTo result (phase_of t log.new) }
+        ensures failed { OnOk result (result ≢ Ok Progress.Closed → self.old.wire.failed ≡ None → self.new.wire.failed ≡ None) }
+        ensures settled { result ≡ Ok Progress.Settled → (self.new.held ≡ None) × HasNone 65536 self.new.wire.rest }
+        ensures waits { result ≡ Ok Progress.Parked → IsSome self.new.parked }
+        ensures clogged { result ≡ Ok Progress.Clogged → 65536 ≤ length self.new.wire.unsent }
+        ensures locks { locks_of self.new.port.fronts ≡ locks_of self.old.port.fronts }
+        ensures origin { self.new.origin ≡ self.old.origin }
+        ensures stage { self.new.stage ≡ self.old.stage }
+        ensures counts { (self.new.turns ≡ self.old.turns) × (self.new.ends ≡ self.old.ends) }
+    {
+        loop {
+            if self.is_clogged() {
+                mark(log, Mark::Full, true);
+                return Ok(Progress::Clogged);
+            }
+            if let Some(progress) = self.next_up(ended, log)? {
+                return Ok(progress);
+            }
+            if let Some(progress) = self.decide_one(at, rt, gate, directory, turn, ended, log)? {
+                return Ok(progress);
+            }
+        }
+    }
+
+    // After the link's end: puts the answer that waits again. `None` where the turn goes on.
+    fn drained_part<R: Wait, G: Gate>(
+        &mut self,
+        rt: &R,
+        gate: &mut G,
+        log: &mut Log<Mark, Event>,
+    ) -> Result<Option<Progress>, Fault>
+        ensures leads { (n : ℕ) (queries : List Query) → Leads n (scene_of (G.asked gate.old) (G.told gate.old) queries self.old) log.old
+            (scene_of (G.asked gate.new) (G.told gate.new) queries self.new) log.new }
+        ensures phase { (t : Before) → t.parked ≡ is_there self.old.parked → phase_of t log.old ≡ when_drained t.parked → IsPart (Deciding true) result (phase_of t log.new) }
+        ensures waits { result ≡ Ok (Some Progress.Parked) → IsSome self.new.parked }
+        ensures clear { result ≡ Ok None → self.new.parked ≡ None }
+        ensures which { (result ≢ Ok (Some Progress.Settled)) × (result ≢ Ok (Some Progress.Closed)) × (result ≢ Ok (Some Progress.Clogged)) }
+        ensures port { self.new.port ≡ self.old.port }
+        ensures origin { self.new.origin ≡ self.old.origin }
+        ensures stage { self.new.stage ≡ self.old.stage }
+        ensures wire { self.new.wire ≡ self.old.wire }
+        ensures counts { (self.new.turns ≡ self.old.turns) × (self.new.ends ≡ self.old.ends) }
+    {
+        if is_waiting(&self.parked) {
+            return self.put_again(rt, gate, log);
+        }
+        Ok(None)
+    }
+
+    // After what waited was offered: how far the turn comes.
+    pub(super) fn middle_part<R: Wait, G: Gate, D: Directory>(
+        &mut self,
+        at: &Exchange,
+        rt: &R,
+        gate: &mut G,
+        directory: &mut D,
+        turn: u64,
+        log: &mut Log<Mark, Event>,
+    ) -> Result<Progress, Fault>
+        requires locks { locks_of self.old.port.fronts ≡ at.now }
+        requires goes_on { self.old.wire.failed ≡ None }
+        requires going { self.old.stage ≢ Stage.Closed }
+        ensures leads { Leads turn (scene_of (G.asked gate.old) (G.told gate.old) (D.queries directory.old) self.old) log.old
+            (scene_of (G.asked gate.new) (G.told gate.new) (D.queries directory.new) self.new) log.new }
+        ensures phase { (t : Before) → t ≡ before self.old → phase_of t log.old ≡ begins t self.old.stage → ComesTo result (phase_of t log.new) }
+        ensures goes_on { OnOk result (result ≢ Ok Progress.Closed → self.new.wire.failed ≡ None) }
+        ensures stage { self.new.stage ≢ Stage.Closed }
+        ensures settled { result ≡ Ok Progress.Settled → (self.new.held ≡ None) × HasNone 65536 self.new.wire.rest }
+        ensures waits { result ≡ Ok Progress.Parked → IsSome self.new.parked }
+        ensures clogged { result ≡ Ok Progress.Clogged → 65536 ≤ length self.new.wire.unsent }
+        ensures locks { locks_of self.new.port.fronts ≡ locks_of self.old.port.fronts }
+        ensures origin { self.new.origin ≡ self.old.origin }
+        ensures counts { (self.new.turns ≡ self.old.turns) × (self.new.ends ≡ self.old.ends) }
+    {
+        match self.stage {
+            Stage::Closed => unreachable!(),
+            Stage::Drained => {
+                if let Some(progress) = self.drained_part(rt, gate, log)? {
+                    return Ok(progress);
+                }
+                self.decide_part(at, rt, gate, directory, turn, true, log)
+            }
+            Stage::Open => match self.front_part(at, rt, gate, turn, log)? {
+                Err(progress) => Ok(progress),
+                Ok(ended) => {
+                    self.stage = stage_after(ended);
+                    self.decide_part(at, rt, gate, directory, turn, ended, log)
+                }
+            },
+        }
+    }
+}
