@@ -4,7 +4,7 @@ use Rattle.std.specs.List.{flat_map}
 use Rattle.smx_pdu.specs.declared.pdu.Pdu.{Pdu}
 use Rattle.smx_pdu.specs.declared.status.TheConstants.{ESME_RSYSERR, ESME_RMSGQFUL}
 use Rattle.smx_pdu.specs.Command.{response_of}
-use Rattle.smx_session.specs.Pdus.{response}
+use Rattle.smx_pdu.specs.Answers.{response}
 use Rattle.smx_session.specs.declared.act.Act.{Act}
 use Rattle.smx_session.specs.declared.act.Act.TheVariants as act
 use Rattle.smx_shared.specs.declared.offer.Offer.{Offer}

@@ -2,7 +2,7 @@
 use Rattle.std.specs.Prelude.{◌≡◌, ◌<◌, ◌++◌, length, ℕ, List, [], ◌∷◌, Option, Some, None, Result, Ok, Err}
 use Rattle.smx_pdu.specs.declared.pdu.Pdu.{Pdu}
 use Rattle.smx_session.specs.Login.{Login}
-use Rattle.smx_session.specs.Pdus.{undecoded}
+use Rattle.smx_pdu.specs.Answers.{undecoded}
 use Rattle.smx_session.specs.ClientTable.{client_decides}
 use Rattle.smx_session.specs.declared.act.Act.{Act}
 use Rattle.smx_session.specs.declared.act.Act.TheVariants as act

@@ -5,8 +5,8 @@ use Rattle.std.specs.List.{flat_map}
 use Rattle.smx_pdu.specs.declared.pdu.Pdu.{Pdu}
 use Rattle.smx_lock.specs.Fronts.{Front, IsSpent}
 use Rattle.smx_lock.specs.declared.faults.Spent.{Spent}
-use Rattle.smx_mo.specs.declared.receiver.Got.{Got}
-use Rattle.smx_mo.specs.Boxes.{Receiving, Hands, GetServes, Sending}
+use Rattle.smx_box.specs.declared.receiver.Got.{Got}
+use Rattle.smx_box.specs.Boxes.{Receiving, Hands, GetServes, Sending}
 use Rattle.smx_session.specs.Moments.{Upstream}
 use Rattle.smx_shared.specs.Views.{TapView}
 use Rattle.smx_link.specs.Wiring.{Wiring}

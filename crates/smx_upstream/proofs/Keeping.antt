@@ -18,7 +18,7 @@ use Rattle.smx_history.specs.declared.reply.Answered.TheVariants as answered
 use Rattle.smx_lane.specs.Kept.{writer}
 use Rattle.smx_lane.specs.declared.sent.Sent.{Sent}
 use Rattle.smx_lock.specs.declared.faults.Spent.{Spent}
-use Rattle.smx_mo.specs.Boxes.{Sending}
+use Rattle.smx_box.specs.Boxes.{Sending}
 use Rattle.smx_session.specs.declared.up_act.UpAct.{UpAct}
 use Rattle.smx_shared.specs.Views.{TapView}
 use Rattle.smx_shared.specs.declared.fault.TakeFault.{TakeFault}

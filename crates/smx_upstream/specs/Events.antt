@@ -7,11 +7,11 @@ use Rattle.smx_pdu.specs.Reading.{destination_at}
 use Rattle.smx_pdu.specs.declared.body_fault.BodyFault.{BodyFault}
 use Rattle.smx_lane.specs.declared.sent.Sent.{Sent}
 use Rattle.smx_lock.specs.declared.faults.Spent.{Spent}
-use Rattle.smx_mo.specs.declared.receiver.Got.{Got}
-use Rattle.smx_mo.specs.declared.receiver.Got.TheVariants as got
+use Rattle.smx_box.specs.declared.receiver.Got.{Got}
+use Rattle.smx_box.specs.declared.receiver.Got.TheVariants as got
 use Rattle.smx_shared.specs.declared.fault.TakeFault.{TakeFault}
 use Rattle.smx_shared.specs.declared.fault.TakeFault.TheVariants as takes
-use Rattle.smx_session.specs.Pdus.{undecoded}
+use Rattle.smx_pdu.specs.Answers.{undecoded}
 use Rattle.smx_session.specs.declared.up_act.UpAct.{UpAct}
 use Rattle.smx_session.specs.declared.up_act.UpAct.TheVariants as act
 use Rattle.smx_turns.specs.declared.directory.Query.{Query}

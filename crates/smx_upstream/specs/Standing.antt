@@ -14,8 +14,8 @@ use Rattle.smx_history.specs.declared.note.Note.{Note}
 use Rattle.smx_history.specs.declared.entry.Entry.{Entry}
 use Rattle.smx_shared.specs.declared.fault.TurnFault.{TurnFault}
 use Rattle.smx_lock.specs.declared.faults.Spent.{Spent}
-use Rattle.smx_mo.specs.declared.receiver.Got.{Got}
-use Rattle.smx_mo.specs.Boxes.{Sending, Receiving, GetServes, Hands}
+use Rattle.smx_box.specs.declared.receiver.Got.{Got}
+use Rattle.smx_box.specs.Boxes.{Sending, Receiving, GetServes, Hands}
 use Rattle.smx_session.specs.Binds.{own_bind}
 use Rattle.smx_session.specs.UpstreamTable.{bind_number}
 use Rattle.smx_session.specs.Moments.{Upstream, at, act_on, after_pdu, enquiry, after_moment, is_silent}

@@ -9,8 +9,8 @@ ghost use Rattle.smx_upstream.specs.Ages.{answer_notes, fate_notes};
 ghost use Rattle.smx_upstream.specs.Standing.{Becomes, Reads};
 
 use crate::event::Fate;
+use smx_box::{PutFault, Sender};
 use smx_history::Answered;
-use smx_mo::{PutFault, Sender};
 use smx_pdu::status::{ESME_RINVCMDLEN, ESME_RMSGQFUL, ESME_RX_T_APPN};
 use smx_pdu::{Pdu, read_destination};
 use smx_session::UpAct;

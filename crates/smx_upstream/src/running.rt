@@ -11,8 +11,8 @@ ghost use Rattle.smx_upstream.specs.Working.{side_of, Turns};
 ghost use Rattle.smx_upstream.specs.Phases.{phase_of, is_settled, link_faults, Waits, IsTurn, IsOver};
 
 use crate::worker::UpstreamWorker;
+use smx_box::{Receiver, Sender};
 use smx_link::Link;
-use smx_mo::{Receiver, Sender};
 use smx_pdu::Pdu;
 use smx_shared::{Exchange, Tap};
 use smx_turns::{Directory, Fault, Gate, Log, MoItem, RunEnd, TurnEnd};
