@@ -6,9 +6,9 @@ use crate::class::{Class, class_of};
 use crate::mode::Mode;
 use crate::pdus::{add, one, two};
 use crate::response::{delivery, forwarded_response, system_id};
+use smx_pdu::Pdu;
 use smx_pdu::command::RESPONSE;
 use smx_pdu::status::ESME_ROK;
-use smx_pdu::Pdu;
 use std::alloc::{AllocError, Global};
 use std::marker::Model;
 
