@@ -18,6 +18,3 @@ pub use leaver::{Leaver, Leaving};
 pub use mark::{Mark, Stage};
 pub use reply::{Parked, Reply};
 pub use worker::{ClientWorker, Origin, run_client};
-
-#[cfg(test)]
-mod tests;

@@ -149,9 +149,4 @@ impl<'d, L: Link + Drop> ClientWorker<'d, L> {
     {
         self.wire.unsent()
     }
-
-    #[cfg(test)]
-    pub(crate) fn into_link(self) -> L {
-        self.wire.into_link()
-    }
 }

@@ -17,6 +17,3 @@ pub use laws::law;
 pub use mark::Mark;
 pub use running::{Closed, run_upstream};
 pub use worker::{Parts, UpstreamWorker};
-
-#[cfg(test)]
-mod tests;

@@ -15,7 +15,20 @@ use Rattle.smx_upstream.specs.Working.{side_of}
 use Rattle.smx_upstream.specs.Phases.{Phase, Opening, Ready, Written, Watched, Clear, when_kept, Sated, MayRead, Failed, Deciding, Closing, Settled, MayTake, HasTried, ends, when_decided, after_offer, when_looked, when_may_take, when_may_read, quiet_end, phase_of, Refrained, Clogged, Brimming, Stopped}
 use Rattle.smx_upstream.proofs.Eventful.{turns_as, goes_at, goes_first, did, began, goes_did, goes_mark, goes_read, goes_ask, goes_same, goes_then, goes_from, goes_to, kept_or_in, gets_from, stands_same, bad_heard}
 use Rattle.smx_upstream.proofs.Cells.{stepped, kept_phase, cell_offered, cell_closed, cell_opened, cell_looked, cell_young, cell_shifted, kept_right, cell_sought, cell_full, cell_reading, cell_read, cell_decided, cell_broke, cell_part, cell_brim, cell_taking, cell_took, right, decided_right, early, ends_clogged, ends_brimming, ends_stopped, ends_gone, ends_left, part_err, turn_err, waits_as, phase_none, refrained, ends_unbound, ends_tried}
+use Rattle.std.specs.Prelude.{Option, Result}
+use Rattle.std.specs.declared.vec.Vec.{Vec}
+use Rattle.std.specs.declared.alloc.Global.{Global}
+use Rattle.smx_lock.specs.Fronts.{Front}
+use Rattle.smx_history.specs.declared.limits.Limits.{Limits}
+use Rattle.smx_history.specs.declared.note.Note.{Note}
+use Rattle.smx_history.specs.declared.entry.Entry.{Entry}
+use Rattle.smx_shared.specs.declared.fault.TurnFault.{TurnFault}
+use Rattle.smx_shared.specs.Serving.{Turns}
 use Rattle.smx_upstream.proofs.worker.UpstreamWorker.renew.Goals as goal
+
+as_shifts : (f g : Front Note Limits) (least : ℕ) (r : Result (Option (Vec Entry Global)) TurnFault) → Turns (λ (es : Vec Entry Global). es.items) f g least r → Shifts f g least r
+as_shifts f g least (Ok o) t = t
+as_shifts f g least (Err e) t = t
 
 pub invariant_of-self : goal.invariant_of-self
 invariant_of-self g c =
@@ -34,7 +47,7 @@ pub invariant_of-self-in-Ok : goal.invariant_of-self-in-Ok
 invariant_of-self-in-Ok g c =
     did _ _ (Shifted c.in-Some.least c.of.result) c.self.invariant c.jot-2.ensures.events refl refl (sym (append-nil _)) refl (
       sym c.shift_due.ensures ∙ c.in-Some.is,
-      subst (Shifts c.self.inside.tap.front c.turn_over-entries.new.self.front c.in-Some.least) (sym c.of.ensures) c.turn_over-entries.ensures.served,
+      subst (Shifts c.self.inside.tap.front c.turn_over-entries.new.self.front c.in-Some.least) (sym c.of.ensures) (as_shifts _ _ _ _ c.turn_over-entries.ensures.served),
       c.turn_over-entries.ensures.same.0,
       stands_same refl refl refl refl (c.after_shift-age.ensures ∙ ap (λ b. after_shift b c.self.inside.age) (c.has_shifted.ensures ∙ ap has_shifted (sym c.of.ensures))),
     ) c.self.invariant.goes_on
@@ -43,7 +56,7 @@ pub invariant_of-self-2 : goal.invariant_of-self-2
 invariant_of-self-2 g c =
     did _ _ (Shifted c.in-Some.least c.of.result) c.self.invariant c.jot-2.ensures.events refl refl (sym (append-nil _)) refl (
       sym c.shift_due.ensures ∙ c.in-Some.is,
-      subst (Shifts c.self.inside.tap.front c.turn_over-entries.new.self.front c.in-Some.least) (sym c.of.ensures) c.turn_over-entries.ensures.served,
+      subst (Shifts c.self.inside.tap.front c.turn_over-entries.new.self.front c.in-Some.least) (sym c.of.ensures) (as_shifts _ _ _ _ c.turn_over-entries.ensures.served),
       c.turn_over-entries.ensures.same.0,
       stands_same refl refl refl refl (c.after_shift-age.ensures ∙ ap (λ b. after_shift b c.self.inside.age) (c.has_shifted.ensures ∙ ap has_shifted (sym c.of.ensures))),
     ) c.self.invariant.goes_on
@@ -52,7 +65,7 @@ pub returns-in-Ok-clause-goes : goal.returns-in-Ok-clause-goes
 returns-in-Ok-clause-goes g c = rw (← c.self.view_is)
     (λ turn asked told queries. goes_did turn _ _ _ _ (Shifted c.in-Some.least c.of.result) c.jot-2.ensures.log refl (sym (append-nil told)) (sym (append-nil queries)) c.jot-2.ensures.events (
       sym c.shift_due.ensures ∙ c.in-Some.is,
-      subst (Shifts c.self.inside.tap.front c.turn_over-entries.new.self.front c.in-Some.least) (sym c.of.ensures) c.turn_over-entries.ensures.served,
+      subst (Shifts c.self.inside.tap.front c.turn_over-entries.new.self.front c.in-Some.least) (sym c.of.ensures) (as_shifts _ _ _ _ c.turn_over-entries.ensures.served),
       c.turn_over-entries.ensures.same.0,
       stands_same refl refl refl refl (c.after_shift-age.ensures ∙ ap (λ b. after_shift b c.self.inside.age) (c.has_shifted.ensures ∙ ap has_shifted (sym c.of.ensures))),
     ) refl)
@@ -61,7 +74,7 @@ pub returns-clause-goes : goal.returns-clause-goes
 returns-clause-goes g c = rw (← c.self.view_is)
     (λ turn asked told queries. goes_did turn _ _ _ _ (Shifted c.in-Some.least c.of.result) c.jot-2.ensures.log refl (sym (append-nil told)) (sym (append-nil queries)) c.jot-2.ensures.events (
       sym c.shift_due.ensures ∙ c.in-Some.is,
-      subst (Shifts c.self.inside.tap.front c.turn_over-entries.new.self.front c.in-Some.least) (sym c.of.ensures) c.turn_over-entries.ensures.served,
+      subst (Shifts c.self.inside.tap.front c.turn_over-entries.new.self.front c.in-Some.least) (sym c.of.ensures) (as_shifts _ _ _ _ c.turn_over-entries.ensures.served),
       c.turn_over-entries.ensures.same.0,
       stands_same refl refl refl refl (c.after_shift-age.ensures ∙ ap (λ b. after_shift b c.self.inside.age) (c.has_shifted.ensures ∙ ap has_shifted (sym c.of.ensures))),
     ) refl)
