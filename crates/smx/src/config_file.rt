@@ -1,5 +1,5 @@
 //! The check of a configuration's file.
-use smx_config::{FileFault, advice, check, read, read_text, reject};
+use smx_config::{Config, FileFault, advice, check, read, read_text, reject};
 use std::process::ExitCode;
 use std::rt::Files;
 use std::{fs, io};
@@ -25,28 +25,59 @@ fn advise<R: Eprint + AllocGlobal>(rt: &R, path: &str, text: &str) {
     }
 }
 
-/// Checks the file with this path. The line of the check goes to standard output, and what would be
-/// right, in words that nothing fixes, to standard error.
-pub(crate) fn run<R: Files + Print + Eprint + AllocGlobal>(rt: &R, path: &str) -> ExitCode {
+// Says which line the check of a file that gives no text writes.
+fn refuse<R: Print + Eprint>(rt: &R, path: &str, fault: FileFault) {
     let mut writer = io::writer(rt);
-    let text = match text_of(rt, path) {
-        Ok(text) => text,
-        Err(fault) => {
-            let _ = eprintln!(rt; "{path}: {fault}");
-            if let Err(fault) = reject(fault, &mut writer) {
-                let _ = eprintln!(rt; "{fault}");
+    let _ = eprintln!(rt; "{path}: {fault}");
+    if let Err(fault) = reject(fault, &mut writer) {
+        let _ = eprintln!(rt; "{fault}");
+    }
+}
+
+/// The configuration in the file with this path. Where it has none, the line of the check goes to
+/// standard output.
+pub(crate) fn config_of<R: Files + Print + Eprint + AllocGlobal>(
+    rt: &R,
+    path: &str,
+) -> Option<Config> {
+    match text_of(rt, path) {
+        Ok(text) => match read(rt.alloc(), &text) {
+            Ok(config) => Some(config),
+            Err(_) => {
+                check_text(rt, path, &text);
+                None
             }
-            return ExitCode::FAILURE;
+        },
+        Err(fault) => {
+            refuse(rt, path, fault);
+            None
         }
-    };
-    match check(rt.alloc(), &text, &mut writer) {
+    }
+}
+
+// Writes the line of the check for a text.
+fn check_text<R: Print + Eprint + AllocGlobal>(rt: &R, path: &str, text: &str) -> ExitCode {
+    let mut writer = io::writer(rt);
+    match check(rt.alloc(), text, &mut writer) {
         Ok(true) => ExitCode::SUCCESS,
         Ok(false) => {
-            advise(rt, path, &text);
+            advise(rt, path, text);
             ExitCode::FAILURE
         }
         Err(fault) => {
             let _ = eprintln!(rt; "{fault}");
+            ExitCode::FAILURE
+        }
+    }
+}
+
+/// Checks the file with this path. The line of the check goes to standard output, and what would be
+/// right, in words that nothing fixes, to standard error.
+pub(crate) fn run<R: Files + Print + Eprint + AllocGlobal>(rt: &R, path: &str) -> ExitCode {
+    match text_of(rt, path) {
+        Ok(text) => check_text(rt, path, &text),
+        Err(fault) => {
+            refuse(rt, path, fault);
             ExitCode::FAILURE
         }
     }

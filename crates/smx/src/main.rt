@@ -3,6 +3,7 @@
 
 mod config_file;
 mod options;
+mod serving;
 
 use options::Asked;
 use smx_relay::RunEnd;
@@ -45,6 +46,7 @@ fn main(rt: HostRuntime) -> ExitCode {
     match options::read(rt.alloc(), words.as_slice()) {
         Ok(Asked::Relay) => run_relay(&rt),
         Ok(Asked::Check(path)) => config_file::run(&rt, path),
+        Ok(Asked::Serve(path)) => serving::run(rt, path),
         Ok(Asked::Nothing) => ExitCode::FAILURE,
         Err(error) => {
             let _ = rt.eprint(&error);

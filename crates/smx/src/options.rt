@@ -9,22 +9,31 @@ pub enum Asked<'a> {
     Relay,
     /// Checks the configuration in the file with this path.
     Check(&'a str),
+    /// Runs the proxy by the configuration in the file with this path.
+    Serve(&'a str),
     /// Nothing, which a command line that was read doesn't ask for.
     Nothing,
 }
 
-/// Reads the words of a command line, the program's name first.
-pub(crate) fn read(alloc: Global, words: &[String]) -> Result<Asked<'_>, Error> {
-    let file = Arg::new(alloc, "FILE")
+fn file(alloc: Global) -> Arg<'static> {
+    Arg::new(alloc, "FILE")
         .required(true)
         .action(ArgAction::Set)
-        .help("The path of a configuration");
+        .help("The path of a configuration")
+}
+
+/// Reads the words of a command line, the program's name first.
+pub(crate) fn read(alloc: Global, words: &[String]) -> Result<Asked<'_>, Error> {
     let check = Command::new(alloc, "check")
         .about("Checks a configuration")
-        .arg(file)?;
+        .arg(file(alloc))?;
+    let serve = Command::new(alloc, "serve")
+        .about("Runs the proxy, until a line stop comes on standard input")
+        .arg(file(alloc))?;
     let relay = Command::new(alloc, "relay").about("Runs a script from standard input");
     let command = Command::new(alloc, "smx")
         .subcommand_required(true)
+        .subcommand(serve)?
         .subcommand(relay)?
         .subcommand(check)?;
     let matches = command.try_get_matches_from(words)?;
@@ -32,6 +41,10 @@ pub(crate) fn read(alloc: Global, words: &[String]) -> Result<Asked<'_>, Error> 
         Some(("relay", _)) => Ok(Asked::Relay),
         Some(("check", found)) => match found.get_str("FILE") {
             Some(path) => Ok(Asked::Check(path)),
+            None => Ok(Asked::Nothing),
+        },
+        Some(("serve", found)) => match found.get_str("FILE") {
+            Some(path) => Ok(Asked::Serve(path)),
             None => Ok(Asked::Nothing),
         },
         _ => Ok(Asked::Nothing),

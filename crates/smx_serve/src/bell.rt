@@ -1,0 +1,73 @@
+//! What a turn tells the loop.
+
+use crate::ready::Ready;
+use crate::roll::Roll;
+use smx_trace::Trace;
+use smx_turns::{Gate, Party, Point, Question};
+
+/// Lets each worker go on, and notes who has something to do. Parties are numbered: the lanes, then
+/// the clients' slots.
+#[derive(Drop)]
+pub(crate) struct Bell<'a> {
+    lanes: usize,
+    ready: &'a mut Ready,
+    roll: &'a Roll,
+    // Whether a worker asked for leave to take, which it does only where its bind is made.
+    takes: bool,
+    asked: Trace<Question>,
+    told: Trace<Party>,
+}
+
+impl<'a> Bell<'a> {
+    pub fn new(lanes: usize, ready: &'a mut Ready, roll: &'a Roll) -> Bell<'a> {
+        Bell {
+            lanes,
+            ready,
+            roll,
+            takes: false,
+            asked: Trace::new(),
+            told: Trace::new(),
+        }
+    }
+
+    // Whether a worker asked for leave to take.
+    pub fn takes(&self) -> bool {
+        self.takes
+    }
+
+    // The number of a party; that of a client that is gone is above all.
+    fn number(&self, party: Party) -> usize {
+        match party {
+            Party::Lane(lane) => lane,
+            Party::Slot(slot) => self.lanes.saturating_add(slot),
+            Party::Client { client, .. } => match self.roll.slot(client) {
+                Some(slot) => self.lanes.saturating_add(slot),
+                None => usize::MAX,
+            },
+        }
+    }
+}
+
+impl Gate for Bell<'_> {
+    ghost asked = { λ b. b.asked };
+
+    ghost told = { λ b. b.told };
+
+    fn at(&mut self, point: Point, turn: u64) -> bool {
+        if point == Point::Taking {
+            self.takes = true;
+        }
+        self.asked = self.asked.and(&Question {
+            point,
+            turn,
+            answer: true,
+        });
+        true
+    }
+
+    fn ready(&mut self, party: Party) {
+        let number = self.number(party);
+        self.ready.add(number);
+        self.told = self.told.and(&party);
+    }
+}

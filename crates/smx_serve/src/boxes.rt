@@ -1,0 +1,72 @@
+//! The boxes of messages and of their answers: all that will ever be are made at the start.
+
+use smx_box::{BoxFault, Boxed, Receiver, Sender};
+use smx_pdu::Pdu;
+use smx_turns::MoItem;
+use std::alloc::{AllocError, Global};
+use std::sync::Wait;
+
+/// A client's ends of the boxes: that of its own, and a sender for the return box of each lane.
+#[derive(Drop)]
+pub(crate) struct ClientEnds {
+    pub inbox: Receiver<MoItem>,
+    pub senders: Vec<Sender<Pdu>>,
+}
+
+/// A lane's ends: that of its return box, and a sender for the box of each slot.
+#[derive(Drop)]
+pub(crate) struct LaneEnds {
+    pub answers: Receiver<Pdu>,
+    pub senders: Vec<Sender<MoItem>>,
+}
+
+fn refused(_: BoxFault) -> AllocError {
+    AllocError
+}
+
+// So many boxes, each with so many senders: their receivers, and for each sender's index those of
+// all boxes.
+fn boxes_of<T: Drop, R: Wait>(
+    rt: &R,
+    alloc: Global,
+    boxes: usize,
+    senders: usize,
+    places: usize,
+) -> Result<(Vec<Receiver<T>>, Vec<Vec<Sender<T>>>), AllocError> {
+    let mut receivers = Vec::with_capacity(alloc, boxes)?;
+    let mut rows = Vec::with_capacity(alloc, senders)?;
+    for _ in 0..senders {
+        rows.push(Vec::with_capacity(alloc, boxes)?)?;
+    }
+    for _ in 0..boxes {
+        let (receiver, all) = Boxed::new(rt, alloc, senders, places).map_err(refused)?;
+        receivers.push(receiver)?;
+        for (at, sender) in all.into_iter().enumerate() {
+            if let Some(row) = rows.get_mut(at) {
+                row.push(sender)?;
+            }
+        }
+    }
+    Ok((receivers, rows))
+}
+
+// The ends of all boxes, by slot and by lane.
+pub(crate) fn ends_of<R: Wait>(
+    rt: &R,
+    alloc: Global,
+    slots: usize,
+    lanes: usize,
+    places: usize,
+) -> Result<(Vec<ClientEnds>, Vec<LaneEnds>), AllocError> {
+    let (inboxes, to_slots) = boxes_of(rt, alloc, slots, lanes, places)?;
+    let (answers, to_lanes) = boxes_of(rt, alloc, lanes, slots, places)?;
+    let mut clients = Vec::with_capacity(alloc, slots)?;
+    for (inbox, senders) in inboxes.into_iter().zip(to_lanes) {
+        clients.push(ClientEnds { inbox, senders })?;
+    }
+    let mut all = Vec::with_capacity(alloc, lanes)?;
+    for (answers, senders) in answers.into_iter().zip(to_slots) {
+        all.push(LaneEnds { answers, senders })?;
+    }
+    Ok((clients, all))
+}

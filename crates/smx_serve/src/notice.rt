@@ -1,0 +1,89 @@
+//! What is said of the proxy's run: one line an event.
+
+use smx_shared::EnterFault;
+use smx_turns::Fault;
+use std::alloc::AllocError;
+use std::fmt;
+
+/// How a run of the proxy ended.
+#[derive(Clone, Copy, Debug, PartialEq, Eq, thiserror::Error)]
+pub enum Ended {
+    /// It was told to stop, and what waited is written.
+    #[error("stopped")]
+    Stopped,
+    /// The link with the upstream of this index ended, or its bind was refused.
+    #[error("upstream {0} has ended")]
+    Upstream(usize),
+    /// The upstream of this index refused the connection, or there was no memory for its worker.
+    #[error("upstream {0} can't be reached")]
+    Unreached(usize),
+    /// The address where clients connect can't be had.
+    #[error("the address to listen at can't be had")]
+    NotListening,
+    /// There is no memory for the lanes or the boxes.
+    #[error("no memory")]
+    NoMemory,
+    /// The system gives no events any more, or no time.
+    #[error("the system gives no events")]
+    NoEvents,
+}
+
+impl From<AllocError> for Ended {
+    fn from(_: AllocError) -> Ended {
+        Ended::NoMemory
+    }
+}
+
+/// One line for whoever runs the proxy. No password is in it.
+#[derive(Clone, Copy)]
+pub(crate) enum Notice<'a> {
+    Listening(&'a str),
+    NotListening(&'a str),
+    Connected(usize, &'a str, &'a str),
+    Unreached(usize, &'a str, &'a str),
+    Bound(usize, &'a str, &'a str),
+    Lost(usize, &'a str, &'a str),
+    Came(u64, &'a str),
+    Left(u64, &'a str),
+    Closed(u64, &'a str),
+    Failed(u64, &'a str, Fault),
+    NoSlot(&'a str),
+    Refused(&'a str, EnterFault),
+    Unwatched(&'a str),
+    NoDescriptor,
+    Stopping,
+}
+
+impl fmt::Display for Notice<'_> {
+    fn fmt<W: fmt::Write>(&self, f: &mut fmt::Formatter<W>) -> fmt::Result {
+        match self {
+            Notice::Listening(address) => write!(f, "listening on {address}"),
+            Notice::NotListening(address) => write!(f, "{address} can't be listened at"),
+            Notice::Connected(lane, address, name) => {
+                write!(f, "upstream {lane} {name} at {address}: connected")
+            }
+            Notice::Unreached(lane, address, name) => {
+                write!(f, "upstream {lane} {name} at {address}: can't be reached")
+            }
+            Notice::Bound(lane, address, name) => {
+                write!(f, "upstream {lane} {name} at {address}: bound")
+            }
+            Notice::Lost(lane, address, name) => {
+                write!(f, "upstream {lane} {name} at {address}: ended")
+            }
+            Notice::Came(client, address) => write!(f, "client {client} at {address}: connected"),
+            Notice::Left(client, address) => write!(f, "client {client} at {address}: left"),
+            Notice::Closed(client, address) => {
+                write!(f, "client {client} at {address}: closed its connection")
+            }
+            Notice::Failed(client, address, fault) => {
+                write!(f, "client {client} at {address}: {fault}")
+            }
+            Notice::NoSlot(address) => write!(f, "{address}: refused, no slot is free"),
+            Notice::Refused(address, fault) => write!(f, "{address}: refused, {fault}"),
+            Notice::Unwatched(address) => write!(f, "{address}: refused, it can't be watched"),
+            Notice::NoDescriptor => write!(f, "no connection can be accepted now"),
+            Notice::Stopping => write!(f, "stopping"),
+        }
+    }
+}

@@ -1,0 +1,231 @@
+//! Tokens and workers beside the exchange that made them.
+ghost use Rattle.std.specs.Prelude.{◌≡◌, ◌≢◌, ◌≤◌, length, slice_get, Some, None, true, false};
+ghost use Rattle.std.specs.Arc.{arc_value};
+ghost use Rattle.smx_shared.specs.Views.{locks_of};
+ghost use Rattle.smx_turns.specs.declared.end.Fault.{Fault};
+ghost use Rattle.smx_client.specs.declared.mark.Stage.{Stage};
+ghost use Rattle.smx_session.specs.declared.upstream_state.UpstreamState.{UpstreamState};
+
+use crate::boxes::{ClientEnds, LaneEnds};
+use smx_client::{ClientWorker, Closed, Desk, run_client};
+use smx_session::UpstreamSession;
+use smx_shared::{Door, EnterFault, Exchange, Port, Tap};
+use smx_socket::SocketLink;
+use smx_turns::{Directory, Gate, RunEnd, TurnEnd};
+use smx_upstream::{Parts, UpstreamWorker};
+use std::alloc::Global;
+use std::sync::{Arc, Wait};
+
+/// A lane's tap.
+#[derive(Drop)]
+pub(crate) struct Drawer {
+    pub at: Arc<Exchange>,
+    pub tap: Tap,
+    ghost fits: { slice_get (arc_value at) tap.lane ≡ Some tap.front.lock },
+}
+
+/// The door.
+#[derive(Drop)]
+pub(crate) struct Gateway {
+    pub at: Arc<Exchange>,
+    pub door: Door,
+    ghost fits: { locks_of door.fronts ≡ arc_value at },
+}
+
+/// A client's port.
+#[derive(Drop)]
+pub(crate) struct Entrant {
+    pub at: Arc<Exchange>,
+    pub port: Port,
+    ghost fits: { locks_of port.fronts ≡ arc_value at },
+}
+
+/// A client's worker.
+#[derive(Drop)]
+pub(crate) struct Member<'d> {
+    at: Arc<Exchange>,
+    worker: ClientWorker<'d, SocketLink>,
+    // A turn of it failed: it is only closed.
+    over: bool,
+    ghost fits: { locks_of worker.port.fronts ≡ arc_value at },
+    ghost goes_on: { over ≡ false → worker.stage ≢ Stage.Closed → worker.wire.failed ≡ None },
+}
+
+/// An upstream worker.
+#[derive(Drop)]
+pub(crate) struct Carrier {
+    at: Arc<Exchange>,
+    worker: UpstreamWorker<SocketLink>,
+    over: bool,
+    ghost fits: { slice_get (arc_value at) worker.stand.tap.lane ≡ Some worker.stand.tap.front.lock },
+    ghost goes_on: { over ≡ false → worker.held ≡ None },
+}
+
+impl Gateway {
+    // Enters the next client.
+    pub fn enter<R: Wait>(&mut self, rt: &R) -> Result<Entrant, EnterFault> {
+        let Ok(at) = Arc::try_clone(&self.at) else {
+            return Err(EnterFault::NoMemory);
+        };
+        let port = self.door.enter(&self.at, rt)?;
+        Ok(Entrant { at, port })
+    }
+}
+
+impl Entrant {
+    pub fn client(&self) -> u64 {
+        self.port.client()
+    }
+
+    // Lets the client leave at once.
+    pub fn leave<R: Wait>(self, rt: &R) {
+        let Entrant { at, port } = self;
+        let _ = port.leave(&at, rt);
+    }
+
+    // Whether there is a sender for each lane, and places as a window has them.
+    fn fits_ends(&self, ends: &ClientEnds, places: u32) -> bool
+        ensures { result ≡ true → (length ends.now.senders.items ≡ length self.now.port.fronts) × (1 ≤ places) × (places ≤ 256) }
+    {
+        ends.senders.len() == self.port.lanes() && (1..=256).contains(&places)
+    }
+}
+
+impl<'d> Member<'d> {
+    // A worker for a client that has entered. Where there is no memory for it the client leaves, and
+    // the ends come back.
+    pub fn new<R: Wait>(
+        rt: &R,
+        alloc: Global,
+        entrant: Entrant,
+        desk: &'d Desk,
+        ends: ClientEnds,
+        places: u32,
+        link: SocketLink,
+    ) -> Result<Member<'d>, ClientEnds> {
+        if !entrant.fits_ends(&ends, places) {
+            entrant.leave(rt);
+            return Err(ends);
+        }
+        let Entrant { at, port } = entrant;
+        let ClientEnds { inbox, senders } = ends;
+        match ClientWorker::new(alloc, port, desk, inbox, senders, places, link) {
+            Ok(worker) => Ok(Member {
+                at,
+                worker,
+                over: false,
+            }),
+            Err((port, inbox, senders, _)) => {
+                let _ = port.leave(&at, rt);
+                Err(ClientEnds { inbox, senders })
+            }
+        }
+    }
+
+    // Turns it for as long as there is something to do, at most so often.
+    pub fn run<R: Wait, G: Gate, D: Directory>(
+        &mut self,
+        rt: &R,
+        gate: &mut G,
+        directory: &mut D,
+        turns: u64,
+    ) -> RunEnd {
+        if self.over {
+            return RunEnd::Left;
+        }
+        let end = run_client(&mut self.worker, &self.at, rt, gate, directory, turns);
+        if let RunEnd::Fault(_) = end {
+            self.over = true;
+        }
+        end
+    }
+
+    // Lets the client go. The ends come back, and whether a lane has an answer to a message of it.
+    pub fn close<R: Wait, D: Directory>(self, rt: &R, directory: &mut D) -> (ClientEnds, bool) {
+        let Member { at, worker, .. } = self;
+        let Closed {
+            inbox,
+            senders,
+            answered,
+            ..
+        } = worker.close(&at, rt, directory);
+        (ClientEnds { inbox, senders }, answered)
+    }
+}
+
+// Turns a worker at most so often, and no more after a turn that wasn't `Worked`.
+fn carry<R: Wait, G: Gate, D: Directory>(
+    worker: &mut UpstreamWorker<SocketLink>,
+    at: &Exchange,
+    rt: &R,
+    gate: &mut G,
+    directory: &mut D,
+    now: u64,
+    turns: u64,
+) -> RunEnd
+    requires lock { slice_get at.now worker.old.stand.tap.lane ≡ Some worker.old.stand.tap.front.lock }
+    requires none { worker.old.held ≡ None }
+    ensures lock { slice_get at.now worker.new.stand.tap.lane ≡ Some worker.new.stand.tap.front.lock }
+    ensures none { ((fault : Fault) → result ≢ RunEnd.Fault fault) → worker.new.held ≡ None }
+{
+    for _turn in 0..turns {
+        match worker.turn(at, rt, gate, directory, now) {
+            Ok(TurnEnd::Done) => return RunEnd::Left,
+            Ok(TurnEnd::Idle) => return RunEnd::Idle,
+            Ok(TurnEnd::Worked) => {}
+            Err(fault) => return RunEnd::Fault(fault),
+        }
+    }
+    RunEnd::Turns
+}
+
+impl Carrier {
+    // A worker for a lane, or nothing where there is no memory for it.
+    pub fn new(
+        alloc: Global,
+        drawer: Drawer,
+        session: UpstreamSession,
+        ends: LaneEnds,
+        link: SocketLink,
+        history: usize,
+    ) -> Option<Carrier>
+        requires { session.state ≡ UpstreamState.Binding }
+    {
+        let Drawer { at, tap } = drawer;
+        let LaneEnds { answers, senders } = ends;
+        let parts = Parts {
+            link,
+            tap,
+            session,
+            answers,
+            senders,
+        };
+        match UpstreamWorker::new(alloc, parts, history) {
+            Ok(worker) => Some(Carrier {
+                at,
+                worker,
+                over: false,
+            }),
+            Err(_) => None,
+        }
+    }
+
+    // Turns it for as long as there is something to do, at most so often.
+    pub fn run<R: Wait, G: Gate, D: Directory>(
+        &mut self,
+        rt: &R,
+        gate: &mut G,
+        directory: &mut D,
+        now: u64,
+        turns: u64,
+    ) -> RunEnd {
+        if self.over {
+            return RunEnd::Left;
+        }
+        let end = carry(&mut self.worker, &self.at, rt, gate, directory, now, turns);
+        if let RunEnd::Fault(_) = end {
+            self.over = true;
+        }
+        end
+    }
+}

@@ -1,0 +1,177 @@
+//! The places of clients.
+
+use crate::boxes::ClientEnds;
+use crate::seats::Member;
+use smx_socket::{Flushed, Socket};
+use std::alloc::{AllocError, Global};
+use std::rc::Rc;
+
+/// How long the octets of a client that is gone may wait for its socket, in milliseconds.
+const LINGER: u64 = 2_000;
+
+/// A client that is served.
+#[derive(Drop)]
+pub(crate) struct Guest<'d> {
+    pub client: u64,
+    pub address: String,
+    pub member: Member<'d>,
+    pub socket: Rc<Socket>,
+}
+
+// The socket of a client that is gone, until all is written, or until this moment.
+#[derive(Drop)]
+struct Lingering {
+    socket: Rc<Socket>,
+    until: u64,
+}
+
+// Where the client of a free slot stands.
+const NOWHERE: usize = usize::MAX;
+
+/// The places of clients, each with its ends of the boxes.
+#[derive(Drop)]
+pub(crate) struct Slots<'d> {
+    // The clients in no order, and beside each its slot.
+    guests: Vec<Guest<'d>>,
+    seated: Vec<usize>,
+    // These are by slot: where its client stands among them.
+    places: Vec<usize>,
+    lingering: Vec<Option<Lingering>>,
+    // Here where nobody has the slot.
+    ends: Vec<Option<ClientEnds>>,
+    free: Vec<usize>,
+}
+
+impl<'d> Slots<'d> {
+    // All free.
+    pub fn new(alloc: Global, all: Vec<ClientEnds>) -> Result<Slots<'d>, AllocError> {
+        let count = all.len();
+        let guests = Vec::with_capacity(alloc, count)?;
+        let seated = Vec::with_capacity(alloc, count)?;
+        let mut places = Vec::with_capacity(alloc, count)?;
+        let mut lingering = Vec::with_capacity(alloc, count)?;
+        let mut ends = Vec::with_capacity(alloc, count)?;
+        for one in all {
+            places.push(NOWHERE)?;
+            lingering.push(None)?;
+            ends.push(Some(one))?;
+        }
+        let mut free = Vec::with_capacity(alloc, count)?;
+        for slot in (0..count).rev() {
+            free.push(slot)?;
+        }
+        Ok(Slots {
+            guests,
+            seated,
+            places,
+            lingering,
+            ends,
+            free,
+        })
+    }
+
+    pub fn count(&self) -> usize {
+        self.ends.len()
+    }
+
+    // A free slot, which is no more free, and its ends.
+    pub fn pick(&mut self) -> Option<(usize, ClientEnds)> {
+        let slot = self.free.pop()?;
+        let ends = self.ends.get_mut(slot)?.take()?;
+        Some((slot, ends))
+    }
+
+    // Nobody has the slot any more.
+    pub fn give_back(&mut self, slot: usize, ends: ClientEnds) {
+        self.keep(slot, ends);
+        let _ = self.free.push(slot);
+    }
+
+    fn keep(&mut self, slot: usize, ends: ClientEnds) {
+        if let Some(place) = self.ends.get_mut(slot) {
+            *place = Some(ends);
+        }
+    }
+
+    // The client has the slot now. There is room for as many as there are slots.
+    pub fn seat(&mut self, slot: usize, guest: Guest<'d>) {
+        let at = self.guests.len();
+        if at < self.guests.capacity() {
+            self.guests.push_reserved(guest);
+            let _ = self.seated.push(slot);
+            if let Some(place) = self.places.get_mut(slot) {
+                *place = at;
+            }
+        } else {
+            drop(guest);
+        }
+    }
+
+    // The client that has the slot, which has it no more.
+    pub fn guest(&mut self, slot: usize) -> Option<Guest<'d>> {
+        let at = *self.places.get(slot)?;
+        if at >= self.guests.len() || at >= self.seated.len() {
+            return None;
+        }
+        if let Some(place) = self.places.get_mut(slot) {
+            *place = NOWHERE;
+        }
+        let _ = self.seated.swap_remove(at);
+        let guest = self.guests.swap_remove(at);
+        // The last one stands there now.
+        if let Some(moved) = self.seated.get(at) {
+            if let Some(place) = self.places.get_mut(*moved) {
+                *place = at;
+            }
+        }
+        Some(guest)
+    }
+
+    // The socket of the slot's client, or of one that is gone.
+    pub fn socket(&self, slot: usize) -> Option<&Socket> {
+        if let Some(at) = self.places.get(slot) {
+            if let Some(guest) = self.guests.get(*at) {
+                return Some(&guest.socket);
+            }
+        }
+        if let Some(Some(lingering)) = self.lingering.get(slot) {
+            return Some(&lingering.socket);
+        }
+        None
+    }
+
+    // The slot's client is gone: the slot is free once its socket has taken what waits.
+    pub fn part(&mut self, slot: usize, socket: Rc<Socket>, ends: ClientEnds, now: u64) {
+        if socket.flush() != Flushed::Part {
+            self.give_back(slot, ends);
+            return;
+        }
+        self.keep(slot, ends);
+        if let Some(place) = self.lingering.get_mut(slot) {
+            *place = Some(Lingering {
+                socket,
+                until: now.saturating_add(LINGER),
+            });
+        }
+    }
+
+    // Frees the slot where what waited is written, or waited too long.
+    pub fn settle(&mut self, slot: usize, now: u64) {
+        let Some(place) = self.lingering.get_mut(slot) else {
+            return;
+        };
+        let Some(lingering) = place.take() else {
+            return;
+        };
+        if lingering.socket.flush() == Flushed::Part && now < lingering.until {
+            *place = Some(lingering);
+            return;
+        }
+        let _ = self.free.push(slot);
+    }
+
+    // Whether a socket of a client that is gone has octets left.
+    pub fn is_lingering(&self) -> bool {
+        self.lingering.iter().any(|place| place.is_some())
+    }
+}

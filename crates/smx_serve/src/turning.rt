@@ -1,0 +1,348 @@
+//! The loop: it turns who has something to do, writes, and waits for events.
+
+use crate::bell::Bell;
+use crate::entrance::Entrance;
+use crate::guide::Guide;
+use crate::notice::{Ended, Notice};
+use crate::ready::Ready;
+use crate::remote::Remote;
+use crate::roll::Roll;
+use crate::slots::{Guest, Slots};
+use crate::upstreams::Lane;
+use mio::{Events, Poll, Token};
+use smx_client::Desk;
+use smx_config::Config;
+use smx_routes::Routes;
+use smx_socket::{Flushed, Socket};
+use smx_turns::RunEnd;
+use std::rt::Clock;
+use std::sync::Wait;
+use std::time::{Duration, Instant};
+
+pub(crate) const LISTENER: usize = 1_000_000;
+
+pub(crate) const WAKER: usize = 1_000_001;
+
+/// How often a worker is turned before the next one is.
+const TURNS: u64 = 16;
+
+/// After so many passes over those that are ready, events are asked for in any case.
+const PASSES: u64 = 16;
+
+/// How often each lane is turned in any case, in milliseconds.
+const TICK: u64 = 100;
+
+/// Turns the workers of all lanes and clients. Parties are numbered: the lanes, then the slots.
+#[derive(Drop)]
+pub(crate) struct Loop<'d> {
+    pub config: &'d Config,
+    pub desk: &'d Desk,
+    pub poll: Poll,
+    pub events: Events,
+    pub lanes: Vec<Lane>,
+    pub slots: Slots<'d>,
+    pub entrance: Entrance,
+    pub roll: Roll,
+    pub routes: Routes,
+    pub ready: Ready,
+    // Those of the pass that is made.
+    pub current: Vec<usize>,
+    // Those whose sockets may have octets.
+    pub dirty: Vec<usize>,
+    // Those that can't go on: their peer doesn't read, or a return box is full.
+    pub stalled: Vec<usize>,
+    pub passes: u64,
+    // Milliseconds since the start, now and at the last tick.
+    pub now: u64,
+    pub ticked: u64,
+    pub stopping: bool,
+}
+
+impl<'d> Loop<'d> {
+    fn socket(&self, party: usize) -> Option<&Socket> {
+        let lanes = self.lanes.len();
+        if party < lanes {
+            return Some(&self.lanes.get(party)?.socket);
+        }
+        self.slots.socket(party - lanes)
+    }
+
+    // A turned worker isn't idle: it is turned again, or waits where it could do nothing.
+    fn go_on(&mut self, party: usize, moved: bool) {
+        if moved {
+            self.ready.add(party);
+            let _ = self.dirty.push(party);
+        } else {
+            let _ = self.stalled.push(party);
+        }
+    }
+
+    // Those that could do nothing try again.
+    fn unstall(&mut self) {
+        for party in self.stalled.as_slice() {
+            self.ready.add(*party);
+        }
+        self.stalled.clear();
+    }
+
+    fn say_of_lane<R: Eprint>(&self, rt: &R, lane: usize, bound: bool) {
+        let config = self.config;
+        if let Some(upstream) = config.upstream.get(lane) {
+            let address = upstream.address.as_str();
+            let name = upstream.system_id.as_str();
+            let notice = if bound {
+                Notice::Bound(lane, address, name)
+            } else {
+                Notice::Lost(lane, address, name)
+            };
+            let _ = eprintln!(rt; "{notice}");
+        }
+    }
+
+    // Turns a lane's worker until it is idle, at most so often. False where it has ended.
+    fn turn_lane<R: Wait + Eprint>(&mut self, rt: &R, lane: usize) -> bool {
+        let count = self.lanes.len();
+        let Some(place) = self.lanes.get_mut(lane) else {
+            return true;
+        };
+        let Some(mut carrier) = place.carrier.take() else {
+            return true;
+        };
+        let before = place.socket.traffic();
+        let mut bell = Bell::new(count, &mut self.ready, &self.roll);
+        let mut guide = Guide::new(&mut self.routes, &self.roll);
+        let end = carrier.run(rt, &mut bell, &mut guide, self.now, TURNS);
+        let newly = bell.takes() && !place.bound;
+        let moved = place.socket.traffic() != before;
+        let goes_on = match end {
+            RunEnd::Idle | RunEnd::Turns => {
+                place.carrier = Some(carrier);
+                true
+            }
+            RunEnd::Left | RunEnd::Fault(_) => false,
+        };
+        if newly {
+            place.bound = true;
+            self.say_of_lane(rt, lane, true);
+        }
+        if moved {
+            self.unstall();
+        }
+        if end == RunEnd::Turns {
+            self.go_on(lane, moved);
+        }
+        if !goes_on {
+            self.say_of_lane(rt, lane, false);
+        }
+        goes_on
+    }
+
+    // Turns a client's worker until it is idle, at most so often.
+    fn turn_slot<R: Wait + Eprint>(&mut self, rt: &R, slot: usize) {
+        let Some(mut guest) = self.slots.guest(slot) else {
+            return;
+        };
+        let lanes = self.lanes.len();
+        let before = guest.socket.traffic();
+        let mut bell = Bell::new(lanes, &mut self.ready, &self.roll);
+        let mut guide = Guide::new(&mut self.routes, &self.roll);
+        let end = guest.member.run(rt, &mut bell, &mut guide, TURNS);
+        let moved = guest.socket.traffic() != before;
+        match end {
+            RunEnd::Idle => self.slots.seat(slot, guest),
+            RunEnd::Turns => {
+                self.slots.seat(slot, guest);
+                self.go_on(lanes.saturating_add(slot), moved);
+            }
+            RunEnd::Left | RunEnd::Fault(_) => self.let_go(rt, slot, guest, end),
+        }
+    }
+
+    // Lets a client go; the lanes may have answers to its messages.
+    pub fn let_go<R: Wait + Eprint>(&mut self, rt: &R, slot: usize, guest: Guest<'d>, end: RunEnd) {
+        let Guest {
+            client,
+            address,
+            member,
+            socket,
+        } = guest;
+        let name = address.as_str();
+        let notice = match end {
+            RunEnd::Fault(fault) => Notice::Failed(client, name, fault),
+            _ if socket.has_ended() => Notice::Closed(client, name),
+            _ => Notice::Left(client, name),
+        };
+        let _ = eprintln!(rt; "{notice}");
+        let mut guide = Guide::new(&mut self.routes, &self.roll);
+        let (ends, answered) = member.close(rt, &mut guide);
+        self.roll.remove(client);
+        if answered {
+            for lane in 0..self.lanes.len() {
+                self.ready.add(lane);
+            }
+        }
+        self.slots.part(slot, socket, ends, self.now);
+        if self.entrance.short {
+            self.accept(rt);
+        }
+    }
+
+    // Lets those in who connect.
+    fn accept<R: Wait + Eprint>(&mut self, rt: &R) {
+        if self.stopping {
+            return;
+        }
+        for _ in 0..u64::MAX {
+            let Some((stream, address)) = self.entrance.accept(rt) else {
+                return;
+            };
+            let Ok(address) = format!(in self.entrance.alloc; "{address}") else {
+                continue;
+            };
+            let lanes = self.lanes.len();
+            let came = self.entrance.welcome(
+                rt,
+                self.poll.registry(),
+                lanes,
+                self.desk,
+                &mut self.slots,
+                &mut self.roll,
+                stream,
+                address,
+            );
+            if let Some(slot) = came {
+                self.ready.add(lanes.saturating_add(slot));
+            }
+        }
+    }
+
+    // Turns each that is ready once: a lane's end ends it.
+    pub fn pass<R: Wait + Eprint>(&mut self, rt: &R) -> Result<(), Ended> {
+        let lanes = self.lanes.len();
+        self.ready.swap(&mut self.current);
+        for at in 0..self.current.len() {
+            let Some(party) = self.current.get(at).copied() else {
+                break;
+            };
+            self.ready.begin(party);
+            if party >= lanes {
+                self.turn_slot(rt, party - lanes);
+            } else if !self.turn_lane(rt, party) && !self.stopping {
+                return Err(Ended::Upstream(party));
+            }
+        }
+        self.current.clear();
+        Ok(())
+    }
+
+    // Writes what waits. A worker whose socket failed is told by its next turn.
+    pub fn flush(&mut self) {
+        for at in 0..self.dirty.len() {
+            let Some(party) = self.dirty.get(at).copied() else {
+                break;
+            };
+            let failed = match self.socket(party) {
+                Some(socket) => socket.flush() == Flushed::Failed,
+                None => false,
+            };
+            if failed {
+                self.ready.add(party);
+            }
+        }
+        self.dirty.clear();
+    }
+
+    // Reads the clock; at a tick each lane is turned, and what hangs is tried again.
+    pub fn look<R: Wait + Clock + Eprint>(&mut self, rt: &R, start: Instant) {
+        if let Ok(passed) = start.elapsed(rt) {
+            self.now = u64::try_from(passed.as_millis()).unwrap_or(u64::MAX);
+        }
+        if self.now < self.ticked.saturating_add(TICK) {
+            return;
+        }
+        self.ticked = self.now;
+        for lane in 0..self.lanes.len() {
+            self.ready.add(lane);
+        }
+        self.unstall();
+        if self.slots.is_lingering() {
+            for slot in 0..self.slots.count() {
+                self.slots.settle(slot, self.now);
+            }
+        }
+        if self.entrance.short {
+            self.accept(rt);
+        }
+    }
+
+    // Waits for events, at most so many milliseconds.
+    pub fn wait<R: Wait + Eprint>(&mut self, rt: &R, timeout: u64) -> Result<(), Ended> {
+        let time = Some(Duration::from_millis(timeout));
+        if self.poll.poll(&mut self.events, time).is_err() {
+            return Err(Ended::NoEvents);
+        }
+        let lanes = self.lanes.len();
+        let mut connects = false;
+        for event in self.events.iter() {
+            let Token(party) = event.token();
+            if party == LISTENER {
+                connects = true;
+                continue;
+            }
+            if party == WAKER {
+                continue;
+            }
+            if party < lanes {
+                if let Some(lane) = self.lanes.get(party) {
+                    lane.socket.note(event);
+                    lane.socket.flush();
+                }
+            } else if let Some(socket) = self.slots.socket(party - lanes) {
+                socket.note(event);
+                socket.flush();
+                self.slots.settle(party - lanes, self.now);
+            }
+            self.ready.add(party);
+        }
+        if connects {
+            self.accept(rt);
+        }
+        Ok(())
+    }
+
+    // One pass, or a wait where nobody is ready.
+    fn round<R: Wait + Clock + Eprint>(&mut self, rt: &R, start: Instant) -> Result<(), Ended> {
+        self.look(rt, start);
+        if self.ready.is_empty() {
+            self.flush();
+            if self.ready.is_empty() {
+                return self.wait(rt, TICK);
+            }
+        }
+        self.pass(rt)?;
+        self.passes = self.passes.wrapping_add(1);
+        if self.passes % PASSES == 0 {
+            self.flush();
+            return self.wait(rt, 0);
+        }
+        Ok(())
+    }
+
+    /// Goes on until it is told to stop, or an upstream ends.
+    pub fn run<R: Wait + Clock + Eprint>(
+        &mut self,
+        rt: &R,
+        remote: &Remote,
+        start: Instant,
+    ) -> Ended {
+        for _ in rt.forever() {
+            if remote.is_stopping() {
+                return self.stop(rt, start);
+            }
+            if let Err(ended) = self.round(rt, start) {
+                return ended;
+            }
+        }
+        unreachable!()
+    }
+}
