@@ -1,5 +1,5 @@
 -- Cells of the turn's table.
-use Rattle.std.proofs.Common.{◌≡◌, ◌≢◌, ℕ, ◌+◌, Bool, true, false, List, [], ◌∷◌, ◌++◌, sym, ◌∙◌, ap, refl, subst, Result, Ok, Err, Option, Some, None, IsSome, length, ◌≤◌}
+use Rattle.std.proofs.Common.{◌≡◌, ◌≢◌, ℕ, ◌+◌, Bool, true, false, List, [], ◌∷◌, ◌++◌, sym, ◌∙◌, ap, refl, subst, Result, Ok, Err, Option, None, IsSome, length, ◌≤◌}
 use Rattle.std.specs.Prelude.{if◌then◌else◌, ◌==◌}
 use Rattle.std.proofs.lemmas.Bool.{eq-eqb}
 use Rattle.std.specs.declared.snapshot.Snapshot.{Snapshot}
@@ -13,7 +13,6 @@ use Rattle.smx_session.specs.declared.act.Act.TheVariants as act
 use Rattle.smx_shared.specs.declared.offer.Offer.{Offer}
 use Rattle.smx_shared.specs.declared.fault.SubmitFault.{SubmitFault}
 use Rattle.smx_link.specs.declared.link.Polled.{Polled}
-use Rattle.smx_link.specs.declared.link.Polled.TheVariants as polled
 use Rattle.smx_link.specs.declared.link.LinkFault.{LinkFault}
 use Rattle.smx_turns.specs.declared.gate.Point.TheVariants.{Reading, Submitting, Collecting}
 use Rattle.smx_turns.specs.declared.end.Fault.{Fault}
@@ -37,7 +36,7 @@ use Rattle.smx_frame.specs.Stream.{HasNone}
 use Rattle.smx_shared.specs.Views.{PortView}
 use Rattle.smx_client.specs.Scenes.{is_there}
 use Rattle.smx_client.specs.Sayings.{IsVerdict}
-use Rattle.smx_client.specs.Table.{Before, Phase, Opening, Written, Left, MayCollect, Clear, Draining, MayRead, Deciding, MaySubmit, Entering, Unentered, Settled, Parked, Stopped, Clogged, Closing, Ending, Over, Failed, Exhausted, Wrong, step_of, phase_from, phase_of, go, from_opening, when_offered, begins, halts, when_drained, from_written, from_boxing, from_collecting, from_draining, from_clear, from_may_read, from_deciding, from_may_submit, from_entering, from_closing, after_reply, after_got, after_collect, after_read, after_act, after_bind, after_verdict, is_end, Faulted, Wants, EndsIn, IsOffered, IsTurn, Stands, IsAt, last_end}
+use Rattle.smx_client.specs.Table.{Before, Phase, Opening, Written, MayCollect, Clear, Draining, MayRead, Deciding, MaySubmit, Unentered, Settled, Stopped, Clogged, Closing, Ending, Over, Failed, Exhausted, Wrong, step_of, phase_from, phase_of, go, from_opening, when_offered, begins, halts, from_written, from_boxing, from_collecting, from_draining, from_clear, from_may_read, from_deciding, from_may_submit, from_entering, from_closing, after_reply, after_got, after_collect, after_read, after_act, after_bind, after_verdict, Faulted, EndsIn, Stands, IsAt, last_end}
 
 from_push : (t : Before) (p : Phase) (ss : List step_of) (s : step_of) → phase_from t p (ss ++ s ∷ []) ≡ go t (phase_from t p ss) s
 from_push t p [] s = refl

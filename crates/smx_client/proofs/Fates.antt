@@ -1,5 +1,5 @@
 -- What becomes of a PDU, said of plain values.
-use Rattle.std.proofs.Common.{◌≡◌, ◌≢◌, ℕ, ◌<◌, List, [], ◌∷◌, ◌++◌, sym, ◌∙◌, ap, refl, subst, Option, Some, None, Result, Ok, Err, IfOk, IfErr, IfSome, IfNone}
+use Rattle.std.proofs.Common.{◌≡◌, ◌≢◌, ℕ, List, [], ◌++◌, sym, ◌∙◌, ap, refl, subst, Option, Some, None, Result, Ok, Err, IfOk, IfErr, IfSome, IfNone}
 use Rattle.std.proofs.lemmas.List.{append-nil}
 use Rattle.smx_pdu.specs.declared.pdu.Pdu.{Pdu}
 use Rattle.smx_session.specs.Login.{Login}
@@ -21,8 +21,8 @@ use Rattle.smx_shared.specs.declared.fault.SubmitFault.{SubmitFault}
 use Rattle.smx_routes.specs.declared.mo_window.Waiting.{Waiting}
 use Rattle.smx_routes.specs.Window.{Window, answered, without}
 use Rattle.smx_client.specs.declared.event.Fate.{Fate}
-use Rattle.smx_client.specs.declared.event.Fate.TheVariants.{Own, Submitted, Settled}
-use Rattle.smx_client.specs.Events.{act_out, fate_out, refusal_out, settled_out}
+use Rattle.smx_client.specs.declared.event.Fate.TheVariants.{Own}
+use Rattle.smx_client.specs.Events.{act_out, refusal_out}
 use Rattle.smx_client.specs.Parts.{submit_step, settle_step, IsOfferOf, Suits}
 use Rattle.smx_client.specs.Sayings.{asked_of}
 

@@ -1,13 +1,8 @@
 -- What the steps of a turn come to, list by list.
-use Rattle.std.proofs.Common.{◌≡◌, ◌≢◌, ℕ, ◌+◌, Bool, true, false, List, [], ◌∷◌, ◌++◌, sym, ◌∙◌, ap, refl, subst, append_assoc, add_assoc, arith, Result, Ok, Err, Option, OnOk}
+use Rattle.std.proofs.Common.{◌≡◌, ◌≢◌, ℕ, ◌+◌, Bool, List, [], ◌∷◌, ◌++◌, sym, ◌∙◌, ap, refl, subst, append_assoc, arith, Result, Ok, Err, Option, OnOk}
 use Rattle.std.proofs.lemmas.List.{append-nil}
 use Rattle.std.proofs.lemmas.List.Concat.{flat_map-append}
 use Rattle.std.specs.List.{flat_map}
-use Rattle.smx_link.specs.declared.link.Polled.{Polled}
-use Rattle.smx_link.specs.declared.link.LinkFault.{LinkFault}
-use Rattle.smx_link.specs.Links.{fault_count}
-use Rattle.smx_turns.specs.declared.gate.Question.{Question}
-use Rattle.smx_turns.specs.declared.gate.Party.{Party}
 use Rattle.smx_turns.specs.declared.end.Fault.{Fault}
 use Rattle.smx_turns.specs.declared.end.Fault.TheVariants as fault
 use Rattle.smx_turns.specs.declared.end.TurnEnd.{TurnEnd}
@@ -24,8 +19,8 @@ use Rattle.smx_pdu.specs.declared.pdu.Pdu.{Pdu}
 use Rattle.smx_client.specs.declared.reply.Parked.{Parked}
 use Rattle.smx_client.specs.Marks.{is_quiet_mark}
 use Rattle.smx_client.specs.Events.{tells, tells_of, is_quiet_event}
-use Rattle.smx_client.specs.Parts.{Parts, Does}
-use Rattle.smx_client.specs.Table.{Before, Phase, Opening, Over, Failed, Exhausted, Wrong, go, from_opening, phase_from, phase_of, IsTurn, Stands}
+use Rattle.smx_client.specs.Parts.{Does}
+use Rattle.smx_client.specs.Table.{Before, Phase, Opening, Wrong, go, from_opening, phase_from, phase_of, IsTurn, Stands}
 use Rattle.smx_client.specs.Turns.{Scene, Marks, Acts, Changes, fault_of, faults}
 
 -- a mark leaves all this

@@ -1,5 +1,5 @@
 -- What a chain of events comes to.
-use Rattle.std.proofs.Common.{◌≡◌, ◌<◌, ℕ, List, [], ◌∷◌, ◌++◌, Option, sym, ◌∙◌, ap, refl, subst, append_assoc}
+use Rattle.std.proofs.Common.{◌≡◌, ◌<◌, ℕ, List, [], ◌∷◌, ◌++◌, Option, sym, ◌∙◌, ap, subst, append_assoc}
 use Rattle.std.proofs.lemmas.List.{append-nil}
 use Rattle.std.proofs.Math.Logic.{∥∥₁_map, ∥∥₁_elim}
 use Rattle.std.proofs.Props.{props}
@@ -10,7 +10,7 @@ use Rattle.smx_shared.specs.Ports.{HasAccepted}
 use Rattle.smx_turns.specs.Runs.{Runs}
 use Rattle.smx_client.specs.declared.event.Event.{Event}
 use Rattle.smx_client.specs.Replies.{parked_on}
-use Rattle.smx_client.specs.Events.{in_of, out_of, accepts_of, answers_of, outs, accepts, answers}
+use Rattle.smx_client.specs.Events.{out_of, accepts_of, answers_of, outs, accepts, answers}
 use Rattle.smx_client.specs.Parts.{Parts, Does, Chain}
 
 abbrev due : ℕ → Parts → List (Option Pdu)

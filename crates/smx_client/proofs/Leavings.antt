@@ -1,5 +1,6 @@
 -- One step of a client's leaving more.
-use Rattle.std.proofs.Common.{◌≡◌, ℕ, ◌+◌, List, [], ◌∷◌, ◌++◌, sym, ◌∙◌, ap, refl, subst, arith, Result, Ok, Err, IfOk, OnErr, inl, inr, ◌⊎◌, true, Bool, Option}
+use Rattle.std.proofs.Common.{◌≡◌, ◌+◌, List, [], ◌∷◌, ◌++◌, sym, ◌∙◌, ap, subst, arith, Result, Ok, Err, IfOk, OnErr, false, Bool, ◌||◌, Option, None}
+use Rattle.std.proofs.Math.Bool.{or-false, or_assoc}
 use Rattle.smx_lock.specs.Fronts.{IsSpent}
 use Rattle.smx_lock.specs.declared.faults.Spent.{Spent}
 use Rattle.smx_box.specs.declared.receiver.Got.{Got}
@@ -10,7 +11,7 @@ use Rattle.smx_client.specs.declared.reply.Parked.{Parked}
 use Rattle.smx_turns.specs.declared.mo_item.MoItem.{MoItem}
 use Rattle.smx_turns.proofs.Chains.{runs_none}
 use Rattle.smx_client.specs.declared.leaver.Leaving.{Leaving}
-use Rattle.smx_client.specs.Leaving.{Rest, Left, Leaves, rest_of, Gives, gets, get_of, FoundNothing, IsEmptied}
+use Rattle.smx_client.specs.Leaving.{Left, Leaves, rest_of, Gives, gets, get_of, is_put, is_answered}
 
 gets_more : (es : List Leaving) (e : Leaving) → gets (es ++ e ∷ []) ≡ gets es + get_of e
 unfolding gets
@@ -42,3 +43,24 @@ left_first h h' w w' i i' x x' es none parked window inbox senders =
 pub gets_none : (es : List Leaving) → es ≡ [] → gets es ≡ 0
 unfolding gets
 gets_none es none = ap gets none
+
+answered_more : (es : List Leaving) (e : Leaving) → is_answered (es ++ e ∷ []) ≡ (is_answered es || is_put e)
+unfolding is_answered
+answered_more [] e = or-false (is_put e)
+answered_more (x ∷ es) e = ap (λ b. is_put x || b) (answered_more es e) ∙ sym (or_assoc (is_put x) (is_answered es) (is_put e))
+
+pub answered_push : (es es' : List Leaving) (e : Leaving) (was now : Bool) → es' ≡ es ++ e ∷ [] → was ≡ is_answered es → now ≡ (was || is_put e) → now ≡ is_answered es'
+answered_push es es' e was now grown is grows = grows ∙ ap (λ b. b || is_put e) is ∙ sym (ap is_answered grown ∙ answered_more es e)
+
+pub answered_none : (es : List Leaving) → es ≡ [] → is_answered es ≡ false
+unfolding is_answered
+answered_none es none = ap is_answered none
+
+pub left_so : (h h' o : Option Parked) (w w' u : Window) (i i' j : Receiving MoItem) (x x' y : List (Sending Pdu)) (es : List Leaving)
+    → h' ≡ h → w' ≡ w → i' ≡ i → x' ≡ x → o ≡ None → Left (rest_of h' w' i' x') es (rest_of o u j y) → Left (rest_of h w i x) es (rest_of None u j y)
+left_so h h' o w w' u i i' j x x' y es parked window inbox senders none left =
+    subst (λ p. Left (rest_of h w i x) es (rest_of p u j y)) none
+    (subst (λ p. Left (rest_of h w i p) es (rest_of o u j y)) senders
+    (subst (λ p. Left (rest_of h w p x') es (rest_of o u j y)) inbox
+    (subst (λ p. Left (rest_of h p i' x') es (rest_of o u j y)) window
+    (subst (λ p. Left (rest_of p w' i' x') es (rest_of o u j y)) parked left))))

@@ -1,5 +1,5 @@
 -- What a step changes, and nothing else.
-use Rattle.std.proofs.Common.{◌≡◌, ◌≤◌, ℕ, ◌+◌, Bool, List, [], ◌∷◌, ◌++◌, length, not, true, false, arith, refl, sym, ◌∙◌, ap, subst, Result, IsTrue}
+use Rattle.std.proofs.Common.{◌≡◌, ℕ, ◌+◌, Bool, List, [], ◌∷◌, ◌++◌, length, not, true, false, arith, refl, sym, ◌∙◌, ap, subst, Result, IsTrue}
 use Rattle.std.specs.Prelude.{◌==◌, ◌↔◌}
 use Rattle.smx_link.specs.declared.link.Polled.{Polled}
 use Rattle.smx_link.specs.declared.link.LinkFault.{LinkFault}
@@ -9,7 +9,6 @@ use Rattle.smx_turns.specs.declared.gate.Question.{Question}
 use Rattle.smx_turns.specs.declared.gate.Party.{Party}
 use Rattle.smx_turns.specs.declared.directory.Query.{Query}
 use Rattle.smx_turns.specs.declared.step.Step.{Step}
-use Rattle.smx_turns.specs.Runs.{Runs}
 use Rattle.smx_turns.proofs.Chains.{runs_push, runs_none}
 use Rattle.smx_client.specs.declared.mark.Mark.{Mark}
 use Rattle.smx_client.specs.declared.event.Event.{Event}

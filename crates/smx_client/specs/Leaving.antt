@@ -1,5 +1,5 @@
 -- What becomes of a client's messages when it leaves, step by step.
-use Rattle.std.specs.Prelude.{◌≡◌, ◌<◌, ◌+◌, ◌++◌, ◌⊎◌, ℕ, Bool, List, [], ◌∷◌, length, Option, Some, None, Result, Ok, Err, if◌then◌else◌}
+use Rattle.std.specs.Prelude.{◌≡◌, ◌<◌, ◌+◌, ◌++◌, ◌⊎◌, ℕ, Bool, false, ◌||◌, List, [], ◌∷◌, length, Option, Some, None, Result, Ok, Err, if◌then◌else◌}
 use Rattle.smx_pdu.specs.declared.pdu.Pdu.{Pdu}
 use Rattle.smx_pdu.specs.Command.{response_of}
 use Rattle.smx_lock.specs.Fronts.{IsSpent}
@@ -67,6 +67,16 @@ abbrev pub get_of : Leaving → ℕ
 get_of (Kept took) = 0
 get_of (Row lane number command took) = 0
 get_of (Item g took) = 1
+
+abbrev pub is_put : Leaving → Bool
+is_put (Kept took) = took
+is_put (Row lane number command took) = took
+is_put (Item g took) = took
+
+-- whether a return box took an answer
+unfoldable pub is_answered : List Leaving → Bool
+is_answered [] = false
+is_answered (e ∷ es) = is_put e || is_answered es
 
 -- how often the box was asked
 unfoldable pub gets : List Leaving → ℕ

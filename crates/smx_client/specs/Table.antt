@@ -11,7 +11,7 @@ use Rattle.smx_session.specs.declared.act.Act.TheVariants as act
 use Rattle.smx_link.specs.declared.link.Polled.{Polled}
 use Rattle.smx_link.specs.declared.link.Polled.TheVariants as polled
 use Rattle.smx_link.specs.declared.link.LinkFault.{LinkFault}
-use Rattle.smx_turns.specs.declared.gate.Point.TheVariants.{Reading, Submitting, Collecting, Taking}
+use Rattle.smx_turns.specs.declared.gate.Point.TheVariants.{Reading, Submitting, Collecting}
 use Rattle.smx_turns.specs.declared.end.Fault.{Fault}
 use Rattle.smx_turns.specs.declared.end.Fault.TheVariants as fault
 use Rattle.smx_turns.specs.declared.end.TurnEnd.{TurnEnd}

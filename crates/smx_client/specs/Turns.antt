@@ -1,6 +1,5 @@
 -- What the steps of a turn change.
 use Rattle.std.specs.Prelude.{◌≡◌, ◌==◌, ◌≤◌, ℕ, ◌+◌, Bool, true, false, not, List, [], ◌∷◌, ◌++◌, length, Result}
-use Rattle.smx_pdu.specs.declared.pdu.Pdu.{Pdu}
 use Rattle.smx_link.specs.declared.link.Polled.{Polled}
 use Rattle.smx_link.specs.declared.link.LinkFault.{LinkFault}
 use Rattle.smx_link.specs.Links.{fault_count}

@@ -71,9 +71,12 @@ pub(crate) fn deliver<L: Link + Drop, R: Wait, G: Gate>(
     ensures says { Spoke wire.old wire.new (item_out got result) }
     ensures count { length senders.new.items ≡ length senders.old.items }
     ensures parks { delivery_parks result parked.old parked.new }
-    ensures put { (k : ℕ) → k < length senders.old.items → put_in senders.new.items k ≡ put_in senders.old.items k ++ delivery_puts k (Ok got) result }
+    ensures put { (k : ℕ) → k < length senders.old.items
+        → put_in senders.new.items k
+        ≡ put_in senders.old.items k ++ delivery_puts k (Ok got) result }
     ensures answer { (k : ℕ) → k < length senders.old.items
-        → put_in senders.new.items k ++ parked_on k parked.new ≡ put_in senders.old.items k ++ parked_on k parked.old ++ item_answers k got result }
+        → put_in senders.new.items k ++ parked_on k parked.new
+        ≡ put_in senders.old.items k ++ parked_on k parked.old ++ item_answers k got result }
     ensures told { G.told gate.new ≡ G.told gate.old ++ got_told (Ok got) result }
     ensures asked { G.asked gate.new ≡ G.asked gate.old }
 {

@@ -2,19 +2,34 @@
 ghost use Rattle.std.specs.Prelude.{◌≡◌, ◌+◌, ◌++◌, ◌<◌, [], ◌∷◌, ℕ, length, None, true, false};
 ghost use Rattle.smx_pdu.specs.Command.{response_of};
 ghost use Rattle.smx_client.specs.Replies.{put_in, refused_up, on_lane};
-ghost use Rattle.smx_client.specs.Leaving.{Left, rest_of, when, item_refused, gets, FoundNothing, IsEmptied, IsNothing};
+ghost use Rattle.smx_client.specs.Leaving.{Left, rest_of, when, item_refused, gets, is_answered, FoundNothing, IsEmptied, IsNothing};
 
 use crate::reply::Parked;
 use smx_box::{Got, Receiver, Sender};
+use smx_link::Link;
 use smx_lock::Spent;
 use smx_pdu::status::ESME_RX_T_APPN;
-use smx_pdu::{Body, Pdu, response_id};
+use smx_pdu::{Pdu, response_id};
 use smx_routes::MoWindow;
 use smx_trace::Trace;
 use smx_turns::{MoItem, put_at};
 use std::alloc::Global;
 use std::snapshot::Snapshot;
 use std::sync::Wait;
+
+/// What a client's worker leaves.
+#[derive(Drop)]
+pub struct Closed<L: Link + Drop> {
+    /// Octets that it has not taken are let go.
+    pub link: L,
+    /// The box of the slot, for its next client.
+    pub inbox: Receiver<MoItem>,
+    pub senders: Vec<Sender<Pdu>>,
+    /// Whether a return box took an answer to a message of this client.
+    pub answered: bool,
+    /// What was done with each of its messages, for contracts alone.
+    pub closing: Trace<Leaving>,
+}
 
 /// What was done with messages that the client never answered; the last is whether the return box
 /// of the lane took the answer.
@@ -32,7 +47,9 @@ pub enum Leaving {
 // Puts an answer once. True where the return box took it.
 fn put_once<R: Wait>(rt: &R, senders: &mut Vec<Sender<Pdu>>, lane: usize, answer: Pdu) -> bool
     ensures count { length senders.new.items ≡ length senders.old.items }
-    ensures put { (k : ℕ) → k < length senders.old.items → put_in senders.new.items k ≡ put_in senders.old.items k ++ when result (on_lane k lane (answer ∷ [])) }
+    ensures put { (k : ℕ) → k < length senders.old.items
+        → put_in senders.new.items k
+        ≡ put_in senders.old.items k ++ when result (on_lane k lane (answer ∷ [])) }
 {
     if lane >= senders.len() {
         return false;
@@ -51,17 +68,14 @@ fn refuse_once<R: Wait>(
 ) -> bool
     ensures count { length senders.new.items ≡ length senders.old.items }
     ensures put { (k : ℕ) → k < length senders.old.items
-        → put_in senders.new.items k ≡ put_in senders.old.items k ++ when result (on_lane k lane (refused_up (response_of command) number)) }
+        → put_in senders.new.items k
+        ≡ put_in senders.old.items k
+        ++ when result (on_lane k lane (refused_up (response_of command) number)) }
 {
     let Some(id) = response_id(command) else {
         return false;
     };
-    let answer = Pdu {
-        command: id,
-        status: ESME_RX_T_APPN,
-        number,
-        body: Body::empty(alloc),
-    };
+    let answer = Pdu::header_only(alloc, id, ESME_RX_T_APPN, number);
     put_once(rt, senders, lane, answer)
 }
 
@@ -73,7 +87,9 @@ fn refuse_got<R: Wait>(
     got: Result<Got<MoItem>, Spent>,
 ) -> bool
     ensures count { length senders.new.items ≡ length senders.old.items }
-    ensures put { (k : ℕ) → k < length senders.old.items → put_in senders.new.items k ≡ put_in senders.old.items k ++ when result (item_refused k got) }
+    ensures put { (k : ℕ) → k < length senders.old.items
+        → put_in senders.new.items k
+        ≡ put_in senders.old.items k ++ when result (item_refused k got) }
 {
     let Ok(Got::Item { content: item, .. }) = got else {
         return false;
@@ -88,9 +104,9 @@ fn is_nothing(got: &Result<Got<MoItem>, Spent>) -> bool
     matches!(got, Ok(Got::Empty) | Err(_))
 }
 
-/// The messages of a client that leaves.
+// The messages of a client that leaves.
 #[derive(Drop)]
-pub struct Leaver {
+pub(crate) struct Leaver {
     alloc: Global,
     inbox: Receiver<MoItem>,
     senders: Vec<Sender<Pdu>>,
@@ -101,10 +117,13 @@ pub struct Leaver {
     first_window: Snapshot<MoWindow>,
     first_parked: Snapshot<Option<Parked>>,
     closing: Trace<Leaving>,
+    // Whether a return box took an answer.
+    answered: bool,
     ghost left_is: { Left
         (rest_of first_parked.value first_window.value first_inbox.value first_senders.value.items)
         closing
         (rest_of parked window inbox senders.items) },
+    ghost answered_is: { answered ≡ is_answered closing },
 }
 
 impl Leaver {
@@ -138,6 +157,7 @@ impl Leaver {
             first_window,
             first_parked,
             closing: Trace::new(),
+            answered: false,
         }
     }
 
@@ -146,32 +166,39 @@ impl Leaver {
         ensures none { self.new.parked ≡ None }
         ensures gets { gets self.new.closing ≡ gets self.old.closing }
         ensures inbox { self.new.inbox ≡ self.old.inbox }
-        ensures first { (self.new.first_parked ≡ self.old.first_parked) × (self.new.first_window ≡ self.old.first_window)
-            × (self.new.first_inbox ≡ self.old.first_inbox) × (self.new.first_senders ≡ self.old.first_senders) }
+        ensures first { (self.new.first_parked ≡ self.old.first_parked)
+            × (self.new.first_window ≡ self.old.first_window)
+            × (self.new.first_inbox ≡ self.old.first_inbox)
+            × (self.new.first_senders ≡ self.old.first_senders) }
     {
         let Some(Parked { lane, answer }) = self.parked.take() else {
             return;
         };
         let put = put_once(rt, &mut self.senders, lane, answer);
         self.closing = self.closing.and(&Leaving::Kept(put));
+        self.answered |= put;
     }
 
     // Refuses the message that was sent under the least number. False where none waits.
     fn refuse_row<R: Wait>(&mut self, rt: &R) -> bool
         requires none { self.old.parked ≡ None }
         ensures parked { self.new.parked ≡ None }
-        ensures more { result ≡ true → length self.new.window.waiting < length self.old.window.waiting }
+        ensures more { result ≡ true
+            → length self.new.window.waiting < length self.old.window.waiting }
         ensures last { result ≡ false → self.new.window.waiting ≡ [] }
         ensures gets { gets self.new.closing ≡ gets self.old.closing }
         ensures inbox { self.new.inbox ≡ self.old.inbox }
-        ensures first { (self.new.first_parked ≡ self.old.first_parked) × (self.new.first_window ≡ self.old.first_window)
-            × (self.new.first_inbox ≡ self.old.first_inbox) × (self.new.first_senders ≡ self.old.first_senders) }
+        ensures first { (self.new.first_parked ≡ self.old.first_parked)
+            × (self.new.first_window ≡ self.old.first_window)
+            × (self.new.first_inbox ≡ self.old.first_inbox)
+            × (self.new.first_senders ≡ self.old.first_senders) }
     {
         let Some((lane, number, command)) = self.window.take_first() else {
             return false;
         };
         let put = refuse_once(rt, self.alloc, &mut self.senders, lane, number, command);
         self.closing = self.closing.and(&Leaving::Row(lane, number, command, put));
+        self.answered |= put;
         true
     }
 
@@ -182,16 +209,21 @@ impl Leaver {
         ensures parked { self.new.parked ≡ None }
         ensures window { self.new.window ≡ self.old.window }
         ensures gets { gets self.new.closing ≡ gets self.old.closing + 1 }
-        ensures last { result ≡ false → (last : Leaving) × (self.new.closing ≡ self.old.closing ++ last ∷ []) × FoundNothing last }
+        ensures last { result ≡ false
+            → (last : Leaving) × (self.new.closing ≡ self.old.closing ++ last ∷ [])
+            × FoundNothing last }
         ensures sizes { self.new.inbox.front.lock ≡ self.old.inbox.front.lock }
-        ensures first { (self.new.first_parked ≡ self.old.first_parked) × (self.new.first_window ≡ self.old.first_window)
-            × (self.new.first_inbox ≡ self.old.first_inbox) × (self.new.first_senders ≡ self.old.first_senders) }
+        ensures first { (self.new.first_parked ≡ self.old.first_parked)
+            × (self.new.first_window ≡ self.old.first_window)
+            × (self.new.first_inbox ≡ self.old.first_inbox)
+            × (self.new.first_senders ≡ self.old.first_senders) }
     {
         let got = self.inbox.get(rt);
         let found = Snapshot::of(&got);
         let nothing = is_nothing(&got);
         let put = refuse_got(rt, self.alloc, &mut self.senders, got);
         self.closing = self.closing.and(&Leaving::Item(found, put));
+        self.answered |= put;
         !nothing
     }
 
@@ -202,8 +234,10 @@ impl Leaver {
         requires none { self.old.closing ≡ [] }
         ensures over { (self.new.parked ≡ None) × (self.new.window.waiting ≡ []) }
         ensures emptied { IsEmptied self.old.inbox.front.lock.fixed.places self.new.closing }
-        ensures first { (self.new.first_parked ≡ self.old.first_parked) × (self.new.first_window ≡ self.old.first_window)
-            × (self.new.first_inbox ≡ self.old.first_inbox) × (self.new.first_senders ≡ self.old.first_senders) }
+        ensures first { (self.new.first_parked ≡ self.old.first_parked)
+            × (self.new.first_window ≡ self.old.first_window)
+            × (self.new.first_inbox ≡ self.old.first_inbox)
+            × (self.new.first_senders ≡ self.old.first_senders) }
     {
         self.put_parked(rt);
         while self.refuse_row(rt) {}
@@ -214,11 +248,30 @@ impl Leaver {
         }
     }
 
-    /// The receiver of the slot's box, and the senders, for the slot's next client.
-    pub fn into_parts(self) -> (Receiver<MoItem>, Vec<Sender<Pdu>>)
-        ensures { (result.0 ≡ self.inbox) × (result.1 ≡ self.senders) }
+    // What is left.
+    pub(crate) fn into_closed<L: Link + Drop>(self, link: L) -> Closed<L>
+        ensures link { result.link ≡ link }
+        ensures closing { result.closing ≡ self.closing }
+        ensures left { Left
+            (rest_of self.first_parked.value self.first_window.value self.first_inbox.value
+            self.first_senders.value.items)
+            result.closing
+            (rest_of self.parked self.window result.inbox result.senders.items) }
+        ensures answered { result.answered ≡ is_answered result.closing }
     {
-        let Leaver { inbox, senders, .. } = self;
-        (inbox, senders)
+        let Leaver {
+            inbox,
+            senders,
+            closing,
+            answered,
+            ..
+        } = self;
+        Closed {
+            link,
+            inbox,
+            senders,
+            answered,
+            closing,
+        }
     }
 }

@@ -20,7 +20,8 @@ use smx_turns::{Gate, Log, Point, Step};
 // It came to this. The caller says whether nothing came of it.
 pub(crate) fn mark(log: &mut Log<Mark, Event>, mark: Mark, quiet: bool)
     requires quiet { quiet ≡ is_quiet_mark mark }
-    ensures phase { (t : Before) (p : Phase) → phase_of t log.old ≡ p → phase_of t log.new ≡ go t p (step.Marked mark) }
+    ensures phase { (t : Before) (p : Phase) → phase_of t log.old ≡ p
+        → phase_of t log.new ≡ go t p (step.Marked mark) }
     ensures leads { (n : ℕ) (a b : Scene) → Marks a mark b → Leads n a log.old b log.new }
 {
     log.push(&Step::Marked(mark), quiet);
@@ -28,8 +29,14 @@ pub(crate) fn mark(log: &mut Log<Mark, Event>, mark: Mark, quiet: bool)
 
 // It read from the link, which answered so.
 pub(crate) fn reading(log: &mut Log<Mark, Event>, answer: Result<Polled, LinkFault>)
-    ensures phase { (t : Before) (p : Phase) → phase_of t log.old ≡ p → phase_of t log.new ≡ go t p (step.Read answer) }
-    ensures leads { (n : ℕ) (a b : Scene) → b ≡ record a { polls = a.polls ++ answer ∷ []; failures = a.failures + fault_count answer } → Leads n a log.old b log.new }
+    ensures phase { (t : Before) (p : Phase) → phase_of t log.old ≡ p
+        → phase_of t log.new ≡ go t p (step.Read answer) }
+    ensures leads { (n : ℕ) (a b : Scene)
+        → b ≡ record a {
+          polls = a.polls ++ answer ∷ [];
+          failures = a.failures + fault_count answer;
+        }
+        → Leads n a log.old b log.new }
 {
     let quiet = !matches!(answer, Ok(Polled::Octets(_)));
     log.push(&Step::Read(answer), quiet);
@@ -39,7 +46,8 @@ pub(crate) fn reading(log: &mut Log<Mark, Event>, answer: Result<Polled, LinkFau
 pub(crate) fn note(events: &mut Trace<Event>, log: &mut Log<Mark, Event>, event: Event, quiet: bool)
     requires quiet { quiet ≡ is_quiet_event event }
     ensures events { events.new ≡ events.old ++ event ∷ [] }
-    ensures phase { (t : Before) (p : Phase) → phase_of t log.old ≡ p → phase_of t log.new ≡ go t p (step.Did event) }
+    ensures phase { (t : Before) (p : Phase) → phase_of t log.old ≡ p
+        → phase_of t log.new ≡ go t p (step.Did event) }
     ensures leads { (n : ℕ) (a b : Scene) → Happens a event b → Leads n a log.old b log.new }
 {
     *events = events.and(&event);
@@ -53,11 +61,18 @@ pub(crate) fn ask<G: Gate>(
     point: Point,
     turn: u64,
 ) -> bool
-    ensures phase { (t : Before) (p : Phase) → phase_of t log.old ≡ p → phase_of t log.new ≡ go t p (step.Asked point result) }
+    ensures phase { (t : Before) (p : Phase) → phase_of t log.old ≡ p
+        → phase_of t log.new ≡ go t p (step.Asked point result) }
     ensures told { G.told gate.new ≡ G.told gate.old }
-    ensures leads { (queries : List Query) (events : List Event) (parts : Parts) (unsent offered : List ℕ) (polls : List (Result Polled LinkFault)) (failures : ℕ)
-        → Leads turn (scene (G.asked gate.old) (G.told gate.old) queries events parts unsent offered polls failures) log.old
-        (scene (G.asked gate.new) (G.told gate.new) queries events parts unsent offered polls failures) log.new }
+    ensures leads { (queries : List Query) (events : List Event) (parts : Parts)
+        (unsent offered : List ℕ) (polls : List (Result Polled LinkFault)) (failures : ℕ)
+        → Leads turn
+        (scene (G.asked gate.old) (G.told gate.old) queries events parts unsent offered polls
+        failures)
+        log.old
+        (scene (G.asked gate.new) (G.told gate.new) queries events parts unsent offered polls
+        failures)
+        log.new }
 {
     let answer = gate.at(point, turn);
     log.push(&Step::Asked(point, answer), true);

@@ -14,7 +14,7 @@ mod worker;
 
 pub use desk::Desk;
 pub use event::{Delivery, Event, Fate};
-pub use leaver::{Leaver, Leaving};
+pub use leaver::{Closed, Leaving};
 pub use mark::{Mark, Stage};
 pub use reply::{Parked, Reply};
 pub use worker::{ClientWorker, Origin, run_client};

@@ -9,7 +9,7 @@ ghost use Rattle.smx_client.specs.Table.{Phase, IsPart, after_reply, progress_of
 use crate::event::Progress;
 use smx_box::{PutFault, Sender};
 use smx_pdu::status::ESME_RX_T_APPN;
-use smx_pdu::{Body, Pdu, response_id};
+use smx_pdu::{Pdu, response_id};
 use smx_turns::{Fault, Gate, Party, put_at};
 use std::alloc::Global;
 use std::sync::Wait;
@@ -94,9 +94,12 @@ pub(crate) fn put_or_park<R: Wait>(
     requires none { parked.old ≡ None }
     ensures count { length senders.new.items ≡ length senders.old.items }
     ensures parks { Parks result parked.new }
-    ensures put { (k : ℕ) → k < length senders.old.items → put_in senders.new.items k ≡ put_in senders.old.items k ++ if_taken result (on_lane k lane (answer ∷ [])) }
+    ensures put { (k : ℕ) → k < length senders.old.items
+        → put_in senders.new.items k
+        ≡ put_in senders.old.items k ++ if_taken result (on_lane k lane (answer ∷ [])) }
     ensures answer { (k : ℕ) → k < length senders.old.items
-        → put_in senders.new.items k ++ parked_on k parked.new ≡ put_in senders.old.items k ++ parked_on k parked.old ++ on_lane k lane (answer ∷ []) }
+        → put_in senders.new.items k ++ parked_on k parked.new
+        ≡ put_in senders.old.items k ++ parked_on k parked.old ++ on_lane k lane (answer ∷ []) }
 {
     if lane >= senders.len() {
         return Reply::Nobody;
@@ -125,9 +128,12 @@ pub(crate) fn answer_settled<R: Wait, G: Gate>(
     requires none { parked.old ≡ None }
     ensures count { length senders.new.items ≡ length senders.old.items }
     ensures parks { Parks result parked.new }
-    ensures put { (k : ℕ) → k < length senders.old.items → put_in senders.new.items k ≡ put_in senders.old.items k ++ if_taken result (settled_out k pdu found) }
+    ensures put { (k : ℕ) → k < length senders.old.items
+        → put_in senders.new.items k
+        ≡ put_in senders.old.items k ++ if_taken result (settled_out k pdu found) }
     ensures answer { (k : ℕ) → k < length senders.old.items
-        → put_in senders.new.items k ++ parked_on k parked.new ≡ put_in senders.old.items k ++ parked_on k parked.old ++ settled_out k pdu found }
+        → put_in senders.new.items k ++ parked_on k parked.new
+        ≡ put_in senders.old.items k ++ parked_on k parked.old ++ settled_out k pdu found }
     ensures told { G.told gate.new ≡ G.told gate.old ++ settled_told found result }
     ensures asked { G.asked gate.new ≡ G.asked gate.old }
 {
@@ -153,18 +159,17 @@ pub(crate) fn refuse<R: Wait>(
     ensures count { length senders.new.items ≡ length senders.old.items }
     ensures parks { Parks result parked.new }
     ensures put { (k : ℕ) → k < length senders.old.items
-        → put_in senders.new.items k ≡ put_in senders.old.items k ++ if_taken result (on_lane k lane (refused_up (response_of command) number)) }
+        → put_in senders.new.items k
+        ≡ put_in senders.old.items k
+        ++ if_taken result (on_lane k lane (refused_up (response_of command) number)) }
     ensures answer { (k : ℕ) → k < length senders.old.items
-        → put_in senders.new.items k ++ parked_on k parked.new ≡ put_in senders.old.items k ++ parked_on k parked.old ++ on_lane k lane (refused_up (response_of command) number) }
+        → put_in senders.new.items k ++ parked_on k parked.new
+        ≡ put_in senders.old.items k ++ parked_on k parked.old
+        ++ on_lane k lane (refused_up (response_of command) number) }
 {
     let Some(id) = response_id(command) else {
         return Reply::Nobody;
     };
-    let answer = Pdu {
-        command: id,
-        status: ESME_RX_T_APPN,
-        number,
-        body: Body::empty(alloc),
-    };
+    let answer = Pdu::header_only(alloc, id, ESME_RX_T_APPN, number);
     put_or_park(rt, senders, parked, lane, answer)
 }

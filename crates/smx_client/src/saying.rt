@@ -8,9 +8,9 @@ ghost use Rattle.smx_client.specs.Sayings.{Spoke, IsVerdict, asked_of};
 use crate::event::Verdict;
 use smx_link::{Link, Wire};
 use smx_lock::Spent;
+use smx_pdu::Pdu;
 use smx_pdu::command::RESPONSE;
 use smx_pdu::status::{ESME_RMSGQFUL, ESME_RSYSERR};
-use smx_pdu::{Body, Pdu};
 use smx_session::Act;
 use smx_shared::{Offer, SubmitFault};
 use smx_turns::{Gate, Party};
@@ -86,12 +86,7 @@ pub(crate) fn say_refusal<L: Link + Drop>(
     match landed {
         Ok(_) => say_none(wire),
         Err((_, fault)) => {
-            let answer = Pdu {
-                command: RESPONSE + command,
-                status: status_of(*fault),
-                number,
-                body: Body::empty(alloc),
-            };
+            let answer = Pdu::header_only(alloc, RESPONSE + command, status_of(*fault), number);
             say_one(wire, &answer);
         }
     }

@@ -68,7 +68,8 @@ pub struct ClientWorker<'d, L: Link + Drop> {
     events: Trace<Event>,
     ghost heard_is: { wire.heard ≡ ins events ++ held_list held },
     ghost run_is: { Chain
-        (parts desk.now [] origin.port.value Opened origin.window.value origin.inbox.value origin.senders.value.items None)
+        (parts desk.now [] origin.port.value Opened origin.window.value origin.inbox.value
+        origin.senders.value.items None)
         events
         (parts desk.now wire.said port session window inbox senders.items parked) },
 }
@@ -89,12 +90,16 @@ impl<'d, L: Link + Drop> ClientWorker<'d, L> {
         requires lanes { length senders.items ≡ length port.fronts }
         requires places { IsSize places }
         ensures port { IfOk result (λ w. (w.port ≡ port) × (w.origin.port.value ≡ port)) }
-        ensures boxes { IfOk result (λ w. (w.origin.inbox.value ≡ inbox) × (w.origin.senders.value ≡ senders)) }
-        ensures window { IfOk result (λ w. (w.origin.window.value.waiting ≡ []) × (w.origin.window.value.places ≡ places)) }
+        ensures boxes { IfOk result
+            (λ w. (w.origin.inbox.value ≡ inbox) × (w.origin.senders.value ≡ senders)) }
+        ensures window { IfOk result
+            (λ w. (w.origin.window.value.waiting ≡ []) × (w.origin.window.value.places ≡ places)) }
         ensures link { IfOk result (λ w. (w.wire.start ≡ link) × (w.wire.failed ≡ None)) }
-        ensures none { IfOk result (λ w. (w.held ≡ None) × (w.parked ≡ None) × (w.events ≡ []) × (w.turns ≡ 0)) }
+        ensures none { IfOk result
+            (λ w. (w.held ≡ None) × (w.parked ≡ None) × (w.events ≡ []) × (w.turns ≡ 0)) }
         ensures stage { IfOk result (λ w. w.stage ≡ Stage.Open) }
-        ensures back { IfErr result (λ e. (e.0 ≡ port) × (e.1 ≡ inbox) × (e.2 ≡ senders) × (e.3 ≡ link)) }
+        ensures back { IfErr result
+            (λ e. (e.0 ≡ port) × (e.1 ≡ inbox) × (e.2 ≡ senders) × (e.3 ≡ link)) }
     {
         let Ok(window) = MoWindow::new(alloc, places) else {
             return Err((port, inbox, senders, link));
@@ -130,17 +135,31 @@ impl<'d, L: Link + Drop> ClientWorker<'d, L> {
     /// what the events say. The port accepted what the events submitted. Each return box was put,
     /// or is to be put, the answers of the events. Each event is one step of the parts.
     pub fn law(&self)
-        ensures given { L.given self.now.wire.link ≡ L.given self.now.wire.start ++ (spellings (ins self.now.events ++ held_list self.now.held) ++ self.now.wire.rest) }
-        ensures taken { L.taken self.now.wire.link ++ self.now.wire.unsent ≡ L.taken self.now.wire.start ++ spellings (outs self.now.events) }
-        ensures accepts { ∥ ((all : List Accepted) → HasAccepted self.now.origin.port.value all → HasAccepted self.now.port (all ++ accepts self.now.events)) ∥₁ }
+        ensures given { L.given self.now.wire.link ≡ L.given self.now.wire.start
+            ++ (spellings (ins self.now.events ++ held_list self.now.held) ++ self.now.wire.rest) }
+        ensures taken { L.taken self.now.wire.link ++ self.now.wire.unsent
+            ≡ L.taken self.now.wire.start ++ spellings (outs self.now.events) }
+        ensures accepts { ∥ ((all : List Accepted) → HasAccepted self.now.origin.port.value all
+            → HasAccepted self.now.port (all ++ accepts self.now.events)) ∥₁ }
         ensures answers { (k : ℕ) → k < length self.now.origin.senders.value.items
-            → put_in self.now.senders.items k ++ parked_on k self.now.parked ≡ put_in self.now.origin.senders.value.items k ++ answers k self.now.events }
+            → put_in self.now.senders.items k ++ parked_on k self.now.parked
+            ≡ put_in self.now.origin.senders.value.items k ++ answers k self.now.events }
         ensures chain { Chain
-            (parts self.now.desk.now [] self.now.origin.port.value Opened self.now.origin.window.value self.now.origin.inbox.value self.now.origin.senders.value.items None)
+            (parts self.now.desk.now [] self.now.origin.port.value Opened
+            self.now.origin.window.value self.now.origin.inbox.value
+            self.now.origin.senders.value.items None)
             self.now.events
-            (parts self.now.desk.now self.now.wire.said self.now.port self.now.session self.now.window self.now.inbox self.now.senders.items self.now.parked) }
+            (parts self.now.desk.now self.now.wire.said self.now.port self.now.session
+            self.now.window self.now.inbox self.now.senders.items self.now.parked) }
     {
         self.wire.law();
+    }
+
+    /// The number of its client.
+    pub fn client(&self) -> u64
+        ensures { result ≡ self.now.port.client }
+    {
+        self.port.client()
     }
 
     /// How many octets wait to be written.

@@ -40,13 +40,17 @@ impl<'d, L: Link + Drop> ClientWorker<'d, L> {
         log: &mut Log<Mark, Event>,
     ) -> Result<Option<Progress>, Fault>
         requires some { IsSome self.old.parked }
-        ensures leads { (n : ℕ) (queries : List Query) → Leads n (scene_of (G.asked gate.old) (G.told gate.old) queries self.old) log.old
+        ensures leads { (n : ℕ) (queries : List Query)
+            → Leads n (scene_of (G.asked gate.old) (G.told gate.old) queries self.old) log.old
             (scene_of (G.asked gate.new) (G.told gate.new) queries self.new) log.new }
         ensures phase { (t : Before) (p q : Phase) → phase_of t log.old ≡ p
-            → ((lane : ℕ) (reply : Reply) → go t p (step.Did (event.PutAgain lane reply)) ≡ after_reply q reply) → IsPart q result (phase_of t log.new) }
+            → ((lane : ℕ) (reply : Reply)
+            → go t p (step.Did (event.PutAgain lane reply)) ≡ after_reply q reply)
+            → IsPart q result (phase_of t log.new) }
         ensures parked { result ≡ Ok (Some Progress.Parked) → IsSome self.new.parked }
         ensures clear { result ≡ Ok None → self.new.parked ≡ None }
-        ensures which { (result ≢ Ok (Some Progress.Settled)) × (result ≢ Ok (Some Progress.Closed)) × (result ≢ Ok (Some Progress.Clogged)) }
+        ensures which { (result ≢ Ok (Some Progress.Settled)) × (result ≢ Ok (Some Progress.Closed))
+            × (result ≢ Ok (Some Progress.Clogged)) }
         ensures port { self.new.port ≡ self.old.port }
         ensures origin { self.new.origin ≡ self.old.origin }
         ensures held { self.new.held ≡ self.old.held }
@@ -74,12 +78,15 @@ impl<'d, L: Link + Drop> ClientWorker<'d, L> {
         requires room { 65536 ≤ self.old.wire.room }
         requires none { self.old.parked ≡ None }
         requires free { length self.old.window.waiting ≢ self.old.window.places }
-        ensures leads { (n : ℕ) (queries : List Query) → Leads n (scene_of (G.asked gate.old) (G.told gate.old) queries self.old) log.old
+        ensures leads { (n : ℕ) (queries : List Query)
+            → Leads n (scene_of (G.asked gate.old) (G.told gate.old) queries self.old) log.old
             (scene_of (G.asked gate.new) (G.told gate.new) queries self.new) log.new }
-        ensures phase { (t : Before) → phase_of t log.old ≡ MayCollect t.lanes → t.parked ≡ is_there self.old.parked → IsPart Clear result (phase_of t log.new) }
+        ensures phase { (t : Before) → phase_of t log.old ≡ MayCollect t.lanes
+            → t.parked ≡ is_there self.old.parked → IsPart Clear result (phase_of t log.new) }
         ensures parked { result ≡ Ok (Some Progress.Parked) → IsSome self.new.parked }
         ensures clear { result ≡ Ok None → self.new.parked ≡ None }
-        ensures which { (result ≢ Ok (Some Progress.Settled)) × (result ≢ Ok (Some Progress.Closed)) × (result ≢ Ok (Some Progress.Clogged)) }
+        ensures which { (result ≢ Ok (Some Progress.Settled)) × (result ≢ Ok (Some Progress.Closed))
+            × (result ≢ Ok (Some Progress.Clogged)) }
         ensures port { self.new.port ≡ self.old.port }
         ensures origin { self.new.origin ≡ self.old.origin }
         ensures held { self.new.held ≡ self.old.held }
@@ -126,13 +133,17 @@ impl<'d, L: Link + Drop> ClientWorker<'d, L> {
         gate: &mut G,
         log: &mut Log<Mark, Event>,
     ) -> Result<Option<Progress>, Fault>
-        ensures leads { (n : ℕ) (queries : List Query) → Leads n (scene_of (G.asked gate.old) (G.told gate.old) queries self.old) log.old
+        ensures leads { (n : ℕ) (queries : List Query)
+            → Leads n (scene_of (G.asked gate.old) (G.told gate.old) queries self.old) log.old
             (scene_of (G.asked gate.new) (G.told gate.new) queries self.new) log.new }
-        ensures phase { (t : Before) → phase_of t log.old ≡ MayCollect t.lanes → t.parked ≡ is_there self.old.parked → IsPart Clear result (phase_of t log.new) }
+        ensures phase { (t : Before) → phase_of t log.old ≡ MayCollect t.lanes
+            → t.parked ≡ is_there self.old.parked → IsPart Clear result (phase_of t log.new) }
         ensures parked { result ≡ Ok (Some Progress.Parked) → IsSome self.new.parked }
         ensures clear { result ≡ Ok None → self.new.parked ≡ None }
-        ensures clogged { result ≡ Ok (Some Progress.Clogged) → 65536 ≤ length self.new.wire.unsent }
-        ensures which { (result ≢ Ok (Some Progress.Settled)) × (result ≢ Ok (Some Progress.Closed)) }
+        ensures clogged { result ≡ Ok (Some Progress.Clogged)
+            → 65536 ≤ length self.new.wire.unsent }
+        ensures which { (result ≢ Ok (Some Progress.Settled))
+            × (result ≢ Ok (Some Progress.Closed)) }
         ensures port { self.new.port ≡ self.old.port }
         ensures origin { self.new.origin ≡ self.old.origin }
         ensures held { self.new.held ≡ self.old.held }

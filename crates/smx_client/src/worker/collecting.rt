@@ -37,7 +37,8 @@ impl<'d, L: Link + Drop> ClientWorker<'d, L> {
     // Offers the link what waits. True where some is left.
     pub(super) fn offer_part(&mut self, log: &mut Log<Mark, Event>) -> Result<bool, Fault>
         ensures moves { Moves self.old log.old self.new log.new }
-        ensures phase { (t : Before) (p : Phase) → phase_of t log.old ≡ p → IsOffered t p self.old.stage result (phase_of t log.new) }
+        ensures phase { (t : Before) (p : Phase) → phase_of t log.old ≡ p
+            → IsOffered t p self.old.stage result (phase_of t log.new) }
         ensures some { result ≡ Ok true → self.new.wire.unsent ≢ [] }
         ensures none { result ≡ Ok false → self.new.wire.unsent ≡ [] }
         ensures port { self.new.port ≡ self.old.port }
@@ -106,7 +107,8 @@ impl<'d, L: Link + Drop> ClientWorker<'d, L> {
         requires lane { lane < length self.old.port.fronts }
         requires room { 65536 ≤ self.old.wire.room }
         ensures moves { Moves self.old log.old self.new log.new }
-        ensures phase { (t : Before) → phase_of t log.old ≡ MayCollect lane → IsCollected lane result (phase_of t log.new) }
+        ensures phase { (t : Before) → phase_of t log.old ≡ MayCollect lane
+            → IsCollected lane result (phase_of t log.new) }
         ensures locks { locks_of self.new.port.fronts ≡ locks_of self.old.port.fronts }
         ensures origin { self.new.origin ≡ self.old.origin }
         ensures held { self.new.held ≡ self.old.held }
@@ -135,11 +137,15 @@ impl<'d, L: Link + Drop> ClientWorker<'d, L> {
         log: &mut Log<Mark, Event>,
     ) -> Result<Option<Progress>, Fault>
         requires locks { locks_of self.old.port.fronts ≡ at.now }
-        ensures leads { (queries : List Query) → Leads turn (scene_of (G.asked gate.old) (G.told gate.old) queries self.old) log.old
+        ensures leads { (queries : List Query)
+            → Leads turn (scene_of (G.asked gate.old) (G.told gate.old) queries self.old) log.old
             (scene_of (G.asked gate.new) (G.told gate.new) queries self.new) log.new }
-        ensures phase { (t : Before) → phase_of t log.old ≡ Written → IsPart (MayCollect (length self.old.port.fronts)) result (phase_of t log.new) }
-        ensures clogged { result ≡ Ok (Some Progress.Clogged) → 65536 ≤ length self.new.wire.unsent }
-        ensures which { (result ≢ Ok (Some Progress.Settled)) × (result ≢ Ok (Some Progress.Closed)) × (result ≢ Ok (Some Progress.Parked)) }
+        ensures phase { (t : Before) → phase_of t log.old ≡ Written
+            → IsPart (MayCollect (length self.old.port.fronts)) result (phase_of t log.new) }
+        ensures clogged { result ≡ Ok (Some Progress.Clogged)
+            → 65536 ≤ length self.new.wire.unsent }
+        ensures which { (result ≢ Ok (Some Progress.Settled)) × (result ≢ Ok (Some Progress.Closed))
+            × (result ≢ Ok (Some Progress.Parked)) }
         ensures locks { locks_of self.new.port.fronts ≡ locks_of self.old.port.fronts }
         ensures origin { self.new.origin ≡ self.old.origin }
         ensures held { self.new.held ≡ self.old.held }

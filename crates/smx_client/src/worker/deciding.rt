@@ -27,7 +27,8 @@ impl<'d, L: Link + Drop> ClientWorker<'d, L> {
     // Sets the next whole PDU apart.
     fn fetch(&mut self) -> Result<Front, Fault>
         requires none { self.old.held ≡ None }
-        ensures whole { result ≡ Ok Front.Whole → IsSome self.new.held × (length self.new.wire.rest < length self.old.wire.rest) }
+        ensures whole { result ≡ Ok Front.Whole
+            → IsSome self.new.held × (length self.new.wire.rest < length self.old.wire.rest) }
         ensures part { result ≢ Ok Front.Whole → self.new.held ≡ None }
         ensures none_left { result ≡ Ok Front.Part → HasNone 65536 self.new.wire.rest }
         ensures events { self.new.events ≡ self.old.events }
@@ -44,8 +45,10 @@ impl<'d, L: Link + Drop> ClientWorker<'d, L> {
         ensures said { self.new.wire.said ≡ self.old.wire.said }
         ensures unsent { self.new.wire.unsent ≡ self.old.wire.unsent }
         ensures link { self.new.wire.link ≡ self.old.wire.link }
-        ensures failed { result ≢ Ok Front.Broken → self.old.wire.failed ≡ None → self.new.wire.failed ≡ None }
-        ensures err { OnErr result ((result ≡ Err Fault.NoMemory) × (self.new.wire.failed ≡ self.old.wire.failed)) }
+        ensures failed { result ≢ Ok Front.Broken → self.old.wire.failed ≡ None
+            → self.new.wire.failed ≡ None }
+        ensures err { OnErr result
+            ((result ≡ Err Fault.NoMemory) × (self.new.wire.failed ≡ self.old.wire.failed)) }
     {
         match self.wire.hear() {
             Ok(Some(pdu)) => {
@@ -62,7 +65,8 @@ impl<'d, L: Link + Drop> ClientWorker<'d, L> {
     fn break_off(&mut self, log: &mut Log<Mark, Event>)
         requires room { 65536 ≤ self.old.wire.room }
         ensures moves { Moves self.old log.old self.new log.new }
-        ensures phase { (t : Before) (ended : Bool) → phase_of t log.old ≡ Deciding ended → phase_of t log.new ≡ Closing }
+        ensures phase { (t : Before) (ended : Bool) → phase_of t log.old ≡ Deciding ended
+            → phase_of t log.new ≡ Closing }
         ensures port { self.new.port ≡ self.old.port }
         ensures origin { self.new.origin ≡ self.old.origin }
         ensures held { self.new.held ≡ self.old.held }
@@ -83,11 +87,18 @@ impl<'d, L: Link + Drop> ClientWorker<'d, L> {
         log: &mut Log<Mark, Event>,
     ) -> Result<Option<Progress>, Fault>
         ensures moves { Moves self.old log.old self.new log.new }
-        ensures phase { (t : Before) → phase_of t log.old ≡ Deciding ended → IsPart (Deciding ended) result (phase_of t log.new) }
-        ensures waits { result ≡ Ok None → IsSome self.new.held × (weight self.new.held self.new.wire.rest ≤ weight self.old.held self.old.wire.rest) }
-        ensures settled { result ≡ Ok (Some Progress.Settled) → (self.new.held ≡ None) × HasNone 65536 self.new.wire.rest }
-        ensures failed { OnOk result (result ≢ Ok (Some Progress.Closed) → self.old.wire.failed ≡ None → self.new.wire.failed ≡ None) }
-        ensures which { (result ≢ Ok (Some Progress.Parked)) × (result ≢ Ok (Some Progress.Clogged)) }
+        ensures phase { (t : Before) → phase_of t log.old ≡ Deciding ended
+            → IsPart (Deciding ended) result (phase_of t log.new) }
+        ensures waits { result ≡ Ok None
+            → IsSome self.new.held
+            × (weight self.new.held self.new.wire.rest ≤ weight self.old.held
+            self.old.wire.rest) }
+        ensures settled { result ≡ Ok (Some Progress.Settled)
+            → (self.new.held ≡ None) × HasNone 65536 self.new.wire.rest }
+        ensures failed { OnOk result (result ≢ Ok (Some Progress.Closed)
+            → self.old.wire.failed ≡ None → self.new.wire.failed ≡ None) }
+        ensures which { (result ≢ Ok (Some Progress.Parked))
+            × (result ≢ Ok (Some Progress.Clogged)) }
         ensures port { self.new.port ≡ self.old.port }
         ensures origin { self.new.origin ≡ self.old.origin }
         ensures stage { self.new.stage ≡ self.old.stage }
@@ -120,11 +131,20 @@ impl<'d, L: Link + Drop> ClientWorker<'d, L> {
         requires room { 65536 ≤ self.old.wire.room }
         requires some { IsSome self.old.held }
         ensures moves { Moves self.old log.old self.new log.new }
-        ensures phase { (t : Before) (ended : Bool) → phase_of t log.old ≡ Deciding ended → IsDecided ended result (phase_of t log.new) }
-        ensures held { OnOk result ((result ≢ Ok Verdict.Forward) → (result ≢ Ok Verdict.Settle) → self.new.held ≡ None) }
-        ensures forward { result ≡ Ok Verdict.Forward → IfSome self.new.held (λ p. client_decides self.new.desk.now.accounts.items self.new.session p ≡ (Act.Forward, self.new.session)) }
-        ensures settle { result ≡ Ok Verdict.Settle → IfSome self.new.held (λ p. client_decides self.new.desk.now.accounts.items self.new.session p ≡ (Act.MoAnswer p.number, self.new.session)) }
-        ensures waits { (result ≡ Ok Verdict.Forward) ⊎ (result ≡ Ok Verdict.Settle) → IsSome self.new.held × (self.new.wire ≡ self.old.wire) }
+        ensures phase { (t : Before) (ended : Bool) → phase_of t log.old ≡ Deciding ended
+            → IsDecided ended result (phase_of t log.new) }
+        ensures held { OnOk result
+            ((result ≢ Ok Verdict.Forward) → (result ≢ Ok Verdict.Settle) → self.new.held ≡ None) }
+        ensures forward { result ≡ Ok Verdict.Forward
+            → IfSome self.new.held (λ p.
+            client_decides self.new.desk.now.accounts.items self.new.session p
+            ≡ (Act.Forward, self.new.session)) }
+        ensures settle { result ≡ Ok Verdict.Settle
+            → IfSome self.new.held (λ p.
+            client_decides self.new.desk.now.accounts.items self.new.session p
+            ≡ (Act.MoAnswer p.number, self.new.session)) }
+        ensures waits { (result ≡ Ok Verdict.Forward) ⊎ (result ≡ Ok Verdict.Settle)
+            → IsSome self.new.held × (self.new.wire ≡ self.old.wire) }
         ensures port { self.new.port ≡ self.old.port }
         ensures origin { self.new.origin ≡ self.old.origin }
         ensures stage { self.new.stage ≡ self.old.stage }
@@ -169,11 +189,15 @@ impl<'d, L: Link + Drop> ClientWorker<'d, L> {
     )
         requires locks { locks_of self.old.port.fronts ≡ at.now }
         requires room { 65536 ≤ self.old.wire.room }
-        requires held { IfSome self.old.held (λ p. client_decides self.old.desk.now.accounts.items self.old.session p ≡ (Act.Forward, self.old.session)) }
+        requires held { IfSome self.old.held (λ p.
+            client_decides self.old.desk.now.accounts.items self.old.session p
+            ≡ (Act.Forward, self.old.session)) }
         requires some { IsSome self.old.held }
-        ensures leads { (n : ℕ) (queries : List Query) → Leads n (scene_of (G.asked gate.old) (G.told gate.old) queries self.old) log.old
+        ensures leads { (n : ℕ) (queries : List Query)
+            → Leads n (scene_of (G.asked gate.old) (G.told gate.old) queries self.old) log.old
             (scene_of (G.asked gate.new) (G.told gate.new) queries self.new) log.new }
-        ensures phase { (t : Before) (ended : Bool) → phase_of t log.old ≡ MaySubmit ended → phase_of t log.new ≡ Deciding ended }
+        ensures phase { (t : Before) (ended : Bool) → phase_of t log.old ≡ MaySubmit ended
+            → phase_of t log.new ≡ Deciding ended }
         ensures locks { locks_of self.new.port.fronts ≡ locks_of self.old.port.fronts }
         ensures origin { self.new.origin ≡ self.old.origin }
         ensures held { self.new.held ≡ None }
@@ -208,12 +232,17 @@ impl<'d, L: Link + Drop> ClientWorker<'d, L> {
         log: &mut Log<Mark, Event>,
     ) -> Result<Option<Progress>, Fault>
         requires none { self.old.parked ≡ None }
-        requires held { IfSome self.old.held (λ p. client_decides self.old.desk.now.accounts.items self.old.session p ≡ (Act.MoAnswer p.number, self.old.session)) }
+        requires held { IfSome self.old.held (λ p.
+            client_decides self.old.desk.now.accounts.items self.old.session p
+            ≡ (Act.MoAnswer p.number, self.old.session)) }
         requires some { IsSome self.old.held }
-        ensures leads { (n : ℕ) (queries : List Query) → Leads n (scene_of (G.asked gate.old) (G.told gate.old) queries self.old) log.old
+        ensures leads { (n : ℕ) (queries : List Query)
+            → Leads n (scene_of (G.asked gate.old) (G.told gate.old) queries self.old) log.old
             (scene_of (G.asked gate.new) (G.told gate.new) queries self.new) log.new }
-        ensures phase { (t : Before) (ended : Bool) → phase_of t log.old ≡ Deciding ended → IsPart (Deciding ended) result (phase_of t log.new) }
-        ensures which { (result ≢ Ok (Some Progress.Settled)) × (result ≢ Ok (Some Progress.Closed)) × (result ≢ Ok (Some Progress.Clogged)) }
+        ensures phase { (t : Before) (ended : Bool) → phase_of t log.old ≡ Deciding ended
+            → IsPart (Deciding ended) result (phase_of t log.new) }
+        ensures which { (result ≢ Ok (Some Progress.Settled)) × (result ≢ Ok (Some Progress.Closed))
+            × (result ≢ Ok (Some Progress.Clogged)) }
         ensures waits { result ≡ Ok (Some Progress.Parked) → IsSome self.new.parked }
         ensures clear { result ≡ Ok None → self.new.parked ≡ None }
         ensures port { self.new.port ≡ self.old.port }

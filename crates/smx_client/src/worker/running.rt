@@ -57,7 +57,8 @@ impl<'d, L: Link + Drop> ClientWorker<'d, L> {
         ensures moves { Moves self.old log.old self.new log.new }
         ensures phase { (t : Before) → phase_of t log.old ≡ Closing
             → IsTurn result (are_quiet is_quiet_mark is_quiet_event log.new) (phase_of t log.new)
-            × OnOk result (Stands (phase_of t log.new) self.new.wire.unsent self.new.wire.rest self.new.held self.new.parked) }
+            × OnOk result (Stands (phase_of t log.new) self.new.wire.unsent self.new.wire.rest
+            self.new.held self.new.parked) }
         ensures stage { self.new.stage ≡ Stage.Closed }
         ensures port { self.new.port ≡ self.old.port }
         ensures origin { self.new.origin ≡ self.old.origin }
@@ -82,12 +83,18 @@ impl<'d, L: Link + Drop> ClientWorker<'d, L> {
         requires locks { locks_of self.old.port.fronts ≡ at.now }
         requires goes_on { self.old.wire.failed ≡ None }
         requires going { self.old.stage ≢ Stage.Closed }
-        ensures leads { Leads turn (scene_of (G.asked gate.old) (G.told gate.old) (D.queries directory.old) self.old) log.old
-            (scene_of (G.asked gate.new) (G.told gate.new) (D.queries directory.new) self.new) log.new }
-        ensures phase { (t : Before) → t ≡ before self.old → phase_of t log.old ≡ begins t self.old.stage
+        ensures leads { Leads turn
+            (scene_of (G.asked gate.old) (G.told gate.old) (D.queries directory.old) self.old)
+            log.old
+            (scene_of (G.asked gate.new) (G.told gate.new) (D.queries directory.new) self.new)
+            log.new }
+        ensures phase { (t : Before) → t ≡ before self.old
+            → phase_of t log.old ≡ begins t self.old.stage
             → IsTurn result (are_quiet is_quiet_mark is_quiet_event log.new) (phase_of t log.new)
-            × OnOk result (Stands (phase_of t log.new) self.new.wire.unsent self.new.wire.rest self.new.held self.new.parked) }
-        ensures goes_on { OnOk result (self.new.stage ≢ Stage.Closed → self.new.wire.failed ≡ None) }
+            × OnOk result (Stands (phase_of t log.new) self.new.wire.unsent self.new.wire.rest
+            self.new.held self.new.parked) }
+        ensures goes_on { OnOk result
+            (self.new.stage ≢ Stage.Closed → self.new.wire.failed ≡ None) }
         ensures done { result ≡ Ok TurnEnd.Done → self.new.stage ≡ Stage.Closed }
         ensures locks { locks_of self.new.port.fronts ≡ locks_of self.old.port.fronts }
         ensures origin { self.new.origin ≡ self.old.origin }
@@ -114,12 +121,17 @@ impl<'d, L: Link + Drop> ClientWorker<'d, L> {
     ) -> Result<TurnEnd, Fault>
         requires locks { locks_of self.old.port.fronts ≡ at.now }
         requires goes_on { self.old.stage ≢ Stage.Closed → self.old.wire.failed ≡ None }
-        ensures leads { Leads turn (scene_of (G.asked gate.old) (G.told gate.old) (D.queries directory.old) self.old) log.old
-            (scene_of (G.asked gate.new) (G.told gate.new) (D.queries directory.new) self.new) log.new }
+        ensures leads { Leads turn
+            (scene_of (G.asked gate.old) (G.told gate.old) (D.queries directory.old) self.old)
+            log.old
+            (scene_of (G.asked gate.new) (G.told gate.new) (D.queries directory.new) self.new)
+            log.new }
         ensures phase { (t : Before) → t ≡ before self.old → phase_of t log.old ≡ Opening
             → IsTurn result (are_quiet is_quiet_mark is_quiet_event log.new) (phase_of t log.new)
-            × OnOk result (Stands (phase_of t log.new) self.new.wire.unsent self.new.wire.rest self.new.held self.new.parked) }
-        ensures goes_on { OnOk result (self.new.stage ≢ Stage.Closed → self.new.wire.failed ≡ None) }
+            × OnOk result (Stands (phase_of t log.new) self.new.wire.unsent self.new.wire.rest
+            self.new.held self.new.parked) }
+        ensures goes_on { OnOk result
+            (self.new.stage ≢ Stage.Closed → self.new.wire.failed ≡ None) }
         ensures done { result ≡ Ok TurnEnd.Done → self.new.stage ≡ Stage.Closed }
         ensures locks { locks_of self.new.port.fronts ≡ locks_of self.old.port.fronts }
         ensures origin { self.new.origin ≡ self.old.origin }
@@ -154,24 +166,33 @@ impl<'d, L: Link + Drop> ClientWorker<'d, L> {
         requires goes_on { self.old.stage ≢ Stage.Closed → self.old.wire.failed ≡ None }
 
         // Its steps, and nothing else, lead from what was to what is, in the table's order.
-        ensures changes { Changes self.new.turns (scene_of (G.asked gate.old) (G.told gate.old) (D.queries directory.old) self.old) self.new.steps
+        ensures changes { Changes self.new.turns
+            (scene_of (G.asked gate.old) (G.told gate.old) (D.queries directory.old) self.old)
+            self.new.steps
             (scene_of (G.asked gate.new) (G.told gate.new) (D.queries directory.new) self.new) }
-        ensures order { IsTurn result (are_quiet is_quiet_mark is_quiet_event self.new.steps) (phase_of (before self.old) self.new.steps) }
-        ensures stands { OnOk result (Stands (phase_of (before self.old) self.new.steps) self.new.wire.unsent self.new.wire.rest self.new.held self.new.parked) }
+        ensures order { IsTurn result (are_quiet is_quiet_mark is_quiet_event self.new.steps)
+            (phase_of (before self.old) self.new.steps) }
+        ensures stands { OnOk result (Stands (phase_of (before self.old) self.new.steps)
+            self.new.wire.unsent self.new.wire.rest self.new.held self.new.parked) }
 
         // So each of these lists grew by what the steps tell.
         ensures asks { G.asked gate.new ≡ G.asked gate.old ++ asks self.new.turns self.new.steps }
         ensures told { G.told gate.new ≡ G.told gate.old ++ tells (events self.new.steps) }
         ensures events { self.new.events ≡ self.old.events ++ events self.new.steps }
         ensures runs { Runs Does (parts_of self.old) (events self.new.steps) (parts_of self.new) }
-        ensures reads { L.polls self.new.wire.link ≡ L.polls self.old.wire.link ++ polls self.new.steps }
-        ensures failures { L.failures self.new.wire.link ≡ L.failures self.old.wire.link + faults self.new.steps }
-        ensures offered { (more : List ℕ) × (L.offered self.new.wire.link ≡ L.offered self.old.wire.link ++ self.old.wire.unsent ++ more) }
+        ensures reads { L.polls self.new.wire.link
+            ≡ L.polls self.old.wire.link ++ polls self.new.steps }
+        ensures failures { L.failures self.new.wire.link
+            ≡ L.failures self.old.wire.link + faults self.new.steps }
+        ensures offered { (more : List ℕ)
+            × (L.offered self.new.wire.link
+            ≡ L.offered self.old.wire.link ++ self.old.wire.unsent ++ more) }
 
         ensures count { self.new.turns ≡ min (self.old.turns + 1) (2 ^ 64 - 1) }
         ensures ends { self.new.ends ≡ self.old.ends ++ result ∷ [] }
         ensures done { result ≡ Ok TurnEnd.Done → self.new.stage ≡ Stage.Closed }
-        ensures goes_on { OnOk result (self.new.stage ≢ Stage.Closed → self.new.wire.failed ≡ None) }
+        ensures goes_on { OnOk result
+            (self.new.stage ≢ Stage.Closed → self.new.wire.failed ≡ None) }
         ensures locks { locks_of self.new.port.fronts ≡ locks_of self.old.port.fronts }
         ensures origin { self.new.origin ≡ self.old.origin }
     {
@@ -197,8 +218,10 @@ pub fn run_client<'d, L: Link + Drop, R: Wait, G: Gate, D: Directory>(
     requires locks { locks_of worker.old.port.fronts ≡ at.now }
     requires goes_on { worker.old.stage ≢ Stage.Closed → worker.old.wire.failed ≡ None }
     ensures ends { EndsSo turns result worker.old.ends worker.new.ends }
-    ensures ran { Ran Does (parts_of worker.old) worker.old.events (parts_of worker.new) worker.new.events }
-    ensures goes_on { ((fault : Fault) → result ≢ RunEnd.Fault fault) → worker.new.stage ≢ Stage.Closed → worker.new.wire.failed ≡ None }
+    ensures ran { Ran Does (parts_of worker.old) worker.old.events (parts_of worker.new)
+        worker.new.events }
+    ensures goes_on { ((fault : Fault) → result ≢ RunEnd.Fault fault)
+        → worker.new.stage ≢ Stage.Closed → worker.new.wire.failed ≡ None }
     ensures locks { locks_of worker.new.port.fronts ≡ locks_of worker.old.port.fronts }
     ensures origin { worker.new.origin ≡ worker.old.origin }
 {

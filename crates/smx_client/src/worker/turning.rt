@@ -53,10 +53,13 @@ impl<'d, L: Link + Drop> ClientWorker<'d, L> {
         log: &mut Log<Mark, Event>,
     ) -> Result<Result<bool, Progress>, Fault>
         requires goes_on { self.old.wire.failed ≡ None }
-        ensures leads { (queries : List Query) → Leads turn (scene_of (G.asked gate.old) (G.told gate.old) queries self.old) log.old
+        ensures leads { (queries : List Query)
+            → Leads turn (scene_of (G.asked gate.old) (G.told gate.old) queries self.old) log.old
             (scene_of (G.asked gate.new) (G.told gate.new) queries self.new) log.new }
-        ensures phase { (t : Before) → phase_of t log.old ≡ Clear → t.held ≡ is_there self.old.held → IsFront result (phase_of t log.new) }
-        ensures which { IfOk result (λ r. (r ≢ Err Progress.Parked) × (r ≢ Err Progress.Clogged) × (r ≢ Err Progress.Settled) × (r ≢ Err Progress.Closed)) }
+        ensures phase { (t : Before) → phase_of t log.old ≡ Clear → t.held ≡ is_there self.old.held
+            → IsFront result (phase_of t log.new) }
+        ensures which { IfOk result (λ r. (r ≢ Err Progress.Parked) × (r ≢ Err Progress.Clogged)
+            × (r ≢ Err Progress.Settled) × (r ≢ Err Progress.Closed)) }
         ensures port { self.new.port ≡ self.old.port }
         ensures origin { self.new.origin ≡ self.old.origin }
         ensures held { self.new.held ≡ self.old.held }
@@ -94,10 +97,12 @@ impl<'d, L: Link + Drop> ClientWorker<'d, L> {
     ) -> Result<Result<bool, Progress>, Fault>
         requires locks { locks_of self.old.port.fronts ≡ at.now }
         requires goes_on { self.old.wire.failed ≡ None }
-        ensures leads { (queries : List Query) → Leads turn (scene_of (G.asked gate.old) (G.told gate.old) queries self.old) log.old
+        ensures leads { (queries : List Query)
+            → Leads turn (scene_of (G.asked gate.old) (G.told gate.old) queries self.old) log.old
             (scene_of (G.asked gate.new) (G.told gate.new) queries self.new) log.new }
-        ensures phase { (t : Before) → phase_of t log.old ≡ Written → t.lanes ≡ length self.old.port.fronts → t.held ≡ is_there self.old.held → t.parked ≡ is_there self.old.parked
-            → IsFront result (phase_of t log.new) }
+        ensures phase { (t : Before) → phase_of t log.old ≡ Written
+            → t.lanes ≡ length self.old.port.fronts → t.held ≡ is_there self.old.held
+            → t.parked ≡ is_there self.old.parked → IsFront result (phase_of t log.new) }
         ensures clear { IfOk result (λ r. IfOk r (λ ended. self.new.parked ≡ None)) }
         ensures waits { result ≡ Ok (Err Progress.Parked) → IsSome self.new.parked }
         ensures clogged { result ≡ Ok (Err Progress.Clogged) → 65536 ≤ length self.new.wire.unsent }
@@ -126,9 +131,12 @@ impl<'d, L: Link + Drop> ClientWorker<'d, L> {
         account: usize,
         log: &mut Log<Mark, Event>,
     ) -> Result<Option<Progress>, Fault>
-        ensures leads { (n : ℕ) (asked : List Question) (told : List Party) → Leads n (scene_of asked told (D.queries directory.old) self.old) log.old
+        ensures leads { (n : ℕ) (asked : List Question) (told : List Party)
+            → Leads n (scene_of asked told (D.queries directory.old) self.old) log.old
             (scene_of asked told (D.queries directory.new) self.new) log.new }
-        ensures phase { (t : Before) (ended : Bool) → phase_of t log.old ≡ after_bind ended kind account → IsPart (Deciding ended) result (phase_of t log.new) }
+        ensures phase { (t : Before) (ended : Bool)
+            → phase_of t log.old ≡ after_bind ended kind account
+            → IsPart (Deciding ended) result (phase_of t log.new) }
         ensures none { OnOk result (result ≡ Ok None) }
         ensures same { self.new ≡ self.old }
     {
@@ -159,11 +167,16 @@ impl<'d, L: Link + Drop> ClientWorker<'d, L> {
         requires locks { locks_of self.old.port.fronts ≡ at.now }
         requires none { self.old.parked ≡ None }
         requires some { IsSome self.old.held }
-        ensures leads { Leads turn (scene_of (G.asked gate.old) (G.told gate.old) (D.queries directory.old) self.old) log.old
-            (scene_of (G.asked gate.new) (G.told gate.new) (D.queries directory.new) self.new) log.new }
-        ensures phase { (t : Before) → phase_of t log.old ≡ Deciding ended → IsPart (Deciding ended) result (phase_of t log.new) }
+        ensures leads { Leads turn
+            (scene_of (G.asked gate.old) (G.told gate.old) (D.queries directory.old) self.old)
+            log.old
+            (scene_of (G.asked gate.new) (G.told gate.new) (D.queries directory.new) self.new)
+            log.new }
+        ensures phase { (t : Before) → phase_of t log.old ≡ Deciding ended
+            → IsPart (Deciding ended) result (phase_of t log.new) }
         ensures next { result ≡ Ok None → (self.new.held ≡ None) × (self.new.parked ≡ None) }
-        ensures which { (result ≢ Ok (Some Progress.Settled)) × (result ≢ Ok (Some Progress.Clogged)) }
+        ensures which { (result ≢ Ok (Some Progress.Settled))
+            × (result ≢ Ok (Some Progress.Clogged)) }
         ensures waits { result ≡ Ok (Some Progress.Parked) → IsSome self.new.parked }
         ensures locks { locks_of self.new.port.fronts ≡ locks_of self.old.port.fronts }
         ensures origin { self.new.origin ≡ self.old.origin }
@@ -201,11 +214,17 @@ impl<'d, L: Link + Drop> ClientWorker<'d, L> {
     ) -> Result<Progress, Fault>
         requires locks { locks_of self.old.port.fronts ≡ at.now }
         requires none { self.old.parked ≡ None }
-        ensures leads { Leads turn (scene_of (G.asked gate.old) (G.told gate.old) (D.queries directory.old) self.old) log.old
-            (scene_of (G.asked gate.new) (G.told gate.new) (D.queries directory.new) self.new) log.new }
-        ensures phase { (t : Before) → phase_of t log.old ≡ Deciding ended → ComesTo result (phase_of t log.new) }
-        ensures failed { OnOk result (result ≢ Ok Progress.Closed → self.old.wire.failed ≡ None → self.new.wire.failed ≡ None) }
-        ensures settled { result ≡ Ok Progress.Settled → (self.new.held ≡ None) × HasNone 65536 self.new.wire.rest }
+        ensures leads { Leads turn
+            (scene_of (G.asked gate.old) (G.told gate.old) (D.queries directory.old) self.old)
+            log.old
+            (scene_of (G.asked gate.new) (G.told gate.new) (D.queries directory.new) self.new)
+            log.new }
+        ensures phase { (t : Before) → phase_of t log.old ≡ Deciding ended
+            → ComesTo result (phase_of t log.new) }
+        ensures failed { OnOk result (result ≢ Ok Progress.Closed → self.old.wire.failed ≡ None
+            → self.new.wire.failed ≡ None) }
+        ensures settled { result ≡ Ok Progress.Settled
+            → (self.new.held ≡ None) × HasNone 65536 self.new.wire.rest }
         ensures waits { result ≡ Ok Progress.Parked → IsSome self.new.parked }
         ensures clogged { result ≡ Ok Progress.Clogged → 65536 ≤ length self.new.wire.unsent }
         ensures locks { locks_of self.new.port.fronts ≡ locks_of self.old.port.fronts }
@@ -234,12 +253,16 @@ impl<'d, L: Link + Drop> ClientWorker<'d, L> {
         gate: &mut G,
         log: &mut Log<Mark, Event>,
     ) -> Result<Option<Progress>, Fault>
-        ensures leads { (n : ℕ) (queries : List Query) → Leads n (scene_of (G.asked gate.old) (G.told gate.old) queries self.old) log.old
+        ensures leads { (n : ℕ) (queries : List Query)
+            → Leads n (scene_of (G.asked gate.old) (G.told gate.old) queries self.old) log.old
             (scene_of (G.asked gate.new) (G.told gate.new) queries self.new) log.new }
-        ensures phase { (t : Before) → t.parked ≡ is_there self.old.parked → phase_of t log.old ≡ when_drained t.parked → IsPart (Deciding true) result (phase_of t log.new) }
+        ensures phase { (t : Before) → t.parked ≡ is_there self.old.parked
+            → phase_of t log.old ≡ when_drained t.parked
+            → IsPart (Deciding true) result (phase_of t log.new) }
         ensures waits { result ≡ Ok (Some Progress.Parked) → IsSome self.new.parked }
         ensures clear { result ≡ Ok None → self.new.parked ≡ None }
-        ensures which { (result ≢ Ok (Some Progress.Settled)) × (result ≢ Ok (Some Progress.Closed)) × (result ≢ Ok (Some Progress.Clogged)) }
+        ensures which { (result ≢ Ok (Some Progress.Settled)) × (result ≢ Ok (Some Progress.Closed))
+            × (result ≢ Ok (Some Progress.Clogged)) }
         ensures port { self.new.port ≡ self.old.port }
         ensures origin { self.new.origin ≡ self.old.origin }
         ensures stage { self.new.stage ≡ self.old.stage }
@@ -265,12 +288,17 @@ impl<'d, L: Link + Drop> ClientWorker<'d, L> {
         requires locks { locks_of self.old.port.fronts ≡ at.now }
         requires goes_on { self.old.wire.failed ≡ None }
         requires going { self.old.stage ≢ Stage.Closed }
-        ensures leads { Leads turn (scene_of (G.asked gate.old) (G.told gate.old) (D.queries directory.old) self.old) log.old
-            (scene_of (G.asked gate.new) (G.told gate.new) (D.queries directory.new) self.new) log.new }
-        ensures phase { (t : Before) → t ≡ before self.old → phase_of t log.old ≡ begins t self.old.stage → ComesTo result (phase_of t log.new) }
+        ensures leads { Leads turn
+            (scene_of (G.asked gate.old) (G.told gate.old) (D.queries directory.old) self.old)
+            log.old
+            (scene_of (G.asked gate.new) (G.told gate.new) (D.queries directory.new) self.new)
+            log.new }
+        ensures phase { (t : Before) → t ≡ before self.old
+            → phase_of t log.old ≡ begins t self.old.stage → ComesTo result (phase_of t log.new) }
         ensures goes_on { OnOk result (result ≢ Ok Progress.Closed → self.new.wire.failed ≡ None) }
         ensures stage { self.new.stage ≢ Stage.Closed }
-        ensures settled { result ≡ Ok Progress.Settled → (self.new.held ≡ None) × HasNone 65536 self.new.wire.rest }
+        ensures settled { result ≡ Ok Progress.Settled
+            → (self.new.held ≡ None) × HasNone 65536 self.new.wire.rest }
         ensures waits { result ≡ Ok Progress.Parked → IsSome self.new.parked }
         ensures clogged { result ≡ Ok Progress.Clogged → 65536 ≤ length self.new.wire.unsent }
         ensures locks { locks_of self.new.port.fronts ≡ locks_of self.old.port.fronts }

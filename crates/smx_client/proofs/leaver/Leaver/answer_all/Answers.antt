@@ -1,4 +1,4 @@
-use Rattle.std.proofs.Common.{rules, ◌≡◌, ◌∙◌, sym, refl}
+use Rattle.std.proofs.Common.{rules, ◌∙◌}
 use Rattle.smx_client.proofs.Leavings.{gets_none}
 use Rattle.smx_client.proofs.leaver.Leaver.answer_all.Goals as goal
 

@@ -3,7 +3,7 @@ use Rattle.smx_turns.proofs.Chains.{chain_push}
 use Rattle.smx_client.specs.declared.leaver.Leaving.TheVariants.{Item}
 use Rattle.smx_client.specs.Replies.{put_in}
 use Rattle.smx_client.specs.Leaving.{Leaves, Gives, when, item_refused}
-use Rattle.smx_client.proofs.Leavings.{gets_push, gives_is}
+use Rattle.smx_client.proofs.Leavings.{gets_push, gives_is, answered_push}
 use Rattle.smx_client.proofs.leaver.Leaver.refuse_item.Goals as goal
 
 pub invariant_of-self : goal.invariant_of-self
@@ -22,6 +22,7 @@ invariant_of-self g c =
         ),
         c.refuse_got-put.ensures.count,
       ) s.left_is;
+      answered_is = answered_push _ _ (Item c.of-found.result c.refuse_got-put.result) _ _ c.and-self.ensures s.answered_is refl;
     }
 
 pub returns-clause-gets : goal.returns-clause-gets

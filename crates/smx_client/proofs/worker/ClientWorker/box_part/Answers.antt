@@ -1,4 +1,4 @@
-use Rattle.std.proofs.Common.{◌≡◌, ◌∙◌, sym, refl}
+use Rattle.std.proofs.Common.{◌∙◌, sym, refl}
 use Rattle.smx_client.proofs.Cells as cell
 use Rattle.smx_client.proofs.worker.ClientWorker.box_part.Goals as goal
 

@@ -1,9 +1,9 @@
-use Rattle.std.proofs.Common.{rules, ◌≡◌, ◌≢◌, ◌<◌, ◌++◌, [], ◌∷◌, ℕ, List, length, refl, sym, ap, ◌∙◌, subst, Some, None, Ok, Err, Option, Result, true, false}
+use Rattle.std.proofs.Common.{◌++◌, refl, sym, ap, ◌∙◌}
 use Rattle.std.proofs.lemmas.List.{append-nil}
-use Rattle.smx_link.specs.Wiring.{spellings, Wiring}
+use Rattle.smx_link.specs.Wiring.{spellings}
 use Rattle.smx_turns.proofs.Chains.{chain_push}
 use Rattle.smx_client.specs.Parts.{Does}
-use Rattle.smx_client.proofs.Steps.{keeps, takes}
+use Rattle.smx_client.proofs.Steps.{keeps}
 use Rattle.smx_client.proofs.Scenes.{happens}
 use Rattle.smx_client.specs.declared.event.Event.TheVariants.{Collected}
 use Rattle.smx_client.specs.Events.{response_out}

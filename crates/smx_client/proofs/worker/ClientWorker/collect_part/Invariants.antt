@@ -1,4 +1,4 @@
-use Rattle.std.proofs.Common.{◌≡◌, List, length}
+use Rattle.std.proofs.Common.{◌≡◌, List}
 use Rattle.smx_shared.specs.Views.{locks_of}
 use Rattle.smx_turns.specs.declared.directory.Query.{Query}
 use Rattle.smx_client.specs.Scenes.{scene_of}

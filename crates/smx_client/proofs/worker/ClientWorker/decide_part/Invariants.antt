@@ -1,4 +1,4 @@
-use Rattle.std.proofs.Common.{◌≡◌, length, None}
+use Rattle.std.proofs.Common.{◌≡◌, None}
 use Rattle.smx_shared.specs.Views.{locks_of}
 use Rattle.smx_client.specs.Scenes.{scene_of}
 use Rattle.smx_client.specs.Table.{Before, phase_of, Deciding, weight}

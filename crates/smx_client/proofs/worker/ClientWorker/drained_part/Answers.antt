@@ -1,4 +1,4 @@
-use Rattle.std.proofs.Common.{◌≡◌, ◌∙◌, sym, ap}
+use Rattle.std.proofs.Common.{◌∙◌, sym, ap}
 use Rattle.smx_client.specs.Table.{when_drained}
 use Rattle.smx_client.proofs.Cells as cell
 use Rattle.smx_client.proofs.worker.ClientWorker.drained_part.Goals as goal

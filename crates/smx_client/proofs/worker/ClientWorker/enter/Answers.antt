@@ -1,4 +1,4 @@
-use Rattle.std.proofs.Common.{◌≡◌, ◌∙◌, ap, sym, refl, subst, true, false}
+use Rattle.std.proofs.Common.{◌∙◌, ap, sym, refl, subst}
 use Rattle.std.specs.Prelude.{if◌then◌else◌}
 use Rattle.smx_client.proofs.Entering.{adds_as}
 use Rattle.smx_client.specs.Table.{Deciding, Unentered, Wants}

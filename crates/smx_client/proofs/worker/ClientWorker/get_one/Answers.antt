@@ -1,11 +1,9 @@
-use Rattle.std.proofs.Common.{◌≡◌, ◌++◌, [], ◌∷◌, ℕ, List, length, refl, sym, ap, ◌∙◌, subst, Some, None, Ok, Err, Option, Result, IfOk, OnErr}
+use Rattle.std.proofs.Common.{◌≡◌, ◌++◌, length, refl, sym, ap, ◌∙◌, subst, Ok, IfOk, OnErr}
 use Rattle.std.proofs.lemmas.List.{append-nil}
 use Rattle.smx_lock.specs.Fronts.{IsSpent}
-use Rattle.smx_box.specs.declared.receiver.Got.{Got as Found}
 use Rattle.smx_box.specs.Boxes.{GetServes, Hands}
 use Rattle.smx_link.specs.Wiring.{spellings}
 use Rattle.smx_turns.proofs.Chains.{chain_push}
-use Rattle.smx_turns.specs.declared.mo_item.MoItem.{MoItem}
 use Rattle.smx_client.specs.declared.event.Event.TheVariants.{Got}
 use Rattle.smx_client.specs.declared.event.Delivery.TheVariants.{Dropped}
 use Rattle.smx_client.specs.Events.{got_out, got_told}

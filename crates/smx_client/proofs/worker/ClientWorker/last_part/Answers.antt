@@ -1,4 +1,4 @@
-use Rattle.std.proofs.Common.{◌≡◌, ap, Ok}
+use Rattle.std.proofs.Common.{ap, Ok}
 use Rattle.smx_client.specs.Table.{Closing}
 use Rattle.smx_client.proofs.Cells as cell
 use Rattle.smx_client.proofs.worker.ClientWorker.last_part.Goals as goal

@@ -1,5 +1,4 @@
-use Rattle.std.proofs.Common.{rules, ◌≡◌, ◌≢◌, ◌<◌, ◌++◌, [], ◌∷◌, ℕ, List, length, refl, sym, ap, ◌∙◌, subst, Some, None, Ok, Err, Option, Result, true, false}
-use Rattle.std.proofs.lemmas.List.{append-nil}
+use Rattle.std.proofs.Common.{◌++◌, ap, ◌∙◌}
 use Rattle.smx_link.specs.Wiring.{spellings}
 use Rattle.smx_client.specs.Replies.{put_in, parked_on}
 use Rattle.smx_client.specs.Events.{answers}

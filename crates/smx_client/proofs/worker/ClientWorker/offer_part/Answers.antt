@@ -1,4 +1,4 @@
-use Rattle.std.proofs.Common.{◌≡◌, ap, sym, ◌∙◌, refl, length, not}
+use Rattle.std.proofs.Common.{ap, ◌∙◌, refl, length, not}
 use Rattle.std.specs.Prelude.{◌==◌}
 use Rattle.smx_link.specs.Wiring.{Wiring}
 use Rattle.smx_client.specs.Parts.{parts}

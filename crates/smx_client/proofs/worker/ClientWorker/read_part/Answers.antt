@@ -1,4 +1,4 @@
-use Rattle.std.proofs.Common.{◌≡◌, ◌∙◌, ◌++◌, ◌+◌, ◌∷◌, [], ap, sym, refl}
+use Rattle.std.proofs.Common.{◌∙◌, ◌++◌, ◌+◌, ◌∷◌, [], ap, sym}
 use Rattle.smx_link.specs.Links.{fault_count}
 use Rattle.smx_client.specs.Table.{Deciding, after_read}
 use Rattle.smx_link.specs.Wiring.{Wiring}

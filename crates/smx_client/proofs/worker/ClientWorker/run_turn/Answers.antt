@@ -1,4 +1,4 @@
-use Rattle.std.proofs.Common.{◌≡◌, ◌∙◌, ap, sym, Ok, true}
+use Rattle.std.proofs.Common.{◌∙◌, ap, sym, Ok, true}
 use Rattle.smx_client.specs.Table.{Opening, begins}
 use Rattle.smx_client.proofs.Cells as cell
 use Rattle.smx_client.proofs.worker.ClientWorker.run_turn.Goals as goal

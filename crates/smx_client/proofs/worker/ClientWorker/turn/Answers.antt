@@ -1,4 +1,4 @@
-use Rattle.std.proofs.Common.{◌≡◌, ◌∙◌, refl}
+use Rattle.std.proofs.Common.{refl}
 use Rattle.smx_client.proofs.Cells.{phase_first}
 use Rattle.smx_client.proofs.Scenes.{nothing_yet}
 use Rattle.smx_client.proofs.Filters.{all_asks, all_tells, all_events, all_runs, all_polls, all_faults, offered_first, is_begun, is_right, changes_as, ends_as, stands_as}

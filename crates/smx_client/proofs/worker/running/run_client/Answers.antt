@@ -1,4 +1,4 @@
-use Rattle.std.proofs.Common.{rules, ◌≡◌, ◌<◌, refl, sym, Ok, Err}
+use Rattle.std.proofs.Common.{rules, refl, sym, Ok, Err}
 use Rattle.std.proofs.lemmas.List.{append-nil}
 use Rattle.smx_turns.specs.declared.end.TurnEnd.TheVariants.{Idle, Done}
 use Rattle.smx_turns.proofs.Chains.{ran_none, ran_more}
