@@ -51,16 +51,16 @@ impl<L: Link + Drop> Model for Wire<L> {
 
     ghost invariant = { λ w. ((w.sent ≤ vec_len w.waiting) × (w.framer.stream.max ≡ 65536))
         × Balances L.given L.taken (record {
-      link = w.link;
-      start = w.start.value;
-      heard = w.heard;
-      said = w.said;
-      rest = w.framer.stream.rest;
-      unsent = drop w.sent w.waiting.items;
-      failed = w.framer.stream.failed;
-      intake = w.framer.room;
-      room = vec_capacity w.waiting - vec_len w.waiting;
-    }) };
+          link = w.link;
+          start = w.start.value;
+          heard = w.heard;
+          said = w.said;
+          rest = w.framer.stream.rest;
+          unsent = drop w.sent w.waiting.items;
+          failed = w.framer.stream.failed;
+          intake = w.framer.room;
+          room = vec_capacity w.waiting - vec_len w.waiting;
+        }) };
 }
 
 impl<L: Link + Drop> Wire<L> {

@@ -101,8 +101,8 @@ impl<L: Link + Drop> UpstreamWorker<L> {
             → phase_of log.new ≡ when_looked left result }
         ensures left { self.old.wire.unsent ≢ [] → self.new.wire.unsent ≢ [] }
         ensures goes { (turn asked told queries : _) → Goes turn
-          (side_of L.polls asked told queries self.old)
-          (side_of L.polls asked told queries self.new) log.old log.new }
+            (side_of L.polls asked told queries self.old)
+            (side_of L.polls asked told queries self.new) log.old log.new }
         ensures same { self.new ≡ record self.old {
           wire = record self.old.wire {
             said = self.new.wire.said;
@@ -126,8 +126,8 @@ impl<L: Link + Drop> UpstreamWorker<L> {
         ensures turn { result ≡ (next_turn self.old.stand.age).turns }
         ensures phase { phase_of log.old ≡ Opening → phase_of log.new ≡ Ready }
         ensures goes { (turn asked told queries : _) → Goes turn
-          (side_of L.polls asked told queries self.old)
-          (side_of L.polls asked told queries self.new) log.old log.new }
+            (side_of L.polls asked told queries self.old)
+            (side_of L.polls asked told queries self.new) log.old log.new }
         ensures same { self.new ≡ record self.old {
           stand = record self.old.stand { age = next_turn self.old.stand.age };
           events = self.new.events;
@@ -155,8 +155,8 @@ impl<L: Link + Drop> UpstreamWorker<L> {
             → phase_of log.new ≡ when_kept left }
         ensures err { OnErr result (result ≡ Err Fault.Spent) }
         ensures goes { (turn asked told queries : _) → Goes turn
-          (side_of L.polls asked told queries self.old)
-          (side_of L.polls asked told queries self.new) log.old log.new }
+            (side_of L.polls asked told queries self.old)
+            (side_of L.polls asked told queries self.new) log.old log.new }
         ensures same { self.new ≡ record self.old {
           stand = record self.old.stand {
             tap = self.new.stand.tap;
@@ -186,8 +186,8 @@ impl<L: Link + Drop> UpstreamWorker<L> {
         ensures phase { phase_of log.old ≡ Clear → phase_of log.new ≡ Sated }
         ensures err { OnErr result (result ≡ Err Fault.Spent) }
         ensures goes { (turn asked told queries : _) → Goes turn
-          (side_of L.polls asked told queries self.old)
-          (side_of L.polls asked told queries self.new) log.old log.new }
+            (side_of L.polls asked told queries self.old)
+            (side_of L.polls asked told queries self.new) log.old log.new }
         ensures same { self.new ≡ record self.old {
           wire = record self.old.wire {
             said = self.new.wire.said;
@@ -222,8 +222,8 @@ impl<L: Link + Drop> UpstreamWorker<L> {
         ensures phase { phase_of log.old ≡ MayTake → phase_of log.new ≡ HasTried }
         ensures err { OnErr result (result ≡ Err Fault.Spent) }
         ensures goes { (turn asked told queries : _) → Goes turn
-          (side_of L.polls asked told queries self.old)
-          (side_of L.polls asked told queries self.new) log.old log.new }
+            (side_of L.polls asked told queries self.old)
+            (side_of L.polls asked told queries self.new) log.old log.new }
         ensures same { self.new ≡ record self.old {
           wire = record self.old.wire {
             said = self.new.wire.said;
@@ -276,9 +276,9 @@ impl<L: Link + Drop> UpstreamWorker<L> {
         ensures held { OnOk result (self.new.held ≡ None) }
         ensures err { OnErr result (result ≡ Err Fault.Spent) }
         ensures goes { (turn : _) → Goes turn
-          (side_of L.polls (G.asked gate.old) (G.told gate.old) (D.queries directory.old) self.old)
-          (side_of L.polls (G.asked gate.new) (G.told gate.new) (D.queries directory.new) self.new)
-          log.old log.new }
+            (side_of L.polls (G.asked gate.old) (G.told gate.old) (D.queries directory.old) self.old)
+            (side_of L.polls (G.asked gate.new) (G.told gate.new) (D.queries directory.new) self.new)
+            log.old log.new }
         ensures same { self.new ≡ record self.old {
           wire = record self.old.wire {
             said = self.new.wire.said;

@@ -77,8 +77,8 @@ impl<L: Link + Drop> UpstreamWorker<L> {
         ensures failures { L.failures self.new.wire.link
             ≡ L.failures self.old.wire.link + link_faults result }
         ensures goes { (turn asked told queries : _) → Goes turn
-          (side_of L.polls asked told queries self.old)
-          (side_of L.polls asked told queries self.new) log.old log.new }
+            (side_of L.polls asked told queries self.old)
+            (side_of L.polls asked told queries self.new) log.old log.new }
         ensures same { self.new ≡ record self.old {
           wire = record self.old.wire { link = self.new.wire.link; unsent = self.new.wire.unsent };
         } }
@@ -134,8 +134,8 @@ impl<L: Link + Drop> UpstreamWorker<L> {
         ensures failures { L.failures self.new.wire.link
             ≡ L.failures self.old.wire.link + link_faults result }
         ensures goes { (turn asked told queries : _) → Goes turn
-          (side_of L.polls asked told queries self.old)
-          (side_of L.polls asked told queries self.new) log.old log.new }
+            (side_of L.polls asked told queries self.old)
+            (side_of L.polls asked told queries self.new) log.old log.new }
         ensures same { self.new ≡ record self.old {
           wire = record self.old.wire {
             link = self.new.wire.link;
@@ -172,8 +172,8 @@ impl<L: Link + Drop> UpstreamWorker<L> {
         ensures err { OnErr result
             ((result ≡ Err Fault.NoMemory) × (self.new ≡ self.old) × (log.new ≡ log.old)) }
         ensures goes { (turn asked told queries : _) → Goes turn
-          (side_of L.polls asked told queries self.old)
-          (side_of L.polls asked told queries self.new) log.old log.new }
+            (side_of L.polls asked told queries self.old)
+            (side_of L.polls asked told queries self.new) log.old log.new }
         ensures same { self.new ≡ record self.old {
           wire = record self.new.wire { link = self.old.wire.link; start = self.old.wire.start };
           held = self.new.held;
