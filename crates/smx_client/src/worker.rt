@@ -17,7 +17,7 @@ use smx_box::{Receiver, Sender};
 use smx_link::{Link, Wire};
 use smx_pdu::Pdu;
 use smx_routes::MoWindow;
-use smx_session::ClientSession;
+use smx_session::{ClientSession, ClientState};
 use smx_shared::Port;
 use smx_trace::Trace;
 use smx_turns::{Fault, MoItem, Step, TurnEnd};
@@ -160,6 +160,13 @@ impl<'d, L: Link + Drop> ClientWorker<'d, L> {
         ensures { result ≡ self.now.port.client }
     {
         self.port.client()
+    }
+
+    /// Whether its client is bound, and how.
+    pub fn state(&self) -> ClientState
+        ensures { result ≡ self.now.session }
+    {
+        self.session.state()
     }
 
     /// How many octets wait to be written.

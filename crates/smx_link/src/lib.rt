@@ -1,7 +1,6 @@
 //! PDUs over a link: those that a peer's octets spell, and those that are said to it.
 #![tactic(auto)]
 
-mod buffer;
 mod link;
 mod wire;
 

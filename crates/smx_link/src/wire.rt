@@ -5,9 +5,8 @@ ghost use Rattle.smx_frame.specs.Stream.{TakesFirst, HasNone, fault_at};
 ghost use Rattle.smx_link.specs.Links.{fault_count};
 ghost use Rattle.smx_link.specs.Wiring.{Balances};
 
-use crate::buffer::compact;
 use crate::link::{Link, LinkFault, Polled};
-use smx_frame::{FrameFault, Framer};
+use smx_frame::{FrameFault, Framer, compact};
 use smx_pdu::{MAX_PDU, Pdu, encode_within};
 use smx_trace::Trace;
 use std::alloc::{AllocError, Global};
@@ -50,17 +49,18 @@ impl<L: Link + Drop> Model for Wire<L> {
       room = vec_capacity w.waiting - vec_len w.waiting;
     } };
 
-    ghost invariant = { λ w. ((w.sent ≤ vec_len w.waiting) × (w.framer.stream.max ≡ 65536)) × Balances L.given L.taken (record {
-      link = w.link;
-      start = w.start.value;
-      heard = w.heard;
-      said = w.said;
-      rest = w.framer.stream.rest;
-      unsent = drop w.sent w.waiting.items;
-      failed = w.framer.stream.failed;
-      intake = w.framer.room;
-      room = vec_capacity w.waiting - vec_len w.waiting;
-    }) };
+    ghost invariant = { λ w. ((w.sent ≤ vec_len w.waiting) × (w.framer.stream.max ≡ 65536))
+        × Balances L.given L.taken (record {
+          link = w.link;
+          start = w.start.value;
+          heard = w.heard;
+          said = w.said;
+          rest = w.framer.stream.rest;
+          unsent = drop w.sent w.waiting.items;
+          failed = w.framer.stream.failed;
+          intake = w.framer.room;
+          room = vec_capacity w.waiting - vec_len w.waiting;
+        }) };
 }
 
 impl<L: Link + Drop> Wire<L> {
@@ -94,8 +94,12 @@ impl<L: Link + Drop> Wire<L> {
     pub fn offer(&mut self) -> Result<(), LinkFault>
         ensures offered { L.offered self.new.link ≡ L.offered self.old.link ++ self.old.unsent }
         ensures polls { L.polls self.new.link ≡ L.polls self.old.link }
-        ensures failures { L.failures self.new.link ≡ L.failures self.old.link + fault_count result }
-        ensures same { self.new ≡ record self.old { link = self.new.link; unsent = self.new.unsent } }
+        ensures failures { L.failures self.new.link
+            ≡ L.failures self.old.link + fault_count result }
+        ensures same { self.new ≡ record self.old {
+          link = self.new.link;
+          unsent = self.new.unsent;
+        } }
     {
         if self.sent == self.waiting.len() {
             return Ok(());
@@ -105,7 +109,7 @@ impl<L: Link + Drop> Wire<L> {
                 self.sent += count;
                 Ok(())
             }
-            Err(fault) => Err(fault),
+            Err(LinkFault) => Err(LinkFault),
         }
     }
 
@@ -137,7 +141,11 @@ impl<L: Link + Drop> Wire<L> {
         requires room { 65536 ≤ self.old.room }
         ensures said { self.new.said ≡ self.old.said ++ pdu.now ∷ [] }
         ensures unsent { self.new.unsent ≡ self.old.unsent ++ spelling pdu.now }
-        ensures same { self.new ≡ record self.old { said = self.new.said; unsent = self.new.unsent; room = self.new.room } }
+        ensures same { self.new ≡ record self.old {
+          said = self.new.said;
+          unsent = self.new.unsent;
+          room = self.new.room;
+        } }
     {
         encode_within(pdu, &mut self.waiting);
         self.said = self.said.and(pdu);
@@ -157,8 +165,13 @@ impl<L: Link + Drop> Wire<L> {
         requires intake { 4096 ≤ self.old.intake }
         ensures polls { L.polls self.new.link ≡ L.polls self.old.link ++ result ∷ [] }
         ensures offered { L.offered self.new.link ≡ L.offered self.old.link }
-        ensures failures { L.failures self.new.link ≡ L.failures self.old.link + fault_count result }
-        ensures same { self.new ≡ record self.old { link = self.new.link; rest = self.new.rest; intake = self.new.intake } }
+        ensures failures { L.failures self.new.link
+            ≡ L.failures self.old.link + fault_count result }
+        ensures same { self.new ≡ record self.old {
+          link = self.new.link;
+          rest = self.new.rest;
+          intake = self.new.intake;
+        } }
     {
         let mut buffer = [0u8; MOST];
         match self.link.poll_read(&mut buffer) {
@@ -178,10 +191,16 @@ impl<L: Link + Drop> Wire<L> {
             × TakesFirst 65536 self.old.rest p self.new.rest × (self.new.failed ≡ None))) }
         ensures none { result ≡ Ok None → HasNone 65536 self.old.rest × (self.new ≡ self.old) }
         ensures bad { IfErr result (λ e. ((e ≡ FrameFault.NoMemory) × (self.new ≡ self.old))
-            ⊎ ((fault_at 65536 self.old.rest ≡ Some e) × (self.new ≡ record self.old { failed = Some e }))) }
+            ⊎ ((fault_at 65536 self.old.rest ≡ Some e)
+            × (self.new ≡ record self.old { failed = Some e }))) }
         ensures memory { result ≡ Err FrameFault.NoMemory → self.new ≡ self.old }
-        ensures less { IfOk result (λ found. IfSome found (λ p. length self.new.rest < length self.old.rest)) }
-        ensures same { self.new ≡ record self.old { heard = self.new.heard; rest = self.new.rest; failed = self.new.failed } }
+        ensures less { IfOk result
+            (λ found. IfSome found (λ p. length self.new.rest < length self.old.rest)) }
+        ensures same { self.new ≡ record self.old {
+          heard = self.new.heard;
+          rest = self.new.rest;
+          failed = self.new.failed;
+        } }
     {
         match self.framer.next_pdu() {
             Ok(Some(pdu)) => {

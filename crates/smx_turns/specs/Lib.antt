@@ -1,4 +1,3 @@
-pub mod Refusals
 pub mod Runs
 pub mod Steps
 pub mod Puts

@@ -36,7 +36,8 @@ pub trait Directory {
 
     /// Enters a prefix of a client.
     fn add<R: Wait>(&mut self, rt: &R, prefix: &[u8], client: u64) -> Result<(), RouteFault>
-        ensures { queries self.new ≡ queries self.old ++ query.Added prefix.now client result ∷ [] };
+        ensures { queries self.new
+            ≡ queries self.old ++ query.Added prefix.now client result ∷ [] };
 
     /// Takes all prefixes of a client out.
     fn remove<R: Wait>(&mut self, rt: &R, client: u64)

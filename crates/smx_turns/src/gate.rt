@@ -46,7 +46,11 @@ pub trait Gate {
 
     /// Whether the worker goes on at this point of this turn.
     fn at(&mut self, point: Point, turn: u64) -> bool
-        ensures asked { asked self.new ≡ asked self.old ++ record { point = point; turn = turn; answer = result } ∷ [] }
+        ensures asked { asked self.new ≡ asked self.old ++ record {
+          point = point;
+          turn = turn;
+          answer = result;
+        } ∷ [] }
         ensures told { told self.new ≡ told self.old };
 
     /// Something waits for this party now. It is no question.

@@ -7,7 +7,6 @@ mod end;
 mod gate;
 mod mo_item;
 mod put;
-mod refusals;
 mod step;
 
 pub use directory::{Directory, Place, Query};
@@ -15,5 +14,4 @@ pub use end::{Fault, RunEnd, TurnEnd};
 pub use gate::{Gate, Party, Point, Question};
 pub use mo_item::MoItem;
 pub use put::put_at;
-pub use refusals::{refusal, undecoded};
 pub use step::{Deed, Log, Step, ask};

@@ -15,7 +15,8 @@ pub fn put_at<T: Drop, R: Wait>(
 ) -> Result<u64, (T, PutFault)>
     requires { index < length senders.old.items }
     ensures puts { AtIndex index senders.old.items senders.new.items (PutAnswers item result) }
-    ensures contents { (k : ℕ) → contents_in (slice_get senders.new.items k) ≡ contents_in (slice_get senders.old.items k) ++ put_on k index item result }
+    ensures contents { (k : ℕ) → contents_in (slice_get senders.new.items k)
+        ≡ contents_in (slice_get senders.old.items k) ++ put_on k index item result }
     ensures count { length senders.new.items ≡ length senders.old.items }
 {
     senders[index].put(rt, item)

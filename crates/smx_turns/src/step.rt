@@ -92,7 +92,11 @@ pub fn ask<M: Deed + Drop, E: Deed + Drop, G: Gate>(
     turn: u64,
 ) -> bool
     ensures log { log.new ≡ log.old ++ Step.Asked point result ∷ [] }
-    ensures asked { G.asked gate.new ≡ G.asked gate.old ++ record { point = point; turn = turn; answer = result } ∷ [] }
+    ensures asked { G.asked gate.new ≡ G.asked gate.old ++ record {
+      point = point;
+      turn = turn;
+      answer = result;
+    } ∷ [] }
     ensures told { G.told gate.new ≡ G.told gate.old }
 {
     let answer = gate.at(point, turn);

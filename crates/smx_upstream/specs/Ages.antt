@@ -12,6 +12,10 @@ use Rattle.smx_upstream.specs.declared.age.Age.{Age}
 use Rattle.smx_upstream.specs.declared.event.Fate.{Fate}
 use Rattle.smx_upstream.specs.declared.event.Fate.TheVariants as fate
 
+-- before the first turn
+abbrev pub new_age : ℕ → Age
+new_age history = record { turns = 0; history = history; noted = 0 }
+
 -- the count of turns stays at its greatest
 abbrev pub next_turn : Age → Age
 next_turn a = record a { turns = min (a.turns + 1) (2 ^ 64 - 1) }

@@ -11,14 +11,13 @@ use Rattle.smx_box.specs.declared.receiver.Got.{Got}
 use Rattle.smx_box.specs.declared.receiver.Got.TheVariants as got
 use Rattle.smx_shared.specs.declared.fault.TakeFault.{TakeFault}
 use Rattle.smx_shared.specs.declared.fault.TakeFault.TheVariants as takes
-use Rattle.smx_pdu.specs.Answers.{undecoded}
+use Rattle.smx_pdu.specs.Answers.{refusal, undecoded}
 use Rattle.smx_session.specs.declared.up_act.UpAct.{UpAct}
 use Rattle.smx_session.specs.declared.up_act.UpAct.TheVariants as act
 use Rattle.smx_turns.specs.declared.directory.Query.{Query}
 use Rattle.smx_turns.specs.declared.directory.Query.TheVariants.{Found}
 use Rattle.smx_turns.specs.declared.gate.Party.{Party}
 use Rattle.smx_turns.specs.declared.gate.Party.TheVariants.{Client, Slot}
-use Rattle.smx_turns.specs.Refusals.{refusal}
 use Rattle.smx_history.specs.declared.reply.Answered.{Answered}
 use Rattle.smx_history.specs.declared.reply.Answered.TheVariants as answered
 use Rattle.smx_upstream.specs.declared.event.Event.{Event}
@@ -64,10 +63,10 @@ abbrev pub fate_out : Pdu → Fate → List Pdu
 fate_out p fate.Own = []
 fate_out p (fate.Lane lane a) = []
 fate_out p fate.LaneSpent = []
-fate_out p fate.Unread = refusal p.command p.number ESME_RINVCMDLEN ∷ []
-fate_out p (fate.Unrouted found) = refusal p.command p.number ESME_RX_T_APPN ∷ []
+fate_out p fate.Unread = refusal p.command ESME_RINVCMDLEN p.number ∷ []
+fate_out p (fate.Unrouted found) = refusal p.command ESME_RX_T_APPN p.number ∷ []
 fate_out p (fate.Put place n) = []
-fate_out p (fate.Full place) = refusal p.command p.number ESME_RMSGQFUL ∷ []
+fate_out p (fate.Full place) = refusal p.command ESME_RMSGQFUL p.number ∷ []
 fate_out p (fate.BoxSpent place) = []
 
 -- the PDUs that an event sends

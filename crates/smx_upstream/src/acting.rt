@@ -97,11 +97,18 @@ impl<L: Link + Drop> UpstreamWorker<L> {
     // Hands in the moment. True where the session is silent.
     pub(crate) fn look(&mut self, now: u64, log: &mut Log<Mark, Event>) -> bool
         requires room { 65536 ≤ self.old.wire.room }
-        ensures phase { (left : _) → phase_of log.old ≡ Written left → phase_of log.new ≡ when_looked left result }
+        ensures phase { (left : _) → phase_of log.old ≡ Written left
+            → phase_of log.new ≡ when_looked left result }
         ensures left { self.old.wire.unsent ≢ [] → self.new.wire.unsent ≢ [] }
-        ensures goes { (turn asked told queries : _) → Goes turn (side_of L.polls asked told queries self.old) (side_of L.polls asked told queries self.new) log.old log.new }
+        ensures goes { (turn asked told queries : _) → Goes turn
+            (side_of L.polls asked told queries self.old)
+            (side_of L.polls asked told queries self.new) log.old log.new }
         ensures same { self.new ≡ record self.old {
-          wire = record self.old.wire { said = self.new.wire.said; unsent = self.new.wire.unsent; room = self.new.wire.room };
+          wire = record self.old.wire {
+            said = self.new.wire.said;
+            unsent = self.new.wire.unsent;
+            room = self.new.wire.room;
+          };
           stand = record self.old.stand { session = self.new.stand.session };
           events = self.new.events;
         } }
@@ -118,8 +125,13 @@ impl<L: Link + Drop> UpstreamWorker<L> {
     pub(crate) fn open(&mut self, log: &mut Log<Mark, Event>) -> u64
         ensures turn { result ≡ (next_turn self.old.stand.age).turns }
         ensures phase { phase_of log.old ≡ Opening → phase_of log.new ≡ Ready }
-        ensures goes { (turn asked told queries : _) → Goes turn (side_of L.polls asked told queries self.old) (side_of L.polls asked told queries self.new) log.old log.new }
-        ensures same { self.new ≡ record self.old { stand = record self.old.stand { age = next_turn self.old.stand.age }; events = self.new.events } }
+        ensures goes { (turn asked told queries : _) → Goes turn
+            (side_of L.polls asked told queries self.old)
+            (side_of L.polls asked told queries self.new) log.old log.new }
+        ensures same { self.new ≡ record self.old {
+          stand = record self.old.stand { age = next_turn self.old.stand.age };
+          events = self.new.events;
+        } }
     {
         let age = self.age.next_turn();
         self.age = age;
@@ -135,13 +147,21 @@ impl<L: Link + Drop> UpstreamWorker<L> {
         rt: &R,
         log: &mut Log<Mark, Event>,
     ) -> Result<(), Fault>
-        requires lock { slice_get at.now self.old.stand.tap.lane ≡ Some self.old.stand.tap.front.lock }
-        ensures lock { slice_get at.now self.new.stand.tap.lane ≡ Some self.new.stand.tap.front.lock }
-        ensures phase { (left : _) → phase_of log.old ≡ Watched left → phase_of log.new ≡ when_kept left }
+        requires lock { slice_get at.now self.old.stand.tap.lane
+            ≡ Some self.old.stand.tap.front.lock }
+        ensures lock { slice_get at.now self.new.stand.tap.lane
+            ≡ Some self.new.stand.tap.front.lock }
+        ensures phase { (left : _) → phase_of log.old ≡ Watched left
+            → phase_of log.new ≡ when_kept left }
         ensures err { OnErr result (result ≡ Err Fault.Spent) }
-        ensures goes { (turn asked told queries : _) → Goes turn (side_of L.polls asked told queries self.old) (side_of L.polls asked told queries self.new) log.old log.new }
+        ensures goes { (turn asked told queries : _) → Goes turn
+            (side_of L.polls asked told queries self.old)
+            (side_of L.polls asked told queries self.new) log.old log.new }
         ensures same { self.new ≡ record self.old {
-          stand = record self.old.stand { tap = self.new.stand.tap; age = record self.old.stand.age { noted = self.new.stand.age.noted } };
+          stand = record self.old.stand {
+            tap = self.new.stand.tap;
+            age = record self.old.stand.age { noted = self.new.stand.age.noted };
+          };
           events = self.new.events;
         } }
     {
@@ -165,9 +185,15 @@ impl<L: Link + Drop> UpstreamWorker<L> {
         requires room { 65536 ≤ self.old.wire.room }
         ensures phase { phase_of log.old ≡ Clear → phase_of log.new ≡ Sated }
         ensures err { OnErr result (result ≡ Err Fault.Spent) }
-        ensures goes { (turn asked told queries : _) → Goes turn (side_of L.polls asked told queries self.old) (side_of L.polls asked told queries self.new) log.old log.new }
+        ensures goes { (turn asked told queries : _) → Goes turn
+            (side_of L.polls asked told queries self.old)
+            (side_of L.polls asked told queries self.new) log.old log.new }
         ensures same { self.new ≡ record self.old {
-          wire = record self.old.wire { said = self.new.wire.said; unsent = self.new.wire.unsent; room = self.new.wire.room };
+          wire = record self.old.wire {
+            said = self.new.wire.said;
+            unsent = self.new.wire.unsent;
+            room = self.new.wire.room;
+          };
           stand = record self.old.stand { answers = self.new.stand.answers };
           events = self.new.events;
         } }
@@ -189,14 +215,25 @@ impl<L: Link + Drop> UpstreamWorker<L> {
         log: &mut Log<Mark, Event>,
     ) -> Result<(), Fault>
         requires room { 65536 ≤ self.old.wire.room }
-        requires lock { slice_get at.now self.old.stand.tap.lane ≡ Some self.old.stand.tap.front.lock }
-        ensures lock { slice_get at.now self.new.stand.tap.lane ≡ Some self.new.stand.tap.front.lock }
+        requires lock { slice_get at.now self.old.stand.tap.lane
+            ≡ Some self.old.stand.tap.front.lock }
+        ensures lock { slice_get at.now self.new.stand.tap.lane
+            ≡ Some self.new.stand.tap.front.lock }
         ensures phase { phase_of log.old ≡ MayTake → phase_of log.new ≡ HasTried }
         ensures err { OnErr result (result ≡ Err Fault.Spent) }
-        ensures goes { (turn asked told queries : _) → Goes turn (side_of L.polls asked told queries self.old) (side_of L.polls asked told queries self.new) log.old log.new }
+        ensures goes { (turn asked told queries : _) → Goes turn
+            (side_of L.polls asked told queries self.old)
+            (side_of L.polls asked told queries self.new) log.old log.new }
         ensures same { self.new ≡ record self.old {
-          wire = record self.old.wire { said = self.new.wire.said; unsent = self.new.wire.unsent; room = self.new.wire.room };
-          stand = record self.old.stand { tap = self.new.stand.tap; age = record self.old.stand.age { noted = self.new.stand.age.noted } };
+          wire = record self.old.wire {
+            said = self.new.wire.said;
+            unsent = self.new.wire.unsent;
+            room = self.new.wire.room;
+          };
+          stand = record self.old.stand {
+            tap = self.new.stand.tap;
+            age = record self.old.stand.age { noted = self.new.stand.age.noted };
+          };
           events = self.new.events;
         } }
     {
@@ -229,17 +266,29 @@ impl<L: Link + Drop> UpstreamWorker<L> {
         log: &mut Log<Mark, Event>,
     ) -> Result<bool, Fault>
         requires room { 65536 ≤ self.old.wire.room }
-        requires lock { slice_get at.now self.old.stand.tap.lane ≡ Some self.old.stand.tap.front.lock }
+        requires lock { slice_get at.now self.old.stand.tap.lane
+            ≡ Some self.old.stand.tap.front.lock }
         requires some { IsSome self.old.held }
-        ensures lock { slice_get at.now self.new.stand.tap.lane ≡ Some self.new.stand.tap.front.lock }
-        ensures phase { (ended : _) → phase_of log.old ≡ Deciding ended → LeadsTo result (when_decided ended) (phase_of log.new) }
+        ensures lock { slice_get at.now self.new.stand.tap.lane
+            ≡ Some self.new.stand.tap.front.lock }
+        ensures phase { (ended : _) → phase_of log.old ≡ Deciding ended
+            → LeadsTo result (when_decided ended) (phase_of log.new) }
         ensures held { OnOk result (self.new.held ≡ None) }
         ensures err { OnErr result (result ≡ Err Fault.Spent) }
-        ensures goes { (turn : _) → Goes turn (side_of L.polls (G.asked gate.old) (G.told gate.old) (D.queries directory.old) self.old)
-            (side_of L.polls (G.asked gate.new) (G.told gate.new) (D.queries directory.new) self.new) log.old log.new }
+        ensures goes { (turn : _) → Goes turn
+            (side_of L.polls (G.asked gate.old) (G.told gate.old) (D.queries directory.old) self.old)
+            (side_of L.polls (G.asked gate.new) (G.told gate.new) (D.queries directory.new) self.new)
+            log.old log.new }
         ensures same { self.new ≡ record self.old {
-          wire = record self.old.wire { said = self.new.wire.said; unsent = self.new.wire.unsent; room = self.new.wire.room };
-          stand = record self.new.stand { answers = self.old.stand.answers; age = record self.old.stand.age { noted = self.new.stand.age.noted } };
+          wire = record self.old.wire {
+            said = self.new.wire.said;
+            unsent = self.new.wire.unsent;
+            room = self.new.wire.room;
+          };
+          stand = record self.new.stand {
+            answers = self.old.stand.answers;
+            age = record self.old.stand.age { noted = self.new.stand.age.noted };
+          };
           held = self.new.held;
           events = self.new.events;
         } }

@@ -1,6 +1,6 @@
 //! How many turns a worker made, and how much its lane has noted since its last shift.
 ghost use Rattle.std.specs.Prelude.{◌≡◌};
-ghost use Rattle.smx_upstream.specs.Ages.{next_turn, noted_more, after_shift, shift_due};
+ghost use Rattle.smx_upstream.specs.Ages.{new_age, next_turn, noted_more, after_shift, shift_due};
 
 /// So often a lane is turned over in any case.
 const TURNS: u64 = 1_000;
@@ -17,6 +17,16 @@ pub(crate) struct Age {
 }
 
 impl Age {
+    pub(crate) fn new(history: usize) -> Age
+        ensures { result ≡ new_age history }
+    {
+        Age {
+            turns: 0,
+            history,
+            noted: 0,
+        }
+    }
+
     // One turn more.
     pub(crate) fn next_turn(self) -> Age
         ensures { result ≡ next_turn self }

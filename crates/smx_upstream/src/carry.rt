@@ -1,9 +1,9 @@
 //! What becomes of a PDU that the session has decided.
 ghost use Rattle.std.specs.Prelude.{◌≡◌, ◌++◌, ◌∷◌, ◌<◌, [], slice_get, length, Some, None};
 ghost use Rattle.smx_session.specs.declared.up_act.UpAct.TheVariants as act;
+ghost use Rattle.smx_pdu.specs.Answers.{refusal};
 ghost use Rattle.smx_pdu.specs.Reading.{destination_at};
 ghost use Rattle.smx_turns.specs.declared.directory.Query.TheVariants.{Found};
-ghost use Rattle.smx_turns.specs.Refusals.{refusal};
 ghost use Rattle.smx_upstream.specs.Events.{those, act_out, fate_out, fate_finds, fate_tells, kept_by, read_of};
 ghost use Rattle.smx_upstream.specs.Ages.{answer_notes, fate_notes};
 ghost use Rattle.smx_upstream.specs.Standing.{Becomes, Reads};
@@ -15,7 +15,7 @@ use smx_pdu::status::{ESME_RINVCMDLEN, ESME_RMSGQFUL, ESME_RX_T_APPN};
 use smx_pdu::{Pdu, read_destination};
 use smx_session::UpAct;
 use smx_shared::{Exchange, Tap};
-use smx_turns::{Directory, Gate, MoItem, Party, Place, put_at, refusal};
+use smx_turns::{Directory, Gate, MoItem, Party, Place, put_at};
 use std::alloc::Global;
 use std::snapshot::Snapshot;
 use std::sync::Wait;
@@ -99,14 +99,14 @@ pub(crate) fn to_lane<R: Wait, G: Gate>(
 
 // A message whose client has no sender here, or no place for it, is answered.
 fn refused(alloc: Global, pdu: &Pdu, fate: Fate, status: u32) -> Outcome
-    requires out { fate_out pdu.now fate ≡ refusal pdu.now.command pdu.now.number status ∷ [] }
+    requires out { fate_out pdu.now fate ≡ refusal pdu.now.command status pdu.now.number ∷ [] }
     requires none { kept_by pdu.now fate ≡ None }
     ensures fate { result.fate ≡ fate }
     ensures answer { fate_out pdu.now result.fate ≡ those result.answer }
     ensures back { result.back ≡ kept_by pdu.now result.fate }
     ensures notes { result.notes ≡ 0 }
 {
-    let answer = refusal(alloc, pdu.command, pdu.number, status);
+    let answer = Pdu::refusal(alloc, pdu.command, status, pdu.number);
     settled(fate, Some(answer))
 }
 
@@ -125,7 +125,8 @@ pub(crate) fn to_box<R: Wait, G: Gate>(
     ensures becomes { Becomes pdu act.Mo result.fate tap.now senders.old.items tap.now senders.new.items }
     ensures answer { fate_out pdu result.fate ≡ those result.answer }
     ensures back { result.back ≡ kept_by pdu result.fate }
-    ensures finds { fate_finds pdu result.fate ≡ Found (read_of (destination_at pdu.body)) (Some place) ∷ [] }
+    ensures finds { fate_finds pdu result.fate
+        ≡ Found (read_of (destination_at pdu.body)) (Some place) ∷ [] }
     ensures asked { G.asked gate.new ≡ G.asked gate.old }
     ensures told { G.told gate.new ≡ G.told gate.old ++ fate_tells result.fate }
     ensures notes { result.notes ≡ fate_notes result.fate }
@@ -164,7 +165,8 @@ pub(crate) fn route<R: Wait, G: Gate, D: Directory>(
     ensures becomes { Becomes pdu act.Mo result.fate tap.now senders.old.items tap.now senders.new.items }
     ensures answer { fate_out pdu result.fate ≡ those result.answer }
     ensures back { result.back ≡ kept_by pdu result.fate }
-    ensures finds { D.queries directory.new ≡ D.queries directory.old ++ fate_finds pdu result.fate }
+    ensures finds { D.queries directory.new
+        ≡ D.queries directory.old ++ fate_finds pdu result.fate }
     ensures asked { G.asked gate.new ≡ G.asked gate.old }
     ensures told { G.told gate.new ≡ G.told gate.old ++ fate_tells result.fate }
     ensures notes { result.notes ≡ fate_notes result.fate }
@@ -199,7 +201,8 @@ pub(crate) fn carry<R: Wait, G: Gate, D: Directory>(
     ensures becomes { Becomes pdu act result.fate tap.old senders.old.items tap.new senders.new.items }
     ensures answer { act_out act ++ fate_out pdu result.fate ≡ those result.answer }
     ensures back { result.back ≡ kept_by pdu result.fate }
-    ensures finds { D.queries directory.new ≡ D.queries directory.old ++ fate_finds pdu result.fate }
+    ensures finds { D.queries directory.new
+        ≡ D.queries directory.old ++ fate_finds pdu result.fate }
     ensures asked { G.asked gate.new ≡ G.asked gate.old }
     ensures told { G.told gate.new ≡ G.told gate.old ++ fate_tells result.fate }
     ensures notes { result.notes ≡ fate_notes result.fate }

@@ -13,8 +13,11 @@ use smx_link::Link;
 /// waits, and a rest; those that it took, followed by those that wait, are the spellings of the
 /// PDUs that the events send. Each event did what its call did, one after another.
 pub fn law<L: Link + Drop>(worker: &UpstreamWorker<L>)
-    ensures given { L.given worker.now.wire.link ≡ L.given worker.now.wire.start ++ (spellings (ins worker.now.events ++ those worker.now.held) ++ worker.now.wire.rest) }
-    ensures taken { L.taken worker.now.wire.link ++ worker.now.wire.unsent ≡ L.taken worker.now.wire.start ++ spellings (outs worker.now.events) }
+    ensures given { L.given worker.now.wire.link
+        ≡ L.given worker.now.wire.start
+        ++ (spellings (ins worker.now.events ++ those worker.now.held) ++ worker.now.wire.rest) }
+    ensures taken { L.taken worker.now.wire.link ++ worker.now.wire.unsent
+        ≡ L.taken worker.now.wire.start ++ spellings (outs worker.now.events) }
     ensures runs { ∥ Runs Does worker.now.first worker.now.events worker.now.stand ∥₁ }
 
     // The tap's notes and each sender's items, in order.

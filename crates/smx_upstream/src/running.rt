@@ -1,5 +1,5 @@
 //! Turns of the upstream worker, one after another, and its end.
-ghost use Rattle.std.specs.Prelude.{◌≡◌, ◌+◌, ◌++◌, true, slice_get, Some, None, Ok, Err, OnOk};
+ghost use Rattle.std.specs.Prelude.{◌≡◌, ◌≢◌, ◌+◌, ◌++◌, true, slice_get, Some, None, Ok, Err, OnOk};
 ghost use mathlib.Core.List.{IsPrefix};
 ghost use Rattle.smx_frame.specs.Stream.{HasNone};
 ghost use Rattle.smx_session.specs.Moments.{is_bound};
@@ -40,18 +40,26 @@ impl<L: Link + Drop> UpstreamWorker<L> {
         directory: &mut D,
         now: u64,
     ) -> Result<TurnEnd, Fault>
-        requires lock { slice_get at.now self.old.stand.tap.lane ≡ Some self.old.stand.tap.front.lock }
+        requires lock { slice_get at.now self.old.stand.tap.lane
+            ≡ Some self.old.stand.tap.front.lock }
         requires none { self.old.held ≡ None }
-        ensures lock { slice_get at.now self.new.stand.tap.lane ≡ Some self.new.stand.tap.front.lock }
+        ensures lock { slice_get at.now self.new.stand.tap.lane
+            ≡ Some self.new.stand.tap.front.lock }
 
         // The turn's steps, and nothing else, lead from what was to what is, in the table's order.
-        ensures turned { Turns self.new.stand.age.turns (side_of L.polls (G.asked gate.old) (G.told gate.old) (D.queries directory.old) self.old)
-            (side_of L.polls (G.asked gate.new) (G.told gate.new) (D.queries directory.new) self.new) self.new.steps }
-        ensures order { IsTurn (is_bound self.new.stand.session.state) (are_all_quiet self.new.steps) result (phase_of self.new.steps) }
+        ensures turned { Turns self.new.stand.age.turns
+            (side_of L.polls (G.asked gate.old) (G.told gate.old) (D.queries directory.old) self.old)
+            (side_of L.polls (G.asked gate.new) (G.told gate.new) (D.queries directory.new) self.new)
+            self.new.steps }
+        ensures order { IsTurn (is_bound self.new.stand.session.state)
+            (are_all_quiet self.new.steps) result (phase_of self.new.steps) }
         ensures waits { OnOk result (Waits (phase_of self.new.steps) self.new.wire.unsent) }
-        ensures whole { OnOk result (is_settled (phase_of self.new.steps) ≡ true → HasNone 65536 self.new.wire.rest) }
-        ensures offered { IsPrefix (L.offered self.old.wire.link ++ self.old.wire.unsent) (L.offered self.new.wire.link) }
-        ensures failures { L.failures self.new.wire.link ≡ L.failures self.old.wire.link + link_faults result }
+        ensures whole { OnOk result
+            (is_settled (phase_of self.new.steps) ≡ true → HasNone 65536 self.new.wire.rest) }
+        ensures offered { IsPrefix (L.offered self.old.wire.link ++ self.old.wire.unsent)
+            (L.offered self.new.wire.link) }
+        ensures failures { L.failures self.new.wire.link
+            ≡ L.failures self.old.wire.link + link_faults result }
         ensures held { OnOk result (self.new.held ≡ None) }
         ensures count { self.new.stand.age.turns ≡ (next_turn self.old.stand.age).turns }
         ensures first { self.new.first ≡ self.old.first }
@@ -95,9 +103,13 @@ pub fn run_upstream<L: Link + Drop, R: Wait, G: Gate, D: Directory, C: FnMut() -
     mut clock: C,
     turns: u64,
 ) -> RunEnd
-    requires lock { slice_get at.now worker.old.stand.tap.lane ≡ Some worker.old.stand.tap.front.lock }
+    requires lock { slice_get at.now worker.old.stand.tap.lane
+        ≡ Some worker.old.stand.tap.front.lock }
     requires none { worker.old.held ≡ None }
     requires clock { C.IsAlwaysCallable clock }
+    ensures lock { slice_get at.now worker.new.stand.tap.lane
+        ≡ Some worker.new.stand.tap.front.lock }
+    ensures held { ((fault : Fault) → result ≢ RunEnd.Fault fault) → worker.new.held ≡ None }
     ensures first { worker.new.first ≡ worker.old.first }
     ensures left { result ≡ RunEnd.Left → IsOver (phase_of worker.new.steps) }
     ensures ran { Ran Does worker.old.stand worker.old.events worker.new.stand worker.new.events }

@@ -76,19 +76,28 @@ impl<L: Link + Drop> UpstreamWorker<L> {
         now: u64,
         log: &mut Log<Mark, Event>,
     ) -> Result<Next, Fault>
-        requires lock { slice_get at.now self.old.stand.tap.lane ≡ Some self.old.stand.tap.front.lock }
+        requires lock { slice_get at.now self.old.stand.tap.lane
+            ≡ Some self.old.stand.tap.front.lock }
         requires none { self.old.held ≡ None }
         requires goes_on { self.old.ending ≡ false }
-        ensures lock { slice_get at.now self.new.stand.tap.lane ≡ Some self.new.stand.tap.front.lock }
-        ensures phase { (ended : _) → phase_of log.old ≡ Deciding ended → LeadsTo result (when_next ended) (phase_of log.new) }
+        ensures lock { slice_get at.now self.new.stand.tap.lane
+            ≡ Some self.new.stand.tap.front.lock }
+        ensures phase { (ended : _) → phase_of log.old ≡ Deciding ended
+            → LeadsTo result (when_next ended) (phase_of log.new) }
         ensures held { OnOk result (self.new.held ≡ None) }
-        ensures more { result ≡ Ok Next.More → (length self.new.wire.rest < length self.old.wire.rest) × (self.new.ending ≡ false) }
-        ensures part { result ≡ Ok Next.Part → HasNone 65536 self.new.wire.rest × (self.new.ending ≡ false) }
+        ensures more { result ≡ Ok Next.More
+            → (length self.new.wire.rest < length self.old.wire.rest) × (self.new.ending ≡ false) }
+        ensures part { result ≡ Ok Next.Part
+            → HasNone 65536 self.new.wire.rest × (self.new.ending ≡ false) }
         ensures over { result ≡ Ok Next.Over → self.new.ending ≡ true }
         ensures faults { link_faults result ≡ 0 }
-        ensures goes { (turn : _) → Goes turn (side_of L.polls (G.asked gate.old) (G.told gate.old) (D.queries directory.old) self.old)
-            (side_of L.polls (G.asked gate.new) (G.told gate.new) (D.queries directory.new) self.new) log.old log.new }
-        ensures kept { (self.new.wire.link ≡ self.old.wire.link) × (self.new.stand.age.turns ≡ self.old.stand.age.turns) × (self.new.first ≡ self.old.first) }
+        ensures goes { (turn : _) → Goes turn
+            (side_of L.polls (G.asked gate.old) (G.told gate.old) (D.queries directory.old) self.old)
+            (side_of L.polls (G.asked gate.new) (G.told gate.new) (D.queries directory.new) self.new)
+            log.old log.new }
+        ensures kept { (self.new.wire.link ≡ self.old.wire.link)
+            × (self.new.stand.age.turns ≡ self.old.stand.age.turns)
+            × (self.new.first ≡ self.old.first) }
     {
         self.make_room()?;
         match self.fetch(log)? {
@@ -115,19 +124,28 @@ impl<L: Link + Drop> UpstreamWorker<L> {
         now: u64,
         log: &mut Log<Mark, Event>,
     ) -> Result<Progress, Fault>
-        requires lock { slice_get at.now self.old.stand.tap.lane ≡ Some self.old.stand.tap.front.lock }
+        requires lock { slice_get at.now self.old.stand.tap.lane
+            ≡ Some self.old.stand.tap.front.lock }
         requires none { self.old.held ≡ None }
         requires goes_on { self.old.ending ≡ false }
-        ensures lock { slice_get at.now self.new.stand.tap.lane ≡ Some self.new.stand.tap.front.lock }
-        ensures phase { phase_of log.old ≡ Deciding ended → LeadsTo result (when_progress ended) (phase_of log.new) }
+        ensures lock { slice_get at.now self.new.stand.tap.lane
+            ≡ Some self.new.stand.tap.front.lock }
+        ensures phase { phase_of log.old ≡ Deciding ended
+            → LeadsTo result (when_progress ended) (phase_of log.new) }
         ensures held { OnOk result (self.new.held ≡ None) }
-        ensures part { result ≡ Ok Progress.Part → HasNone 65536 self.new.wire.rest × (self.new.ending ≡ false) }
-        ensures brimming { result ≡ Ok Progress.Brimming → (ended ≡ false) × (65536 ≤ length self.new.wire.unsent) }
+        ensures part { result ≡ Ok Progress.Part
+            → HasNone 65536 self.new.wire.rest × (self.new.ending ≡ false) }
+        ensures brimming { result ≡ Ok Progress.Brimming
+            → (ended ≡ false) × (65536 ≤ length self.new.wire.unsent) }
         ensures over { result ≡ Ok Progress.Over → self.new.ending ≡ true }
         ensures faults { link_faults result ≡ 0 }
-        ensures goes { (turn : _) → Goes turn (side_of L.polls (G.asked gate.old) (G.told gate.old) (D.queries directory.old) self.old)
-            (side_of L.polls (G.asked gate.new) (G.told gate.new) (D.queries directory.new) self.new) log.old log.new }
-        ensures kept { (self.new.wire.link ≡ self.old.wire.link) × (self.new.stand.age.turns ≡ self.old.stand.age.turns) × (self.new.first ≡ self.old.first) }
+        ensures goes { (turn : _) → Goes turn
+            (side_of L.polls (G.asked gate.old) (G.told gate.old) (D.queries directory.old) self.old)
+            (side_of L.polls (G.asked gate.new) (G.told gate.new) (D.queries directory.new) self.new)
+            log.old log.new }
+        ensures kept { (self.new.wire.link ≡ self.old.wire.link)
+            × (self.new.stand.age.turns ≡ self.old.stand.age.turns)
+            × (self.new.first ≡ self.old.first) }
     {
         loop {
             if !ended && self.wire.unsent() >= MAX_PDU {
@@ -142,8 +160,8 @@ impl<L: Link + Drop> UpstreamWorker<L> {
         }
     }
 
-    // Writes what waits, hands in the moment, turns the lane over where it is time, and gets at most one answer. `None` where the turn
-    // goes on.
+    // Writes what waits, hands in the moment, turns the lane over where it is time, and gets at most
+    // one answer. `None` where the turn goes on.
     pub(crate) fn open_part<R: Wait>(
         &mut self,
         at: &Exchange,
@@ -151,15 +169,24 @@ impl<L: Link + Drop> UpstreamWorker<L> {
         now: u64,
         log: &mut Log<Mark, Event>,
     ) -> Result<Option<TurnEnd>, Fault>
-        requires lock { slice_get at.now self.old.stand.tap.lane ≡ Some self.old.stand.tap.front.lock }
-        ensures lock { slice_get at.now self.new.stand.tap.lane ≡ Some self.new.stand.tap.front.lock }
+        requires lock { slice_get at.now self.old.stand.tap.lane
+            ≡ Some self.old.stand.tap.front.lock }
+        ensures lock { slice_get at.now self.new.stand.tap.lane
+            ≡ Some self.new.stand.tap.front.lock }
         ensures phase { phase_of log.old ≡ Ready → IsPart Sated result (phase_of log.new) }
-        ensures waits { phase_of log.old ≡ Ready → OnOk result (Waits (phase_of log.new) self.new.wire.unsent) }
+        ensures waits { phase_of log.old ≡ Ready
+            → OnOk result (Waits (phase_of log.new) self.new.wire.unsent) }
         ensures goes_on { result ≡ Ok None → self.new.ending ≡ false }
-        ensures offered { IsPrefix (L.offered self.old.wire.link ++ self.old.wire.unsent) (L.offered self.new.wire.link) }
-        ensures failures { L.failures self.new.wire.link ≡ L.failures self.old.wire.link + link_faults result }
-        ensures goes { (turn asked told queries : _) → Goes turn (side_of L.polls asked told queries self.old) (side_of L.polls asked told queries self.new) log.old log.new }
-        ensures kept { (self.new.held ≡ self.old.held) × (self.new.stand.age.turns ≡ self.old.stand.age.turns) × (self.new.first ≡ self.old.first) }
+        ensures offered { IsPrefix (L.offered self.old.wire.link ++ self.old.wire.unsent)
+            (L.offered self.new.wire.link) }
+        ensures failures { L.failures self.new.wire.link
+            ≡ L.failures self.old.wire.link + link_faults result }
+        ensures goes { (turn asked told queries : _) → Goes turn
+            (side_of L.polls asked told queries self.old)
+            (side_of L.polls asked told queries self.new) log.old log.new }
+        ensures kept { (self.new.held ≡ self.old.held)
+            × (self.new.stand.age.turns ≡ self.old.stand.age.turns)
+            × (self.new.first ≡ self.old.first) }
     {
         let left = self.offer(log)?;
         if self.ending {
@@ -188,20 +215,27 @@ impl<L: Link + Drop> UpstreamWorker<L> {
         now: u64,
         log: &mut Log<Mark, Event>,
     ) -> Result<Option<TurnEnd>, Fault>
-        requires lock { slice_get at.now self.old.stand.tap.lane ≡ Some self.old.stand.tap.front.lock }
+        requires lock { slice_get at.now self.old.stand.tap.lane
+            ≡ Some self.old.stand.tap.front.lock }
         requires none { self.old.held ≡ None }
         requires goes_on { self.old.ending ≡ false }
         requires intake { 4096 ≤ self.old.wire.intake }
-        ensures lock { slice_get at.now self.new.stand.tap.lane ≡ Some self.new.stand.tap.front.lock }
+        ensures lock { slice_get at.now self.new.stand.tap.lane
+            ≡ Some self.new.stand.tap.front.lock }
         ensures phase { phase_of log.old ≡ MayRead → IsPart Settled result (phase_of log.new) }
-        ensures waits { phase_of log.old ≡ MayRead → OnOk result (Waits (phase_of log.new) self.new.wire.unsent) }
+        ensures waits { phase_of log.old ≡ MayRead
+            → OnOk result (Waits (phase_of log.new) self.new.wire.unsent) }
         ensures whole { result ≡ Ok None → HasNone 65536 self.new.wire.rest }
         ensures held { OnOk result (self.new.held ≡ None) }
         ensures offers { IsPrefix (L.offered self.old.wire.link) (L.offered self.new.wire.link) }
-        ensures failures { L.failures self.new.wire.link ≡ L.failures self.old.wire.link + link_faults result }
-        ensures goes { (turn : _) → Goes turn (side_of L.polls (G.asked gate.old) (G.told gate.old) (D.queries directory.old) self.old)
-            (side_of L.polls (G.asked gate.new) (G.told gate.new) (D.queries directory.new) self.new) log.old log.new }
-        ensures kept { (self.new.stand.age.turns ≡ self.old.stand.age.turns) × (self.new.first ≡ self.old.first) }
+        ensures failures { L.failures self.new.wire.link
+            ≡ L.failures self.old.wire.link + link_faults result }
+        ensures goes { (turn : _) → Goes turn
+            (side_of L.polls (G.asked gate.old) (G.told gate.old) (D.queries directory.old) self.old)
+            (side_of L.polls (G.asked gate.new) (G.told gate.new) (D.queries directory.new) self.new)
+            log.old log.new }
+        ensures kept { (self.new.stand.age.turns ≡ self.old.stand.age.turns)
+            × (self.new.first ≡ self.old.first) }
     {
         let ended = self.read(log)?;
         match self.decide_all(ended, at, rt, gate, directory, now, log)? {
@@ -229,19 +263,26 @@ impl<L: Link + Drop> UpstreamWorker<L> {
         turn: u64,
         log: &mut Log<Mark, Event>,
     ) -> Result<Option<TurnEnd>, Fault>
-        requires lock { slice_get at.now self.old.stand.tap.lane ≡ Some self.old.stand.tap.front.lock }
+        requires lock { slice_get at.now self.old.stand.tap.lane
+            ≡ Some self.old.stand.tap.front.lock }
         requires none { self.old.held ≡ None }
         requires goes_on { self.old.ending ≡ false }
-        ensures lock { slice_get at.now self.new.stand.tap.lane ≡ Some self.new.stand.tap.front.lock }
+        ensures lock { slice_get at.now self.new.stand.tap.lane
+            ≡ Some self.new.stand.tap.front.lock }
         ensures phase { phase_of log.old ≡ Sated → IsPart Settled result (phase_of log.new) }
-        ensures waits { phase_of log.old ≡ Sated → OnOk result (Waits (phase_of log.new) self.new.wire.unsent) }
+        ensures waits { phase_of log.old ≡ Sated
+            → OnOk result (Waits (phase_of log.new) self.new.wire.unsent) }
         ensures whole { result ≡ Ok None → HasNone 65536 self.new.wire.rest }
         ensures held { OnOk result (self.new.held ≡ None) }
         ensures offers { IsPrefix (L.offered self.old.wire.link) (L.offered self.new.wire.link) }
-        ensures failures { L.failures self.new.wire.link ≡ L.failures self.old.wire.link + link_faults result }
-        ensures goes { Goes turn (side_of L.polls (G.asked gate.old) (G.told gate.old) (D.queries directory.old) self.old)
-            (side_of L.polls (G.asked gate.new) (G.told gate.new) (D.queries directory.new) self.new) log.old log.new }
-        ensures kept { (self.new.stand.age.turns ≡ self.old.stand.age.turns) × (self.new.first ≡ self.old.first) }
+        ensures failures { L.failures self.new.wire.link
+            ≡ L.failures self.old.wire.link + link_faults result }
+        ensures goes { Goes turn
+            (side_of L.polls (G.asked gate.old) (G.told gate.old) (D.queries directory.old) self.old)
+            (side_of L.polls (G.asked gate.new) (G.told gate.new) (D.queries directory.new) self.new)
+            log.old log.new }
+        ensures kept { (self.new.stand.age.turns ≡ self.old.stand.age.turns)
+            × (self.new.first ≡ self.old.first) }
     {
         self.make_ready()?;
         if self.wire.unsent() >= MAX_PDU {
@@ -264,14 +305,22 @@ impl<L: Link + Drop> UpstreamWorker<L> {
         turn: u64,
         log: &mut Log<Mark, Event>,
     ) -> Result<TurnEnd, Fault>
-        requires lock { slice_get at.now self.old.stand.tap.lane ≡ Some self.old.stand.tap.front.lock }
-        ensures lock { slice_get at.now self.new.stand.tap.lane ≡ Some self.new.stand.tap.front.lock }
-        ensures phase { phase_of log.old ≡ Settled → IsTurn (is_bound self.new.stand.session.state) (are_all_quiet log.new) result (phase_of log.new) }
-        ensures waits { phase_of log.old ≡ Settled → OnOk result (Waits (phase_of log.new) self.new.wire.unsent) }
+        requires lock { slice_get at.now self.old.stand.tap.lane
+            ≡ Some self.old.stand.tap.front.lock }
+        ensures lock { slice_get at.now self.new.stand.tap.lane
+            ≡ Some self.new.stand.tap.front.lock }
+        ensures phase { phase_of log.old ≡ Settled → IsTurn (is_bound self.new.stand.session.state)
+            (are_all_quiet log.new) result (phase_of log.new) }
+        ensures waits { phase_of log.old ≡ Settled
+            → OnOk result (Waits (phase_of log.new) self.new.wire.unsent) }
         ensures faults { link_faults result ≡ 0 }
-        ensures goes { (queries : _) → Goes turn (side_of L.polls (G.asked gate.old) (G.told gate.old) queries self.old)
+        ensures goes { (queries : _) → Goes turn
+            (side_of L.polls (G.asked gate.old) (G.told gate.old) queries self.old)
             (side_of L.polls (G.asked gate.new) (G.told gate.new) queries self.new) log.old log.new }
-        ensures kept { (self.new.held ≡ self.old.held) × (self.new.wire.link ≡ self.old.wire.link) × (self.new.wire.rest ≡ self.old.wire.rest) × (self.new.stand.age.turns ≡ self.old.stand.age.turns) × (self.new.first ≡ self.old.first) }
+        ensures kept { (self.new.held ≡ self.old.held) × (self.new.wire.link ≡ self.old.wire.link)
+            × (self.new.wire.rest ≡ self.old.wire.rest)
+            × (self.new.stand.age.turns ≡ self.old.stand.age.turns)
+            × (self.new.first ≡ self.old.first) }
     {
         self.make_room()?;
         let may = ask(log, gate, Point::Taking, turn);
@@ -296,18 +345,26 @@ impl<L: Link + Drop> UpstreamWorker<L> {
         now: u64,
         log: &mut Log<Mark, Event>,
     ) -> Result<TurnEnd, Fault>
-        requires lock { slice_get at.now self.old.stand.tap.lane ≡ Some self.old.stand.tap.front.lock }
+        requires lock { slice_get at.now self.old.stand.tap.lane
+            ≡ Some self.old.stand.tap.front.lock }
         requires none { self.old.held ≡ None }
         requires opening { phase_of log.old ≡ Opening }
-        ensures lock { slice_get at.now self.new.stand.tap.lane ≡ Some self.new.stand.tap.front.lock }
-        ensures order { IsTurn (is_bound self.new.stand.session.state) (are_all_quiet log.new) result (phase_of log.new) }
+        ensures lock { slice_get at.now self.new.stand.tap.lane
+            ≡ Some self.new.stand.tap.front.lock }
+        ensures order { IsTurn (is_bound self.new.stand.session.state)
+            (are_all_quiet log.new) result (phase_of log.new) }
         ensures waits { OnOk result (Waits (phase_of log.new) self.new.wire.unsent) }
-        ensures whole { OnOk result (is_settled (phase_of log.new) ≡ true → HasNone 65536 self.new.wire.rest) }
+        ensures whole { OnOk result
+            (is_settled (phase_of log.new) ≡ true → HasNone 65536 self.new.wire.rest) }
         ensures held { OnOk result (self.new.held ≡ None) }
-        ensures offered { IsPrefix (L.offered self.old.wire.link ++ self.old.wire.unsent) (L.offered self.new.wire.link) }
-        ensures failures { L.failures self.new.wire.link ≡ L.failures self.old.wire.link + link_faults result }
-        ensures goes { Goes self.new.stand.age.turns (side_of L.polls (G.asked gate.old) (G.told gate.old) (D.queries directory.old) self.old)
-            (side_of L.polls (G.asked gate.new) (G.told gate.new) (D.queries directory.new) self.new) log.old log.new }
+        ensures offered { IsPrefix (L.offered self.old.wire.link ++ self.old.wire.unsent)
+            (L.offered self.new.wire.link) }
+        ensures failures { L.failures self.new.wire.link
+            ≡ L.failures self.old.wire.link + link_faults result }
+        ensures goes { Goes self.new.stand.age.turns
+            (side_of L.polls (G.asked gate.old) (G.told gate.old) (D.queries directory.old) self.old)
+            (side_of L.polls (G.asked gate.new) (G.told gate.new) (D.queries directory.new) self.new)
+            log.old log.new }
         ensures count { self.new.stand.age.turns ≡ (next_turn self.old.stand.age).turns }
         ensures first { self.new.first ≡ self.old.first }
     {

@@ -13,8 +13,9 @@ use crate::mark::Mark;
 use crate::worker::{UpstreamWorker, note};
 use smx_frame::FrameFault;
 use smx_link::{Link, Polled, Wire};
+use smx_pdu::Pdu;
 use smx_trace::Trace;
-use smx_turns::{Fault, Log, Step, undecoded};
+use smx_turns::{Fault, Log, Step};
 use std::alloc::Global;
 
 // What stands at the front of what was read.
@@ -50,24 +51,37 @@ fn break_off<L: Link + Drop>(
 )
     requires room { 65536 ≤ wire.old.room }
     ensures said { wire.new.said ≡ wire.old.said ++ out_of Broke }
-    ensures same { wire.new ≡ record wire.old { said = wire.new.said; unsent = wire.new.unsent; room = wire.new.room } }
+    ensures same { wire.new ≡ record wire.old {
+      said = wire.new.said;
+      unsent = wire.new.unsent;
+      room = wire.new.room;
+    } }
     ensures events { events.new ≡ events.old ++ Broke ∷ [] }
     ensures log { log.new ≡ log.old ++ Did Broke ∷ [] }
 {
-    let nack = Some(undecoded(alloc));
+    let nack = Some(Pdu::undecoded(alloc));
     note(Event::Broke, false, &nack, wire, events, log);
 }
 
 impl<L: Link + Drop> UpstreamWorker<L> {
     // Offers what waits to the link. True where octets are left.
     pub(crate) fn offer(&mut self, log: &mut Log<Mark, Event>) -> Result<bool, Fault>
-        ensures opening { phase_of log.old ≡ Ready → LeadsTo result (after_offer self.old.ending) (phase_of log.new) }
-        ensures closing { phase_of log.old ≡ Closing → self.old.ending ≡ true → LeadsTo result unless_left (phase_of log.new) }
-        ensures left { IfOk result (λ left. (left ≡ true → self.new.wire.unsent ≢ []) × (left ≡ false → self.new.wire.unsent ≡ [])) }
-        ensures offered { L.offered self.new.wire.link ≡ L.offered self.old.wire.link ++ self.old.wire.unsent }
-        ensures failures { L.failures self.new.wire.link ≡ L.failures self.old.wire.link + link_faults result }
-        ensures goes { (turn asked told queries : _) → Goes turn (side_of L.polls asked told queries self.old) (side_of L.polls asked told queries self.new) log.old log.new }
-        ensures same { self.new ≡ record self.old { wire = record self.old.wire { link = self.new.wire.link; unsent = self.new.wire.unsent } } }
+        ensures opening { phase_of log.old ≡ Ready
+            → LeadsTo result (after_offer self.old.ending) (phase_of log.new) }
+        ensures closing { phase_of log.old ≡ Closing → self.old.ending ≡ true
+            → LeadsTo result unless_left (phase_of log.new) }
+        ensures left { IfOk result (λ left. (left ≡ true → self.new.wire.unsent ≢ [])
+            × (left ≡ false → self.new.wire.unsent ≡ [])) }
+        ensures offered { L.offered self.new.wire.link
+            ≡ L.offered self.old.wire.link ++ self.old.wire.unsent }
+        ensures failures { L.failures self.new.wire.link
+            ≡ L.failures self.old.wire.link + link_faults result }
+        ensures goes { (turn asked told queries : _) → Goes turn
+            (side_of L.polls asked told queries self.old)
+            (side_of L.polls asked told queries self.new) log.old log.new }
+        ensures same { self.new ≡ record self.old {
+          wire = record self.old.wire { link = self.new.wire.link; unsent = self.new.wire.unsent };
+        } }
     {
         let waited = !self.wire.is_clear();
         if self.wire.offer().is_err() {
@@ -87,7 +101,9 @@ impl<L: Link + Drop> UpstreamWorker<L> {
     pub(crate) fn make_room(&mut self) -> Result<(), Fault>
         ensures room { OnOk result (65536 ≤ self.new.wire.room) }
         ensures err { OnErr result (result ≡ Err Fault.NoMemory) }
-        ensures same { self.new ≡ record self.old { wire = record self.old.wire { room = self.new.wire.room } } }
+        ensures same { self.new ≡ record self.old {
+          wire = record self.old.wire { room = self.new.wire.room };
+        } }
     {
         match self.wire.make_room() {
             Ok(()) => Ok(()),
@@ -99,7 +115,9 @@ impl<L: Link + Drop> UpstreamWorker<L> {
     pub(crate) fn make_ready(&mut self) -> Result<(), Fault>
         ensures intake { OnOk result (4096 ≤ self.new.wire.intake) }
         ensures err { OnErr result (result ≡ Err Fault.NoMemory) }
-        ensures same { self.new ≡ record self.old { wire = record self.old.wire { intake = self.new.wire.intake } } }
+        ensures same { self.new ≡ record self.old {
+          wire = record self.old.wire { intake = self.new.wire.intake };
+        } }
     {
         match self.wire.make_ready() {
             Ok(()) => Ok(()),
@@ -113,9 +131,18 @@ impl<L: Link + Drop> UpstreamWorker<L> {
         requires goes_on { self.old.ending ≡ false }
         ensures phase { phase_of log.old ≡ MayRead → LeadsTo result Deciding (phase_of log.new) }
         ensures offered { L.offered self.new.wire.link ≡ L.offered self.old.wire.link }
-        ensures failures { L.failures self.new.wire.link ≡ L.failures self.old.wire.link + link_faults result }
-        ensures goes { (turn asked told queries : _) → Goes turn (side_of L.polls asked told queries self.old) (side_of L.polls asked told queries self.new) log.old log.new }
-        ensures same { self.new ≡ record self.old { wire = record self.old.wire { link = self.new.wire.link; rest = self.new.wire.rest; intake = self.new.wire.intake } } }
+        ensures failures { L.failures self.new.wire.link
+            ≡ L.failures self.old.wire.link + link_faults result }
+        ensures goes { (turn asked told queries : _) → Goes turn
+            (side_of L.polls asked told queries self.old)
+            (side_of L.polls asked told queries self.new) log.old log.new }
+        ensures same { self.new ≡ record self.old {
+          wire = record self.old.wire {
+            link = self.new.wire.link;
+            rest = self.new.wire.rest;
+            intake = self.new.wire.intake;
+          };
+        } }
     {
         let polled = match self.wire.read() {
             Ok(polled) => polled,
@@ -133,13 +160,26 @@ impl<L: Link + Drop> UpstreamWorker<L> {
         requires room { 65536 ≤ self.old.wire.room }
         requires none { self.old.held ≡ None }
         requires goes_on { self.old.ending ≡ false }
-        ensures phase { (ended : _) → phase_of log.old ≡ Deciding ended → LeadsTo result (when_front ended) (phase_of log.new) }
-        ensures whole { result ≡ Ok Front.Whole → IsSome self.new.held × (length self.new.wire.rest < length self.old.wire.rest) × (self.new.ending ≡ false) × (65536 ≤ self.new.wire.room) }
-        ensures part { result ≡ Ok Front.Part → HasNone 65536 self.new.wire.rest × (self.new ≡ self.old) }
-        ensures broken { result ≡ Ok Front.Broken → (self.new.held ≡ None) × (self.new.ending ≡ true) }
-        ensures err { OnErr result ((result ≡ Err Fault.NoMemory) × (self.new ≡ self.old) × (log.new ≡ log.old)) }
-        ensures goes { (turn asked told queries : _) → Goes turn (side_of L.polls asked told queries self.old) (side_of L.polls asked told queries self.new) log.old log.new }
-        ensures same { self.new ≡ record self.old { wire = record self.new.wire { link = self.old.wire.link; start = self.old.wire.start }; held = self.new.held; ending = self.new.ending; events = self.new.events } }
+        ensures phase { (ended : _) → phase_of log.old ≡ Deciding ended
+            → LeadsTo result (when_front ended) (phase_of log.new) }
+        ensures whole { result ≡ Ok Front.Whole
+            → IsSome self.new.held × (length self.new.wire.rest < length self.old.wire.rest)
+            × (self.new.ending ≡ false) × (65536 ≤ self.new.wire.room) }
+        ensures part { result ≡ Ok Front.Part
+            → HasNone 65536 self.new.wire.rest × (self.new ≡ self.old) }
+        ensures broken { result ≡ Ok Front.Broken
+            → (self.new.held ≡ None) × (self.new.ending ≡ true) }
+        ensures err { OnErr result
+            ((result ≡ Err Fault.NoMemory) × (self.new ≡ self.old) × (log.new ≡ log.old)) }
+        ensures goes { (turn asked told queries : _) → Goes turn
+            (side_of L.polls asked told queries self.old)
+            (side_of L.polls asked told queries self.new) log.old log.new }
+        ensures same { self.new ≡ record self.old {
+          wire = record self.new.wire { link = self.old.wire.link; start = self.old.wire.start };
+          held = self.new.held;
+          ending = self.new.ending;
+          events = self.new.events;
+        } }
     {
         match self.wire.hear() {
             Ok(Some(pdu)) => {

@@ -4,6 +4,7 @@ ghost use Rattle.std.specs.List.{flat_map};
 ghost use Rattle.smx_pdu.specs.Pdu.{spelling};
 ghost use Rattle.smx_session.specs.declared.upstream_state.UpstreamState.TheVariants.{Binding};
 ghost use Rattle.smx_turns.specs.declared.step.Step.TheVariants.{Did};
+ghost use Rattle.smx_upstream.specs.Ages.{new_age};
 ghost use Rattle.smx_upstream.specs.Events.{out_of, those};
 ghost use Rattle.smx_upstream.specs.Quiet.{is_quiet_event};
 ghost use Rattle.smx_upstream.specs.Standing.{stand};
@@ -14,7 +15,7 @@ use crate::mark::Mark;
 use smx_box::{Receiver, Sender};
 use smx_link::{Link, Wire};
 use smx_pdu::Pdu;
-use smx_session::UpstreamSession;
+use smx_session::{UpstreamSession, UpstreamState};
 use smx_shared::Tap;
 use smx_trace::Trace;
 use smx_turns::{Log, MoItem, Step};
@@ -42,6 +43,30 @@ pub(crate) struct Origin {
     pub answers: Snapshot<Receiver<Pdu>>,
     pub senders: Snapshot<Vec<Sender<MoItem>>>,
     pub age: Snapshot<Age>,
+}
+
+impl Origin {
+    fn of(
+        tap: &Tap,
+        session: &UpstreamSession,
+        answers: &Receiver<Pdu>,
+        senders: &Vec<Sender<MoItem>>,
+        age: &Age,
+    ) -> Origin
+        ensures tap { result.tap.value ≡ tap.now }
+        ensures session { result.session.value ≡ session.now }
+        ensures answers { result.answers.value ≡ answers.now }
+        ensures senders { result.senders.value ≡ senders.now }
+        ensures age { result.age.value ≡ age.now }
+    {
+        Origin {
+            tap: Snapshot::of(tap),
+            session: Snapshot::of(session),
+            answers: Snapshot::of(answers),
+            senders: Snapshot::of(senders),
+            age: Snapshot::of(age),
+        }
+    }
 }
 
 /// Serves one bind with the centre. Contracts see the PDUs over its link, what it stands on, now
@@ -74,7 +99,8 @@ impl<L: Link + Drop> Model for UpstreamWorker<L> {
     ghost view = { λ w. record {
       wire = w.wire;
       stand = stand w.session w.tap w.answers w.senders.items w.age;
-      first = stand w.origin.session.value w.origin.tap.value w.origin.answers.value w.origin.senders.value.items w.origin.age.value;
+      first = stand w.origin.session.value w.origin.tap.value w.origin.answers.value
+          w.origin.senders.value.items w.origin.age.value;
       held = w.held;
       ending = w.ending;
       events = w.events;
@@ -84,7 +110,8 @@ impl<L: Link + Drop> Model for UpstreamWorker<L> {
     ghost invariant = { λ w. IsWorker (record {
       wire = w.wire;
       stand = stand w.session w.tap w.answers w.senders.items w.age;
-      first = stand w.origin.session.value w.origin.tap.value w.origin.answers.value w.origin.senders.value.items w.origin.age.value;
+      first = stand w.origin.session.value w.origin.tap.value w.origin.answers.value
+          w.origin.senders.value.items w.origin.age.value;
       held = w.held;
       ending = w.ending;
       events = w.events;
@@ -116,7 +143,11 @@ pub(crate) fn note<L: Link + Drop>(
     requires quiet { quiet ≡ is_quiet_event event }
     ensures said { wire.new.said ≡ wire.old.said ++ out_of event }
     ensures unsent { wire.new.unsent ≡ wire.old.unsent ++ flat_map spelling (out_of event) }
-    ensures same { wire.new ≡ record wire.old { said = wire.new.said; unsent = wire.new.unsent; room = wire.new.room } }
+    ensures same { wire.new ≡ record wire.old {
+      said = wire.new.said;
+      unsent = wire.new.unsent;
+      room = wire.new.room;
+    } }
     ensures events { events.new ≡ events.old ++ event ∷ [] }
     ensures log { log.new ≡ log.old ++ Did event ∷ [] }
 {
@@ -137,7 +168,8 @@ impl<L: Link + Drop> UpstreamWorker<L> {
     ) -> Result<UpstreamWorker<L>, Parts<L>>
         requires state { parts.session.state ≡ Binding }
         ensures link { IfOk result (λ w. (w.wire.link ≡ parts.link) × (w.wire.start ≡ parts.link)) }
-        ensures stand { IfOk result (λ w. w.stand ≡ stand parts.session parts.tap parts.answers parts.senders.items (record { turns = 0; history = history; noted = 0 })) }
+        ensures stand { IfOk result (λ w. w.stand
+            ≡ stand parts.session parts.tap parts.answers parts.senders.items (new_age history)) }
         ensures first { IfOk result (λ w. w.first ≡ w.stand) }
         ensures ready { IfOk result (λ w. (w.held ≡ None) × (w.ending ≡ false)) }
         ensures err { IfErr result (λ p. p ≡ parts) }
@@ -163,18 +195,8 @@ impl<L: Link + Drop> UpstreamWorker<L> {
                 senders,
             });
         }
-        let age = Age {
-            turns: 0,
-            history,
-            noted: 0,
-        };
-        let origin = Origin {
-            tap: Snapshot::of(&tap),
-            session: Snapshot::of(&session),
-            answers: Snapshot::of(&answers),
-            senders: Snapshot::of(&senders),
-            age: Snapshot::of(&age),
-        };
+        let age = Age::new(history);
+        let origin = Origin::of(&tap, &session, &answers, &senders, &age);
         let event = Event::Began(Snapshot::of(&bind));
         wire.say(&bind);
         Ok(UpstreamWorker {
@@ -191,5 +213,12 @@ impl<L: Link + Drop> UpstreamWorker<L> {
             events: Trace::new().and(&event),
             steps: Trace::new(),
         })
+    }
+
+    /// Where the session stands.
+    pub fn state(&self) -> UpstreamState
+        ensures { result ≡ self.now.stand.session.state }
+    {
+        self.session.state()
     }
 }

@@ -32,3 +32,6 @@ loop-turn-preserved g c = record {
   first = c.turn.ensures.first ∙ c.loop-turn.invariant.first;
   ran = ran_turn Does tell_of find_of _ _ _ _ _ _ c.loop-turn.invariant.ran c.turn.ensures.turned;
 }
+
+pub returns-in-Err-clause-held : goal.returns-in-Err-clause-held
+returns-in-Err-clause-held g c = λ none. absurd (none _ refl)

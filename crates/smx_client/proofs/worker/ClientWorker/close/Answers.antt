@@ -23,8 +23,7 @@ returns-clause-retired g c = either _ _ _ c.leave.result c.leave.ensures.ok c.le
 pub returns-clause-left : goal.returns-clause-left
 returns-clause-left g c =
     let new = c.new-leaver.ensures in
-    let all = c.answer_all.ensures in
-    (
+    let all = c.answer_all.ensures in (
       c.answer_all.new.self.window,
       all.over.1,
       left_so _ _ _ _ _ _ _ _ _ _ _ _ _ (ap (λ x. x.value) all.first.0 ∙ new.first_parked) (ap (λ x. x.value) all.first.1 ∙ new.first_window)

@@ -20,8 +20,8 @@ use Rattle.smx_upstream.proofs.worker.UpstreamWorker.new.Goals as goal
 pub invariant_of-result : goal.invariant_of-result
 invariant_of-result g c =
     let same = ap (λ w. w.heard) c.say.ensures.same ∙ ap (λ w. w.heard) c.make_room.ensures.same ∙ c.new-wire.ensures.none.0 in
-    began _ (Began c.of-6.result) c.in-Ok.bind (c.and.ensures ∙ ap (λ l. l ++ Began c.of-6.result ∷ []) c.new.ensures) same refl refl (ap (λ p. p ∷ []) c.of-6.ensures)
+    began _ (Began c.of.result) c.in-Ok.bind (c.and.ensures ∙ ap (λ l. l ++ Began c.of.result ∷ []) c.new.ensures) same refl refl (ap (λ p. p ∷ []) c.of.ensures)
     (c.say.ensures.said ∙ ap (λ l. l ++ c.in-Ok.bind ∷ []) (ap (λ w. w.said) c.make_room.ensures.same ∙ c.new-wire.ensures.none.1))
-    (stands_same c.of-2.ensures c.of.ensures c.of-3.ensures (ap (λ v. v.items) c.of-4.ensures) c.of-5.ensures)
-    (c.of-6.ensures ∙ c.in-Ok.ensures ∙ ap bind_of (sym c.of-2.ensures), sym (stands_same c.of-2.ensures c.of.ensures c.of-3.ensures (ap (λ v. v.items) c.of-4.ensures) c.of-5.ensures))
+    (stands_same c.of-origin.ensures.session c.of-origin.ensures.tap c.of-origin.ensures.answers (ap (λ v. v.items) c.of-origin.ensures.senders) c.of-origin.ensures.age)
+    (c.of.ensures ∙ c.in-Ok.ensures ∙ ap bind_of (sym c.of-origin.ensures.session), sym (stands_same c.of-origin.ensures.session c.of-origin.ensures.tap c.of-origin.ensures.answers (ap (λ v. v.items) c.of-origin.ensures.senders) c.of-origin.ensures.age))
     (ap (λ w. w.failed) c.say.ensures.same ∙ ap (λ w. w.failed) c.make_room.ensures.same ∙ c.new-wire.ensures.failed)

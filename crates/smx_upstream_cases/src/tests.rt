@@ -1,0 +1,284 @@
+//! A worker over a link in memory whose other end follows a script.
+ghost use Rattle.std.specs.Prelude.{◌≡◌, slice_get, Some, None, All, IfSome, false};
+ghost use Rattle.smx_shared.specs.Views.{locks_of};
+
+use smx_box::{Boxed, Got, Receiver, Sender};
+use smx_history::Limits;
+use smx_memory::{MemoryLink, Script};
+use smx_pdu::command::SUBMIT_SM;
+use smx_pdu::{Bind, Body, Pdu, decode};
+use smx_routes::RouteFault;
+use smx_session::{UpstreamSession, UpstreamState};
+use smx_shared::{Door, EnterFault, Exchange, Offer, Port, Tap};
+use smx_trace::Trace;
+use smx_turns::{Directory, Fault, Gate, MoItem, Party, Place, Point, Query, Question, RunEnd};
+use smx_upstream::{Closed, Parts, UpstreamWorker, run_upstream};
+use std::alloc::{AllocError, Global};
+use std::sync::Wait;
+use std::test::Fail;
+
+mod passing;
+mod rows;
+
+const ROOMY: Limits = Limits {
+    queue: 10,
+    window: 10,
+    client: 10,
+    history: 1_000,
+};
+
+// bind_transceiver of `proxy` with the password `pw`, and the centre's answer.
+const BIND: [u8; 30] = [
+    0, 0, 0, 0x1E, 0, 0, 0, 9, 0, 0, 0, 0, 0x7F, 0xFF, 0xFF, 0xFD, b'p', b'r', b'o', b'x', b'y', 0,
+    b'p', b'w', 0, 0, 0x34, 0, 0, 0,
+];
+
+const BOUND: [u8; 23] = [
+    0, 0, 0, 0x17, 0x80, 0, 0, 9, 0, 0, 0, 0, 0x7F, 0xFF, 0xFF, 0xFD, b'c', b'e', b'n', b't', b'r',
+    b'e', 0,
+];
+
+// submit_sm 1 to the address `1`, and its response with the message_id `1`.
+const SUBMIT: [u8; 34] = [
+    0, 0, 0, 0x22, 0, 0, 0, 4, 0, 0, 0, 0, 0, 0, 0, 1, 0, 0, 0, 0, 0, 0, b'1', 0, 0, 0, 0, 0, 0, 0,
+    0, 0, 0, 0,
+];
+
+const RESPONSE: [u8; 18] = [
+    0, 0, 0, 0x12, 0x80, 0, 0, 4, 0, 0, 0, 0, 0, 0, 0, 1, b'1', 0,
+];
+
+// deliver_sm 3 to the address `4915`, and a client's answer.
+const MESSAGE: [u8; 37] = [
+    0, 0, 0, 0x25, 0, 0, 0, 5, 0, 0, 0, 0, 0, 0, 0, 3, 0, 0, 0, 0, 0, 0, b'4', b'9', b'1', b'5', 0,
+    0, 0, 0, 0, 0, 0, 0, 0, 0, 0,
+];
+
+const ANSWER: [u8; 17] = [0, 0, 0, 0x11, 0x80, 0, 0, 5, 0, 0, 0, 0, 0, 0, 0, 3, 0];
+
+// A gate that always says yes, and counts what it was asked and told.
+#[derive(Drop)]
+struct Open {
+    questions: u64,
+    tidings: u64,
+    asked: Trace<Question>,
+    told: Trace<Party>,
+}
+
+impl Open {
+    fn new() -> Open {
+        Open {
+            questions: 0,
+            tidings: 0,
+            asked: Trace::new(),
+            told: Trace::new(),
+        }
+    }
+}
+
+impl Gate for Open {
+    ghost asked = { λ g. g.asked };
+
+    ghost told = { λ g. g.told };
+
+    fn at(&mut self, point: Point, turn: u64) -> bool {
+        let question = Question {
+            point,
+            turn,
+            answer: true,
+        };
+        self.asked = self.asked.and(&question);
+        self.questions = self.questions.saturating_add(1);
+        true
+    }
+
+    fn ready(&mut self, party: Party) {
+        self.told = self.told.and(&party);
+        self.tidings = self.tidings.saturating_add(1);
+    }
+}
+
+// Addresses that begin with `4` are client 1's in slot 0, those with `6` client 9's in a slot that
+// has no sender.
+#[derive(Drop)]
+struct Book {
+    queries: Trace<Query>,
+}
+
+fn octets_of(octets: &[u8]) -> Trace<u8>
+    ensures { result ≡ octets.now }
+{
+    let mut all = Trace::new();
+    all.extend(octets);
+    all
+}
+
+impl Directory for Book {
+    ghost queries = { λ d. d.queries };
+
+    fn find<R: Wait>(&mut self, _rt: &R, address: &[u8]) -> Option<Place> {
+        let found = if address.starts_with(b"4") {
+            Some(Place { client: 1, slot: 0 })
+        } else if address.starts_with(b"6") {
+            Some(Place { client: 9, slot: 7 })
+        } else {
+            None
+        };
+        self.queries = self.queries.and(&Query::Found(octets_of(address), found));
+        found
+    }
+
+    fn add<R: Wait>(&mut self, _rt: &R, prefix: &[u8], client: u64) -> Result<(), RouteFault> {
+        let query = Query::Added(octets_of(prefix), client, Ok(()));
+        self.queries = self.queries.and(&query);
+        Ok(())
+    }
+
+    fn remove<R: Wait>(&mut self, _rt: &R, client: u64) {
+        self.queries = self.queries.and(&Query::Removed(client));
+    }
+}
+
+// A worker with all that a turn is lent.
+#[derive(Drop)]
+struct Line<'a> {
+    at: &'a Exchange,
+    worker: UpstreamWorker<MemoryLink<Script>>,
+    gate: Open,
+    book: Book,
+    // A fault ended a run.
+    faulty: bool,
+    ghost fits: { slice_get at.now worker.stand.tap.lane ≡ Some worker.stand.tap.front.lock },
+    ghost goes_on: { faulty ≡ false → worker.held ≡ None },
+}
+
+impl Line<'_> {
+    // Turns the worker at this moment until it has nothing to do, at most so often.
+    fn run<R: Wait>(&mut self, rt: &R, now: u64, turns: u64) -> RunEnd {
+        if self.faulty {
+            return RunEnd::Left;
+        }
+        let end = run_upstream(
+            &mut self.worker,
+            self.at,
+            rt,
+            &mut self.gate,
+            &mut self.book,
+            || now,
+            turns,
+        );
+        self.faulty = matches!(end, RunEnd::Fault(_));
+        end
+    }
+
+    fn close<R: Wait>(self, rt: &R) -> Closed<MemoryLink<Script>> {
+        let Line { at, worker, .. } = self;
+        worker.close(at, rt)
+    }
+}
+
+// The session of `proxy` with the password `pw` at the moment 0. It enquires after a second.
+fn session(alloc: Global) -> Option<UpstreamSession>
+    ensures { IfSome result (λ s. s.state ≡ UpstreamState.Binding) }
+{
+    let bind = Bind {
+        system_id: b"proxy",
+        password: b"pw",
+        system_type: b"",
+        interface_version: 0x34,
+        addr_ton: 0,
+        addr_npi: 0,
+        address_range: b"",
+    };
+    if !bind.fits() {
+        return None;
+    }
+    let system_id = Vec::from_slice(alloc, bind.system_id).ok()?;
+    let password = Vec::from_slice(alloc, bind.password).ok()?;
+    Some(UpstreamSession::new(alloc, system_id, password, 1_000, 0))
+}
+
+fn first_tap(at: &Exchange, taps: Vec<Tap>) -> Option<Tap>
+    requires { All (λ t. slice_get at.now t.lane ≡ Some t.front.lock) taps.items }
+    ensures { IfSome result (λ t. slice_get at.now t.lane ≡ Some t.front.lock) }
+{
+    let mut taps = taps;
+    taps.pop()
+}
+
+fn worker_at<'a>(
+    alloc: Global,
+    at: &'a Exchange,
+    tap: Tap,
+    script: Script,
+    answers: Receiver<Pdu>,
+    senders: Vec<Sender<MoItem>>,
+    history: usize,
+) -> Option<Line<'a>>
+    requires { slice_get at.now tap.lane ≡ Some tap.front.lock }
+{
+    let parts = Parts {
+        link: MemoryLink::new(script),
+        tap,
+        session: session(alloc)?,
+        answers,
+        senders,
+    };
+    let worker = UpstreamWorker::new(alloc, parts, history).ok()?;
+    Some(Line {
+        at,
+        worker,
+        gate: Open::new(),
+        book: Book {
+            queries: Trace::new(),
+        },
+        faulty: false,
+    })
+}
+
+// A port with its exchange.
+#[derive(Drop)]
+struct Client<'a> {
+    at: &'a Exchange,
+    port: Port,
+    ghost fits: { locks_of port.fronts ≡ at.now },
+}
+
+impl Client<'_> {
+    // Submits the request to the address `1` under the number 7.
+    fn submit<R: Wait>(&mut self, rt: &R, alloc: Global) -> Option<usize> {
+        let body = body_of(alloc, &SUBMIT)?;
+        let offer = Offer {
+            own: 7,
+            command: SUBMIT_SM,
+            body,
+        };
+        self.port.submit(self.at, rt, offer).ok()
+    }
+
+    fn collect<R: Wait>(&mut self, rt: &R) -> Option<Pdu> {
+        if self.port.lanes() == 0 {
+            return None;
+        }
+        self.port.collect(self.at, rt, 0).ok()?
+    }
+}
+
+fn enter<'a, R: Wait>(rt: &R, at: &'a Exchange, door: &mut Door) -> Result<Client<'a>, EnterFault>
+    requires { locks_of door.old.fronts ≡ at.now }
+    ensures { locks_of door.new.fronts ≡ at.now }
+{
+    let port = door.enter(at, rt)?;
+    Ok(Client { at, port })
+}
+
+fn body_of(alloc: Global, octets: &[u8]) -> Option<Body> {
+    let body = Vec::from_slice(alloc, octets.get(16..)?).ok()?;
+    Body::new(body).ok()
+}
+
+fn joined(alloc: Global, first: &[u8], second: &[u8]) -> Result<Vec<u8>, AllocError> {
+    let mut octets = Vec::from_slice(alloc, first)?;
+    octets.extend_from_slice(second)?;
+    Ok(octets)
+}

@@ -1,0 +1,146 @@
+//! What a centre gives, and what comes of it.
+use super::*;
+
+// The proxy's enquire_link, and a bind that is refused.
+const ENQUIRY: [u8; 16] = [
+    0, 0, 0, 0x10, 0, 0, 0, 0x15, 0, 0, 0, 0, 0x7F, 0xFF, 0xFF, 0xFE,
+];
+
+const UNBOUND: [u8; 16] = [
+    0, 0, 0, 0x10, 0x80, 0, 0, 9, 0, 0, 0, 0x0D, 0x7F, 0xFF, 0xFF, 0xFD,
+];
+
+// generic_nack of a bad length.
+const NACK: [u8; 16] = [0, 0, 0, 0x10, 0x80, 0, 0, 0, 0, 0, 0, 2, 0, 0, 0, 0];
+
+// An unbind and its answer.
+const UNBIND: [u8; 16] = [0, 0, 0, 0x10, 0, 0, 0, 6, 0, 0, 0, 0, 0, 0, 0, 9];
+
+const UNBIND_ANSWER: [u8; 16] = [0, 0, 0, 0x10, 0x80, 0, 0, 6, 0, 0, 0, 0, 0, 0, 0, 9];
+
+// What came of runs at these moments: how the last one ended, and what is left.
+fn runs<R: Wait>(
+    rt: &R,
+    alloc: Global,
+    script: Script,
+    moments: &[u64],
+) -> Option<(RunEnd, Closed<MemoryLink<Script>>)> {
+    let (exchange, _door, taps) = Exchange::new(rt, alloc, ROOMY, 1).ok()?;
+    let tap = first_tap(&exchange, taps)?;
+    let (_inbox, senders) = Boxed::new(rt, alloc, 1, 1).ok()?;
+    let (answers, _clients) = Boxed::new(rt, alloc, 1, 1).ok()?;
+    let mut line = worker_at(alloc, &exchange, tap, script, answers, senders, 1_000)?;
+    let mut end = RunEnd::Idle;
+    for now in moments {
+        end = line.run(rt, *now, 1_000);
+    }
+    Some((end, line.close(rt)))
+}
+
+// Whether the last run ends so, and the link took the bind and then just this.
+fn comes_to<R: Wait>(
+    rt: &R,
+    alloc: Global,
+    script: Script,
+    moments: &[u64],
+    takes: &[u8],
+    end: RunEnd,
+) -> bool {
+    let Some((last, closed)) = runs(rt, alloc, script, moments) else {
+        return false;
+    };
+    let Ok(wanted) = joined(alloc, &BIND, takes) else {
+        return false;
+    };
+    last == end && closed.link.peer().taken() == wanted.as_slice()
+}
+
+// The same over a link that takes all at once, and over one that takes an octet a write, where the
+// centre gives this once it has the bind.
+fn ends_so<R: Wait>(
+    rt: &R,
+    alloc: Global,
+    gives: &[u8],
+    then: &[u8],
+    moments: &[u64],
+    takes: &[u8],
+    end: RunEnd,
+) -> bool {
+    for most in [65_536, 1] {
+        let script = Script::new(alloc, most)
+            .and(BIND.len(), gives)
+            .and(BIND.len(), then);
+        if !comes_to(rt, alloc, script, moments, takes, end) {
+            return false;
+        }
+    }
+    true
+}
+
+// After a second of silence the worker enquires, and after another one it ends.
+#[test]
+fn silence(rt: HostRuntime) {
+    let alloc = rt.alloc();
+    let moments = [0, 999, 1_000, 1_999, 2_000];
+    let left = RunEnd::Left;
+    let idle = RunEnd::Idle;
+    assert!(rt; ends_so(&rt, alloc, &BOUND, &[], &moments[..2], &[], idle));
+    assert!(rt; ends_so(&rt, alloc, &BOUND, &[], &moments[..4], &ENQUIRY, idle));
+    assert!(rt; ends_so(&rt, alloc, &BOUND, &[], &moments, &ENQUIRY, left));
+}
+
+// A refused bind, a bad length, an unbind.
+#[test]
+fn ends(rt: HostRuntime) {
+    let alloc = rt.alloc();
+    let left = RunEnd::Left;
+    assert!(rt; ends_so(&rt, alloc, &UNBOUND, &UNBIND, &[0], &[], left));
+    assert!(rt; ends_so(&rt, alloc, &BOUND, &[0, 0, 0, 0x0F], &[0], &NACK, left));
+    assert!(rt; ends_so(&rt, alloc, &BOUND, &UNBIND, &[0], &UNBIND_ANSWER, left));
+}
+
+// deliver_sm with this number to an address of one octet.
+fn message(number: u8, address: u8) -> [u8; 24] {
+    [
+        0, 0, 0, 0x18, 0, 0, 0, 5, 0, 0, 0, 0, 0, 0, 0, number, 0, 0, 0, 0, 0, 0, address, 0,
+    ]
+}
+
+// What tells the centre that nobody gets its message.
+fn refusal(status: u8, number: u8) -> [u8; 16] {
+    [
+        0, 0, 0, 0x10, 0x80, 0, 0, 5, 0, 0, 0, status, 0, 0, 0, number,
+    ]
+}
+
+// The box has one place; nobody has the address 5; no sender stands where 6 is; a message without a
+// body names no address.
+#[test]
+fn refused_messages(rt: HostRuntime) -> Result<(), Fail> {
+    let alloc = rt.alloc();
+    let script = Script::new(alloc, 65_536)
+        .and(30, &BOUND)
+        .and(30, &message(3, b'4'))
+        .and(30, &message(4, b'4'))
+        .and(30, &message(5, b'5'))
+        .and(30, &message(6, b'6'))
+        .and(30, &[0, 0, 0, 0x10, 0, 0, 0, 5, 0, 0, 0, 0, 0, 0, 0, 7]);
+    let full = joined(alloc, &refusal(0x14, 4), &refusal(0x64, 5))?;
+    let none = joined(alloc, &refusal(0x64, 6), &refusal(2, 7))?;
+    let takes = joined(alloc, &full, &none)?;
+    assert!(rt; comes_to(&rt, alloc, script, &[0], &takes, RunEnd::Idle));
+    Ok(())
+}
+
+// A link that ends, and one whose first read fails.
+#[test]
+fn lost_links(rt: HostRuntime) {
+    let alloc = rt.alloc();
+    let mut ending = Script::new(alloc, 65_536).and(0, &BOUND);
+    ending.ends = true;
+    assert!(rt; comes_to(&rt, alloc, ending, &[0], &[], RunEnd::Left));
+    let mut failing = Script::new(alloc, 65_536);
+    failing.failing_read = 1;
+    let fault = RunEnd::Fault(Fault::Link);
+    assert!(rt; comes_to(&rt, alloc, failing, &[0], &[], fault));
+}
