@@ -4,8 +4,5 @@ pub mod Faults
 pub mod Inside
 pub mod Kept
 pub mod Members
-pub mod Places
 pub mod Roster
-pub mod Rows
 pub mod Turning
-pub mod Window

@@ -6,7 +6,6 @@ mod fault;
 mod kept;
 mod lane;
 mod roster;
-mod rows;
 mod sent;
 #[cfg(test)]
 mod tests;

@@ -10,7 +10,8 @@ ghost use Rattle.smx_history.specs.declared.note.Event.TheVariants.{Accept, Take
 
 use super::Lane;
 use crate::sent::Sent;
-use smx_history::{Entry, Kind, Refusal, Request, TakeRefusal};
+use crate::window::free_number;
+use smx_history::{Entry, Kind, Place, Refusal, Request, TakeRefusal};
 
 impl Lane {
     // The index of the row of a client whose request may be accepted.
@@ -76,11 +77,18 @@ impl Lane {
         if self.queue.is_empty() {
             return Err(TakeRefusal::QueueEmpty);
         }
-        if self.window.is_full() {
+        if self.window.len() >= self.limits.window as usize {
             return Err(TakeRefusal::WindowFull);
         }
+        let upstream = free_number(self.window.as_slice());
         let request = self.queue.pop_front().unwrap();
-        let upstream = self.window.put(&request);
+        self.window.push_reserved(Place {
+            upstream,
+            client: request.client,
+            ordinal: request.ordinal,
+            own: request.own,
+            command: request.command,
+        });
         self.entries.push_reserved(Entry {
             kind: Kind::Take,
             by,
