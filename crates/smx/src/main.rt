@@ -2,6 +2,7 @@
 #![tactic(auto)]
 
 mod config_file;
+mod demonstrating;
 mod options;
 mod serving;
 
@@ -47,6 +48,7 @@ fn main(rt: HostRuntime) -> ExitCode {
         Ok(Asked::Relay) => run_relay(&rt),
         Ok(Asked::Check(path)) => config_file::run(&rt, path),
         Ok(Asked::Serve(path)) => serving::run(rt, path),
+        Ok(Asked::Demo(path)) => demonstrating::run(&rt, path),
         Ok(Asked::Nothing) => ExitCode::FAILURE,
         Err(error) => {
             let _ = rt.eprint(&error);

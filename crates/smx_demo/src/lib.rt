@@ -1,0 +1,13 @@
+//! A proxy at work in one process over loopback: a centre for each upstream, the proxy, and a
+//! client for each account.
+#![tactic(auto)]
+
+mod centres;
+mod showing;
+mod stream_peer;
+mod visitors;
+
+pub use showing::{NotShown, demo};
+
+#[cfg(test)]
+mod tests;
