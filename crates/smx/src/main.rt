@@ -6,12 +6,14 @@ mod demonstrating;
 mod options;
 mod serving;
 
+use config_file::config_of;
 use options::Asked;
 use smx_relay::RunEnd;
+use smx_serve::{Ended, Server};
 use std::io::{BufWriter, Write};
 use std::process::ExitCode;
 use std::rt::Env;
-use std::{env, io};
+use std::{env, io, thread};
 
 /// The status where the command line is wrong.
 const USAGE: u8 = 2;
@@ -47,7 +49,19 @@ fn main(rt: HostRuntime) -> ExitCode {
     match options::read(rt.alloc(), words.as_slice()) {
         Ok(Asked::Relay) => run_relay(&rt),
         Ok(Asked::Check(path)) => config_file::run(&rt, path),
-        Ok(Asked::Serve(path)) => serving::run(rt, path),
+        Ok(Asked::Serve(path)) => {
+            let Some(config) = config_of(&rt, path) else {
+                return ExitCode::FAILURE;
+            };
+            let Some(server) = Server::new(&rt, rt.alloc()) else {
+                let _ = eprintln!(rt; "{}", Ended::NoEvents);
+                return ExitCode::FAILURE;
+            };
+            if let Some(remote) = server.remote() {
+                let _ = thread::spawn(&rt, move || serving::heed(&rt, &remote));
+            }
+            serving::run(&rt, rt.alloc(), server, &config)
+        }
         Ok(Asked::Demo(path)) => demonstrating::run(&rt, path),
         Ok(Asked::Nothing) => ExitCode::FAILURE,
         Err(error) => {

@@ -1,15 +1,14 @@
-//! The proxy by the configuration in a file.
-use crate::config_file::config_of;
+//! The proxy, and what stops it.
+use smx_config::Config;
 use smx_serve::{Ended, Remote, Server};
+use std::alloc::Global;
 use std::net::{Net, TcpListener, TcpStream};
 use std::process::ExitCode;
-use std::rt::{Clock, Files};
-use std::sync::{Arc, Wait};
-use std::thread;
-use std::thread::Threads;
+use std::rt::Clock;
+use std::sync::Wait;
 
-// Stops the proxy at a line `stop` of standard input. The end of input is nothing.
-fn heed<R: Input + AllocGlobal>(rt: &R, remote: &Remote) {
+/// Stops the proxy at a line `stop` of standard input. The end of input is nothing.
+pub(crate) fn heed<R: Input + AllocGlobal>(rt: &R, remote: &Remote) {
     for line in rt.lines(rt.alloc()) {
         match line {
             Ok(line) => {
@@ -22,35 +21,12 @@ fn heed<R: Input + AllocGlobal>(rt: &R, remote: &Remote) {
     }
 }
 
-/// Serves by the file with this path until a line `stop` comes on standard input, or an upstream
-/// ends.
-pub(crate) fn run<R>(rt: R, path: &str) -> ExitCode
+/// Serves by this configuration until the proxy is stopped, or an upstream ends.
+pub(crate) fn run<R>(rt: &R, alloc: Global, server: Server, config: &Config) -> ExitCode
 where
-    R: Clock
-        + Wait
-        + Net<Listener = TcpListener, Stream = TcpStream>
-        + Threads
-        + Files
-        + Input
-        + Print
-        + Eprint
-        + AllocGlobal
-        + Copy
-        + Send
-        + 'static,
+    R: Clock + Wait + Net<Listener = TcpListener, Stream = TcpStream> + Eprint,
 {
-    let Some(config) = config_of(&rt, path) else {
-        return ExitCode::FAILURE;
-    };
-    let Some(server) = Server::new(&rt, rt.alloc()) else {
-        let _ = eprintln!(rt; "{}", Ended::NoEvents);
-        return ExitCode::FAILURE;
-    };
-    if let Some(remote) = server.remote() {
-        let theirs: Arc<Remote> = remote;
-        let _ = thread::spawn(&rt, move || heed(&rt, &theirs));
-    }
-    match server.serve(&rt, rt.alloc(), &config) {
+    match server.serve(rt, alloc, config) {
         Ended::Stopped => ExitCode::SUCCESS,
         ended => {
             let _ = eprintln!(rt; "{ended}");
