@@ -15,8 +15,6 @@ use smx_lock::{Held, LockSeat, TicketLock};
 use std::alloc::{AllocError, Global};
 use std::sync::{Arc, Wait};
 
-#[cfg(test)]
-mod tests;
 
 /// Makes boxes of items from several senders to one receiver.
 pub struct Boxed;

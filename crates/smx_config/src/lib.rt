@@ -22,6 +22,3 @@ pub use file::{FileFault, MAX_FILE, read_text};
 pub use reading::read;
 pub use smx_text::WriteFault;
 pub use upstream::Upstream;
-
-#[cfg(test)]
-mod tests;

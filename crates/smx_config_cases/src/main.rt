@@ -4,6 +4,9 @@
 //! out.
 #![tactic(auto)]
 
+#[cfg(test)]
+mod tests;
+
 use std::alloc::{AllocError, Global};
 use std::io;
 

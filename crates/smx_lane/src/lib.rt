@@ -7,8 +7,6 @@ mod kept;
 mod lane;
 mod roster;
 mod sent;
-#[cfg(test)]
-mod tests;
 mod window;
 
 pub use call::{Call, Reply, run, run_all};

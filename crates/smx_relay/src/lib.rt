@@ -20,12 +20,3 @@ mod texts;
 
 pub use end::RunEnd;
 pub use engine::run;
-
-#[cfg(test)]
-mod fakes;
-#[cfg(test)]
-mod message_tests;
-#[cfg(test)]
-mod session_tests;
-#[cfg(test)]
-mod tests;

@@ -24,6 +24,3 @@ pub use kind::Kind;
 pub use up_act::UpAct;
 pub use upstream::UpstreamSession;
 pub use upstream_state::UpstreamState;
-
-#[cfg(test)]
-mod tests;

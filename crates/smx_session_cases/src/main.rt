@@ -6,6 +6,9 @@
 //! A PDU that is sent is printed by its three numbers and the length of its body.
 #![tactic(auto)]
 
+#[cfg(test)]
+mod tests;
+
 use anyhow::{Context, bail};
 use smx_pdu::Pdu;
 use smx_session::{Act, ClientSession, ClientState, Kind, UpAct, UpstreamSession, UpstreamState};

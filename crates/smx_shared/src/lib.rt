@@ -23,8 +23,6 @@ mod retire;
 mod starts;
 mod submit;
 mod tap;
-#[cfg(test)]
-mod tests;
 mod token;
 
 pub use door::Door;

@@ -1,5 +1,5 @@
 //! Scripts in which the centre sends messages.
-use crate::{RunEnd, run};
+use smx_relay::{RunEnd, run};
 use std::test::*;
 
 // A script whose lines are all run, and what it prints.

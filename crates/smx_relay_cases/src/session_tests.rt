@@ -1,5 +1,5 @@
 //! Scripts in which sessions decide, and octets come in any pieces.
-use crate::{RunEnd, run};
+use smx_relay::{RunEnd, run};
 use std::test::*;
 
 // A script, and what it prints when each line is run.

@@ -1,7 +1,7 @@
 //! Readers and writers that fail.
 ghost use Rattle.std.specs.Prelude.{Some};
 
-use crate::{RunEnd, run};
+use smx_relay::{RunEnd, run};
 use std::io;
 use std::io::{ErrorKind, Read, Write};
 use std::test::*;

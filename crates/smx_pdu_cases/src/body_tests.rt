@@ -1,4 +1,4 @@
-use super::*;
+use smx_pdu::*;
 use std::test::*;
 
 // system_id `a`, password `p`, version 0x34, and empty texts else.

@@ -1,4 +1,4 @@
-use super::*;
+use smx_session::{Account, Act, ClientSession, ClientState, UpAct, UpstreamSession, UpstreamState};
 use smx_pdu::{Bind, Pdu, encode};
 use std::alloc::{AllocError, Global};
 use std::process::Abort;

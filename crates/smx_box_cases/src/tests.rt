@@ -1,4 +1,4 @@
-use crate::{BoxFault, Boxed, Got, PutFault, Receiver, Sender, Spent};
+use smx_box::{BoxFault, Boxed, Got, PutFault, Receiver, Sender, Spent};
 use std::alloc::Global;
 use std::sync::Wait;
 use std::test::Fail;

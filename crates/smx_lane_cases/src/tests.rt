@@ -1,6 +1,6 @@
 ghost use Rattle.std.specs.Prelude.{◌≡◌};
 
-use super::*;
+use smx_lane::{AdmitFault, Answered, Call, Event, Kind, Lane, LaneFault, Limits, NotAdmitted, Note, Place, Refusal, Reply, Request, Response, Sent, TakeRefusal, run, run_all, Entry, AdmitRefusal};
 use smx_pdu::{Body, Pdu};
 use std::alloc::{AllocError, Global};
 use std::test::Fail;

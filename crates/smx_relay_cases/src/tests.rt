@@ -1,4 +1,4 @@
-use crate::{RunEnd, run};
+use smx_relay::{RunEnd, run};
 use std::test::*;
 
 // A script, and what it prints when each line is run.

@@ -1,6 +1,6 @@
 ghost use Rattle.std.specs.Prelude.{Some};
 
-use super::*;
+use smx_config::*;
 use std::io;
 use std::io::Write;
 use std::test::*;
