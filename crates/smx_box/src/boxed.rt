@@ -15,7 +15,6 @@ use smx_lock::{Held, LockSeat, TicketLock};
 use std::alloc::{AllocError, Global};
 use std::sync::{Arc, Wait};
 
-
 /// Makes boxes of items from several senders to one receiver.
 pub struct Boxed;
 
@@ -102,9 +101,9 @@ impl Boxed {
         Boxed::new_at(rt, alloc, senders, places, 0)
     }
 
-    // The same, with the first ticket of the box's lock given: for tests of what comes when
-    // tickets end.
-    pub(crate) fn new_at<T: Drop, R: Wait>(
+    /// The same with the first ticket of the box's lock given: for tests of what comes when tickets
+    /// end. `first` is at most 2^62.
+    pub fn new_at<T: Drop, R: Wait>(
         rt: &R,
         alloc: Global,
         senders: usize,

@@ -1,6 +1,6 @@
 ghost use Rattle.std.specs.Prelude.{Some};
 
-use smx_config::*;
+use smx_config::{ConfigFault, FileFault, WriteFault, advice, check, read, read_text, reject};
 use std::io;
 use std::io::Write;
 use std::test::*;

@@ -1,6 +1,9 @@
 ghost use Rattle.std.specs.Prelude.{◌≡◌};
 
-use smx_lane::{AdmitFault, Answered, Call, Event, Kind, Lane, LaneFault, Limits, NotAdmitted, Note, Place, Refusal, Reply, Request, Response, Sent, TakeRefusal, run, run_all, Entry, AdmitRefusal};
+use smx_lane::{
+    AdmitFault, Answered, Call, Kind, Lane, LaneFault, Limits, NotAdmitted, Refusal, Reply,
+    Request, Sent, run_all,
+};
 use smx_pdu::{Body, Pdu};
 use std::alloc::{AllocError, Global};
 use std::test::Fail;

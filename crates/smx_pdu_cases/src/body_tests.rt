@@ -1,4 +1,4 @@
-use smx_pdu::*;
+use smx_pdu::{Bind, BodyFault, read_bind, read_destination, write_bind};
 use std::test::*;
 
 // system_id `a`, password `p`, version 0x34, and empty texts else.

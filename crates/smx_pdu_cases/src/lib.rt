@@ -4,6 +4,5 @@
 
 #[cfg(test)]
 mod body_tests;
-
 #[cfg(test)]
 mod tests;

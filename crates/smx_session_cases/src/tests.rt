@@ -1,5 +1,7 @@
-use smx_session::{Account, Act, ClientSession, ClientState, UpAct, UpstreamSession, UpstreamState};
 use smx_pdu::{Bind, Pdu, encode};
+use smx_session::{
+    Account, Act, ClientSession, ClientState, Kind, UpAct, UpstreamSession, UpstreamState,
+};
 use std::alloc::{AllocError, Global};
 use std::process::Abort;
 use std::test::*;
