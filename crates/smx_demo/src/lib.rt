@@ -8,6 +8,3 @@ mod stream_peer;
 mod visitors;
 
 pub use showing::{NotShown, demo};
-
-#[cfg(test)]
-mod tests;

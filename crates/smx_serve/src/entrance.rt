@@ -1,13 +1,12 @@
 //! Where clients connect.
 
-use crate::boxes::ClientEnds;
+use crate::guests::{Guest, Guests};
 use crate::notice::Notice;
-use crate::roll::Roll;
 use crate::seats::{Entrant, Gateway, Member};
-use crate::slots::{Guest, Slots};
 use mio::net::{TcpListener, TcpStream};
 use mio::{Registry, Token};
 use smx_client::Desk;
+use smx_slots::{ClientEnds, Roll};
 use smx_socket::{Socket, SocketLink};
 use std::alloc::Global;
 use std::io::ErrorKind;
@@ -82,19 +81,19 @@ impl Entrance {
         registry: &Registry,
         lanes: usize,
         desk: &'d Desk,
-        slots: &mut Slots<'d>,
+        guests: &mut Guests<'d>,
         roll: &mut Roll,
         stream: TcpStream,
         address: String,
     ) -> Option<usize> {
-        let Some((slot, ends)) = slots.pick() else {
+        let Some((slot, ends)) = guests.slots.pick() else {
             let _ = eprintln!(rt; "{}", Notice::NoSlot(address.as_str()));
             return None;
         };
         let entrant = match self.gateway.enter(rt) {
             Ok(entrant) => entrant,
             Err(fault) => {
-                slots.give_back(slot, ends);
+                guests.slots.give_back(slot, ends);
                 let _ = eprintln!(rt; "{}", Notice::Refused(address.as_str(), fault));
                 return None;
             }
@@ -103,7 +102,7 @@ impl Entrance {
         let token = Token(lanes.saturating_add(slot));
         let Some(socket) = Socket::new(self.alloc, stream, registry, token) else {
             entrant.leave(rt);
-            slots.give_back(slot, ends);
+            guests.slots.give_back(slot, ends);
             let _ = eprintln!(rt; "{}", Notice::Unwatched(address.as_str()));
             return None;
         };
@@ -114,7 +113,7 @@ impl Entrance {
             ends,
             socket,
         };
-        self.seat(rt, desk, slots, roll, arrival)
+        self.seat(rt, desk, guests, roll, arrival)
     }
 
     // Makes the worker of a client that has entered.
@@ -122,7 +121,7 @@ impl Entrance {
         &mut self,
         rt: &R,
         desk: &'d Desk,
-        slots: &mut Slots<'d>,
+        guests: &mut Guests<'d>,
         roll: &mut Roll,
         arrival: Arrival,
     ) -> Option<usize> {
@@ -136,7 +135,7 @@ impl Entrance {
         let client = entrant.client();
         let Some((socket, link)) = link_of(self.alloc, socket) else {
             entrant.leave(rt);
-            slots.give_back(slot, ends);
+            guests.slots.give_back(slot, ends);
             let _ = eprintln!(rt; "{}", Notice::Unwatched(address.as_str()));
             return None;
         };
@@ -144,7 +143,7 @@ impl Entrance {
             Ok(member) => {
                 let _ = roll.add(client, slot);
                 let _ = eprintln!(rt; "{}", Notice::Came(client, address.as_str()));
-                slots.seat(
+                guests.seat(
                     slot,
                     Guest {
                         client,
@@ -156,7 +155,7 @@ impl Entrance {
                 Some(slot)
             }
             Err(ends) => {
-                slots.give_back(slot, ends);
+                guests.slots.give_back(slot, ends);
                 let _ = eprintln!(rt; "{}", Notice::Unwatched(address.as_str()));
                 None
             }

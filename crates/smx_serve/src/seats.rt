@@ -6,13 +6,13 @@ ghost use Rattle.smx_turns.specs.declared.end.Fault.{Fault};
 ghost use Rattle.smx_client.specs.declared.mark.Stage.{Stage};
 ghost use Rattle.smx_session.specs.declared.upstream_state.UpstreamState.{UpstreamState};
 
-use crate::boxes::{ClientEnds, LaneEnds};
 use smx_client::{ClientWorker, Closed, Desk, run_client};
 use smx_session::UpstreamSession;
 use smx_shared::{Door, EnterFault, Exchange, Port, Tap};
+use smx_slots::{ClientEnds, LaneEnds};
 use smx_socket::SocketLink;
-use smx_turns::{Directory, Gate, RunEnd, TurnEnd};
-use smx_upstream::{Parts, UpstreamWorker};
+use smx_turns::{Directory, Gate, RunEnd};
+use smx_upstream::{Parts, UpstreamWorker, run_upstream};
 use std::alloc::Global;
 use std::sync::{Arc, Wait};
 
@@ -153,32 +153,6 @@ impl<'d> Member<'d> {
     }
 }
 
-// Turns a worker at most so often, and no more after a turn that wasn't `Worked`.
-fn carry<R: Wait, G: Gate, D: Directory>(
-    worker: &mut UpstreamWorker<SocketLink>,
-    at: &Exchange,
-    rt: &R,
-    gate: &mut G,
-    directory: &mut D,
-    now: u64,
-    turns: u64,
-) -> RunEnd
-    requires lock { slice_get at.now worker.old.stand.tap.lane ≡ Some worker.old.stand.tap.front.lock }
-    requires none { worker.old.held ≡ None }
-    ensures lock { slice_get at.now worker.new.stand.tap.lane ≡ Some worker.new.stand.tap.front.lock }
-    ensures none { ((fault : Fault) → result ≢ RunEnd.Fault fault) → worker.new.held ≡ None }
-{
-    for _turn in 0..turns {
-        match worker.turn(at, rt, gate, directory, now) {
-            Ok(TurnEnd::Done) => return RunEnd::Left,
-            Ok(TurnEnd::Idle) => return RunEnd::Idle,
-            Ok(TurnEnd::Worked) => {}
-            Err(fault) => return RunEnd::Fault(fault),
-        }
-    }
-    RunEnd::Turns
-}
-
 impl Carrier {
     // A worker for a lane, or nothing where there is no memory for it.
     pub fn new(
@@ -222,7 +196,8 @@ impl Carrier {
         if self.over {
             return RunEnd::Left;
         }
-        let end = carry(&mut self.worker, &self.at, rt, gate, directory, now, turns);
+        let at = &self.at;
+        let end = run_upstream(&mut self.worker, at, rt, gate, directory, || now, turns);
         if let RunEnd::Fault(_) = end {
             self.over = true;
         }

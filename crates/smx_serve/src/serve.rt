@@ -1,14 +1,11 @@
 //! A proxy from its configuration on.
 
-use crate::boxes::ends_of;
 use crate::desk::desk_of;
 use crate::entrance::Entrance;
+use crate::guests::Guests;
 use crate::notice::{Ended, Notice};
-use crate::ready::Ready;
 use crate::remote::Remote;
-use crate::roll::Roll;
 use crate::seats::Gateway;
-use crate::slots::Slots;
 use crate::turning::{LISTENER, Loop, WAKER};
 use crate::upstreams::{drawers_of, lanes_of};
 use mio::net::TcpListener;
@@ -17,6 +14,7 @@ use smx_client::Desk;
 use smx_config::Config;
 use smx_routes::Routes;
 use smx_shared::Exchange;
+use smx_slots::{Ready, Roll, Slots, ends_of};
 use std::alloc::Global;
 use std::net::{Net, TcpStream};
 use std::rt::Clock;
@@ -131,7 +129,7 @@ impl Server {
             poll,
             events: Events::with_capacity(alloc, 512)?,
             lanes,
-            slots: Slots::new(alloc, ends)?,
+            guests: Guests::new(alloc, Slots::new(alloc, ends)?)?,
             entrance: Entrance {
                 alloc,
                 listener,

@@ -13,13 +13,13 @@ const PATIENCE: u64 = 2_000;
 impl<'d> Loop<'d> {
     // Whether an octet waits for a socket.
     fn has_octets(&self) -> bool {
-        self.slots.is_lingering() || self.lanes.iter().any(|lane| lane.socket.has_octets())
+        self.guests.is_lingering() || self.lanes.iter().any(|lane| lane.socket.has_octets())
     }
 
     // Lets each client go.
     fn dismiss<R: Wait + Eprint>(&mut self, rt: &R) {
-        for slot in 0..self.slots.count() {
-            if let Some(guest) = self.slots.guest(slot) {
+        for slot in 0..self.guests.slots.count() {
+            if let Some(guest) = self.guests.take(slot) {
                 self.let_go(rt, slot, guest, RunEnd::Left);
             }
         }

@@ -1,18 +1,15 @@
 //! The loop: it turns who has something to do, writes, and waits for events.
 
-use crate::bell::Bell;
 use crate::entrance::Entrance;
-use crate::guide::Guide;
+use crate::guests::{Guest, Guests};
 use crate::notice::{Ended, Notice};
-use crate::ready::Ready;
 use crate::remote::Remote;
-use crate::roll::Roll;
-use crate::slots::{Guest, Slots};
 use crate::upstreams::Lane;
 use mio::{Events, Poll, Token};
 use smx_client::Desk;
 use smx_config::Config;
 use smx_routes::Routes;
+use smx_slots::{Bell, Guide, Ready, Roll};
 use smx_socket::{Flushed, Socket};
 use smx_turns::RunEnd;
 use std::rt::Clock;
@@ -40,7 +37,7 @@ pub(crate) struct Loop<'d> {
     pub poll: Poll,
     pub events: Events,
     pub lanes: Vec<Lane>,
-    pub slots: Slots<'d>,
+    pub guests: Guests<'d>,
     pub entrance: Entrance,
     pub roll: Roll,
     pub routes: Routes,
@@ -64,7 +61,7 @@ impl<'d> Loop<'d> {
         if party < lanes {
             return Some(&self.lanes.get(party)?.socket);
         }
-        self.slots.socket(party - lanes)
+        self.guests.socket(party - lanes)
     }
 
     // A turned worker isn't idle: it is turned again, or waits where it could do nothing.
@@ -139,7 +136,7 @@ impl<'d> Loop<'d> {
 
     // Turns a client's worker until it is idle, at most so often.
     fn turn_slot<R: Wait + Eprint>(&mut self, rt: &R, slot: usize) {
-        let Some(mut guest) = self.slots.guest(slot) else {
+        let Some(mut guest) = self.guests.take(slot) else {
             return;
         };
         let lanes = self.lanes.len();
@@ -149,9 +146,9 @@ impl<'d> Loop<'d> {
         let end = guest.member.run(rt, &mut bell, &mut guide, TURNS);
         let moved = guest.socket.traffic() != before;
         match end {
-            RunEnd::Idle => self.slots.seat(slot, guest),
+            RunEnd::Idle => self.guests.seat(slot, guest),
             RunEnd::Turns => {
-                self.slots.seat(slot, guest);
+                self.guests.seat(slot, guest);
                 self.go_on(lanes.saturating_add(slot), moved);
             }
             RunEnd::Left | RunEnd::Fault(_) => self.let_go(rt, slot, guest, end),
@@ -181,7 +178,7 @@ impl<'d> Loop<'d> {
                 self.ready.add(lane);
             }
         }
-        self.slots.part(slot, socket, ends, self.now);
+        self.guests.part(slot, socket, ends, self.now);
         if self.entrance.short {
             self.accept(rt);
         }
@@ -205,7 +202,7 @@ impl<'d> Loop<'d> {
                 self.poll.registry(),
                 lanes,
                 self.desk,
-                &mut self.slots,
+                &mut self.guests,
                 &mut self.roll,
                 stream,
                 address,
@@ -265,9 +262,9 @@ impl<'d> Loop<'d> {
             self.ready.add(lane);
         }
         self.unstall();
-        if self.slots.is_lingering() {
-            for slot in 0..self.slots.count() {
-                self.slots.settle(slot, self.now);
+        if self.guests.is_lingering() {
+            for slot in 0..self.guests.slots.count() {
+                self.guests.settle(slot, self.now);
             }
         }
         if self.entrance.short {
@@ -297,10 +294,10 @@ impl<'d> Loop<'d> {
                     lane.socket.note(event);
                     lane.socket.flush();
                 }
-            } else if let Some(socket) = self.slots.socket(party - lanes) {
+            } else if let Some(socket) = self.guests.socket(party - lanes) {
                 socket.note(event);
                 socket.flush();
-                self.slots.settle(party - lanes, self.now);
+                self.guests.settle(party - lanes, self.now);
             }
             self.ready.add(party);
         }

@@ -4,7 +4,6 @@ ghost use Rattle.std.specs.Arc.{arc_value};
 ghost use Rattle.smx_pdu.specs.Fields.{IsText};
 ghost use Rattle.smx_session.specs.declared.upstream_state.UpstreamState.{UpstreamState};
 
-use crate::boxes::LaneEnds;
 use crate::entrance::link_of;
 use crate::notice::{Ended, Notice};
 use crate::seats::{Carrier, Drawer};
@@ -12,6 +11,7 @@ use mio::{Registry, Token};
 use smx_config::{Config, Upstream};
 use smx_session::UpstreamSession;
 use smx_shared::{Exchange, Tap};
+use smx_slots::LaneEnds;
 use smx_socket::Socket;
 use std::alloc::{AllocError, Global};
 use std::net::{Net, TcpListener, TcpStream};

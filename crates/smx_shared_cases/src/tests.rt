@@ -1,11 +1,14 @@
 ghost use Rattle.std.specs.Prelude.{◌≡◌, ◌<◌, length, slice_get, Some, All, IfOk, IfSome};
 ghost use Rattle.smx_shared.specs.Views.{locks_of};
 
-use smx_shared::{Door, EnterFault, Exchange, MakeFault, Offer, Port, Starts, SubmitFault, TakeFault, Tap, TryTakeFault, TurnFault};
 use smx_history::{Answered, Entry, Kind, Limits, TakeRefusal};
 use smx_lock::{Spent, TryFault};
 use smx_pdu::command::{RESPONSE, SUBMIT_SM};
 use smx_pdu::{Body, Pdu};
+use smx_shared::{
+    Door, EnterFault, Exchange, MakeFault, Offer, Port, Starts, SubmitFault, TakeFault, Tap,
+    TryTakeFault, TurnFault,
+};
 use std::alloc::Global;
 use std::sync::Wait;
 use std::test::Fail;

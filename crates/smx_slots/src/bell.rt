@@ -8,7 +8,7 @@ use smx_turns::{Gate, Party, Point, Question};
 /// Lets each worker go on, and notes who has something to do. Parties are numbered: the lanes, then
 /// the clients' slots.
 #[derive(Drop)]
-pub(crate) struct Bell<'a> {
+pub struct Bell<'a> {
     lanes: usize,
     ready: &'a mut Ready,
     roll: &'a Roll,
@@ -30,7 +30,7 @@ impl<'a> Bell<'a> {
         }
     }
 
-    // Whether a worker asked for leave to take.
+    /// Whether a worker asked for leave to take.
     pub fn takes(&self) -> bool {
         self.takes
     }

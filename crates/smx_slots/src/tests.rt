@@ -1,5 +1,3 @@
-mod loopback;
-
 use crate::bell::Bell;
 use crate::boxes::ends_of;
 use crate::guide::Guide;

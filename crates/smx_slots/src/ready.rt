@@ -4,14 +4,14 @@ use std::alloc::{AllocError, Global};
 
 /// The parties that have something to do, in the order in which they were told of, each once.
 #[derive(Drop)]
-pub(crate) struct Ready {
+pub struct Ready {
     parties: Vec<usize>,
     // By party: whether it is among them.
     queued: Vec<bool>,
 }
 
 impl Ready {
-    // None of so many. It takes the memory for all of them.
+    /// None of so many. It takes the memory for all of them.
     pub fn new(alloc: Global, count: usize) -> Result<Ready, AllocError> {
         Ok(Ready {
             parties: Vec::with_capacity(alloc, count)?,
@@ -19,7 +19,7 @@ impl Ready {
         })
     }
 
-    // This one has something to do.
+    /// This one has something to do.
     pub fn add(&mut self, party: usize) {
         let Some(queued) = self.queued.get_mut(party) else {
             return;
@@ -35,12 +35,12 @@ impl Ready {
         self.parties.is_empty()
     }
 
-    // Exchanges the list with an empty one. Each party of it stays in it until it is begun.
+    /// Exchanges the list with an empty one. Each party of it stays in it until it is begun.
     pub fn swap(&mut self, list: &mut Vec<usize>) {
         std::mem::swap(&mut self.parties, list);
     }
 
-    // This one is turned now: what comes from now on makes it ready again.
+    /// This one is turned now: what comes from now on makes it ready again.
     pub fn begin(&mut self, party: usize) {
         if let Some(queued) = self.queued.get_mut(party) {
             *queued = false;

@@ -1,5 +1,5 @@
-use crate::{Ended, Server};
 use smx_config::read;
+use smx_serve::{Ended, Server};
 use std::io::{Read, Write};
 use std::net::{TcpListener, TcpStream};
 use std::test::Fail;

@@ -1,7 +1,7 @@
-//! The places of clients.
+//! The clients that are served.
 
-use crate::boxes::ClientEnds;
 use crate::seats::Member;
+use smx_slots::{ClientEnds, Slots};
 use smx_socket::{Flushed, Socket};
 use std::alloc::{AllocError, Global};
 use std::rc::Rc;
@@ -28,69 +28,36 @@ struct Lingering {
 // Where the client of a free slot stands.
 const NOWHERE: usize = usize::MAX;
 
-/// The places of clients, each with its ends of the boxes.
+/// The clients that are served, each in its slot, and the sockets of those that are gone.
 #[derive(Drop)]
-pub(crate) struct Slots<'d> {
+pub(crate) struct Guests<'d> {
+    pub slots: Slots,
     // The clients in no order, and beside each its slot.
     guests: Vec<Guest<'d>>,
     seated: Vec<usize>,
     // These are by slot: where its client stands among them.
     places: Vec<usize>,
     lingering: Vec<Option<Lingering>>,
-    // Here where nobody has the slot.
-    ends: Vec<Option<ClientEnds>>,
-    free: Vec<usize>,
 }
 
-impl<'d> Slots<'d> {
-    // All free.
-    pub fn new(alloc: Global, all: Vec<ClientEnds>) -> Result<Slots<'d>, AllocError> {
-        let count = all.len();
+impl<'d> Guests<'d> {
+    // Nobody in any slot.
+    pub fn new(alloc: Global, slots: Slots) -> Result<Guests<'d>, AllocError> {
+        let count = slots.count();
         let guests = Vec::with_capacity(alloc, count)?;
         let seated = Vec::with_capacity(alloc, count)?;
-        let mut places = Vec::with_capacity(alloc, count)?;
+        let places = vec![in alloc; NOWHERE; count]?;
         let mut lingering = Vec::with_capacity(alloc, count)?;
-        let mut ends = Vec::with_capacity(alloc, count)?;
-        for one in all {
-            places.push(NOWHERE)?;
+        for _ in 0..count {
             lingering.push(None)?;
-            ends.push(Some(one))?;
         }
-        let mut free = Vec::with_capacity(alloc, count)?;
-        for slot in (0..count).rev() {
-            free.push(slot)?;
-        }
-        Ok(Slots {
+        Ok(Guests {
+            slots,
             guests,
             seated,
             places,
             lingering,
-            ends,
-            free,
         })
-    }
-
-    pub fn count(&self) -> usize {
-        self.ends.len()
-    }
-
-    // A free slot, which is no more free, and its ends.
-    pub fn pick(&mut self) -> Option<(usize, ClientEnds)> {
-        let slot = self.free.pop()?;
-        let ends = self.ends.get_mut(slot)?.take()?;
-        Some((slot, ends))
-    }
-
-    // Nobody has the slot any more.
-    pub fn give_back(&mut self, slot: usize, ends: ClientEnds) {
-        self.keep(slot, ends);
-        let _ = self.free.push(slot);
-    }
-
-    fn keep(&mut self, slot: usize, ends: ClientEnds) {
-        if let Some(place) = self.ends.get_mut(slot) {
-            *place = Some(ends);
-        }
     }
 
     // The client has the slot now. There is room for as many as there are slots.
@@ -108,7 +75,7 @@ impl<'d> Slots<'d> {
     }
 
     // The client that has the slot, which has it no more.
-    pub fn guest(&mut self, slot: usize) -> Option<Guest<'d>> {
+    pub fn take(&mut self, slot: usize) -> Option<Guest<'d>> {
         let at = *self.places.get(slot)?;
         if at >= self.guests.len() || at >= self.seated.len() {
             return None;
@@ -143,10 +110,10 @@ impl<'d> Slots<'d> {
     // The slot's client is gone: the slot is free once its socket has taken what waits.
     pub fn part(&mut self, slot: usize, socket: Rc<Socket>, ends: ClientEnds, now: u64) {
         if socket.flush() != Flushed::Part {
-            self.give_back(slot, ends);
+            self.slots.give_back(slot, ends);
             return;
         }
-        self.keep(slot, ends);
+        self.slots.keep(slot, ends);
         if let Some(place) = self.lingering.get_mut(slot) {
             *place = Some(Lingering {
                 socket,
@@ -167,7 +134,7 @@ impl<'d> Slots<'d> {
             *place = Some(lingering);
             return;
         }
-        let _ = self.free.push(slot);
+        self.slots.free(slot);
     }
 
     // Whether a socket of a client that is gone has octets left.

@@ -8,14 +8,14 @@ use std::sync::Wait;
 
 /// A client's ends of the boxes: that of its own, and a sender for the return box of each lane.
 #[derive(Drop)]
-pub(crate) struct ClientEnds {
+pub struct ClientEnds {
     pub inbox: Receiver<MoItem>,
     pub senders: Vec<Sender<Pdu>>,
 }
 
 /// A lane's ends: that of its return box, and a sender for the box of each slot.
 #[derive(Drop)]
-pub(crate) struct LaneEnds {
+pub struct LaneEnds {
     pub answers: Receiver<Pdu>,
     pub senders: Vec<Sender<MoItem>>,
 }
@@ -50,8 +50,9 @@ fn boxes_of<T: Drop, R: Wait>(
     Ok((receivers, rows))
 }
 
-// The ends of all boxes, by slot and by lane.
-pub(crate) fn ends_of<R: Wait>(
+/// The ends of all boxes, by slot and by lane, each box of so many places. Want of memory is answered,
+/// and so are sizes that no box has.
+pub fn ends_of<R: Wait>(
     rt: &R,
     alloc: Global,
     slots: usize,

@@ -1,5 +1,5 @@
-use crate::demo;
 use smx_config::read;
+use smx_demo::demo;
 use std::alloc::Global;
 use std::io;
 use std::net::TcpListener;

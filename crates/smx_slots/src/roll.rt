@@ -10,13 +10,13 @@ struct Row {
 
 /// The clients, each with its slot.
 #[derive(Drop)]
-pub(crate) struct Roll {
+pub struct Roll {
     // In the order of the clients' numbers.
     rows: Vec<Row>,
 }
 
 impl Roll {
-    // No client. It takes the memory for so many.
+    /// No client. It takes the memory for so many.
     pub fn new(alloc: Global, most: usize) -> Result<Roll, AllocError> {
         Ok(Roll {
             rows: Vec::with_capacity(alloc, most)?,
@@ -27,7 +27,7 @@ impl Roll {
         self.rows.binary_search_by(|row| row.client.cmp(&client))
     }
 
-    // The slot of a client: it looks at no more rows than the count of clients has digits in base 2.
+    /// The slot of a client: it looks at no more rows than the count of clients has digits in base 2.
     pub fn slot(&self, client: u64) -> Option<usize> {
         let Ok(at) = self.place(client) else {
             return None;
@@ -38,7 +38,7 @@ impl Roll {
         }
     }
 
-    // This client has this slot. False where it has one, or there is no memory.
+    /// This client has this slot. False where it has one, or there is no memory.
     pub fn add(&mut self, client: u64, slot: usize) -> bool {
         match self.place(client) {
             Ok(_) => false,
@@ -51,7 +51,7 @@ impl Roll {
         }
     }
 
-    // The client has no slot any more.
+    /// The client has no slot any more.
     pub fn remove(&mut self, client: u64) {
         self.rows.retain(|row| row.client != client);
     }

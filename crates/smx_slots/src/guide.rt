@@ -9,7 +9,7 @@ use std::sync::Wait;
 
 /// The directory of the proxy: the routes, and which client has which slot.
 #[derive(Drop)]
-pub(crate) struct Guide<'a> {
+pub struct Guide<'a> {
     routes: &'a mut Routes,
     roll: &'a Roll,
     queries: Trace<Query>,

@@ -1,0 +1,8 @@
+//! The proxy and its demonstration over sockets of the loopback. It has tests alone, in a crate of
+//! their own, so that neither is proved twice.
+#![tactic(auto)]
+
+#[cfg(test)]
+mod loopback;
+#[cfg(test)]
+mod showing;

@@ -1,0 +1,23 @@
+//! The tables of the proxy: who has something to do, which client has which slot, which slots are
+//! free and which ends of boxes each has, and what workers ask of them: their gate and the directory.
+//!
+//! Nothing here has a socket, a clock or a thread. All memory is taken when a table is made, but for
+//! the routes of clients.
+#![tactic(auto)]
+
+mod bell;
+mod boxes;
+mod guide;
+mod ready;
+mod roll;
+mod slots;
+
+pub use bell::Bell;
+pub use boxes::{ClientEnds, LaneEnds, ends_of};
+pub use guide::Guide;
+pub use ready::Ready;
+pub use roll::Roll;
+pub use slots::Slots;
+
+#[cfg(test)]
+mod tests;
