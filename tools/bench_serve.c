@@ -1,6 +1,7 @@
 // The two ends of tools/bench-serve: a message centre that answers at once, and clients under load.
 //
-//   bench_serve centre PORT                                 answers until it is killed
+//   bench_serve centre PORT [mute]                          answers until it is killed; mute: it takes
+//                                                           binds, and reads no more after a request
 //   bench_serve load PORT CLIENTS WINDOW SECONDS [FLAG]     prints one line of figures, and ends
 //
 // Each client binds as `alpha`, keeps WINDOW requests without an answer, and sends the next when an
@@ -118,10 +119,16 @@ static struct sockaddr_in loopback(int port) {
     return at;
 }
 
+static int is_mute;
+
 static void answer(struct link *l, const unsigned char *pdu, size_t size) {
     (void)size;
     uint32_t command = number_at(pdu + 4), number = number_at(pdu + 12);
     if (command & RESPONSE) return;
+    if (is_mute && command == SUBMIT_SM) {
+        epoll_ctl(poller, EPOLL_CTL_DEL, l->socket, 0);
+        return;
+    }
     if (command == SUBMIT_SM) say(l, command | RESPONSE, number, "1", 2);
     else if (command == BIND_TRANSCEIVER) say(l, command | RESPONSE, number, "centre", 7);
     else say(l, command | RESPONSE, number, "", 0);
@@ -244,7 +251,10 @@ int main(int words, char **word) {
     struct rlimit files = {4096, 4096};
     setrlimit(RLIMIT_NOFILE, &files);
     poller = epoll_create1(0);
-    if (words == 3 && !strcmp(word[1], "centre")) centre(atoi(word[2]));
+    if (words > 2 && !strcmp(word[1], "centre")) {
+        is_mute = words > 3 && !strcmp(word[3], "mute");
+        centre(atoi(word[2]));
+    }
     if (words < 6 || strcmp(word[1], "load")) return 2;
     window = atoi(word[4]);
     load(atoi(word[2]), atoi(word[3]), atof(word[5]), words > 6 ? word[6] : "");

@@ -1,5 +1,6 @@
 //! The clients that are served.
 
+use crate::notice::Notice;
 use crate::seats::Member;
 use smx_slots::{ClientEnds, Slots};
 use smx_socket::{Flushed, Socket};
@@ -16,6 +17,16 @@ pub(crate) struct Guest<'d> {
     pub address: String,
     pub member: Member<'d>,
     pub socket: Rc<Socket>,
+}
+
+impl Guest<'_> {
+    // Says as what its client is bound, where it is.
+    pub fn say_bound<R: Eprint>(&self, rt: &R) {
+        if let Some(kind) = self.member.kind() {
+            let address = self.address.as_str();
+            let _ = eprintln!(rt; "{}", Notice::Admitted(self.client, address, kind));
+        }
+    }
 }
 
 // The socket of a client that is gone, until all is written, or until this moment.
@@ -74,7 +85,13 @@ impl<'d> Guests<'d> {
         }
     }
 
-    // The client that has the slot, which has it no more.
+    // The client that has the slot.
+    pub fn guest(&mut self, slot: usize) -> Option<&mut Guest<'d>> {
+        let at = *self.places.get(slot)?;
+        self.guests.get_mut(at)
+    }
+
+    // The same, and it has the slot no more.
     pub fn take(&mut self, slot: usize) -> Option<Guest<'d>> {
         let at = *self.places.get(slot)?;
         if at >= self.guests.len() || at >= self.seated.len() {

@@ -8,7 +8,7 @@ use std::fmt;
 /// How a run of the proxy ended.
 #[derive(Clone, Copy, Debug, PartialEq, Eq, thiserror::Error)]
 pub enum Ended {
-    /// It was told to stop, and what waited is written.
+    /// It was told to stop: it has unbound, and what waited is written.
     #[error("stopped")]
     Stopped,
     /// The link with the upstream of this index ended, or its bind was refused.
@@ -43,7 +43,9 @@ pub(crate) enum Notice<'a> {
     Unreached(usize, &'a str, &'a str),
     Bound(usize, &'a str, &'a str),
     Lost(usize, &'a str, &'a str),
+    Unbound(usize, &'a str, &'a str),
     Came(u64, &'a str),
+    Admitted(u64, &'a str, &'a str),
     Left(u64, &'a str),
     Closed(u64, &'a str),
     Failed(u64, &'a str, Fault),
@@ -71,7 +73,13 @@ impl fmt::Display for Notice<'_> {
             Notice::Lost(lane, address, name) => {
                 write!(f, "upstream {lane} {name} at {address}: ended")
             }
+            Notice::Unbound(lane, address, name) => {
+                write!(f, "upstream {lane} {name} at {address}: unbound")
+            }
             Notice::Came(client, address) => write!(f, "client {client} at {address}: connected"),
+            Notice::Admitted(client, address, kind) => {
+                write!(f, "client {client} at {address}: bound as {kind}")
+            }
             Notice::Left(client, address) => write!(f, "client {client} at {address}: left"),
             Notice::Closed(client, address) => {
                 write!(f, "client {client} at {address}: closed its connection")

@@ -7,7 +7,7 @@ ghost use Rattle.smx_client.specs.declared.mark.Stage.{Stage};
 ghost use Rattle.smx_session.specs.declared.upstream_state.UpstreamState.{UpstreamState};
 
 use smx_client::{ClientWorker, Closed, Desk, run_client};
-use smx_session::UpstreamSession;
+use smx_session::{ClientState, UpstreamSession, UpstreamState};
 use smx_shared::{Door, EnterFault, Exchange, Port, Tap};
 use smx_slots::{ClientEnds, LaneEnds};
 use smx_socket::SocketLink;
@@ -56,6 +56,7 @@ pub(crate) struct Member<'d> {
 pub(crate) struct Carrier {
     at: Arc<Exchange>,
     worker: UpstreamWorker<SocketLink>,
+    // It has ended, or a turn of it failed: it is turned no more.
     over: bool,
     ghost fits: { slice_get (arc_value at) worker.stand.tap.lane ≡ Some worker.stand.tap.front.lock },
     ghost goes_on: { over ≡ false → worker.held ≡ None },
@@ -122,6 +123,16 @@ impl<'d> Member<'d> {
         }
     }
 
+    // As what its client is bound, in words; None where it isn't.
+    pub fn kind(&self) -> Option<&'static str> {
+        match self.worker.state() {
+            ClientState::BoundTx => Some("transmitter"),
+            ClientState::BoundRx => Some("receiver"),
+            ClientState::BoundTrx => Some("transceiver"),
+            ClientState::Opened | ClientState::Ended => None,
+        }
+    }
+
     // Turns it for as long as there is something to do, at most so often.
     pub fn run<R: Wait, G: Gate, D: Directory>(
         &mut self,
@@ -184,6 +195,22 @@ impl Carrier {
         }
     }
 
+    // Whether it has ended, or a turn of it failed.
+    pub fn is_over(&self) -> bool {
+        self.over
+    }
+
+    // Ends its session in order. False where it wasn't bound, or there was no memory: then nothing is
+    // to be waited for.
+    pub fn stop(&mut self) -> bool {
+        !self.over && self.worker.stop() == Ok(true)
+    }
+
+    // Whether its bind was answered well, and no unbind came or went since.
+    pub fn is_bound(&self) -> bool {
+        self.worker.state() == UpstreamState::Bound
+    }
+
     // Turns it for as long as there is something to do, at most so often.
     pub fn run<R: Wait, G: Gate, D: Directory>(
         &mut self,
@@ -198,7 +225,7 @@ impl Carrier {
         }
         let at = &self.at;
         let end = run_upstream(&mut self.worker, at, rt, gate, directory, || now, turns);
-        if let RunEnd::Fault(_) = end {
+        if let RunEnd::Left | RunEnd::Fault(_) = end {
             self.over = true;
         }
         end

@@ -141,7 +141,7 @@ impl Server {
             routes: Routes::new(alloc),
             ready: Ready::new(alloc, parties)?,
             current: Vec::with_capacity(alloc, parties)?,
-            dirty: Vec::with_capacity(alloc, parties)?,
+            dirty: Ready::new(alloc, parties)?,
             stalled: Vec::with_capacity(alloc, parties)?,
             passes: 0,
             now: 0,

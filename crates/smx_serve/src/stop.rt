@@ -7,13 +7,19 @@ use std::rt::Clock;
 use std::sync::Wait;
 use std::time::Instant;
 
-/// How long what waits may take to be written, in milliseconds.
+/// How long what waits may take to be written, and then the centre to answer the unbinds, in
+/// milliseconds each.
 const PATIENCE: u64 = 2_000;
 
 impl<'d> Loop<'d> {
     // Whether an octet waits for a socket.
     fn has_octets(&self) -> bool {
         self.guests.is_lingering() || self.lanes.iter().any(|lane| lane.socket.has_octets())
+    }
+
+    // Whether a lane's worker hasn't ended.
+    fn has_lanes(&self) -> bool {
+        self.lanes.iter().any(|lane| !lane.carrier.is_over())
     }
 
     // Lets each client go.
@@ -25,31 +31,62 @@ impl<'d> Loop<'d> {
         }
     }
 
-    /// Lets the clients go, writes what waits, and ends.
-    pub fn stop<R: Wait + Clock + Eprint>(&mut self, rt: &R, start: Instant) -> Ended {
-        let _ = eprintln!(rt; "{}", Notice::Stopping);
-        self.stopping = true;
-        self.dismiss(rt);
+    // Unbinds each lane that is bound. True where there is one.
+    fn unbind(&mut self) -> bool {
+        let mut any = false;
+        for lane in self.lanes.iter_mut() {
+            any |= lane.carrier.stop();
+        }
+        for lane in 0..self.lanes.len() {
+            self.ready.add(lane);
+        }
+        any
+    }
+
+    // Turns whoever is ready, writes and waits: until nobody is ready and nothing waits for a socket,
+    // and, where the lanes are to end, until they have; at most so long.
+    fn settle<R: Wait + Clock + Eprint>(
+        &mut self,
+        rt: &R,
+        start: Instant,
+        lanes_end: bool,
+    ) -> Result<(), Ended> {
         let until = self.now.saturating_add(PATIENCE);
         for _ in rt.forever() {
             self.look(rt, start);
             if self.now >= until {
-                return Ended::Stopped;
+                return Ok(());
             }
             if !self.ready.is_empty() {
-                if let Err(ended) = self.pass(rt) {
-                    return ended;
-                }
+                self.pass(rt)?;
                 continue;
             }
             self.flush();
-            if !self.has_octets() {
-                return Ended::Stopped;
+            if !self.has_octets() && !(lanes_end && self.has_lanes()) {
+                return Ok(());
             }
-            if let Err(ended) = self.wait(rt, 10) {
-                return ended;
-            }
+            self.wait(rt, 10)?;
         }
         unreachable!()
+    }
+
+    // Lets the clients go, writes what waits, and unbinds.
+    fn end<R: Wait + Clock + Eprint>(&mut self, rt: &R, start: Instant) -> Result<(), Ended> {
+        self.dismiss(rt);
+        self.settle(rt, start, false)?;
+        if self.unbind() {
+            self.settle(rt, start, true)?;
+        }
+        Ok(())
+    }
+
+    /// Lets the clients go, writes what waits, unbinds upstream, and ends.
+    pub fn stop<R: Wait + Clock + Eprint>(&mut self, rt: &R, start: Instant) -> Ended {
+        let _ = eprintln!(rt; "{}", Notice::Stopping);
+        self.stopping = true;
+        match self.end(rt, start) {
+            Ok(()) => Ended::Stopped,
+            Err(ended) => ended,
+        }
     }
 }

@@ -45,7 +45,7 @@ pub(crate) struct Loop<'d> {
     // Those of the pass that is made.
     pub current: Vec<usize>,
     // Those whose sockets may have octets.
-    pub dirty: Vec<usize>,
+    pub dirty: Ready,
     // Those that can't go on: their peer doesn't read, or a return box is full.
     pub stalled: Vec<usize>,
     pub passes: u64,
@@ -64,13 +64,18 @@ impl<'d> Loop<'d> {
         self.guests.socket(party - lanes)
     }
 
-    // A turned worker isn't idle: it is turned again, or waits where it could do nothing.
-    fn go_on(&mut self, party: usize, moved: bool) {
+    // A worker was turned, and octets moved or none did. One that isn't idle is turned again, or waits
+    // where it could do nothing.
+    fn was_turned(&mut self, party: usize, end: RunEnd, moved: bool) {
         if moved {
-            self.ready.add(party);
-            let _ = self.dirty.push(party);
-        } else {
-            let _ = self.stalled.push(party);
+            self.dirty.add(party);
+        }
+        if end == RunEnd::Turns {
+            if moved {
+                self.ready.add(party);
+            } else {
+                let _ = self.stalled.push(party);
+            }
         }
     }
 
@@ -87,10 +92,10 @@ impl<'d> Loop<'d> {
         if let Some(upstream) = config.upstream.get(lane) {
             let address = upstream.address.as_str();
             let name = upstream.system_id.as_str();
-            let notice = if bound {
-                Notice::Bound(lane, address, name)
-            } else {
-                Notice::Lost(lane, address, name)
+            let notice = match (bound, self.stopping) {
+                (true, _) => Notice::Bound(lane, address, name),
+                (false, true) => Notice::Unbound(lane, address, name),
+                (false, false) => Notice::Lost(lane, address, name),
             };
             let _ = eprintln!(rt; "{notice}");
         }
@@ -102,56 +107,57 @@ impl<'d> Loop<'d> {
         let Some(place) = self.lanes.get_mut(lane) else {
             return true;
         };
-        let Some(mut carrier) = place.carrier.take() else {
+        if place.carrier.is_over() {
             return true;
-        };
+        }
         let before = place.socket.traffic();
+        let was_bound = place.carrier.is_bound();
         let mut bell = Bell::new(count, &mut self.ready, &self.roll);
         let mut guide = Guide::new(&mut self.routes, &self.roll);
-        let end = carrier.run(rt, &mut bell, &mut guide, self.now, TURNS);
-        let newly = bell.takes() && !place.bound;
+        let end = place
+            .carrier
+            .run(rt, &mut bell, &mut guide, self.now, TURNS);
+        let newly = place.carrier.is_bound() && !was_bound;
         let moved = place.socket.traffic() != before;
-        let goes_on = match end {
-            RunEnd::Idle | RunEnd::Turns => {
-                place.carrier = Some(carrier);
-                true
-            }
-            RunEnd::Left | RunEnd::Fault(_) => false,
-        };
         if newly {
-            place.bound = true;
             self.say_of_lane(rt, lane, true);
         }
         if moved {
             self.unstall();
         }
-        if end == RunEnd::Turns {
-            self.go_on(lane, moved);
+        self.was_turned(lane, end, moved);
+        match end {
+            RunEnd::Idle | RunEnd::Turns => true,
+            RunEnd::Left | RunEnd::Fault(_) => {
+                self.say_of_lane(rt, lane, false);
+                false
+            }
         }
-        if !goes_on {
-            self.say_of_lane(rt, lane, false);
-        }
-        goes_on
     }
 
     // Turns a client's worker until it is idle, at most so often.
     fn turn_slot<R: Wait + Eprint>(&mut self, rt: &R, slot: usize) {
-        let Some(mut guest) = self.guests.take(slot) else {
+        let lanes = self.lanes.len();
+        let Some(guest) = self.guests.guest(slot) else {
             return;
         };
-        let lanes = self.lanes.len();
         let before = guest.socket.traffic();
+        let was_bound = guest.member.kind().is_some();
         let mut bell = Bell::new(lanes, &mut self.ready, &self.roll);
         let mut guide = Guide::new(&mut self.routes, &self.roll);
         let end = guest.member.run(rt, &mut bell, &mut guide, TURNS);
+        if !was_bound {
+            guest.say_bound(rt);
+        }
         let moved = guest.socket.traffic() != before;
+        self.was_turned(lanes.saturating_add(slot), end, moved);
         match end {
-            RunEnd::Idle => self.guests.seat(slot, guest),
-            RunEnd::Turns => {
-                self.guests.seat(slot, guest);
-                self.go_on(lanes.saturating_add(slot), moved);
+            RunEnd::Idle | RunEnd::Turns => {}
+            RunEnd::Left | RunEnd::Fault(_) => {
+                if let Some(guest) = self.guests.take(slot) {
+                    self.let_go(rt, slot, guest, end);
+                }
             }
-            RunEnd::Left | RunEnd::Fault(_) => self.let_go(rt, slot, guest, end),
         }
     }
 
@@ -225,6 +231,10 @@ impl<'d> Loop<'d> {
             if party >= lanes {
                 self.turn_slot(rt, party - lanes);
             } else if !self.turn_lane(rt, party) && !self.stopping {
+                // What it said last is written: an unbind of the centre is answered.
+                if let Some(lane) = self.lanes.get(party) {
+                    lane.socket.flush();
+                }
                 return Err(Ended::Upstream(party));
             }
         }
@@ -234,10 +244,12 @@ impl<'d> Loop<'d> {
 
     // Writes what waits. A worker whose socket failed is told by its next turn.
     pub fn flush(&mut self) {
-        for at in 0..self.dirty.len() {
-            let Some(party) = self.dirty.get(at).copied() else {
+        self.dirty.swap(&mut self.current);
+        for at in 0..self.current.len() {
+            let Some(party) = self.current.get(at).copied() else {
                 break;
             };
+            self.dirty.begin(party);
             let failed = match self.socket(party) {
                 Some(socket) => socket.flush() == Flushed::Failed,
                 None => false,
@@ -246,7 +258,7 @@ impl<'d> Loop<'d> {
                 self.ready.add(party);
             }
         }
-        self.dirty.clear();
+        self.current.clear();
     }
 
     // Reads the clock; at a tick each lane is turned, and what hangs is tried again.

@@ -21,11 +21,8 @@ use std::sync::Arc;
 /// One upstream: its worker, and its socket.
 #[derive(Drop)]
 pub(crate) struct Lane {
-    // Not here while it is turned, nor after its end.
-    pub carrier: Option<Carrier>,
+    pub carrier: Carrier,
     pub socket: Rc<Socket>,
-    // Whether its bind was answered well.
-    pub bound: bool,
 }
 
 // Each tap beside its exchange.
@@ -106,11 +103,7 @@ where
     let session = session_of(alloc, upstream, config.silence, now)?;
     let history = config.limits.history as usize;
     let carrier = Carrier::new(alloc, drawer, session, ends, link, history)?;
-    Some(Lane {
-        carrier: Some(carrier),
-        socket,
-        bound: false,
-    })
+    Some(Lane { carrier, socket })
 }
 
 // All upstreams, connected one after another.

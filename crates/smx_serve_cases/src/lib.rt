@@ -3,6 +3,10 @@
 #![tactic(auto)]
 
 #[cfg(test)]
+mod cells;
+#[cfg(test)]
 mod loopback;
 #[cfg(test)]
 mod showing;
+#[cfg(test)]
+mod stage;

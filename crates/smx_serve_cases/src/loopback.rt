@@ -1,6 +1,6 @@
-use smx_config::read;
+use crate::stage::{OWN_BIND, OWN_BOUND, comes, config_for};
 use smx_serve::{Ended, Server};
-use std::io::{Read, Write};
+use std::io::Write;
 use std::net::{TcpListener, TcpStream};
 use std::test::Fail;
 use std::thread;
@@ -11,13 +11,6 @@ const BIND: &[u8] =
 
 const BOUND: &[u8] =
     b"\x00\x00\x00\x19\x80\x00\x00\x09\x00\x00\x00\x00\x00\x00\x00\x01smx\x00\x02\x10\x00\x01\x34";
-
-// The proxy's own bind, and the centre's answer.
-const OWN_BIND: &[u8] =
-    b"\x00\x00\x00\x1e\x00\x00\x00\x09\x00\x00\x00\x00\x7f\xff\xff\xfdproxy\x00pw\x00\x00\x34\x00\x00\x00";
-
-const OWN_BOUND: &[u8] =
-    b"\x00\x00\x00\x17\x80\x00\x00\x09\x00\x00\x00\x00\x7f\xff\xff\xfdcentre\x00";
 
 // A submit_sm of the client with number 7, the same upstream with number 1, and both responses.
 const SUBMIT: &[u8] =
@@ -46,14 +39,10 @@ const UNBIND: &[u8] = b"\x00\x00\x00\x10\x00\x00\x00\x06\x00\x00\x00\x00\x00\x00
 
 const UNBOUND: &[u8] = b"\x00\x00\x00\x10\x80\x00\x00\x06\x00\x00\x00\x00\x00\x00\x00\x08";
 
-// Whether these octets come next.
-fn comes(stream: &mut TcpStream, octets: &[u8]) -> bool {
-    let mut buffer = [0u8; 64];
-    let Some(place) = buffer.get_mut(..octets.len()) else {
-        return false;
-    };
-    stream.read_exact(place).is_ok() && *place == *octets
-}
+// The proxy's own unbind (section 4.2), and the centre's answer.
+const OWN_UNBIND: &[u8] = b"\x00\x00\x00\x10\x00\x00\x00\x06\x00\x00\x00\x00\x7f\xff\xff\xff";
+
+const OWN_UNBOUND: &[u8] = b"\x00\x00\x00\x10\x80\x00\x00\x06\x00\x00\x00\x00\x7f\xff\xff\xff";
 
 // A request, its response, a message of the centre and its answer go the whole way over sockets;
 // then the proxy stops in order.
@@ -62,12 +51,7 @@ fn a_message_goes_both_ways(rt: HostRuntime) -> Result<(), Fail> {
     let alloc = rt.alloc();
     let centre = TcpListener::bind(&rt, "127.0.0.1:0")?;
     let port = centre.local_addr()?.port();
-    let text = format!(in alloc;
-        "listen = \"127.0.0.1:0\"\n[[upstream]]\naddress = \"127.0.0.1:{port}\"\nsystem_id = \"proxy\"\npassword = \"pw\"\n[[account]]\nsystem_id = \"alpha\"\npassword = \"p\"\nprefixes = [\"49\"]\n"
-    )?;
-    let Ok(config) = read(alloc, text.as_str()) else {
-        panic!(rt; "the configuration has a fault");
-    };
+    let config = config_for(alloc, port)?;
     let Some(server) = Server::new(&rt, alloc) else {
         panic!(rt; "no server");
     };
@@ -93,6 +77,8 @@ fn a_message_goes_both_ways(rt: HostRuntime) -> Result<(), Fail> {
     client.write_all(UNBIND)?;
     assert!(rt; comes(&mut client, UNBOUND));
     remote.stop();
+    assert!(rt; comes(&mut up, OWN_UNBIND));
+    up.write_all(OWN_UNBOUND)?;
     assert_eq!(rt; proxy.join(&rt), Ended::Stopped);
     Ok(())
 }

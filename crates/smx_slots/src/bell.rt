@@ -12,8 +12,6 @@ pub struct Bell<'a> {
     lanes: usize,
     ready: &'a mut Ready,
     roll: &'a Roll,
-    // Whether a worker asked for leave to take, which it does only where its bind is made.
-    takes: bool,
     asked: Trace<Question>,
     told: Trace<Party>,
 }
@@ -24,15 +22,9 @@ impl<'a> Bell<'a> {
             lanes,
             ready,
             roll,
-            takes: false,
             asked: Trace::new(),
             told: Trace::new(),
         }
-    }
-
-    /// Whether a worker asked for leave to take.
-    pub fn takes(&self) -> bool {
-        self.takes
     }
 
     // The number of a party; that of a client that is gone is above all.
@@ -54,9 +46,6 @@ impl Gate for Bell<'_> {
     ghost told = { λ b. b.told };
 
     fn at(&mut self, point: Point, turn: u64) -> bool {
-        if point == Point::Taking {
-            self.takes = true;
-        }
         self.asked = self.asked.and(&Question {
             point,
             turn,

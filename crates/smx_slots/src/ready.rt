@@ -2,7 +2,8 @@
 
 use std::alloc::{AllocError, Global};
 
-/// The parties that have something to do, in the order in which they were told of, each once.
+/// The parties that were told of, in that order, each once: those that have something to do, or whose
+/// sockets have octets.
 #[derive(Drop)]
 pub struct Ready {
     parties: Vec<usize>,

@@ -49,9 +49,7 @@ fn a_bell_names_parties(rt: HostRuntime) -> Result<(), Fail> {
     roll.add(7, 2);
     let mut bell = Bell::new(3, &mut ready, &roll);
     assert!(rt; bell.at(Point::Reading, 1));
-    assert!(rt; !bell.takes());
     assert!(rt; bell.at(Point::Taking, 1));
-    assert!(rt; bell.takes());
     bell.ready(Party::Lane(1));
     bell.ready(Party::Client { client: 7, lane: 0 });
     bell.ready(Party::Slot(0));

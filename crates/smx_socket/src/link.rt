@@ -6,8 +6,9 @@ use smx_link::{Link, LinkFault, Polled};
 use smx_trace::Trace;
 use std::rc::Rc;
 
-/// A peer's octets over a socket. What is written goes out when the socket is flushed, which a read
-/// that finds nothing does too. A fault that a flush meets is told by the next call.
+/// A peer's octets over a socket. What is written goes out when the socket is flushed, so that all
+/// that some turns say goes in one call of the system. A fault that a flush meets is told by the next
+/// call.
 #[derive(Drop)]
 pub struct SocketLink {
     socket: Rc<Socket>,

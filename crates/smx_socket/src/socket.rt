@@ -152,22 +152,17 @@ impl Socket {
         }
     }
 
-    /// Reads where the last event or read left something to read; else it flushes.
+    /// Reads where the last event or read left something to read; else it costs no call of the system.
     pub fn poll_read(&self, buffer: &mut [u8]) -> Result<Polled, LinkFault>
         ensures { IfOk result (λ p. IsPolledWithin p (length buffer.new)) }
     {
         if self.failed.get() {
             return Err(LinkFault);
         }
-        let polled = if self.readable.get() && !buffer.is_empty() {
-            self.read_now(buffer)?
-        } else {
-            Polled::Nothing
-        };
-        if polled == Polled::Nothing {
-            self.flush();
+        if self.readable.get() && !buffer.is_empty() {
+            return self.read_now(buffer);
         }
-        Ok(polled)
+        Ok(Polled::Nothing)
     }
 
     /// Takes octets, from the first on, as far as there is room. What is short of room is flushed

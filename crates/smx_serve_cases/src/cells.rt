@@ -1,0 +1,211 @@
+//! The cells of the two session tables over sockets (SMPP 3.4, sections 2.2 and 4): in each state
+//! each kind of PDU, by its header alone, and what comes back.
+use crate::stage::{Header, OWN_BIND, OWN_BOUND, comes, config_for, number_of};
+use smx_serve::{Ended, Server};
+use std::alloc::Global;
+use std::io::Write;
+use std::net::{TcpListener, TcpStream};
+use std::test::Fail;
+use std::thread;
+
+// What comes back for a PDU.
+#[derive(Clone, Copy, PartialEq, Eq)]
+enum Reply {
+    // Its response with this status.
+    Status(u32),
+    // generic_nack with status 3 (ESME_RINVCMDID).
+    Unknown,
+    Nothing,
+    // It goes upstream, and what the centre answers comes back.
+    Forwarded,
+}
+
+use Reply::{Forwarded, Nothing, Status, Unknown};
+
+// By command: the replies to a client that isn't bound, and to one that is bound as transmitter,
+// receiver and transceiver.
+const CLIENT: [(u32, [Reply; 4]); 19] = [
+    (0x0000_0004, [Status(4), Forwarded, Status(4), Forwarded]),
+    (0x0000_0021, [Status(4), Forwarded, Status(4), Forwarded]),
+    (0x0000_0003, [Status(4), Forwarded, Status(4), Forwarded]),
+    (0x0000_0008, [Status(4), Forwarded, Status(4), Forwarded]),
+    (0x0000_0007, [Status(4), Forwarded, Status(4), Forwarded]),
+    (0x0000_0103, [Status(4), Forwarded, Status(4), Forwarded]),
+    (0x0000_0001, [Status(2), Status(5), Status(5), Status(5)]),
+    (0x0000_0002, [Status(2), Status(5), Status(5), Status(5)]),
+    (0x0000_0009, [Status(2), Status(5), Status(5), Status(5)]),
+    (0x0000_0005, [Status(4), Status(4), Status(4), Status(4)]),
+    (0x0000_0015, [Status(0), Status(0), Status(0), Status(0)]),
+    (0x8000_0005, [Nothing, Nothing, Nothing, Nothing]),
+    (0x8000_0103, [Nothing, Nothing, Nothing, Nothing]),
+    (0x8000_0000, [Nothing, Nothing, Nothing, Nothing]),
+    (0x8000_0004, [Nothing, Nothing, Nothing, Nothing]),
+    (0x0000_000B, [Nothing, Nothing, Nothing, Nothing]),
+    (0x0000_0102, [Nothing, Nothing, Nothing, Nothing]),
+    (0x0000_00AA, [Unknown, Unknown, Unknown, Unknown]),
+    (0x0000_0006, [Status(4), Status(0), Status(0), Status(0)]),
+];
+
+// By command: the replies to a centre whose answer to the bind is awaited, and to one that is bound.
+// A message by its header alone has no destination (section 4.6.1).
+const CENTRE: [(u32, [Reply; 2]); 16] = [
+    (0x8000_0015, [Nothing, Nothing]),
+    (0x8000_0006, [Nothing, Nothing]),
+    (0x8000_0001, [Nothing, Nothing]),
+    (0x8000_0004, [Nothing, Nothing]),
+    (0x0000_0005, [Status(4), Status(2)]),
+    (0x0000_0103, [Status(4), Status(2)]),
+    (0x0000_0015, [Status(0), Status(0)]),
+    (0x0000_0001, [Status(4), Status(4)]),
+    (0x0000_0002, [Status(4), Status(4)]),
+    (0x0000_0009, [Status(4), Status(4)]),
+    (0x0000_0003, [Status(4), Status(4)]),
+    (0x0000_0004, [Status(4), Status(4)]),
+    (0x0000_0021, [Status(4), Status(4)]),
+    (0x0000_000B, [Nothing, Nothing]),
+    (0x0000_0102, [Nothing, Nothing]),
+    (0x0000_00AA, [Unknown, Unknown]),
+];
+
+const GENERIC_NACK: u32 = 0x8000_0000;
+
+const ENQUIRE_LINK: u32 = 0x0000_0015;
+
+const RESPONSE: u32 = 0x8000_0000;
+
+fn header(command: u32, status: u32, number: u32) -> Header {
+    Header {
+        command,
+        status,
+        number,
+    }
+}
+
+// Whether the proxy has nothing to say before it answers an enquiry.
+fn is_quiet(alloc: Global, stream: &mut TcpStream) -> bool {
+    header(ENQUIRE_LINK, 0, 99).is_said(alloc, stream)
+        && header(RESPONSE | ENQUIRE_LINK, 0, 99).is_heard(alloc, stream)
+}
+
+// Whether a request of this kind is forwarded, and what the centre answers comes back.
+fn is_forwarded(alloc: Global, stream: &mut TcpStream, up: &mut TcpStream, command: u32) -> bool {
+    let Some(number) = number_of(up, command) else {
+        return false;
+    };
+    header(RESPONSE | command, 8, number).is_said(alloc, up)
+        && header(RESPONSE | command, 8, 7).is_heard(alloc, stream)
+}
+
+// Whether the proxy answers a PDU of this kind so.
+fn is_answered(
+    alloc: Global,
+    stream: &mut TcpStream,
+    up: &mut TcpStream,
+    command: u32,
+    reply: Reply,
+) -> bool {
+    if !header(command, 0, 7).is_said(alloc, stream) {
+        return false;
+    }
+    match reply {
+        Status(status) => header(RESPONSE | command, status, 7).is_heard(alloc, stream),
+        Unknown => header(GENERIC_NACK, 3, 7).is_heard(alloc, stream),
+        Nothing => is_quiet(alloc, stream),
+        Forwarded => is_forwarded(alloc, stream, up, command),
+    }
+}
+
+// The bind of the account alpha with this command, and whether it is answered well.
+fn is_bound(stream: &mut TcpStream, command: u8) -> bool {
+    let mut bind =
+        *b"\x00\x00\x00\x1d\x00\x00\x00\x09\x00\x00\x00\x00\x00\x00\x00\x01alpha\x00p\x00\x00\x34\x00\x00\x00";
+    let mut bound =
+        *b"\x00\x00\x00\x19\x80\x00\x00\x09\x00\x00\x00\x00\x00\x00\x00\x01smx\x00\x02\x10\x00\x01\x34";
+    bind[7] = command;
+    bound[7] = command;
+    stream.write_all(&bind).is_ok() && comes(stream, &bound)
+}
+
+// Whether each kind of PDU is answered as the table's column says.
+fn are_answered(alloc: Global, stream: &mut TcpStream, up: &mut TcpStream, state: usize) -> bool {
+    for (command, replies) in CLIENT {
+        let Some(reply) = replies.get(state) else {
+            return false;
+        };
+        if !is_answered(alloc, stream, up, command, *reply) {
+            return false;
+        }
+    }
+    true
+}
+
+// Clients that aren't bound, and bound in each way. Each unbinds last.
+#[test]
+fn cells_of_a_client(rt: HostRuntime) -> Result<(), Fail> {
+    let alloc = rt.alloc();
+    let centre = TcpListener::bind(&rt, "127.0.0.1:0")?;
+    let config = config_for(alloc, centre.local_addr()?.port())?;
+    let Some(server) = Server::new(&rt, alloc) else {
+        panic!(rt; "no server");
+    };
+    let Some(remote) = server.remote() else {
+        panic!(rt; "no remote");
+    };
+    let proxy = thread::spawn(&rt, move || server.serve(&rt, rt.alloc(), &config))?;
+    let (mut up, _) = centre.accept()?;
+    assert!(rt; comes(&mut up, OWN_BIND));
+    up.write_all(OWN_BOUND)?;
+    assert!(rt; is_quiet(alloc, &mut up));
+    let address = format!(in alloc; "127.0.0.1:{}", remote.port())?;
+    // Not bound, and by bind_transmitter, bind_receiver and bind_transceiver.
+    for (state, kind) in [0u8, 2, 1, 9].iter().enumerate() {
+        let mut client = TcpStream::connect(&rt, address.as_str())?;
+        assert!(rt; *kind == 0 || is_bound(&mut client, *kind));
+        assert!(rt; are_answered(alloc, &mut client, &mut up, state));
+    }
+    remote.stop();
+    assert_eq!(rt; proxy.join(&rt), Ended::Stopped);
+    Ok(())
+}
+
+// Whether each kind of PDU is answered as the table's column says.
+fn are_decided(alloc: Global, up: &mut TcpStream, state: usize) -> bool {
+    for (command, replies) in CENTRE {
+        let Some(reply) = replies.get(state) else {
+            return false;
+        };
+        if !header(command, 0, 7).is_said(alloc, up) {
+            return false;
+        }
+        let is_right = match reply {
+            Status(status) => header(RESPONSE | command, *status, 7).is_heard(alloc, up),
+            Unknown => header(GENERIC_NACK, 3, 7).is_heard(alloc, up),
+            Nothing | Forwarded => is_quiet(alloc, up),
+        };
+        if !is_right {
+            return false;
+        }
+    }
+    true
+}
+
+// A centre before and after it answered the bind. It unbinds last, and so the proxy ends.
+#[test]
+fn cells_of_a_centre(rt: HostRuntime) -> Result<(), Fail> {
+    let alloc = rt.alloc();
+    let centre = TcpListener::bind(&rt, "127.0.0.1:0")?;
+    let config = config_for(alloc, centre.local_addr()?.port())?;
+    let Some(server) = Server::new(&rt, alloc) else {
+        panic!(rt; "no server");
+    };
+    let proxy = thread::spawn(&rt, move || server.serve(&rt, rt.alloc(), &config))?;
+    let (mut up, _) = centre.accept()?;
+    assert!(rt; comes(&mut up, OWN_BIND));
+    assert!(rt; are_decided(alloc, &mut up, 0));
+    up.write_all(OWN_BOUND)?;
+    assert!(rt; are_decided(alloc, &mut up, 1));
+    assert!(rt; header(0x0000_0006, 0, 7).is_said(alloc, &mut up));
+    assert!(rt; header(0x8000_0006, 0, 7).is_heard(alloc, &mut up));
+    assert_eq!(rt; proxy.join(&rt), Ended::Upstream(0));
+    Ok(())
+}

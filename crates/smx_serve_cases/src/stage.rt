@@ -1,0 +1,83 @@
+//! A proxy's configuration, and headers over a socket.
+use smx_config::{Config, read};
+use smx_pdu::{Body, Pdu, encode};
+use std::alloc::Global;
+use std::io::{Read, Write};
+use std::net::TcpStream;
+use std::test::Fail;
+
+// The proxy's own bind, and the centre's answer (SMPP 3.4, sections 4.1.5 and 4.1.6).
+pub(crate) const OWN_BIND: &[u8] =
+    b"\x00\x00\x00\x1e\x00\x00\x00\x09\x00\x00\x00\x00\x7f\xff\xff\xfdproxy\x00pw\x00\x00\x34\x00\x00\x00";
+
+pub(crate) const OWN_BOUND: &[u8] =
+    b"\x00\x00\x00\x17\x80\x00\x00\x09\x00\x00\x00\x00\x7f\xff\xff\xfdcentre\x00";
+
+// A proxy at any free port, with one upstream at this port and the account alpha.
+pub(crate) fn config_for(alloc: Global, port: u16) -> Result<Config, Fail> {
+    let text = format!(in alloc;
+        "listen = \"127.0.0.1:0\"\n[[upstream]]\naddress = \"127.0.0.1:{port}\"\nsystem_id = \"proxy\"\npassword = \"pw\"\n[[account]]\nsystem_id = \"alpha\"\npassword = \"p\"\nprefixes = [\"49\"]\n"
+    )?;
+    match read(alloc, text.as_str()) {
+        Ok(config) => Ok(config),
+        Err(_) => Err("the configuration has a fault".into()),
+    }
+}
+
+// Whether these octets come next.
+pub(crate) fn comes(stream: &mut TcpStream, octets: &[u8]) -> bool {
+    let mut buffer = [0u8; 64];
+    let Some(place) = buffer.get_mut(..octets.len()) else {
+        return false;
+    };
+    stream.read_exact(place).is_ok() && *place == *octets
+}
+
+// A PDU that is a header alone.
+#[derive(Clone, Copy)]
+pub(crate) struct Header {
+    pub command: u32,
+    pub status: u32,
+    pub number: u32,
+}
+
+impl Header {
+    fn octets(self, alloc: Global) -> Option<Vec<u8>> {
+        let pdu = Pdu {
+            command: self.command,
+            status: self.status,
+            number: self.number,
+            body: Body::empty(alloc),
+        };
+        let mut octets = Vec::new(alloc);
+        encode(&pdu, &mut octets).ok()?;
+        Some(octets)
+    }
+
+    // Says it. False where the peer is gone.
+    pub fn is_said(self, alloc: Global, stream: &mut TcpStream) -> bool {
+        match self.octets(alloc) {
+            Some(octets) => stream.write_all(octets.as_slice()).is_ok(),
+            None => false,
+        }
+    }
+
+    // Whether it comes next.
+    pub fn is_heard(self, alloc: Global, stream: &mut TcpStream) -> bool {
+        match self.octets(alloc) {
+            Some(octets) => comes(stream, octets.as_slice()),
+            None => false,
+        }
+    }
+}
+
+// The number of the next PDU, where it is a header alone with this command and status 0.
+pub(crate) fn number_of(stream: &mut TcpStream, command: u32) -> Option<u32> {
+    let mut buffer = [0u8; 16];
+    stream.read_exact(&mut buffer).ok()?;
+    let header = smx_pdu::read_header(&buffer);
+    if header.length != 16 || header.command != command || header.status != 0 {
+        return None;
+    }
+    Some(header.number)
+}
