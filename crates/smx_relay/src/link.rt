@@ -42,7 +42,8 @@ impl ClientLink {
     ghost use Rattle.smx_routes.specs.declared.mo_window.Waiting.{Waiting};
     ghost use Rattle.smx_mailbox.specs.Mailbox.{with_message, is_full, sent, after_sent, settled, unanswered, emptied};
 
-    /// The link of a client that is bound so, or is still to bind, with a mailbox of so many places.
+    /// The link of a client that is bound so, or is still to bind, and whose mailbox has so many
+    /// places.
     pub(crate) fn new(alloc: Global, kind: Option<Kind>, places: u32) -> ClientLink
         ensures { result ≡ new_link places kind }
     {
