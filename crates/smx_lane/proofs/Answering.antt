@@ -1,14 +1,22 @@
 -- The place that a response answers, by its index.
-use Rattle.std.proofs.Common.{◌≡◌, ◌<◌, ◌==◌, ℕ, true, length, get_or, position, Some, ap, sym, ◌∙◌}
+use Rattle.std.proofs.Common.{◌≡◌, ◌<◌, ◌==◌, ℕ, Bool, true, false, cond, List, [], ◌∷◌, length, get_or, slice_get, Some, sym, refl, ap, ◌∙◌}
 use Rattle.std.specs.List.{find}
-use Rattle.std.proofs.lemmas.List.Quantifiers.{position-Some}
 use Rattle.std.proofs.lemmas.Bool.{and_parts, eqb-true}
+use Rattle.std.proofs.lemmas.Option.{slice_get_within, get_or_from_slice_get}
 use Rattle.smx_pdu.specs.declared.pdu.Pdu.{Pdu}
 use Rattle.smx_pdu.specs.Command.{is_response_to}
 use Rattle.smx_history.specs.declared.place.Place.{Place}
 use Rattle.smx_history.specs.Contents.{Content}
 use Rattle.smx_history.specs.Replies.{answers_place}
-use Rattle.smx_history.proofs.Members.{find-position}
+
+-- what is found passes the test
+found-passes : {X : Type 0} (p : X → Bool) (xs : List X) (x : X) → find p xs ≡ Some x → p x ≡ true
+found-passes p [] x h = cc
+found-passes p (y ∷ xs) x h = head (p y) refl h (found-passes p xs x)
+  where
+    head : (b : Bool) → p y ≡ b → cond b (Some y) (find p xs) ≡ Some x → (find p xs ≡ Some x → p x ≡ true) → p x ≡ true
+    head true e f rest = let same : y ≡ x = cc in ap p (sym same) ∙ e
+    head false e f rest = rest f
 
 -- the place at the index is the first that the response answers
 pub record IsAnsweredAt (v : Content) (p : Pdu) (i : ℕ) (q : Place) : Type 0 where
@@ -18,14 +26,13 @@ pub record IsAnsweredAt (v : Content) (p : Pdu) (i : ℕ) (q : Place) : Type 0 w
   pub number : q.upstream ≡ p.number
   pub command : is_response_to q.command p.command ≡ true
 
-pub answered_at : (v : Content) (p : Pdu) (i : ℕ) (q : Place) → position (answers_place p) v.window ≡ Some i → q ≡ get_or v.window i q → IsAnsweredAt v p i q
-answered_at v p i q at is =
-    let w = position-Some (answers_place p) v.window i q at in
-    let fits = and_parts (q.upstream == p.number) (is_response_to q.command p.command) (ap (answers_place p) is ∙ w.1) in
+pub answered_at : (v : Content) (p : Pdu) (i : ℕ) (q : Place) → find (answers_place p) v.window ≡ Some q → slice_get v.window i ≡ Some q → IsAnsweredAt v p i q
+answered_at v p i q first at =
+    let fits = and_parts (q.upstream == p.number) (is_response_to q.command p.command) (found-passes (answers_place p) v.window q first) in
     record {
-      within = w.0;
-      is = is;
-      first = find-position (answers_place p) v.window i q at ∙ ap Some (sym is);
+      within = slice_get_within v.window i q at;
+      is = sym (get_or_from_slice_get v.window i q q at);
+      first = first;
       number = eqb-true _ _ fits.0;
       command = fits.1;
     }

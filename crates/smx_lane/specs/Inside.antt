@@ -8,7 +8,7 @@ abbrev pub content_of : Inside → Content
 content_of a = record {
   limits = a.limits;
   queue = a.queue.items;
-  window = a.window.items;
+  window = a.window.taken;
   members = a.roster.members;
   greatest = a.greatest;
   entries = a.entries.items;
@@ -17,6 +17,6 @@ content_of a = record {
 pub record Holds (a : Inside) : Type 0 where
   pub room : KeepsRoom (content_of a)
   pub queue : a.queue.capacity ≡ a.limits.queue
-  pub window : a.limits.window ≤ vec_capacity a.window
+  pub window : a.window.most ≡ a.limits.window
   pub entries : a.limits.history ≤ vec_capacity a.entries
   pub places : a.roster.places ≡ a.limits.client

@@ -6,3 +6,4 @@ pub mod Kept
 pub mod Members
 pub mod Roster
 pub mod Turning
+pub mod Private

@@ -12,8 +12,9 @@ mod shifts;
 
 use crate::fault::LaneFault;
 use crate::roster::Roster;
+use crate::window::Window;
 use circular_buffer::HeapCircularBuffer;
-use smx_history::{Entry, Limits, Place, Request};
+use smx_history::{Entry, Limits, Request};
 use std::alloc::{AllocError, Global};
 use std::marker::Model;
 
@@ -22,7 +23,7 @@ use std::marker::Model;
 pub struct Lane {
     limits: Limits,
     queue: HeapCircularBuffer<Request, Global>,
-    window: Vec<Place>,
+    window: Window,
     roster: Roster,
     // The greatest number of a client that was admitted, or 0.
     greatest: u64,
@@ -74,7 +75,7 @@ impl Lane {
         Ok(Lane {
             limits,
             queue: HeapCircularBuffer::with_capacity(alloc, limits.queue as usize)?,
-            window: Vec::with_capacity(alloc, limits.window as usize)?,
+            window: Window::new(alloc, limits.window)?,
             roster: Roster::new(alloc, limits.client),
             greatest: 0,
             entries: Vec::with_capacity(alloc, limits.history as usize)?,

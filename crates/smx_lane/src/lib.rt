@@ -6,6 +6,7 @@ mod fault;
 mod kept;
 mod lane;
 mod roster;
+mod rows;
 mod sent;
 mod window;
 

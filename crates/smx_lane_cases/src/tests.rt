@@ -2,7 +2,7 @@ ghost use Rattle.std.specs.Prelude.{◌≡◌};
 
 use smx_lane::{
     AdmitFault, Answered, Call, Kind, Lane, LaneFault, Limits, NotAdmitted, Refusal, Reply,
-    Request, Sent, run_all,
+    Request, Sent, TakeRefusal, run_all,
 };
 use smx_pdu::{Body, Pdu};
 use std::alloc::{AllocError, Global};
@@ -36,6 +36,24 @@ fn submitted(alloc: Global, number: u32) -> Pdu {
         status: 0,
         number,
         body: Body::empty(alloc),
+    }
+}
+
+// Whether the lane accepts the client's request under the ordinal.
+fn accepts(lane: &mut Lane, alloc: Global, client: u64, ordinal: u64) -> bool {
+    lane.is_next(0, client, ordinal) && lane.accept(0, submit(alloc, client, ordinal)).is_ok()
+}
+
+// The number under which the lane's next request goes upstream.
+fn take_number(lane: &mut Lane) -> Option<u32> {
+    lane.take(0).ok().map(|sent| sent.upstream)
+}
+
+// The client whose box gets the response to the number.
+fn answer_to(lane: &mut Lane, alloc: Global, number: u32) -> Option<u64> {
+    match lane.answer(0, submitted(alloc, number)) {
+        Answered::Queued { client } => Some(client),
+        _ => None,
     }
 }
 
@@ -138,51 +156,122 @@ fn retired_clients_get_nothing(rt: HostRuntime) -> Result<(), Fail> {
     Ok(())
 }
 
-// The calls of a list are made in order, but for those that don't keep to their conditions.
+// Takes bear the numbers from 1 on, and a number is free again once its request is answered.
 #[test]
-fn lists_of_calls(rt: HostRuntime) -> Result<(), Fail> {
-    let mut lane = Lane::new(rt.alloc(), ROOMY)?;
-    let mut calls = Vec::new(rt.alloc());
+fn numbers_are_given_again(rt: HostRuntime) -> Result<(), Fail> {
+    let narrow = Limits { window: 2, ..ROOMY };
+    let mut lane = Lane::new(rt.alloc(), narrow)?;
+    lane.admit(0, 1)?;
+    for ordinal in 1..=3 {
+        assert!(rt; accepts(&mut lane, rt.alloc(), 1, ordinal));
+    }
+    assert_eq!(rt; take_number(&mut lane), Some(1));
+    assert_eq!(rt; take_number(&mut lane), Some(2));
+    assert_eq!(rt; lane.take(0).err(), Some(TakeRefusal::WindowFull));
+    assert_eq!(rt; answer_to(&mut lane, rt.alloc(), 1), Some(1));
+    let again = take_number(&mut lane).unwrap_or(2);
+    assert!(rt; again != 2);
+    assert_eq!(rt; answer_to(&mut lane, rt.alloc(), 2), Some(1));
+    assert_eq!(rt; answer_to(&mut lane, rt.alloc(), again), Some(1));
+    Ok(())
+}
+
+// Has four clients take turns to fill a window of 1,024, so the request with number n is that of
+// client (n - 1) % 4 + 1: the first number that no take bears.
+fn fill(lane: &mut Lane, alloc: Global) -> u32 {
+    for number in 1..=1_024_u32 {
+        let client = u64::from((number - 1) % 4 + 1);
+        if !accepts(lane, alloc, client, u64::from(number)) || take_number(lane) != Some(number) {
+            return number;
+        }
+    }
+    1_025
+}
+
+// The answers come five numbers on from one to the next, which reaches each number once.
+#[test]
+fn full_window_is_answered_in_another_order(rt: HostRuntime) -> Result<(), Fail> {
+    let wide = Limits {
+        queue: 1,
+        window: 1_024,
+        client: 256,
+        history: 10_000,
+    };
+    let mut lane = Lane::new(rt.alloc(), wide)?;
+    for client in 1..=5 {
+        lane.admit(0, client)?;
+    }
+    assert_eq!(rt; fill(&mut lane, rt.alloc()), 1_025);
+    assert!(rt; accepts(&mut lane, rt.alloc(), 5, 1));
+    assert_eq!(rt; lane.take(0).err(), Some(TakeRefusal::WindowFull));
+    for step in 0..1_024_u32 {
+        let behind = step * 5 % 1_024;
+        let client = u64::from(behind % 4 + 1);
+        assert_eq!(rt; answer_to(&mut lane, rt.alloc(), behind + 1), Some(client));
+        let again = lane.answer(0, submitted(rt.alloc(), behind + 1));
+        assert!(rt; matches!(again, Answered::Unknown(_)));
+    }
+    assert!(rt; lane.take(0).is_ok());
+    Ok(())
+}
+
+// Ten calls, of which the third and the sixth don't keep to their conditions.
+fn ten_calls(alloc: Global) -> Result<Vec<Call>, AllocError> {
+    let mut calls = Vec::new(alloc);
     calls.push(Call::Admit { by: 3, client: 1 })?;
     for _ in 0..2 {
-        let request = submit(rt.alloc(), 1, 1);
+        let request = submit(alloc, 1, 1);
         calls.push(Call::Accept { by: 3, request })?;
     }
     calls.push(Call::Take { by: 9 })?;
-    let response = submitted(rt.alloc(), 1);
+    let response = submitted(alloc, 1);
     calls.push(Call::Answer { by: 9, response })?;
     calls.push(Call::Collect { by: 9, client: 1 })?;
     calls.push(Call::Collect { by: 3, client: 1 })?;
     calls.push(Call::TurnOver { by: 9, least: 6 })?;
     calls.push(Call::TurnOver { by: 9, least: 5 })?;
     calls.push(Call::Retire { by: 3, client: 1 })?;
+    Ok(calls)
+}
+
+// A reply in a word.
+fn word(reply: &Reply) -> &'static str {
+    match reply {
+        Reply::Admitted(Ok(())) => "admitted",
+        Reply::Accepted(Ok(())) => "accepted",
+        Reply::Taken(Ok(Sent { upstream: 1, .. })) => "taken",
+        Reply::Answered(Answered::Queued { client: 1 }) => "answered",
+        Reply::Collected(Some(Pdu { number: 7, .. })) => "collected",
+        Reply::TurnedOver(Ok(None)) => "too few",
+        Reply::TurnedOver(Ok(Some(list))) if list.len() == 5 => "turned over",
+        Reply::Retired(Ok(())) => "retired",
+        Reply::Unkept => "unkept",
+        _ => "another",
+    }
+}
+
+// The calls of a list are made in order, but for those that don't keep to their conditions.
+#[test]
+fn lists_of_calls(rt: HostRuntime) -> Result<(), Fail> {
+    let mut lane = Lane::new(rt.alloc(), ROOMY)?;
+    let calls = ten_calls(rt.alloc())?;
     let replies = run_all(&mut lane, rt.alloc(), calls)?;
-    let made = [
-        matches!(replies.get(0), Some(Reply::Admitted(Ok(())))),
-        matches!(replies.get(1), Some(Reply::Accepted(Ok(())))),
-        matches!(replies.get(2), Some(Reply::Unkept)),
-        matches!(
-            replies.get(3),
-            Some(Reply::Taken(Ok(Sent { upstream: 1, .. })))
-        ),
-        matches!(
-            replies.get(4),
-            Some(Reply::Answered(Answered::Queued { client: 1 }))
-        ),
-        matches!(replies.get(5), Some(Reply::Unkept)),
-        matches!(
-            replies.get(6),
-            Some(Reply::Collected(Some(Pdu { number: 7, .. })))
-        ),
-        matches!(replies.get(7), Some(Reply::TurnedOver(Ok(None)))),
-        matches!(replies.get(9), Some(Reply::Retired(Ok(())))),
+    let words = [
+        "admitted",
+        "accepted",
+        "unkept",
+        "taken",
+        "answered",
+        "unkept",
+        "collected",
+        "too few",
+        "turned over",
+        "retired",
     ];
-    assert_eq!(rt; made, [true; 9]);
-    let Some(Reply::TurnedOver(Ok(Some(list)))) = replies.get(8) else {
-        return Ok(assert!(rt; false, "no list is handed out"));
-    };
-    assert_eq!(rt; list.len(), 5);
-    assert_eq!(rt; replies.len(), 10);
+    assert_eq!(rt; replies.len(), words.len());
+    for (reply, wanted) in replies.iter().zip(words.iter()) {
+        assert_eq!(rt; word(reply), *wanted);
+    }
     assert_eq!(rt; lane.entries().len(), 1);
     Ok(())
 }

@@ -65,7 +65,7 @@ pub fn enter(alloc: Global, state: &mut State, kind: Option<Kind>) -> Result<Vec
     let client = state.clients.len() as u64;
     state
         .links
-        .push(ClientLink::new(alloc, kind, state.places)?)?;
+        .push(ClientLink::new(alloc, kind, state.places))?;
     match admit_all(&mut state.lanes, client)? {
         None => {
             state.clients.push(Some(0))?;

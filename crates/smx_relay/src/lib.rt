@@ -6,6 +6,7 @@ mod client_turn;
 mod clients;
 mod end;
 mod engine;
+mod inbox;
 mod line;
 mod link;
 mod messages;

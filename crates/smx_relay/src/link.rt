@@ -2,9 +2,10 @@
 ghost use Rattle.std.specs.Prelude.{◌≡◌, true, false, Some, None, IfOk, IfErr, IfSome, IfNone, OnOk, Ok};
 ghost use Rattle.smx_relay.specs.Links.{Receives, has_failed, has_left, is_down, may_receive, new_link, new_stream, bound_centre};
 
+use crate::inbox::Inbox;
 use crate::receive::receive;
 use smx_frame::Framer;
-use smx_mailbox::{Mailbox, Message, Unanswered};
+use smx_mailbox::{Message, Unanswered};
 use smx_pdu::command::{BIND_TRANSCEIVER, RESPONSE};
 use smx_pdu::status::ESME_ROK;
 use smx_pdu::{Body, Pdu};
@@ -22,7 +23,7 @@ const MAX_PDU: u32 = 65_536;
 pub struct ClientLink {
     session: ClientSession,
     framer: Framer,
-    mailbox: Mailbox,
+    mailbox: Inbox,
 }
 
 impl Model for ClientLink {
@@ -41,26 +42,20 @@ impl ClientLink {
     ghost use Rattle.smx_routes.specs.declared.mo_window.Waiting.{Waiting};
     ghost use Rattle.smx_mailbox.specs.Mailbox.{with_message, is_full, sent, after_sent, settled, unanswered, emptied};
 
-    /// The link of a client that is bound so, or is still to bind, with a mailbox of 1 to 256 places.
-    pub(crate) fn new(
-        alloc: Global,
-        kind: Option<Kind>,
-        places: u32,
-    ) -> Result<ClientLink, AllocError>
-        ensures { IfOk result (λ link. link ≡ new_link places kind) }
+    /// The link of a client that is bound so, or is still to bind, and whose mailbox has so many
+    /// places.
+    pub(crate) fn new(alloc: Global, kind: Option<Kind>, places: u32) -> ClientLink
+        ensures { result ≡ new_link places kind }
     {
         let session = match kind {
             Some(kind) => ClientSession::bound(alloc, kind),
             None => ClientSession::new(alloc),
         };
-        let Ok(mailbox) = Mailbox::new(alloc, places) else {
-            return Err(AllocError);
-        };
-        Ok(ClientLink {
+        ClientLink {
             session,
             framer: Framer::new(alloc, MAX_PDU),
-            mailbox,
-        })
+            mailbox: Inbox::new(alloc, places),
+        }
     }
 
     /// Whether the client is bound to receive.
@@ -109,9 +104,11 @@ impl ClientLink {
     }
 
     /// Puts a message into the client's mailbox, or hands it back where that is full.
-    pub(crate) fn put(&mut self, message: Message) -> Result<(), Message>
-        ensures ok { OnOk result ((is_full self.old.mailbox ≡ false) × (self.new ≡ record self.old { mailbox = with_message message self.old.mailbox })) }
-        ensures err { IfErr result (λ back. (is_full self.old.mailbox ≡ true) × (back ≡ message) × (self.new ≡ self.old)) }
+    pub(crate) fn put(&mut self, message: Message) -> Result<Result<(), Message>, AllocError>
+        ensures ok { IfOk result (λ put. OnOk put ((is_full self.old.mailbox ≡ false)
+            × (self.new ≡ record self.old { mailbox = with_message message self.old.mailbox }))) }
+        ensures full { IfOk result (λ put. IfErr put (λ back.
+            (is_full self.old.mailbox ≡ true) × (back ≡ message) × (self.new ≡ self.old))) }
     {
         self.mailbox.put(message)
     }

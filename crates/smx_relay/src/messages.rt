@@ -71,7 +71,7 @@ fn put(
         lane: lane as usize,
         pdu,
     };
-    match state.links[at].put(message) {
+    match state.links[at].put(message)? {
         Ok(()) => message_line(alloc, client),
         Err(message) => refuse(alloc, lane, &message.pdu, ESME_RMSGQFUL),
     }

@@ -21,7 +21,7 @@ pub fn new_state(alloc: Global) -> Result<State, AllocError>
     let mut clients = Vec::new(alloc);
     clients.push(None)?;
     let mut links = Vec::new(alloc);
-    links.push(ClientLink::new(alloc, None, PLACES)?)?;
+    links.push(ClientLink::new(alloc, None, PLACES))?;
     Ok(State {
         limits: Limits {
             queue: 100,

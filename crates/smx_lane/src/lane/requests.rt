@@ -10,8 +10,7 @@ ghost use Rattle.smx_history.specs.declared.note.Event.TheVariants.{Accept, Take
 
 use super::Lane;
 use crate::sent::Sent;
-use crate::window::free_number;
-use smx_history::{Entry, Kind, Place, Refusal, Request, TakeRefusal};
+use smx_history::{Entry, Kind, Refusal, Request, TakeRefusal};
 
 impl Lane {
     // The index of the row of a client whose request may be accepted.
@@ -77,18 +76,11 @@ impl Lane {
         if self.queue.is_empty() {
             return Err(TakeRefusal::QueueEmpty);
         }
-        if self.window.len() >= self.limits.window as usize {
+        if self.window.is_full() {
             return Err(TakeRefusal::WindowFull);
         }
-        let upstream = free_number(self.window.as_slice());
         let request = self.queue.pop_front().unwrap();
-        self.window.push_reserved(Place {
-            upstream,
-            client: request.client,
-            ordinal: request.ordinal,
-            own: request.own,
-            command: request.command,
-        });
+        let upstream = self.window.put(&request);
         self.entries.push_reserved(Entry {
             kind: Kind::Take,
             by,

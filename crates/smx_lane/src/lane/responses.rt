@@ -5,7 +5,6 @@ ghost use Rattle.smx_history.specs.Answering.{IsAnswered, IsCollected};
 ghost use Rattle.smx_history.proofs.Updates.{response_for};
 
 use super::Lane;
-use crate::window::place_of;
 use smx_history::{Answered, Entry, Kind, Place, Response};
 use smx_pdu::Pdu;
 
@@ -50,11 +49,10 @@ impl Lane {
         ensures answered { IsAnswered self.old by response result self.new }
         ensures limits { self.new.limits ≡ self.old.limits }
     {
-        let Some(at) = place_of(self.window.as_slice(), response.number, response.command) else {
+        let Some(place) = self.window.find(response.number, response.command) else {
             return Answered::Unknown(response);
         };
-        let place = self.window[at];
-        self.window.remove(at);
+        self.window.remove(response.number);
         let client = place.client;
         let Some(row) = self.roster.find(client) else {
             self.entries

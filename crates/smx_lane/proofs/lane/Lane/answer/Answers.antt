@@ -1,11 +1,10 @@
-use Rattle.std.proofs.Common.{arith, ◌≡◌, refl, sym, ◌∙◌, ap, None, position}
+use Rattle.std.proofs.Common.{arith, ◌≡◌, refl, sym, ◌∙◌, ap, None}
 use Rattle.std.specs.List.{find}
 use Rattle.smx_history.specs.declared.note.Event.TheVariants as event
 use Rattle.smx_history.specs.History.{entry_by}
 use Rattle.smx_history.specs.Contents.{Content, Member}
 use Rattle.smx_lane.specs.Inside.{content_of}
 use Rattle.smx_history.specs.Replies.{answers_place, member_with}
-use Rattle.smx_history.proofs.Members.{find-no_position}
 use Rattle.smx_history.proofs.Settled.{KeepsRoom-answered, KeepsRoom-late, box_has_room}
 use Rattle.smx_history.proofs.AnswerAgrees.{AgreesWith-answered}
 use Rattle.smx_history.proofs.LateAgrees.{AgreesWith-late}
@@ -13,30 +12,25 @@ use Rattle.smx_lane.specs.Members.{IsRowOf}
 use Rattle.smx_lane.proofs.Answering.{answered_at}
 use Rattle.smx_lane.proofs.lane.Lane.answer.Goals as goal
 
-pub returns-in_default-clause-answered : goal.returns-in_default-clause-answered
-returns-in_default-clause-answered c =
-    let at = ap (position (answers_place c.args.response)) (sym c.as_slice.ensures.value) ∙ sym c.place_of.ensures ∙ c.in_default.is in
-    (ap (λ (v : Content). find (answers_place c.args.response) v.window) (sym c.self.view_is) ∙ find-no_position (answers_place c.args.response) c.self.inside.window.items at, refl, refl)
-
 pub put-requires-clause-room : goal.put-requires-clause-room
 put-requires-clause-room c =
     let v = content_of c.self.inside in
-    let q = c.index.result.now in
-    let at = ap (position (answers_place c.args.response)) (sym c.as_slice.ensures.value) ∙ sym c.place_of.ensures ∙ c.in-Some.is in
-    let place = answered_at v c.args.response c.in-Some.at q at c.index.ensures in
+    let q = c.in-Some.place in
+    let removed = c.remove.ensures.taken q c.in-Some.ensures.place in
+    let place = answered_at v c.args.response removed.0 q (sym c.in-Some.ensures.found) removed.1 in
     let row : (m : Member) × IsRowOf v.members q.client c.in-Some-find.row m = c.in-Some-find.ensures in
-    (row.0, row.1.at, omega (arith, box_has_room v q c.in-Some.at row.0 c.self.invariant.room place.within place.is row.1.found, c.self.invariant.places))
+    (row.0, row.1.at, omega (arith, box_has_room v q removed.0 row.0 c.self.invariant.room place.within place.is row.1.found, c.self.invariant.places))
 
 pub invariant_of-self : goal.invariant_of-self
 invariant_of-self c =
     let v = content_of c.self.inside in
-    let q = c.index.result.now in
-    let at = ap (position (answers_place c.args.response)) (sym c.as_slice.ensures.value) ∙ sym c.place_of.ensures ∙ c.in-Some.is in
-    let place = answered_at v c.args.response c.in-Some.at q at c.index.ensures in
+    let q = c.in-Some.place in
+    let removed = c.remove.ensures.taken q c.in-Some.ensures.place in
+    let place = answered_at v c.args.response removed.0 q (sym c.in-Some.ensures.found) removed.1 in
     record {
-      room = rw (c.remove.ensures.items, c.push_reserved.ensures.items) (KeepsRoom-late v _ q c.in-Some.at c.self.invariant.room place.within place.is);
+      room = rw (removed.2, c.push_reserved.ensures.items) (KeepsRoom-late v _ q removed.0 c.self.invariant.room place.within place.is);
       queue = c.self.invariant.queue;
-      window = omega (arith, c.remove.ensures.capacity, c.self.invariant.window);
+      window = c.remove.ensures.most ∙ c.self.invariant.window;
       entries = omega (arith, c.push_reserved.ensures.capacity, c.self.invariant.entries);
       places = c.self.invariant.places;
     }
@@ -45,15 +39,15 @@ pub invariant_of-self-2 : goal.invariant_of-self-2
 invariant_of-self-2 c =
     let v = content_of c.self.inside in
     let p = c.args.response in
-    let q = c.index.result.now in
-    let at = ap (position (answers_place p)) (sym c.as_slice.ensures.value) ∙ sym c.place_of.ensures ∙ c.in-Some.is in
-    let place = answered_at v p c.in-Some.at q at c.index.ensures in
+    let q = c.in-Some.place in
+    let removed = c.remove.ensures.taken q c.in-Some.ensures.place in
+    let place = answered_at v p removed.0 q (sym c.in-Some.ensures.found) removed.1 in
     let row : (m : Member) × IsRowOf v.members q.client c.in-Some-find.row m = c.in-Some-find.ensures in
     let ms = rw (row.1.client_is, c.facing.ensures) at (c.put.ensures.members row.0 row.1.at) in
     record {
-      room = rw (c.remove.ensures.items, c.push_reserved-2.ensures.items, c.settling-2.ensures, ms) (KeepsRoom-answered v c.args.by p q c.in-Some.at row.0 c.self.invariant.room place.within place.is row.1.found);
+      room = rw (removed.2, c.push_reserved-2.ensures.items, c.settling-2.ensures, ms) (KeepsRoom-answered v c.args.by p q removed.0 row.0 c.self.invariant.room place.within place.is row.1.found);
       queue = c.self.invariant.queue;
-      window = omega (arith, c.remove.ensures.capacity, c.self.invariant.window);
+      window = c.remove.ensures.most ∙ c.self.invariant.window;
       entries = omega (arith, c.push_reserved-2.ensures.capacity, c.self.invariant.entries);
       places = c.put.ensures.places ∙ c.self.invariant.places;
     }
@@ -62,33 +56,33 @@ pub returns-in_default-find-clause-answered : goal.returns-in_default-find-claus
 returns-in_default-find-clause-answered c =
     let v = content_of c.self.inside in
     let p = c.args.response in
-    let q = c.index.result.now in
-    let at = ap (position (answers_place p)) (sym c.as_slice.ensures.value) ∙ sym c.place_of.ensures ∙ c.in-Some.is in
-    let place = answered_at v p c.in-Some.at q at c.index.ensures in
+    let q = c.in-Some.place in
+    let removed = c.remove.ensures.taken q c.in-Some.ensures.place in
+    let place = answered_at v p removed.0 q (sym c.in-Some.ensures.found) removed.1 in
     let gone : member_with q.client v.members ≡ None = c.in_default-find.ensures in
-    let room = KeepsRoom-late v (entry_by c.args.by (event.Late q.client q.ordinal p.number p.command)) q c.in-Some.at c.self.invariant.room place.within place.is in (
+    let room = KeepsRoom-late v (entry_by c.args.by (event.Late q.client q.ordinal p.number p.command)) q removed.0 c.self.invariant.room place.within place.is in (
       q,
       ap (λ (x : Content). find (answers_place p) x.window) (sym c.self.view_is) ∙ place.first,
       ap (λ (x : Content). member_with q.client x.members) (sym c.self.view_is) ∙ gone,
-      λ h was. rw (c.remove.ensures.items, c.push_reserved.ensures.items, c.settling.ensures)
-          (AgreesWith-late h v c.args.by p q c.in-Some.at (rw c.self.view_is was) place.within place.is place.number place.command gone room),
+      λ h was. rw (removed.2, c.push_reserved.ensures.items, c.settling.ensures)
+          (AgreesWith-late h v c.args.by p q removed.0 (rw c.self.view_is was) place.within place.is place.number place.command gone room),
     )
 
 pub returns-clause-answered : goal.returns-clause-answered
 returns-clause-answered c =
     let v = content_of c.self.inside in
     let p = c.args.response in
-    let q = c.index.result.now in
-    let at = ap (position (answers_place p)) (sym c.as_slice.ensures.value) ∙ sym c.place_of.ensures ∙ c.in-Some.is in
-    let place = answered_at v p c.in-Some.at q at c.index.ensures in
+    let q = c.in-Some.place in
+    let removed = c.remove.ensures.taken q c.in-Some.ensures.place in
+    let place = answered_at v p removed.0 q (sym c.in-Some.ensures.found) removed.1 in
     let row : (m : Member) × IsRowOf v.members q.client c.in-Some-find.row m = c.in-Some-find.ensures in
     let ms = rw (row.1.client_is, c.facing.ensures) at (c.put.ensures.members row.0 row.1.at) in
-    let room = KeepsRoom-answered v c.args.by p q c.in-Some.at row.0 c.self.invariant.room place.within place.is row.1.found in (
+    let room = KeepsRoom-answered v c.args.by p q removed.0 row.0 c.self.invariant.room place.within place.is row.1.found in (
       q,
       row.0,
       ap (λ (x : Content). find (answers_place p) x.window) (sym c.self.view_is) ∙ place.first,
       refl,
       ap (λ (x : Content). member_with q.client x.members) (sym c.self.view_is) ∙ row.1.found,
-      λ h was. rw (c.remove.ensures.items, c.push_reserved-2.ensures.items, c.settling-2.ensures, ms)
-          (AgreesWith-answered h v c.args.by p q c.in-Some.at row.0 (rw c.self.view_is was) place.within place.is place.number place.command row.1.found room),
+      λ h was. rw (removed.2, c.push_reserved-2.ensures.items, c.settling-2.ensures, ms)
+          (AgreesWith-answered h v c.args.by p q removed.0 row.0 (rw c.self.view_is was) place.within place.is place.number place.command row.1.found room),
     )

@@ -1,23 +1,30 @@
-use Rattle.std.proofs.Common.{arith, ◌≡◌, ◌==◌, drop, sym, ◌∙◌, ap, false}
-use Rattle.std.specs.List.{list_any}
-use Rattle.smx_history.specs.declared.place.Place.{Place}
+use Rattle.std.proofs.Common.{◌≡◌, ◌<◌, arith, drop, length, sym, ◌∙◌, true, false, inl, inr}
+use Rattle.std.proofs.lemmas.Bool.{cases_lt}
 use Rattle.smx_lane.specs.Inside.{content_of}
 use Rattle.smx_history.proofs.Taken.{KeepsRoom-taken}
 use Rattle.smx_history.proofs.TakeAgrees.{AgreesWith-taken}
-use Rattle.smx_lane.proofs.Rows.{front_is}
+use Rattle.smx_history.proofs.Updates.{taken}
+use Rattle.smx_lane.proofs.ClientRows.{front_is}
+use Rattle.smx_lane.proofs.Reordering.{KeepsRoom-reordered, AgreesWith-reordered}
 use Rattle.smx_lane.proofs.lane.Lane.take.Goals as goal
 
 pub invariant_of-self : goal.invariant_of-self
 invariant_of-self c =
     let v = content_of c.self.inside in
     let r = c.unwrap-request.result in
+    let u = c.put-upstream.result in
     let popped = c.pop_front.ensures.items in
     let front = front_is v.queue r (sym c.pop_front.ensures.value ∙ c.unwrap-request.ensures) in
+    let room : length v.window < v.limits.window = elim (cases_lt (length v.window) v.limits.window) [
+      | inl lt ↦ lt
+      | inr le ↦ let full : true ≡ false = sym (c.is_full.ensures.1 (omega (arith, le, c.self.invariant.window))) ∙ c.if-is_full.false in cc
+    ] in
+    let kept = KeepsRoom-taken v c.args.by r u (drop 1 v.queue) c.self.invariant.room front room in
     record {
-      room = rw (popped, c.push_reserved.ensures.items, c.push_reserved-2.ensures.items) (KeepsRoom-taken v c.args.by r c.free_number-upstream.result (drop 1 v.queue) c.self.invariant.room front (omega (arith, c.if-len-self.false, c.len.ensures)));
+      room = rw (popped, c.push_reserved.ensures.items) (KeepsRoom-reordered (taken v c.args.by r u) c.put-upstream.new.self.taken c.put-upstream.ensures.taken kept);
       queue = rw popped c.self.invariant.queue;
-      window = omega (arith, c.push_reserved.ensures.capacity, c.self.invariant.window);
-      entries = omega (arith, c.push_reserved-2.ensures.capacity, c.self.invariant.entries);
+      window = c.put-upstream.ensures.most ∙ c.self.invariant.window;
+      entries = omega (arith, c.push_reserved.ensures.capacity, c.self.invariant.entries);
       places = c.self.invariant.places;
     }
 
@@ -25,10 +32,12 @@ pub returns-clause-agrees : goal.returns-clause-agrees
 returns-clause-agrees c = λ h was.
     let v = content_of c.self.inside in
     let r = c.unwrap-request.result in
-    let u = c.free_number-upstream.result in
+    let u = c.put-upstream.result in
     let popped = c.pop_front.ensures.items in
     let front = front_is v.queue r (sym c.pop_front.ensures.value ∙ c.unwrap-request.ensures) in
-    let free : list_any (λ (p : Place). p.upstream == u) v.window ≡ false =
-    ap (list_any (λ (p : Place). p.upstream == u)) (sym c.as_slice.ensures.value) ∙ c.free_number-upstream.ensures.free in
-    rw (popped, c.push_reserved.ensures.items, c.push_reserved-2.ensures.items)
-    (AgreesWith-taken h v c.args.by r (drop 1 v.queue) u (rw c.self.view_is was) front (omega (arith, c.if-len-self.false, c.len.ensures)) c.free_number-upstream.ensures.range.0 (omega (arith, c.free_number-upstream.ensures.range.1)) free)
+    let room : length v.window < v.limits.window = elim (cases_lt (length v.window) v.limits.window) [
+      | inl lt ↦ lt
+      | inr le ↦ let full : true ≡ false = sym (c.is_full.ensures.1 (omega (arith, le, c.self.invariant.window))) ∙ c.if-is_full.false in cc
+    ] in
+    let agrees = AgreesWith-taken h v c.args.by r (drop 1 v.queue) u (rw c.self.view_is was) front room c.put-upstream.ensures.range.0 (omega (arith, c.put-upstream.ensures.range.1)) c.put-upstream.ensures.free in
+    rw (popped, c.push_reserved.ensures.items) (AgreesWith-reordered _ (taken v c.args.by r u) c.put-upstream.new.self.taken c.put-upstream.ensures.taken agrees)

@@ -2,7 +2,7 @@ use Rattle.std.proofs.Common.{◌≡◌, ◌<◌, ◌+◌, ◌-◌, length, map,
 use Rattle.smx_history.specs.Contents.{Member}
 use Rattle.smx_lane.specs.declared.roster.Row.{Row}
 use Rattle.smx_lane.specs.Roster.{member_in}
-use Rattle.smx_lane.proofs.Rows.{row_shows, changed_row, row_waits, KeepsRows-changed, front_is}
+use Rattle.smx_lane.proofs.ClientRows.{row_shows, changed_row, row_waits, KeepsRows-changed, front_is}
 use Rattle.std.proofs.lemmas.Option.{slice_get_within}
 use Rattle.std.proofs.lemmas.List.{length-map}
 use Rattle.smx_lane.proofs.roster.Roster.get.Goals as goal

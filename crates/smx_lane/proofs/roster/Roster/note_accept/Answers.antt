@@ -1,7 +1,7 @@
 use Rattle.std.proofs.Common.{◌+◌, refl}
 use Rattle.smx_history.specs.Contents.{Member}
 use Rattle.smx_lane.specs.declared.roster.Row.{Row}
-use Rattle.smx_lane.proofs.Rows.{changed_row, KeepsRows-changed}
+use Rattle.smx_lane.proofs.ClientRows.{changed_row, KeepsRows-changed}
 use Rattle.smx_lane.proofs.roster.Roster.note_accept.Goals as goal
 
 pub invariant_of-self : goal.invariant_of-self

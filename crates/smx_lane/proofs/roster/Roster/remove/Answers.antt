@@ -1,6 +1,6 @@
 use Rattle.std.proofs.Common.{◌<◌, length, refl, arith}
 use Rattle.smx_lane.specs.Roster.{member_in}
-use Rattle.smx_lane.proofs.Rows.{row_waits, KeepsRows-removed, removed_row}
+use Rattle.smx_lane.proofs.ClientRows.{row_waits, KeepsRows-removed, removed_row}
 use Rattle.std.proofs.lemmas.List.{length-map}
 use Rattle.smx_lane.proofs.roster.Roster.remove.Goals as goal
 

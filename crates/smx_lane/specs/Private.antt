@@ -1,0 +1,4 @@
+-- What contracts of private functions, models and invariants cite: no public contract does.
+pub mod Places
+pub mod Rows
+pub mod Window
