@@ -150,17 +150,17 @@ unbound_end : (quiet : Bool) → IsTurnEnd false quiet (quiet_end quiet) MayTake
 unbound_end true = (refl, refl)
 unbound_end false = (refl, refl)
 
-tried_end : (bound quiet : Bool) → IsTurnEnd bound quiet (quiet_end quiet) HasTried
-tried_end bound true = refl
-tried_end bound false = refl
+tried_end : (quiet : Bool) → IsTurnEnd true quiet (quiet_end quiet) HasTried
+tried_end true = (refl, refl)
+tried_end false = (refl, refl)
 
 pub ends_unbound : (bound quiet : Bool) (end : TurnEnd) (p : Phase) → p ≡ MayTake → bound ≡ false → end ≡ quiet_end quiet → IsTurnEnd bound quiet end p
 ends_unbound bound quiet end p same b e = subst (λ (x : Phase). IsTurnEnd bound quiet end x) (sym same)
     (subst (λ (x : Bool). IsTurnEnd x quiet end MayTake) (sym b) (subst (λ (x : TurnEnd). IsTurnEnd false quiet x MayTake) (sym e) (unbound_end quiet)))
 
-pub ends_tried : (bound quiet : Bool) (end : TurnEnd) (p : Phase) → p ≡ HasTried → end ≡ quiet_end quiet → IsTurnEnd bound quiet end p
-ends_tried bound quiet end p same e = subst (λ (x : Phase). IsTurnEnd bound quiet end x) (sym same)
-    (subst (λ (x : TurnEnd). IsTurnEnd bound quiet x HasTried) (sym e) (tried_end bound quiet))
+pub ends_tried : (bound quiet : Bool) (end : TurnEnd) (p : Phase) → p ≡ HasTried → bound ≡ true → end ≡ quiet_end quiet → IsTurnEnd bound quiet end p
+ends_tried bound quiet end p same b e = subst (λ (x : Phase). IsTurnEnd bound quiet end x) (sym same)
+    (subst (λ (x : Bool). IsTurnEnd x quiet end HasTried) (sym b) (subst (λ (x : TurnEnd). IsTurnEnd true quiet x HasTried) (sym e) (tried_end quiet)))
 
 pub kept_right : (left : Bool) → is_right (when_kept left) ≡ true
 kept_right true = refl

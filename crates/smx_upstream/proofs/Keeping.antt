@@ -76,6 +76,7 @@ note_step s t (event.Sought r) d = nothing _ _ (ap (λ x. known_of x.tap.front.m
 note_step s t (event.Decided p now a f) d = fate_note p.value a.value f s.tap s.senders t.tap t.senders d.1
 note_step s t (event.Took r) d = takes_known s.tap.front t.tap.front r.value d.0
 note_step s t event.Broke d = nothing _ _ (ap (λ x. known_of x.tap.front.mine) d)
+note_step s t (event.Unbound p) d = nothing _ _ (ap (λ x. known_of x.tap.front.mine) d.1)
 
 -- the tap's seen
 self : {A : Type 0} (xs ys : List A) → ys ≡ xs → IsPrefix xs ys
@@ -127,6 +128,7 @@ seen_step s t (event.Sought r) d = self _ _ (ap (λ x. x.tap.front.seen) d.1)
 seen_step s t (event.Decided p now a f) d = fate_seen p.value a.value f s.tap s.senders t.tap t.senders d.1
 seen_step s t (event.Took r) d = take_seen s.tap.front t.tap.front r.value d.0
 seen_step s t event.Broke d = self _ _ (ap (λ x. x.tap.front.seen) d)
+seen_step s t (event.Unbound p) d = self _ _ (ap (λ x. x.tap.front.seen) d.1)
 
 -- the lane
 fate_lane : (p : Pdu) (a : UpAct) (f : Fate) (t : TapView) (ss : List (Sending MoItem)) (t' : TapView) (ss' : List (Sending MoItem)) → Becomes p a f t ss t' ss' → t'.lane ≡ t.lane
@@ -149,6 +151,7 @@ lane_step s t (event.Sought r) d = ap (λ x. x.tap.lane) d.1
 lane_step s t (event.Decided p now a f) d = fate_lane p.value a.value f s.tap s.senders t.tap t.senders d.1
 lane_step s t (event.Took r) d = d.1
 lane_step s t event.Broke d = ap (λ x. x.tap.lane) d
+lane_step s t (event.Unbound p) d = ap (λ x. x.tap.lane) d.1
 
 -- one sender's list, where another's may have changed
 same_put : (slot at : ℕ) (ss tt : List (Sending MoItem)) → AtIndex at ss tt (λ x y. y.put ≡ x.put) → contents_in (slice_get tt slot) ≡ contents_in (slice_get ss slot)
@@ -189,6 +192,7 @@ put_step slot s t (event.Sought r) d = nothing _ _ (ap (λ x. contents_in (slice
 put_step slot s t (event.Decided p now a f) d = fate_puts slot p.value a.value f s.tap s.senders t.tap t.senders d.1
 put_step slot s t (event.Took r) d = nothing _ _ (ap (λ x. contents_in (slice_get x.senders slot)) d.2)
 put_step slot s t event.Broke d = nothing _ _ (ap (λ x. contents_in (slice_get x.senders slot)) d)
+put_step slot s t (event.Unbound p) d = nothing _ _ (ap (λ x. contents_in (slice_get x.senders slot)) d.1)
 
 -- the whole chain
 pub runs_kept : (s t : Stand) (es : List Event) → Runs Does s es t → Kept s es t

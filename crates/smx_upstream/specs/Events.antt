@@ -21,7 +21,7 @@ use Rattle.smx_turns.specs.declared.gate.Party.TheVariants.{Client, Slot}
 use Rattle.smx_history.specs.declared.reply.Answered.{Answered}
 use Rattle.smx_history.specs.declared.reply.Answered.TheVariants as answered
 use Rattle.smx_upstream.specs.declared.event.Event.{Event}
-use Rattle.smx_upstream.specs.declared.event.Event.TheVariants.{Began, Opened, Looked, Young, Shifted, Sought, Decided, Took, Broke}
+use Rattle.smx_upstream.specs.declared.event.Event.TheVariants.{Began, Opened, Looked, Young, Shifted, Sought, Decided, Took, Broke, Unbound}
 use Rattle.smx_upstream.specs.declared.event.Fate.{Fate}
 use Rattle.smx_upstream.specs.declared.event.Fate.TheVariants as fate
 
@@ -80,6 +80,7 @@ out_of (Sought r) = got_out r.value
 out_of (Decided p now a f) = act_out a.value ++ fate_out p.value f
 out_of (Took r) = taken_out r.value
 out_of Broke = undecoded ∷ []
+out_of (Unbound p) = those p.value
 
 -- the PDU that still waits after this fate
 abbrev pub kept_by : Pdu → Fate → Option Pdu
@@ -107,6 +108,7 @@ in_of (Sought r) = []
 in_of (Decided p now a f) = unless_kept p.value (kept_by p.value f)
 in_of (Took r) = []
 in_of Broke = []
+in_of (Unbound p) = []
 
 -- In: the PDUs that these events decided
 unfoldable pub ins : List Event → List Pdu
@@ -142,6 +144,7 @@ find_of (Sought r) = []
 find_of (Decided p now a f) = fate_finds p.value f
 find_of (Took r) = []
 find_of Broke = []
+find_of (Unbound p) = []
 
 -- whom an answer of the lane is for
 abbrev pub answer_tells : ℕ → Answered → List Party
@@ -171,6 +174,7 @@ tell_of (Sought r) = []
 tell_of (Decided p now a f) = fate_tells f
 tell_of (Took r) = []
 tell_of Broke = []
+tell_of (Unbound p) = []
 
 -- whether a take held the lane
 abbrev pub was_served : Result Sent TakeFault → Bool

@@ -43,6 +43,7 @@ known_by (event.Sought r) = []
 known_by (event.Decided p now a f) = fate_known p.value f
 known_by (event.Took r) = known_by_take r.value
 known_by event.Broke = []
+known_by (event.Unbound p) = []
 
 unfoldable pub knowns : List Event → List Known
 knowns es = flat_map known_by es
@@ -68,6 +69,7 @@ put_by slot lane (event.Sought r) = []
 put_by slot lane (event.Decided p now a f) = fate_put slot lane p.value f
 put_by slot lane (event.Took r) = []
 put_by slot lane event.Broke = []
+put_by slot lane (event.Unbound p) = []
 
 unfoldable pub puts_at : ℕ → ℕ → List Event → List (Option MoItem)
 puts_at slot lane es = flat_map (put_by slot lane) es

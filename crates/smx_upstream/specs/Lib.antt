@@ -1,7 +1,9 @@
 pub mod Events
 pub mod Quiet
+pub mod Spent
 pub mod Ages
 pub mod Standing
 pub mod Working
 pub mod Phases
+pub mod Rounds
 pub mod Laws

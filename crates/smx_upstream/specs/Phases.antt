@@ -216,13 +216,13 @@ IsTurnEnd bound quiet Done _ = ⊥
 IsTurnEnd bound quiet Idle Stopped = Unit {0}
 IsTurnEnd bound quiet Idle Refrained = Unit {0}
 IsTurnEnd bound quiet Idle MayTake = (bound ≡ false) × (quiet ≡ true)
-IsTurnEnd bound quiet Idle HasTried = quiet ≡ true
+IsTurnEnd bound quiet Idle HasTried = (bound ≡ true) × (quiet ≡ true)
 IsTurnEnd bound quiet Idle _ = ⊥
 IsTurnEnd bound quiet Worked Clogged = Unit {0}
 IsTurnEnd bound quiet Worked Brimming = Unit {0}
 IsTurnEnd bound quiet Worked Ending = Unit {0}
 IsTurnEnd bound quiet Worked MayTake = (bound ≡ false) × (quiet ≡ false)
-IsTurnEnd bound quiet Worked HasTried = quiet ≡ false
+IsTurnEnd bound quiet Worked HasTried = (bound ≡ true) × (quiet ≡ false)
 IsTurnEnd bound quiet Worked _ = ⊥
 
 abbrev pub IsTurn : Bool → Bool → Result TurnEnd Fault → Phase → Type 0

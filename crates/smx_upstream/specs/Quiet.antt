@@ -11,7 +11,7 @@ use Rattle.smx_turns.specs.declared.step.Step.{Step}
 use Rattle.smx_upstream.specs.declared.mark.Mark.{Mark}
 use Rattle.smx_upstream.specs.declared.mark.Mark.TheVariants.{Offered, Full, Part}
 use Rattle.smx_upstream.specs.declared.event.Event.{Event}
-use Rattle.smx_upstream.specs.declared.event.Event.TheVariants.{Began, Opened, Looked, Young, Shifted, Sought, Decided, Took, Broke}
+use Rattle.smx_upstream.specs.declared.event.Event.TheVariants.{Began, Opened, Looked, Young, Shifted, Sought, Decided, Took, Broke, Unbound}
 
 -- no octets waited
 abbrev pub is_quiet_mark : Mark → Bool
@@ -40,6 +40,7 @@ is_quiet_event (Sought r) = finds_nothing r.value
 is_quiet_event (Decided p now a f) = false
 is_quiet_event (Took r) = takes_nothing r.value
 is_quiet_event Broke = false
+is_quiet_event (Unbound p) = is_none p.value
 
 -- nothing came of any of these steps
 abbrev pub are_all_quiet : List (Step Mark Event) → Bool

@@ -18,7 +18,7 @@ use Rattle.smx_box.specs.declared.receiver.Got.{Got}
 use Rattle.smx_box.specs.Boxes.{Sending, Receiving, GetServes, Hands}
 use Rattle.smx_session.specs.Binds.{own_bind}
 use Rattle.smx_session.specs.UpstreamTable.{bind_number}
-use Rattle.smx_session.specs.Moments.{Upstream, at, act_on, after_pdu, enquiry, after_moment, is_silent}
+use Rattle.smx_session.specs.Moments.{Upstream, at, act_on, after_pdu, enquiry, after_moment, is_silent, farewell, stopped}
 use Rattle.smx_session.specs.declared.up_act.UpAct.{UpAct}
 use Rattle.smx_session.specs.declared.up_act.UpAct.TheVariants as act
 use Rattle.smx_shared.specs.Views.{TapView}
@@ -30,7 +30,7 @@ use Rattle.smx_turns.specs.declared.directory.Place.{Place}
 use Rattle.smx_turns.specs.declared.mo_item.MoItem.{MoItem}
 use Rattle.smx_turns.specs.Puts.{AtIndex, Puts, FindsFull, FindsSpent}
 use Rattle.smx_upstream.specs.declared.event.Event.{Event}
-use Rattle.smx_upstream.specs.declared.event.Event.TheVariants.{Began, Opened, Looked, Young, Shifted, Sought, Decided, Took, Broke}
+use Rattle.smx_upstream.specs.declared.event.Event.TheVariants.{Began, Opened, Looked, Young, Shifted, Sought, Decided, Took, Broke, Unbound}
 use Rattle.smx_upstream.specs.declared.event.Fate.{Fate}
 use Rattle.smx_upstream.specs.declared.event.Fate.TheVariants as fate
 
@@ -104,3 +104,5 @@ Does s (Decided p now a f) t = (a.value ≡ act_on s.session p.value) × Becomes
     × (t ≡ record s { session = after_pdu s.session p.value now; tap = t.tap; senders = t.senders; age = noted_more (fate_notes f) s.age })
 Does s (Took r) t = Takes s.tap.front t.tap.front r.value × (t.tap.lane ≡ s.tap.lane) × (t ≡ record s { tap = t.tap; age = noted_more (take_notes r.value) s.age })
 Does s Broke t = t ≡ s
+Does s (Unbound p) t = (p.value ≡ farewell s.session.state)
+    × (t ≡ record s { session = record s.session { state = stopped s.session.state } })

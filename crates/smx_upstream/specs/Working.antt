@@ -7,6 +7,8 @@ use Rattle.smx_link.specs.declared.link.LinkFault.{LinkFault}
 use Rattle.smx_turns.specs.declared.gate.Question.{Question}
 use Rattle.smx_turns.specs.declared.gate.Party.{Party}
 use Rattle.smx_turns.specs.declared.directory.Query.{Query}
+use Rattle.smx_turns.specs.declared.end.TurnEnd.{TurnEnd}
+use Rattle.smx_turns.specs.declared.end.Fault.{Fault}
 use Rattle.smx_turns.specs.declared.step.Step.{Step}
 use Rattle.smx_turns.specs.Runs.{Runs}
 use Rattle.smx_turns.specs.Steps.{Side, side, Turned}
@@ -29,6 +31,8 @@ pub record Working (L : Type 0) : Type 0 where
   pub events : List Event
   -- the steps of its last turn
   pub steps : List (Step Mark Event)
+  -- how its turns ended
+  pub ends : List (Result TurnEnd Fault)
 
 -- what a worker keeps at every call
 pub record IsWorker {L : Type 0} (w : Working L) : Type 0 where

@@ -2,6 +2,7 @@
 ghost use Rattle.std.specs.Prelude.{◌≡◌, ◌≢◌, ◌≤◌, [], slice_get, Some, None, Ok, Err, OnOk, OnErr, IfOk, IsSome};
 ghost use Rattle.smx_upstream.specs.Events.{those, got_out, taken_out, was_served};
 ghost use Rattle.smx_upstream.specs.Quiet.{finds_nothing, takes_nothing};
+ghost use Rattle.smx_upstream.specs.Spent.{EndsSpent};
 ghost use Rattle.smx_upstream.specs.Ages.{next_turn, take_notes, has_shifted};
 ghost use Rattle.smx_upstream.specs.Working.{side_of, Goes};
 ghost use Rattle.smx_upstream.specs.Phases.{phase_of, ends, when_looked, when_kept, when_decided, LeadsTo, Opening, Ready, Written, Watched, Clear, Sated, Deciding, MayTake, HasTried};
@@ -154,6 +155,7 @@ impl<L: Link + Drop> UpstreamWorker<L> {
         ensures phase { (left : _) → phase_of log.old ≡ Watched left
             → phase_of log.new ≡ when_kept left }
         ensures err { OnErr result (result ≡ Err Fault.Spent) }
+        ensures spent { result ≡ Err Fault.Spent → EndsSpent log.new }
         ensures goes { (turn asked told queries : _) → Goes turn
             (side_of L.polls asked told queries self.old)
             (side_of L.polls asked told queries self.new) log.old log.new }
@@ -185,6 +187,7 @@ impl<L: Link + Drop> UpstreamWorker<L> {
         requires room { 65536 ≤ self.old.wire.room }
         ensures phase { phase_of log.old ≡ Clear → phase_of log.new ≡ Sated }
         ensures err { OnErr result (result ≡ Err Fault.Spent) }
+        ensures spent { result ≡ Err Fault.Spent → EndsSpent log.new }
         ensures goes { (turn asked told queries : _) → Goes turn
             (side_of L.polls asked told queries self.old)
             (side_of L.polls asked told queries self.new) log.old log.new }
@@ -221,6 +224,7 @@ impl<L: Link + Drop> UpstreamWorker<L> {
             ≡ Some self.new.stand.tap.front.lock }
         ensures phase { phase_of log.old ≡ MayTake → phase_of log.new ≡ HasTried }
         ensures err { OnErr result (result ≡ Err Fault.Spent) }
+        ensures spent { result ≡ Err Fault.Spent → EndsSpent log.new }
         ensures goes { (turn asked told queries : _) → Goes turn
             (side_of L.polls asked told queries self.old)
             (side_of L.polls asked told queries self.new) log.old log.new }
@@ -275,6 +279,7 @@ impl<L: Link + Drop> UpstreamWorker<L> {
             → LeadsTo result (when_decided ended) (phase_of log.new) }
         ensures held { OnOk result (self.new.held ≡ None) }
         ensures err { OnErr result (result ≡ Err Fault.Spent) }
+        ensures spent { result ≡ Err Fault.Spent → EndsSpent log.new }
         ensures goes { (turn : _) → Goes turn
             (side_of L.polls (G.asked gate.old) (G.told gate.old) (D.queries directory.old) self.old)
             (side_of L.polls (G.asked gate.new) (G.told gate.new) (D.queries directory.new) self.new)

@@ -53,6 +53,8 @@ pub enum Event {
     Took(Snapshot<Result<Sent, TakeFault>>),
     /// A bad length was answered.
     Broke,
+    /// The session was to end in order: its unbind, where it was bound.
+    Unbound(Snapshot<Option<Pdu>>),
 }
 
 impl Deed for Event {

@@ -8,6 +8,7 @@ mod event;
 mod laws;
 mod mark;
 mod running;
+mod stopping;
 mod turning;
 mod wiring;
 mod worker;

@@ -1,11 +1,13 @@
 //! Turns of the upstream worker, one after another, and its end.
-ghost use Rattle.std.specs.Prelude.{◌≡◌, ◌≢◌, ◌+◌, ◌++◌, true, slice_get, Some, None, Ok, Err, OnOk};
+ghost use Rattle.std.specs.Prelude.{◌≡◌, ◌≢◌, ◌+◌, ◌++◌, ◌∷◌, [], true, slice_get, Some, None, Ok, Err, OnOk};
 ghost use mathlib.Core.List.{IsPrefix};
 ghost use Rattle.smx_frame.specs.Stream.{HasNone};
 ghost use Rattle.smx_session.specs.Moments.{is_bound};
 ghost use Rattle.smx_turns.specs.Runs.{Ran};
 ghost use Rattle.smx_upstream.specs.Ages.{next_turn};
 ghost use Rattle.smx_upstream.specs.Quiet.{are_all_quiet};
+ghost use Rattle.smx_upstream.specs.Rounds.{EndsSo};
+ghost use Rattle.smx_upstream.specs.Spent.{EndsSpent};
 ghost use Rattle.smx_upstream.specs.Standing.{Does};
 ghost use Rattle.smx_upstream.specs.Working.{side_of, Turns};
 ghost use Rattle.smx_upstream.specs.Phases.{phase_of, is_settled, link_faults, Waits, IsTurn, IsOver};
@@ -61,12 +63,15 @@ impl<L: Link + Drop> UpstreamWorker<L> {
         ensures failures { L.failures self.new.wire.link
             ≡ L.failures self.old.wire.link + link_faults result }
         ensures held { OnOk result (self.new.held ≡ None) }
+        ensures spent { result ≡ Err Fault.Spent → EndsSpent self.new.steps }
         ensures count { self.new.stand.age.turns ≡ (next_turn self.old.stand.age).turns }
+        ensures ends { self.new.ends ≡ self.old.ends ++ result ∷ [] }
         ensures first { self.new.first ≡ self.old.first }
     {
         let mut log = Log::new();
         let end = self.run_turn(at, rt, gate, directory, now, &mut log);
         self.steps = log.into_steps();
+        self.ends = self.ends.and(&end);
         end
     }
 
@@ -93,7 +98,7 @@ impl<L: Link + Drop> UpstreamWorker<L> {
     }
 }
 
-/// Turns a worker for as long as there is something to do, at most so often.
+/// Turns a worker at most so often, and no more after a turn that wasn't `Worked`.
 pub fn run_upstream<L: Link + Drop, R: Wait, G: Gate, D: Directory, C: FnMut() -> u64>(
     worker: &mut UpstreamWorker<L>,
     at: &Exchange,
@@ -111,6 +116,7 @@ pub fn run_upstream<L: Link + Drop, R: Wait, G: Gate, D: Directory, C: FnMut() -
         ≡ Some worker.new.stand.tap.front.lock }
     ensures held { ((fault : Fault) → result ≢ RunEnd.Fault fault) → worker.new.held ≡ None }
     ensures first { worker.new.first ≡ worker.old.first }
+    ensures ends { EndsSo turns result worker.old.ends worker.new.ends }
     ensures left { result ≡ RunEnd.Left → IsOver (phase_of worker.new.steps) }
     ensures ran { Ran Does worker.old.stand worker.old.events worker.new.stand worker.new.events }
 {

@@ -6,6 +6,7 @@ ghost use Rattle.smx_session.specs.Moments.{is_bound};
 ghost use Rattle.smx_upstream.specs.Ages.{next_turn};
 ghost use Rattle.smx_upstream.specs.Working.{side_of, Goes};
 ghost use Rattle.smx_upstream.specs.Quiet.{are_all_quiet};
+ghost use Rattle.smx_upstream.specs.Spent.{EndsSpent};
 ghost use Rattle.smx_upstream.specs.Phases.{phase_of, when_next, when_progress, is_settled, end_of, quiet_end, link_faults, Waits, LeadsTo, IsPart, IsTurn, Opening, Ready, Sated, MayRead, Deciding, Settled};
 
 use crate::event::Event;
@@ -37,7 +38,7 @@ fn quiet_end(quiet: bool) -> TurnEnd
     }
 }
 
-fn is_bound(state: UpstreamState) -> bool
+pub(crate) fn is_bound(state: UpstreamState) -> bool
     ensures { result ≡ is_bound state }
 {
     matches!(state, UpstreamState::Bound)
@@ -91,6 +92,7 @@ impl<L: Link + Drop> UpstreamWorker<L> {
             → HasNone 65536 self.new.wire.rest × (self.new.ending ≡ false) }
         ensures over { result ≡ Ok Next.Over → self.new.ending ≡ true }
         ensures faults { link_faults result ≡ 0 }
+        ensures spent { result ≡ Err Fault.Spent → EndsSpent log.new }
         ensures goes { (turn : _) → Goes turn
             (side_of L.polls (G.asked gate.old) (G.told gate.old) (D.queries directory.old) self.old)
             (side_of L.polls (G.asked gate.new) (G.told gate.new) (D.queries directory.new) self.new)
@@ -98,6 +100,7 @@ impl<L: Link + Drop> UpstreamWorker<L> {
         ensures kept { (self.new.wire.link ≡ self.old.wire.link)
             × (self.new.stand.age.turns ≡ self.old.stand.age.turns)
             × (self.new.first ≡ self.old.first) }
+        ensures ends { self.new.ends ≡ self.old.ends }
     {
         self.make_room()?;
         match self.fetch(log)? {
@@ -139,6 +142,7 @@ impl<L: Link + Drop> UpstreamWorker<L> {
             → (ended ≡ false) × (65536 ≤ length self.new.wire.unsent) }
         ensures over { result ≡ Ok Progress.Over → self.new.ending ≡ true }
         ensures faults { link_faults result ≡ 0 }
+        ensures spent { result ≡ Err Fault.Spent → EndsSpent log.new }
         ensures goes { (turn : _) → Goes turn
             (side_of L.polls (G.asked gate.old) (G.told gate.old) (D.queries directory.old) self.old)
             (side_of L.polls (G.asked gate.new) (G.told gate.new) (D.queries directory.new) self.new)
@@ -146,6 +150,7 @@ impl<L: Link + Drop> UpstreamWorker<L> {
         ensures kept { (self.new.wire.link ≡ self.old.wire.link)
             × (self.new.stand.age.turns ≡ self.old.stand.age.turns)
             × (self.new.first ≡ self.old.first) }
+        ensures ends { self.new.ends ≡ self.old.ends }
     {
         loop {
             if !ended && self.wire.unsent() >= MAX_PDU {
@@ -181,12 +186,14 @@ impl<L: Link + Drop> UpstreamWorker<L> {
             (L.offered self.new.wire.link) }
         ensures failures { L.failures self.new.wire.link
             ≡ L.failures self.old.wire.link + link_faults result }
+        ensures spent { result ≡ Err Fault.Spent → EndsSpent log.new }
         ensures goes { (turn asked told queries : _) → Goes turn
             (side_of L.polls asked told queries self.old)
             (side_of L.polls asked told queries self.new) log.old log.new }
         ensures kept { (self.new.held ≡ self.old.held)
             × (self.new.stand.age.turns ≡ self.old.stand.age.turns)
             × (self.new.first ≡ self.old.first) }
+        ensures ends { self.new.ends ≡ self.old.ends }
     {
         let left = self.offer(log)?;
         if self.ending {
@@ -230,12 +237,14 @@ impl<L: Link + Drop> UpstreamWorker<L> {
         ensures offers { IsPrefix (L.offered self.old.wire.link) (L.offered self.new.wire.link) }
         ensures failures { L.failures self.new.wire.link
             ≡ L.failures self.old.wire.link + link_faults result }
+        ensures spent { result ≡ Err Fault.Spent → EndsSpent log.new }
         ensures goes { (turn : _) → Goes turn
             (side_of L.polls (G.asked gate.old) (G.told gate.old) (D.queries directory.old) self.old)
             (side_of L.polls (G.asked gate.new) (G.told gate.new) (D.queries directory.new) self.new)
             log.old log.new }
         ensures kept { (self.new.stand.age.turns ≡ self.old.stand.age.turns)
             × (self.new.first ≡ self.old.first) }
+        ensures ends { self.new.ends ≡ self.old.ends }
     {
         let ended = self.read(log)?;
         match self.decide_all(ended, at, rt, gate, directory, now, log)? {
@@ -277,12 +286,14 @@ impl<L: Link + Drop> UpstreamWorker<L> {
         ensures offers { IsPrefix (L.offered self.old.wire.link) (L.offered self.new.wire.link) }
         ensures failures { L.failures self.new.wire.link
             ≡ L.failures self.old.wire.link + link_faults result }
+        ensures spent { result ≡ Err Fault.Spent → EndsSpent log.new }
         ensures goes { Goes turn
             (side_of L.polls (G.asked gate.old) (G.told gate.old) (D.queries directory.old) self.old)
             (side_of L.polls (G.asked gate.new) (G.told gate.new) (D.queries directory.new) self.new)
             log.old log.new }
         ensures kept { (self.new.stand.age.turns ≡ self.old.stand.age.turns)
             × (self.new.first ≡ self.old.first) }
+        ensures ends { self.new.ends ≡ self.old.ends }
     {
         self.make_ready()?;
         if self.wire.unsent() >= MAX_PDU {
@@ -314,6 +325,7 @@ impl<L: Link + Drop> UpstreamWorker<L> {
         ensures waits { phase_of log.old ≡ Settled
             → OnOk result (Waits (phase_of log.new) self.new.wire.unsent) }
         ensures faults { link_faults result ≡ 0 }
+        ensures spent { result ≡ Err Fault.Spent → EndsSpent log.new }
         ensures goes { (queries : _) → Goes turn
             (side_of L.polls (G.asked gate.old) (G.told gate.old) queries self.old)
             (side_of L.polls (G.asked gate.new) (G.told gate.new) queries self.new) log.old log.new }
@@ -321,6 +333,7 @@ impl<L: Link + Drop> UpstreamWorker<L> {
             × (self.new.wire.rest ≡ self.old.wire.rest)
             × (self.new.stand.age.turns ≡ self.old.stand.age.turns)
             × (self.new.first ≡ self.old.first) }
+        ensures ends { self.new.ends ≡ self.old.ends }
     {
         self.make_room()?;
         let may = ask(log, gate, Point::Taking, turn);
@@ -361,12 +374,14 @@ impl<L: Link + Drop> UpstreamWorker<L> {
             (L.offered self.new.wire.link) }
         ensures failures { L.failures self.new.wire.link
             ≡ L.failures self.old.wire.link + link_faults result }
+        ensures spent { result ≡ Err Fault.Spent → EndsSpent log.new }
         ensures goes { Goes self.new.stand.age.turns
             (side_of L.polls (G.asked gate.old) (G.told gate.old) (D.queries directory.old) self.old)
             (side_of L.polls (G.asked gate.new) (G.told gate.new) (D.queries directory.new) self.new)
             log.old log.new }
         ensures count { self.new.stand.age.turns ≡ (next_turn self.old.stand.age).turns }
         ensures first { self.new.first ≡ self.old.first }
+        ensures ends { self.new.ends ≡ self.old.ends }
     {
         let turn = self.open(log);
         match self.open_part(at, rt, now, log) {

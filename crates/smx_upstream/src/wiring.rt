@@ -76,6 +76,7 @@ impl<L: Link + Drop> UpstreamWorker<L> {
             ≡ L.offered self.old.wire.link ++ self.old.wire.unsent }
         ensures failures { L.failures self.new.wire.link
             ≡ L.failures self.old.wire.link + link_faults result }
+        ensures err { OnErr result (result ≡ Err Fault.Link) }
         ensures goes { (turn asked told queries : _) → Goes turn
             (side_of L.polls asked told queries self.old)
             (side_of L.polls asked told queries self.new) log.old log.new }
@@ -133,6 +134,7 @@ impl<L: Link + Drop> UpstreamWorker<L> {
         ensures offered { L.offered self.new.wire.link ≡ L.offered self.old.wire.link }
         ensures failures { L.failures self.new.wire.link
             ≡ L.failures self.old.wire.link + link_faults result }
+        ensures err { OnErr result (result ≡ Err Fault.Link) }
         ensures goes { (turn asked told queries : _) → Goes turn
             (side_of L.polls asked told queries self.old)
             (side_of L.polls asked told queries self.new) log.old log.new }

@@ -18,7 +18,7 @@ use smx_pdu::Pdu;
 use smx_session::{UpstreamSession, UpstreamState};
 use smx_shared::Tap;
 use smx_trace::Trace;
-use smx_turns::{Log, MoItem, Step};
+use smx_turns::{Fault, Log, MoItem, Step, TurnEnd};
 use std::alloc::Global;
 use std::marker::Model;
 use std::snapshot::Snapshot;
@@ -88,6 +88,8 @@ pub struct UpstreamWorker<L: Link + Drop> {
     pub(crate) events: Trace<Event>,
     // Those of the last turn.
     pub(crate) steps: Trace<Step<Mark, Event>>,
+    // How the turns ended.
+    pub(crate) ends: Trace<Result<TurnEnd, Fault>>,
 }
 
 impl<L: Link + Drop> Model for UpstreamWorker<L> {
@@ -105,6 +107,7 @@ impl<L: Link + Drop> Model for UpstreamWorker<L> {
       ending = w.ending;
       events = w.events;
       steps = w.steps;
+      ends = w.ends;
     } };
 
     ghost invariant = { λ w. IsWorker (record {
@@ -116,6 +119,7 @@ impl<L: Link + Drop> Model for UpstreamWorker<L> {
       ending = w.ending;
       events = w.events;
       steps = w.steps;
+      ends = w.ends;
     }) };
 }
 
@@ -127,6 +131,22 @@ pub(crate) fn jot(event: Event, quiet: bool, events: &mut Trace<Event>, log: &mu
 {
     *events = events.and(&event);
     log.push(&Step::Did(event), quiet);
+}
+
+// Says a PDU, where there is one.
+pub(crate) fn send<L: Link + Drop>(sent: &Option<Pdu>, wire: &mut Wire<L>)
+    requires room { 65536 ≤ wire.old.room }
+    ensures said { wire.new.said ≡ wire.old.said ++ those sent.now }
+    ensures unsent { wire.new.unsent ≡ wire.old.unsent ++ flat_map spelling (those sent.now) }
+    ensures same { wire.new ≡ record wire.old {
+      said = wire.new.said;
+      unsent = wire.new.unsent;
+      room = wire.new.room;
+    } }
+{
+    if let Some(pdu) = sent {
+        wire.say(pdu);
+    }
 }
 
 // Writes down an event, and says what it sends.
@@ -151,9 +171,7 @@ pub(crate) fn note<L: Link + Drop>(
     ensures events { events.new ≡ events.old ++ event ∷ [] }
     ensures log { log.new ≡ log.old ++ Did event ∷ [] }
 {
-    if let Some(pdu) = sent {
-        wire.say(pdu);
-    }
+    send(sent, wire);
     jot(event, quiet, events, log);
 }
 
@@ -212,6 +230,7 @@ impl<L: Link + Drop> UpstreamWorker<L> {
             origin,
             events: Trace::new().and(&event),
             steps: Trace::new(),
+            ends: Trace::new(),
         })
     }
 

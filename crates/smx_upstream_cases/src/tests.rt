@@ -19,6 +19,7 @@ use std::test::Fail;
 
 mod passing;
 mod rows;
+mod stopping;
 
 const ROOMY: Limits = Limits {
     queue: 10,

@@ -1,9 +1,12 @@
-use Rattle.std.proofs.Common.{refl, ◌∙◌}
+use Rattle.std.proofs.Common.{rules, refl, ◌∙◌, sym, Ok, Err}
+use Rattle.std.proofs.lemmas.List.{append-nil}
+use Rattle.smx_turns.specs.declared.end.TurnEnd.TheVariants.{Idle, Done}
 use denote.Param.Always.{mut_next}
 use Rattle.smx_turns.proofs.Chains.{ran_none}
 use Rattle.smx_turns.proofs.Logged.{ran_turn}
 use Rattle.smx_upstream.specs.Events.{tell_of, find_of}
 use Rattle.smx_upstream.specs.Standing.{Does}
+use Rattle.smx_upstream.proofs.Rounding.{last_one, round_more, end_as}
 use Rattle.smx_upstream.proofs.running.run_upstream.Goals as goal
 
 pub loop-turn-init : goal.loop-turn-init
@@ -12,6 +15,7 @@ loop-turn-init g c = record {
   held = c.requires.none;
   lock = c.requires.lock;
   first = refl;
+  ends = sym (append-nil _);
   ran = ran_none Does _ _ _ _ refl refl;
 }
 
@@ -30,8 +34,18 @@ loop-turn-preserved g c = record {
   held = c.in-Ok-Worked.ensures.held;
   lock = c.turn.ensures.lock;
   first = c.turn.ensures.first ∙ c.loop-turn.invariant.first;
+  ends = round_more _ _ _ _ (end_as _ _ _ _ c.in-Ok-Worked.field-0-is c.in-Ok-Worked.ensures.ends) c.loop-turn.invariant.ends;
   ran = ran_turn Does tell_of find_of _ _ _ _ _ _ c.loop-turn.invariant.ran c.turn.ensures.turned;
 }
 
 pub returns-in-Err-clause-held : goal.returns-in-Err-clause-held
 returns-in-Err-clause-held g c = λ none. absurd (none _ refl)
+
+pub returns-in-Ok-Idle-clause-ends : goal.returns-in-Ok-Idle-clause-ends
+returns-in-Ok-Idle-clause-ends g c = (c.loop-turn._turn, (search rules), last_one _ _ _ _ (Ok Idle) (end_as _ _ _ _ c.in-Ok-Idle.field-0-is c.in-Ok-Idle.ensures.ends) c.loop-turn.invariant.ends)
+
+pub returns-in-Ok-Done-clause-ends : goal.returns-in-Ok-Done-clause-ends
+returns-in-Ok-Done-clause-ends g c = (c.loop-turn._turn, (search rules), last_one _ _ _ _ (Ok Done) (end_as _ _ _ _ c.in-Ok-Done.field-0-is c.in-Ok-Done.ensures.ends) c.loop-turn.invariant.ends)
+
+pub returns-in-Err-clause-ends : goal.returns-in-Err-clause-ends
+returns-in-Err-clause-ends g c = (c.loop-turn._turn, (search rules), last_one _ _ _ _ (Err c.in-Err.fault) c.in-Err.ensures.ends c.loop-turn.invariant.ends)

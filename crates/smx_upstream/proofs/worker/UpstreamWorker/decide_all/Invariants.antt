@@ -11,6 +11,7 @@ invariant-loop-self g l = record {
   link : l.self.wire.link ≡ l.fn.self.wire.link;
   turns : l.self.stand.age.turns ≡ l.fn.self.stand.age.turns;
   first : l.self.first ≡ l.fn.self.first;
+  ends : l.self.ends ≡ l.fn.self.ends;
   phase : phase_of l.fn.log ≡ Deciding l.fn.ended → phase_of l.log ≡ Deciding l.fn.ended;
   goes : (turn : ℕ) → Goes turn (side_of g.L.Link.polls (g.G.Gate.asked l.fn.gate) (g.G.Gate.told l.fn.gate) (g.D.Directory.queries l.fn.directory) l.fn.self)
       (side_of g.L.Link.polls (g.G.Gate.asked l.gate) (g.G.Gate.told l.gate) (g.D.Directory.queries l.directory) l.self) l.fn.log l.log;

@@ -51,7 +51,9 @@ returns-in_err-take_one-clause-phase g c = λ was.
 
 pub returns-clause-phase : goal.returns-clause-phase
 returns-clause-phase g c = λ was.
-    ends_tried _ _ _ _ (c.take_one.ensures.phase (stepped _ _ (Asked Taking c.ask-may.result) Settled _ c.ask-may.ensures.log (cell_taking c.ask-may.result) was ∙ ap when_may_take c.if-not-may.false)) (c.quiet_end-2.ensures ∙ ap quiet_end c.is_quiet-2.ensures)
+    ends_tried _ _ _ _ (c.take_one.ensures.phase (stepped _ _ (Asked Taking c.ask-may.result) Settled _ c.ask-may.ensures.log (cell_taking c.ask-may.result) was ∙ ap when_may_take c.if-not-may.false))
+    (ap (λ w. is_bound w.stand.session.state) c.take_one.ensures.same ∙ ap (λ w. is_bound w.stand.session.state) (sym c.self.view_is) ∙ ap is_bound (sym c.state.ensures) ∙ sym c.is_bound-bound.ensures ∙ c.if-not-bound.false)
+    (c.quiet_end-2.ensures ∙ ap quiet_end c.is_quiet-2.ensures)
 
 pub returns-clause-waits : goal.returns-clause-waits
 returns-clause-waits g c = λ was.
