@@ -47,10 +47,11 @@ const CLIENT: [(u32, [Reply; 4]); 19] = [
 ];
 
 // By command: the replies to a centre whose answer to the bind is awaited, and to one that is bound.
-// A message by its header alone has no destination (section 4.6.1).
+// A message by its header alone has no destination (section 4.6.1). While the answer to an unbind is
+// awaited all but the first are as before the bind.
 const CENTRE: [(u32, [Reply; 2]); 16] = [
-    (0x8000_0015, [Nothing, Nothing]),
     (0x8000_0006, [Nothing, Nothing]),
+    (0x8000_0015, [Nothing, Nothing]),
     (0x8000_0001, [Nothing, Nothing]),
     (0x8000_0004, [Nothing, Nothing]),
     (0x0000_0005, [Status(4), Status(2)]),
@@ -70,6 +71,11 @@ const CENTRE: [(u32, [Reply; 2]); 16] = [
 const GENERIC_NACK: u32 = 0x8000_0000;
 
 const ENQUIRE_LINK: u32 = 0x0000_0015;
+
+const UNBIND: u32 = 0x0000_0006;
+
+// The number of the proxy's own unbind.
+const OWN_UNBIND: u32 = 0x7FFF_FFFF;
 
 const RESPONSE: u32 = 0x8000_0000;
 
@@ -139,7 +145,29 @@ fn are_answered(alloc: Global, stream: &mut TcpStream, up: &mut TcpStream, state
     true
 }
 
-// Clients that aren't bound, and bound in each way. Each unbinds last.
+// Whether each kind of PDU, from this row on, is answered as the table's column says.
+fn are_decided(alloc: Global, up: &mut TcpStream, state: usize, from: usize) -> bool {
+    for (command, replies) in CENTRE.into_iter().skip(from) {
+        let Some(reply) = replies.get(state) else {
+            return false;
+        };
+        if !header(command, 0, 7).is_said(alloc, up) {
+            return false;
+        }
+        let is_right = match reply {
+            Status(status) => header(RESPONSE | command, *status, 7).is_heard(alloc, up),
+            Unknown => header(GENERIC_NACK, 3, 7).is_heard(alloc, up),
+            Nothing | Forwarded => is_quiet(alloc, up),
+        };
+        if !is_right {
+            return false;
+        }
+    }
+    true
+}
+
+// Clients that aren't bound, and bound in each way, each of which unbinds last; and then a centre that
+// the proxy unbinds from.
 #[test]
 fn cells_of_a_client(rt: HostRuntime) -> Result<(), Fail> {
     let alloc = rt.alloc();
@@ -164,29 +192,11 @@ fn cells_of_a_client(rt: HostRuntime) -> Result<(), Fail> {
         assert!(rt; are_answered(alloc, &mut client, &mut up, state));
     }
     remote.stop();
+    assert!(rt; header(UNBIND, 0, OWN_UNBIND).is_heard(alloc, &mut up));
+    assert!(rt; are_decided(alloc, &mut up, 0, 1));
+    assert!(rt; header(RESPONSE | UNBIND, 0, OWN_UNBIND).is_said(alloc, &mut up));
     assert_eq!(rt; proxy.join(&rt), Ended::Stopped);
     Ok(())
-}
-
-// Whether each kind of PDU is answered as the table's column says.
-fn are_decided(alloc: Global, up: &mut TcpStream, state: usize) -> bool {
-    for (command, replies) in CENTRE {
-        let Some(reply) = replies.get(state) else {
-            return false;
-        };
-        if !header(command, 0, 7).is_said(alloc, up) {
-            return false;
-        }
-        let is_right = match reply {
-            Status(status) => header(RESPONSE | command, *status, 7).is_heard(alloc, up),
-            Unknown => header(GENERIC_NACK, 3, 7).is_heard(alloc, up),
-            Nothing | Forwarded => is_quiet(alloc, up),
-        };
-        if !is_right {
-            return false;
-        }
-    }
-    true
 }
 
 // A centre before and after it answered the bind. It unbinds last, and so the proxy ends.
@@ -201,11 +211,11 @@ fn cells_of_a_centre(rt: HostRuntime) -> Result<(), Fail> {
     let proxy = thread::spawn(&rt, move || server.serve(&rt, rt.alloc(), &config))?;
     let (mut up, _) = centre.accept()?;
     assert!(rt; comes(&mut up, OWN_BIND));
-    assert!(rt; are_decided(alloc, &mut up, 0));
+    assert!(rt; are_decided(alloc, &mut up, 0, 0));
     up.write_all(OWN_BOUND)?;
-    assert!(rt; are_decided(alloc, &mut up, 1));
-    assert!(rt; header(0x0000_0006, 0, 7).is_said(alloc, &mut up));
-    assert!(rt; header(0x8000_0006, 0, 7).is_heard(alloc, &mut up));
+    assert!(rt; are_decided(alloc, &mut up, 1, 0));
+    assert!(rt; header(UNBIND, 0, 7).is_said(alloc, &mut up));
+    assert!(rt; header(RESPONSE | UNBIND, 0, 7).is_heard(alloc, &mut up));
     assert_eq!(rt; proxy.join(&rt), Ended::Upstream(0));
     Ok(())
 }
