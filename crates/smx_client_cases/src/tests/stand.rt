@@ -1,0 +1,259 @@
+//! A client's worker with all that it turns on.
+ghost use Rattle.std.specs.Prelude.{◌≡◌, ◌≢◌, slice_get, Some, None, All, IfSome, OnOk};
+ghost use Rattle.smx_shared.specs.Views.{locks_of};
+ghost use Rattle.smx_client.specs.declared.mark.Stage.TheVariants as stage;
+
+use smx_box::{Boxed, Got, Receiver, Sender};
+use smx_client::{ClientWorker, Desk, run_client};
+use smx_history::Answered;
+use smx_memory::{MemoryLink, Script};
+use smx_pdu::{Body, Pdu};
+use smx_routes::RouteFault;
+use smx_session::Account;
+use smx_shared::{Exchange, Port, Tap};
+use smx_trace::Trace;
+use smx_turns::{Directory, Fault, Gate, MoItem, Party, Place, Point, Query, Question, RunEnd};
+use std::alloc::{AllocError, Global};
+use std::sync::Wait;
+
+/// A gate that says yes, and keeps whom it was told of last.
+#[derive(Drop)]
+pub struct OpenGate {
+    asked: Trace<Question>,
+    told: Trace<Party>,
+    pub last: Option<Party>,
+}
+
+impl Gate for OpenGate {
+    ghost asked = { λ g. g.asked };
+
+    ghost told = { λ g. g.told };
+
+    fn at(&mut self, point: Point, turn: u64) -> bool {
+        let question = Question {
+            point,
+            turn,
+            answer: true,
+        };
+        self.asked = self.asked.and(&question);
+        true
+    }
+
+    fn ready(&mut self, party: Party) {
+        self.told = self.told.and(&party);
+        self.last = Some(party);
+    }
+}
+
+/// A directory without a row, which counts what is entered and removed.
+#[derive(Drop)]
+pub struct Book {
+    queries: Trace<Query>,
+    pub added: u64,
+    pub removed: u64,
+}
+
+fn octets_of(octets: &[u8]) -> Trace<u8>
+    ensures { result ≡ octets.now }
+{
+    let mut trace = Trace::new();
+    trace.extend(octets);
+    trace
+}
+
+impl Directory for Book {
+    ghost queries = { λ b. b.queries };
+
+    fn find<R: Wait>(&mut self, _rt: &R, address: &[u8]) -> Option<Place> {
+        self.queries = self.queries.and(&Query::Found(octets_of(address), None));
+        None
+    }
+
+    fn add<R: Wait>(&mut self, _rt: &R, prefix: &[u8], client: u64) -> Result<(), RouteFault> {
+        self.queries = self
+            .queries
+            .and(&Query::Added(octets_of(prefix), client, Ok(())));
+        self.added = self.added.saturating_add(1);
+        Ok(())
+    }
+
+    fn remove<R: Wait>(&mut self, _rt: &R, client: u64) {
+        self.queries = self.queries.and(&Query::Removed(client));
+        self.removed = self.removed.saturating_add(1);
+    }
+}
+
+/// The account `a` with the password `p` and two prefixes.
+pub fn desk(alloc: Global) -> Result<Desk, AllocError> {
+    let account = Account {
+        system_id: Vec::from_slice(alloc, b"a")?,
+        password: Vec::from_slice(alloc, b"p")?,
+    };
+    let mut own = Vec::new(alloc);
+    own.push(Vec::from_slice(alloc, b"49")?)?;
+    own.push(Vec::from_slice(alloc, b"491")?)?;
+    let mut accounts = Vec::new(alloc);
+    let mut prefixes = Vec::new(alloc);
+    accounts.push(account)?;
+    prefixes.push(own)?;
+    Ok(Desk { accounts, prefixes })
+}
+
+/// What a client's worker asks and tells.
+#[derive(Drop)]
+pub struct World {
+    pub gate: OpenGate,
+    pub book: Book,
+}
+
+impl World {
+    pub fn new() -> World {
+        World {
+            gate: OpenGate {
+                asked: Trace::new(),
+                told: Trace::new(),
+                last: None,
+            },
+            book: Book {
+                queries: Trace::new(),
+                added: 0,
+                removed: 0,
+            },
+        }
+    }
+}
+
+/// The box of one client's messages, and the return box of each lane, with their senders.
+#[derive(Drop)]
+pub struct Boxes {
+    pub inbox: Receiver<MoItem>,
+    pub messages: Vec<Sender<MoItem>>,
+    pub answers: Vec<Receiver<Pdu>>,
+    pub senders: Vec<Sender<Pdu>>,
+}
+
+/// Each return box has so many places.
+pub fn make_boxes<R: Wait>(rt: &R, alloc: Global, lanes: usize, places: usize) -> Option<Boxes> {
+    let (inbox, messages) = Boxed::new(rt, alloc, 1, 4).ok()?;
+    let mut answers = Vec::new(alloc);
+    let mut senders = Vec::new(alloc);
+    for _lane in 0..lanes {
+        let (receiver, mut own) = Boxed::new(rt, alloc, 1, places).ok()?;
+        answers.push(receiver).ok()?;
+        senders.push(own.pop()?).ok()?;
+    }
+    Some(Boxes {
+        inbox,
+        messages,
+        answers,
+        senders,
+    })
+}
+
+/// A client's worker over a link with this script. There must be a sender for each lane.
+pub fn worker_of<'d>(
+    alloc: Global,
+    port: Port,
+    desk: &'d Desk,
+    inbox: Receiver<MoItem>,
+    senders: Vec<Sender<Pdu>>,
+    script: Script,
+) -> Option<ClientWorker<'d, MemoryLink<Script>>>
+    ensures locks { IfSome result (λ w. w.port ≡ port) }
+    ensures goes_on { IfSome result (λ w. w.wire.failed ≡ None) }
+{
+    if senders.len() != port.lanes() {
+        return None;
+    }
+    let link = MemoryLink::new(script);
+    match ClientWorker::new(alloc, port, desk, inbox, senders, 4, link) {
+        Ok(worker) => Some(worker),
+        Err(_) => None,
+    }
+}
+
+/// Turns it as long as there is something to do, at most so often.
+pub fn run<R: Wait>(
+    worker: &mut ClientWorker<'_, MemoryLink<Script>>,
+    at: &Exchange,
+    rt: &R,
+    world: &mut World,
+    turns: u64,
+) -> Result<RunEnd, Fault>
+    requires locks { locks_of worker.old.port.fronts ≡ at.now }
+    requires goes_on { worker.old.stage ≢ stage.Closed → worker.old.wire.failed ≡ None }
+    ensures locks { locks_of worker.new.port.fronts ≡ at.now }
+    ensures goes_on { OnOk result
+        (worker.new.stage ≢ stage.Closed → worker.new.wire.failed ≡ None) }
+{
+    match run_client(worker, at, rt, &mut world.gate, &mut world.book, turns) {
+        RunEnd::Left => Ok(RunEnd::Left),
+        RunEnd::Idle => Ok(RunEnd::Idle),
+        RunEnd::Turns => Ok(RunEnd::Turns),
+        RunEnd::Fault(fault) => Err(fault),
+    }
+}
+
+/// A tap with its exchange.
+#[derive(Drop)]
+pub struct Line<'a> {
+    at: &'a Exchange,
+    tap: Tap,
+    ghost fits: { slice_get at.now tap.lane ≡ Some tap.front.lock },
+}
+
+pub fn last_line<'a>(at: &'a Exchange, taps: &mut Vec<Tap>) -> Option<Line<'a>>
+    requires { All (λ t. slice_get at.now t.lane ≡ Some t.front.lock) taps.old.items }
+    ensures { All (λ t. slice_get at.now t.lane ≡ Some t.front.lock) taps.new.items }
+{
+    let tap = taps.pop()?;
+    Some(Line { at, tap })
+}
+
+impl Line<'_> {
+    /// Takes a request and answers it with submit_sm_resp and this body.
+    pub fn answer<R: Wait>(&mut self, rt: &R, body: Body) -> Option<Answered> {
+        let sent = self.tap.take(self.at, rt).ok()?;
+        let response = Pdu {
+            command: 0x8000_0004,
+            status: 0,
+            number: sent.upstream,
+            body,
+        };
+        self.tap.answer(self.at, rt, response).ok()
+    }
+}
+
+/// Answers the last lane's request with a response of 65,536 octets. The tap is gone then.
+pub fn answer_largest<R: Wait>(
+    rt: &R,
+    alloc: Global,
+    at: &Exchange,
+    taps: &mut Vec<Tap>,
+) -> Option<Answered>
+    requires { All (λ t. slice_get at.now t.lane ≡ Some t.front.lock) taps.old.items }
+    ensures { All (λ t. slice_get at.now t.lane ≡ Some t.front.lock) taps.new.items }
+{
+    let mut line = last_line(at, taps)?;
+    let mut octets = Vec::new(alloc);
+    octets.resize(65_520, 0).ok()?;
+    line.answer(rt, Body::short(octets))
+}
+
+/// A deliver_sm with the centre's number and no body, from lane 0 to the first client.
+pub fn message(alloc: Global, number: u32) -> MoItem {
+    MoItem {
+        client: 1,
+        lane: 0,
+        number,
+        pdu: Pdu::header_only(alloc, 5, 0, number),
+    }
+}
+
+/// The command, the status and the number of the next answer in the last lane's return box.
+pub fn next_answer<R: Wait>(rt: &R, answers: &mut Vec<Receiver<Pdu>>) -> Option<(u32, u32, u32)> {
+    match answers.last_mut()?.get(rt) {
+        Ok(Got::Item { content, .. }) => Some((content.command, content.status, content.number)),
+        _ => None,
+    }
+}
