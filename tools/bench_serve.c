@@ -7,7 +7,7 @@
 // Each client binds as `alpha`, keeps WINDOW requests without an answer, and sends the next when an
 // answer comes. An answer with another status, or to no request of that client, is bad; a request
 // without an answer a second after the end is missing. FLAG `idle` binds and sends nothing; `mute`
-// has one client more, which sends its requests and never reads.
+// has one client more, which never reads and sends until nobody takes its octets any more.
 #include <arpa/inet.h>
 #include <errno.h>
 #include <fcntl.h>
@@ -160,14 +160,24 @@ static void centre(int port) {
 static int window, is_idle;
 static double ends;
 
-static void submit(struct link *l) {
-    static const unsigned char message[] = {0, 0, 0, '1', 0, 0, 0, '4', '9', '1', 0, 0, 0, 0, 0, 0, 0, 0, 0, 0, 20,
+static const unsigned char message[] = {0, 0, 0, '1', 0, 0, 0, '4', '9', '1', 0, 0, 0, 0, 0, 0, 0, 0, 0, 0, 20,
         't', 'w', 'e', 'n', 't', 'y', ' ', 'o', 'c', 't', 'e', 't', 's', ' ', 'o', 'f', ' ', 'i', 't', '.'};
+
+static void submit(struct link *l) {
     while (l->bound && !is_idle && (int)l->waiting < window && now() < ends) {
         double *at = &l->sent[l->next % MOST_WINDOW];
         if (*at != 0 || !say(l, SUBMIT_SM, l->next, message, sizeof message)) return;
         *at = now();
         l->next++, l->waiting++;
+    }
+}
+
+// Sends until the link takes no more.
+static void insist(struct link *l) {
+    for (uint32_t number = 1; l->out == 0; number++) {
+        say(l, SUBMIT_SM, number, message, sizeof message);
+        flush(l);
+        if (l->out) usleep(100000), flush(l);
     }
 }
 
@@ -234,8 +244,8 @@ static void load(int port, int clients, double seconds, const char *flag) {
     double begins = now();
     ends = begins + seconds;
     for (int i = 0; i < count; i++) {
-        if (links[i]->mute) links[i]->bound = 1;
-        submit(links[i]);
+        if (links[i]->mute) insist(links[i]);
+        else submit(links[i]);
         flush(links[i]);
     }
     turn_until(ends);
