@@ -174,7 +174,7 @@ static void submit(struct link *l) {
 
 // Sends until the link takes no more.
 static void insist(struct link *l) {
-    for (uint32_t number = 1; l->out == 0; number++) {
+    for (uint32_t number = 1; l->out == 0 && number < 1000000; number++) {
         say(l, SUBMIT_SM, number, message, sizeof message);
         flush(l);
         if (l->out) usleep(100000), flush(l);
