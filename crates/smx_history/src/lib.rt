@@ -16,6 +16,3 @@ pub use place::Place;
 pub use reply::{AdmitRefusal, Answered, Refusal, TakeRefusal};
 pub use request::Request;
 pub use response::Response;
-
-#[cfg(test)]
-mod tests;

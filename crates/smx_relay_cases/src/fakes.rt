@@ -2,6 +2,7 @@
 ghost use Rattle.std.specs.Prelude.{Some};
 
 use smx_relay::{RunEnd, run};
+use std::alloc::{AllocError, Global};
 use std::io;
 use std::io::{ErrorKind, Read, Write};
 use std::test::*;
@@ -65,55 +66,64 @@ impl Write for Weary {
     }
 }
 
+// How a run ends over the reader that fails after so many reads, and what it prints.
+fn read_by(alloc: Global, reads: usize) -> Result<(RunEnd, Vec<u8>), AllocError> {
+    let mut out = Vec::with_capacity(alloc, 1_024)?;
+    let end = run(alloc, &mut Broken { reads, at: 0 }, &mut out);
+    Ok((end, out))
+}
+
 #[test]
 fn a_reader_that_fails(rt: HostRuntime) -> Result<(), Fail> {
     for reads in 0..=SCRIPT.len() {
-        let mut out = Vec::with_capacity(rt.alloc(), 1_024)?;
-        assert_eq!(rt;
-            run(rt.alloc(), &mut Broken { reads, at: 0 }, &mut out),
-            RunEnd::ReadFault
-        );
-        assert!(rt; out.is_empty());
+        let (end, out) = read_by(rt.alloc(), reads)?;
+        assert!(rt; end == RunEnd::ReadFault && out.is_empty(), "{reads} reads");
     }
-    let mut out = Vec::with_capacity(rt.alloc(), 1_024)?;
-    let mut whole = Broken {
-        reads: SCRIPT.len() + 1,
-        at: 0,
-    };
-    assert_eq!(rt; run(rt.alloc(), &mut whole, &mut out), RunEnd::Clean);
-    assert_eq!(rt; out.as_slice(), OUTPUT.as_bytes());
+    let (end, out) = read_by(rt.alloc(), SCRIPT.len() + 1)?;
+    assert!(rt; end == RunEnd::Clean && out.as_slice() == OUTPUT.as_bytes());
     Ok(())
 }
 
-// Each octet is written alone, or each text at once: in either case what was written is a front.
+// How a run ends over the writer, and what was written.
+fn written_by(
+    alloc: Global,
+    writes: usize,
+    takes: usize,
+    fails: bool,
+) -> Result<(RunEnd, Vec<u8>), AllocError> {
+    let mut out = Weary {
+        held: Vec::with_capacity(alloc, 1_024)?,
+        writes,
+        takes,
+        fails,
+    };
+    let mut script = SCRIPT.as_bytes();
+    let end = run(alloc, &mut script, &mut out);
+    Ok((end, out.held))
+}
+
+// What was written before the writer failed is a front, as long as the writes were.
+fn writes_a_front(
+    alloc: Global,
+    writes: usize,
+    takes: usize,
+    fails: bool,
+) -> Result<bool, AllocError> {
+    let (end, held) = written_by(alloc, writes, takes, fails)?;
+    let front = OUTPUT.as_bytes().starts_with(held.as_slice());
+    let long = takes != 1 || held.len() == writes;
+    Ok(end == RunEnd::WriteFault && front && long)
+}
+
+// Each octet is written alone, or each text at once.
 #[test]
 fn a_writer_that_fails(rt: HostRuntime) -> Result<(), Fail> {
     for (takes, most) in [(1, OUTPUT.len()), (1_000, 5)] {
         for turn in 0..2 * most {
-            let writes = turn / 2;
-            let fails = turn % 2 == 0;
-            let mut out = Weary {
-                held: Vec::with_capacity(rt.alloc(), 1_024)?,
-                writes,
-                takes,
-                fails,
-            };
-            let mut script = SCRIPT.as_bytes();
-            assert_eq!(rt; run(rt.alloc(), &mut script, &mut out), RunEnd::WriteFault);
-            assert!(rt; OUTPUT.as_bytes().starts_with(out.held.as_slice()));
-            if takes == 1 {
-                assert_eq!(rt; out.held.len(), writes);
-            }
+            assert!(rt; writes_a_front(rt.alloc(), turn / 2, takes, turn % 2 == 0)?);
         }
-        let mut out = Weary {
-            held: Vec::with_capacity(rt.alloc(), 1_024)?,
-            writes: most,
-            takes,
-            fails: true,
-        };
-        let mut script = SCRIPT.as_bytes();
-        assert_eq!(rt; run(rt.alloc(), &mut script, &mut out), RunEnd::Clean);
-        assert_eq!(rt; out.held.as_slice(), OUTPUT.as_bytes());
+        let (end, held) = written_by(rt.alloc(), most, takes, true)?;
+        assert!(rt; end == RunEnd::Clean && held.as_slice() == OUTPUT.as_bytes());
     }
     Ok(())
 }

@@ -1,5 +1,6 @@
 //! Runs the script of standard input. Beside that it has the tests of the relay, scripts and what they
-//! print, worked out by hand: in a crate of their own, so that the relay isn't proved twice.
+//! print, worked out by hand, and those of lines and of whole texts: in a crate of their own, so that
+//! nothing below is proved twice.
 #![tactic(auto)]
 
 #[cfg(test)]
@@ -7,9 +8,13 @@ mod fakes;
 #[cfg(test)]
 mod message_tests;
 #[cfg(test)]
+mod script_tests;
+#[cfg(test)]
 mod session_tests;
 #[cfg(test)]
 mod tests;
+#[cfg(test)]
+mod text_tests;
 
 use smx_relay::{RunEnd, run};
 use std::io;

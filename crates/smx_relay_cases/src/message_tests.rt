@@ -1,5 +1,6 @@
 //! Scripts in which the centre sends messages.
-use smx_relay::{RunEnd, run};
+use crate::tests::{outcome, prints};
+use smx_relay::RunEnd;
 use std::test::*;
 
 // A script whose lines are all run, and what it prints.
@@ -57,18 +58,11 @@ const ROWS: [(&str, &str, &str); 10] = [
 ];
 
 #[test]
-fn messages_go_to_clients(rt: HostRuntime) -> Result<(), Fail> {
+fn messages_go_to_clients(rt: HostRuntime) {
     for (name, script, output) in ROWS {
-        let mut out = Vec::with_capacity(rt.alloc(), 4_096)?;
-        let mut reader = script.as_bytes();
-        assert_eq!(rt;
-            run(rt.alloc(), &mut reader, &mut out),
-            RunEnd::Clean,
-            "{name}"
-        );
-        assert_eq!(rt; out.as_slice(), output.as_bytes(), "{name}");
+        let well = prints(rt.alloc(), script.as_bytes(), RunEnd::Clean, output);
+        assert!(rt; well, "{name}");
     }
-    Ok(())
 }
 
 // Scripts that end with a bad line, and its number.
@@ -96,13 +90,8 @@ const BAD: [(&str, u64); 15] = [
 #[test]
 fn bad_lines_of_messages(rt: HostRuntime) -> Result<(), Fail> {
     for (script, line) in BAD {
-        let mut out = Vec::with_capacity(rt.alloc(), 4_096)?;
-        let mut reader = script.as_bytes();
-        assert_eq!(rt;
-            run(rt.alloc(), &mut reader, &mut out),
-            RunEnd::BadLine(line),
-            "{script}"
-        );
+        let (found, _) = outcome(rt.alloc(), script.as_bytes())?;
+        assert_eq!(rt; found, RunEnd::BadLine(line), "{script}");
     }
     Ok(())
 }

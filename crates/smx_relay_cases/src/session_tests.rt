@@ -1,5 +1,6 @@
 //! Scripts in which sessions decide, and octets come in any pieces.
-use smx_relay::{RunEnd, run};
+use crate::tests::prints;
+use smx_relay::RunEnd;
 use std::test::*;
 
 // A script, and what it prints when each line is run.
@@ -82,18 +83,11 @@ const ROWS: [(&str, &str, &str); 15] = [
 ];
 
 #[test]
-fn sessions_decide(rt: HostRuntime) -> Result<(), Fail> {
+fn sessions_decide(rt: HostRuntime) {
     for (name, script, output) in ROWS {
-        let mut out = Vec::with_capacity(rt.alloc(), 4_096)?;
-        let mut reader = script.as_bytes();
-        assert_eq!(rt;
-            run(rt.alloc(), &mut reader, &mut out),
-            RunEnd::Clean,
-            "{name}"
-        );
-        assert_eq!(rt; out.as_slice(), output.as_bytes(), "{name}");
+        let well = prints(rt.alloc(), script.as_bytes(), RunEnd::Clean, output);
+        assert!(rt; well, "{name}");
     }
-    Ok(())
 }
 
 // Two requests, and their responses in the other order.
@@ -138,12 +132,8 @@ fn cut_script(rt: HostRuntime, octets: usize) -> Result<Vec<u8>, Fail> {
 fn lines_cut_at_each_octet(rt: HostRuntime) -> Result<(), Fail> {
     for octets in 1..=34 {
         let script = cut_script(rt, octets)?;
-        let mut out = Vec::with_capacity(rt.alloc(), 4_096)?;
-        assert_eq!(rt;
-            run(rt.alloc(), &mut script.as_slice(), &mut out),
-            RunEnd::Clean
-        );
-        assert_eq!(rt; out.as_slice(), PRINTED.as_bytes());
+        let well = prints(rt.alloc(), &script, RunEnd::Clean, PRINTED);
+        assert!(rt; well, "cut behind {octets} octets");
     }
     Ok(())
 }

@@ -1,5 +1,22 @@
 use smx_relay::{RunEnd, run};
+use std::alloc::{AllocError, Global};
 use std::test::*;
+
+// How a run over the script ends, and what it prints.
+pub fn outcome(alloc: Global, script: &[u8]) -> Result<(RunEnd, Vec<u8>), AllocError> {
+    let mut out = Vec::with_capacity(alloc, 32_768)?;
+    let mut reader = script;
+    let end = run(alloc, &mut reader, &mut out);
+    Ok((end, out))
+}
+
+// Whether a run over the script ends so, and prints this.
+pub fn prints(alloc: Global, script: &[u8], end: RunEnd, output: &str) -> bool {
+    match outcome(alloc, script) {
+        Ok((found, out)) => found == end && out.as_slice() == output.as_bytes(),
+        Err(AllocError) => false,
+    }
+}
 
 // A script, and what it prints when each line is run.
 const ROWS: [(&str, &str, &str); 13] = [
@@ -96,57 +113,50 @@ const BAD_LINES: [&str; 25] = [
 ];
 
 #[test]
-fn scripts_print_what_their_lines_cause(rt: HostRuntime) -> Result<(), Fail> {
+fn scripts_print_what_their_lines_cause(rt: HostRuntime) {
     for (name, script, output) in ROWS {
-        let mut out = Vec::with_capacity(rt.alloc(), 32_768)?;
-        let mut reader = script.as_bytes();
-        assert_eq!(rt;
-            run(rt.alloc(), &mut reader, &mut out),
-            RunEnd::Clean,
-            "{name}"
-        );
-        assert_eq!(rt; out.as_slice(), output.as_bytes(), "{name}");
+        let well = prints(rt.alloc(), script.as_bytes(), RunEnd::Clean, output);
+        assert!(rt; well, "{name}");
     }
+}
+
+#[test]
+fn bad_lines_end_a_run(rt: HostRuntime) -> Result<(), Fail> {
     for line in BAD_LINES {
         let script = format!(in rt.alloc(); "client trx\n{line}\ncollect 1\n")?;
-        let mut out = Vec::with_capacity(rt.alloc(), 32_768)?;
-        let mut reader = script.as_bytes();
-        assert_eq!(rt;
-            run(rt.alloc(), &mut reader, &mut out),
-            RunEnd::BadLine(2),
-            "{line}"
-        );
-        assert_eq!(rt;
-            out.as_slice(),
-            "client 1\nbad line 2\n".as_bytes(),
-            "{line}"
-        );
+        let end = RunEnd::BadLine(2);
+        let well = prints(rt.alloc(), script.as_bytes(), end, "client 1\nbad line 2\n");
+        assert!(rt; well, "{line}");
     }
-    let mut out = Vec::with_capacity(rt.alloc(), 32_768)?;
-    let mut reader = "take 1".as_bytes();
-    assert_eq!(rt; run(rt.alloc(), &mut reader, &mut out), RunEnd::BadLine(1));
-    assert_eq!(rt; out.as_slice(), "bad line 1\n".as_bytes());
     Ok(())
 }
 
-// Lane 1 has one accepted request more than lane 0, and so no room for the 496th client first: with
-// n clients present, the next one needs 2n + 8 of the 1,000 places on lane 0 and 2n + 12 on lane 1.
 #[test]
-fn clients_that_are_refused(rt: HostRuntime) -> Result<(), Fail> {
+fn a_first_line_that_is_bad(rt: HostRuntime) {
+    let end = RunEnd::BadLine(1);
+    assert!(rt; prints(rt.alloc(), b"take 1", end, "bad line 1\n"));
+}
+
+// Two clients of which one has two requests on lane 1, and then 496 more.
+fn crowd(alloc: Global) -> Result<String, AllocError> {
     let mut script = String::from_str(
-        rt.alloc(),
+        alloc,
         "lanes 2\nlimits 1 2 2 1000\nclient trx\nclient trx\nin 1 00000022000000040000000000000001000000000000310000000000000000000000\nin 2 00000022000000040000000000000001000000000000310000000000000000000000\ntake 1\nin 2 00000022000000040000000000000002000000000000310000000000000000000000\n",
     )?;
     for _ in 0..496 {
         script.push_str("client trx\n")?;
     }
     script.push_str("history 0\ncollect 496\n")?;
-    let mut out = Vec::with_capacity(rt.alloc(), 32_768)?;
-    let mut reader = script.as_bytes();
-    assert_eq!(rt;
-        run(rt.alloc(), &mut reader, &mut out),
-        RunEnd::BadLine(506)
-    );
+    Ok(script)
+}
+
+// Lane 1 has one accepted request more than lane 0, and so no room for the 496th client first: with
+// n clients present, the next one needs 2n + 8 of the 1,000 places on lane 0 and 2n + 12 on lane 1.
+#[test]
+fn clients_that_are_refused(rt: HostRuntime) -> Result<(), Fail> {
+    let script = crowd(rt.alloc())?;
+    let (found, out) = outcome(rt.alloc(), script.as_bytes())?;
+    assert_eq!(rt; found, RunEnd::BadLine(506));
     let begin =
         "client 1\nclient 2\naccepted 1 0\naccepted 2 1\nup 1 00000022000000040000000000000001000000000000310000000000000000000000\naccepted 2 1\nclient 3\n";
     let end =
@@ -156,26 +166,31 @@ fn clients_that_are_refused(rt: HostRuntime) -> Result<(), Fail> {
     Ok(())
 }
 
-// A lane with 499 clients has 499 entries and has 499 present, so an admit, which wants 4 places more,
-// goes beyond its 1,000. After a turn over the 499 present alone count.
-#[test]
-fn a_full_lane_that_goes_on(rt: HostRuntime) -> Result<(), Fail> {
-    let mut script = String::from_str(rt.alloc(), "limits 1 1 1 1000\n")?;
-    let mut output = String::new(rt.alloc());
-    let mut entries = String::new(rt.alloc());
+// A script of 499 clients, and what it prints: a lane with 499 entries and 499 clients has no room for
+// the next, and once it is turned over it has.
+fn full_lane(alloc: Global) -> Result<(String, String), AllocError> {
+    let mut script = String::from_str(alloc, "limits 1 1 1 1000\n")?;
+    let mut output = String::new(alloc);
+    let mut entries = String::new(alloc);
     for client in 1..=499 {
         script.push_str("client trx\n")?;
-        output.push_str(&format!(in rt.alloc(); "client {client}\n")?)?;
-        entries.push_str(&format!(in rt.alloc(); "admit {client} 0 0\n")?)?;
+        output.push_str(&format!(in alloc; "client {client}\n")?)?;
+        entries.push_str(&format!(in alloc; "admit {client} 0 0\n")?)?;
     }
     script.push_str("client trx\nturn 0\nclient trx\nhistory 0\n")?;
     output.push_str("refused\n")?;
     output.push_str(&entries)?;
     output.push_str("turned 0 499\nclient 501\nadmit 501 0 0\n")?;
-    let mut out = Vec::with_capacity(rt.alloc(), 32_768)?;
-    let mut reader = script.as_bytes();
-    assert_eq!(rt; run(rt.alloc(), &mut reader, &mut out), RunEnd::Clean);
-    assert_eq!(rt; out.as_slice(), output.as_bytes());
+    Ok((script, output))
+}
+
+// An admit wants 4 places more, which goes beyond the lane's 1,000. After a turn over the 499 present
+// alone count.
+#[test]
+fn a_full_lane_that_goes_on(rt: HostRuntime) -> Result<(), Fail> {
+    let (script, output) = full_lane(rt.alloc())?;
+    let well = prints(rt.alloc(), script.as_bytes(), RunEnd::Clean, &output);
+    assert!(rt; well);
     Ok(())
 }
 
@@ -188,9 +203,8 @@ fn the_most_accounts(rt: HostRuntime) -> Result<(), Fail> {
     }
     for (more, end) in [("", RunEnd::Clean), ("account a p\n", RunEnd::BadLine(257))] {
         script.push_str(more)?;
-        let mut out = Vec::with_capacity(rt.alloc(), 64)?;
-        let mut reader = script.as_bytes();
-        assert_eq!(rt; run(rt.alloc(), &mut reader, &mut out), end);
+        let (found, _) = outcome(rt.alloc(), script.as_bytes())?;
+        assert_eq!(rt; found, end);
     }
     Ok(())
 }

@@ -9,6 +9,3 @@ mod words;
 pub use command::{Action, Command, Setting};
 pub use octets::Octets;
 pub use reading::{lines_of, read_command};
-
-#[cfg(test)]
-mod tests;

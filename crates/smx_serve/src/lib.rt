@@ -9,6 +9,7 @@ mod remote;
 mod seats;
 mod serve;
 mod stop;
+mod tables;
 mod turning;
 mod upstreams;
 

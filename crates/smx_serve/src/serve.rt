@@ -2,19 +2,18 @@
 
 use crate::desk::desk_of;
 use crate::entrance::Entrance;
-use crate::guests::Guests;
 use crate::notice::{Ended, Notice};
 use crate::remote::Remote;
-use crate::seats::Gateway;
+use crate::seats::{Drawer, Gateway};
+use crate::tables::Tables;
 use crate::turning::{LISTENER, Loop, WAKER};
 use crate::upstreams::{drawers_of, lanes_of};
 use mio::net::TcpListener;
-use mio::{Events, Interest, Poll, Token, Waker};
+use mio::{Interest, Poll, Token, Waker};
 use smx_client::Desk;
 use smx_config::Config;
-use smx_routes::Routes;
 use smx_shared::Exchange;
-use smx_slots::{Ready, Roll, Slots, ends_of};
+use smx_slots::{ClientEnds, LaneEnds, ends_of};
 use std::alloc::Global;
 use std::net::{Net, TcpStream};
 use std::rt::Clock;
@@ -45,6 +44,57 @@ where
         Ok(()) => Some(listener),
         Err(_) => None,
     }
+}
+
+// The same of a configuration's address; where nobody can listen there, that is said.
+fn announce<R>(rt: &R, poll: &Poll, config: &Config) -> Result<TcpListener, Ended>
+where
+    R: Net<Listener = std::net::TcpListener, Stream = TcpStream> + Eprint,
+{
+    let address = config.listen.as_str();
+    match listen(rt, poll, address) {
+        Some(listener) => Ok(listener),
+        None => {
+            let _ = eprintln!(rt; "{}", Notice::NotListening(address));
+            Err(Ended::NotListening)
+        }
+    }
+}
+
+// The port, and 0 where the system doesn't say it.
+fn port_of(listener: &TcpListener) -> u16 {
+    match listener.local_addr() {
+        Ok(found) => found.port(),
+        Err(_) => 0,
+    }
+}
+
+// The lanes: their door, and each tap beside the exchange.
+fn gateway_of<R: Wait>(
+    rt: &R,
+    alloc: Global,
+    config: &Config,
+) -> Result<(Gateway, Vec<Drawer>), Ended> {
+    let lanes = config.upstream.len();
+    let Ok((exchange, door, taps)) = Exchange::new(rt, alloc, config.limits, lanes) else {
+        return Err(Ended::NoMemory);
+    };
+    let Ok(at) = Arc::new(alloc, exchange) else {
+        return Err(Ended::NoMemory);
+    };
+    let drawers = drawers_of(alloc, &at, taps)?;
+    Ok((Gateway { at, door }, drawers))
+}
+
+// The boxes between the slots and the lanes.
+fn boxes_of<R: Wait>(
+    rt: &R,
+    alloc: Global,
+    config: &Config,
+) -> Result<(Vec<ClientEnds>, Vec<LaneEnds>), Ended> {
+    let clients = config.clients as usize;
+    let places = config.places as usize;
+    Ok(ends_of(rt, alloc, clients, config.upstream.len(), places)?)
 }
 
 impl Server {
@@ -85,7 +135,7 @@ impl Server {
         }
     }
 
-    // Makes the lanes and the boxes, connects, listens, and turns.
+    // Makes the lanes and the boxes, listens, connects, and turns.
     fn open<'d, R>(
         self,
         rt: &R,
@@ -100,58 +150,21 @@ impl Server {
         let Ok(start) = Instant::now(rt) else {
             return Err(Ended::NoEvents);
         };
-        let lanes = config.upstream.len();
-        let clients = config.clients as usize;
-        let places = config.places as usize;
-        let Ok((exchange, door, taps)) = Exchange::new(rt, alloc, config.limits, lanes) else {
-            return Err(Ended::NoMemory);
-        };
-        let Ok(at) = Arc::new(alloc, exchange) else {
-            return Err(Ended::NoMemory);
-        };
-        let drawers = drawers_of(alloc, &at, taps)?;
-        let (ends, lane_ends) = ends_of(rt, alloc, clients, lanes, places)?;
-        let gateway = Gateway { at, door };
-        let address = config.listen.as_str();
-        let Some(listener) = listen(rt, &poll, address) else {
-            let _ = eprintln!(rt; "{}", Notice::NotListening(address));
-            return Err(Ended::NotListening);
-        };
-        let port = match listener.local_addr() {
-            Ok(found) => found.port(),
-            Err(_) => 0,
-        };
+        let (gateway, drawers) = gateway_of(rt, alloc, config)?;
+        let (ends, lane_ends) = boxes_of(rt, alloc, config)?;
+        let listener = announce(rt, &poll, config)?;
+        let port = port_of(&listener);
         let lanes = lanes_of(rt, alloc, poll.registry(), config, drawers, lane_ends, 0)?;
-        let parties = lanes.len().saturating_add(clients);
-        let mut turning = Loop {
-            config,
-            desk,
-            poll,
-            events: Events::with_capacity(alloc, 512)?,
-            lanes,
-            guests: Guests::new(alloc, Slots::new(alloc, ends)?)?,
-            entrance: Entrance {
-                alloc,
-                listener,
-                gateway,
-                places: config.places,
-                short: false,
-            },
-            roll: Roll::new(alloc, clients)?,
-            routes: Routes::new(alloc),
-            ready: Ready::new(alloc, parties)?,
-            current: Vec::with_capacity(alloc, parties)?,
-            dirty: Ready::new(alloc, parties)?,
-            stalled: Vec::with_capacity(alloc, parties)?,
-            passes: 0,
-            now: 0,
-            ticked: 0,
-            stopping: false,
+        let entrance = Entrance {
+            alloc,
+            listener,
+            gateway,
+            places: config.places,
+            short: false,
         };
-        for lane in 0..turning.lanes.len() {
-            turning.ready.add(lane);
-        }
-        let _ = eprintln!(rt; "{}", Notice::Listening(address));
+        let tables = Tables::new(alloc, config, ends)?;
+        let mut turning = Loop::new(config, desk, poll, lanes, entrance, tables);
+        let _ = eprintln!(rt; "{}", Notice::Listening(config.listen.as_str()));
         remote.listen(port);
         Ok(turning.run(rt, &remote, start))
     }

@@ -4,6 +4,7 @@ use crate::entrance::Entrance;
 use crate::guests::{Guest, Guests};
 use crate::notice::{Ended, Notice};
 use crate::remote::Remote;
+use crate::tables::Tables;
 use crate::upstreams::Lane;
 use mio::{Events, Poll, Token};
 use smx_client::Desk;
@@ -56,6 +57,46 @@ pub(crate) struct Loop<'d> {
 }
 
 impl<'d> Loop<'d> {
+    /// At the moment 0, before the first turn.
+    pub fn new(
+        config: &'d Config,
+        desk: &'d Desk,
+        poll: Poll,
+        lanes: Vec<Lane>,
+        entrance: Entrance,
+        tables: Tables<'d>,
+    ) -> Loop<'d> {
+        let Tables {
+            events,
+            guests,
+            roll,
+            routes,
+            ready,
+            current,
+            dirty,
+            stalled,
+        } = tables;
+        Loop {
+            config,
+            desk,
+            poll,
+            events,
+            lanes,
+            guests,
+            entrance,
+            roll,
+            routes,
+            ready,
+            current,
+            dirty,
+            stalled,
+            passes: 0,
+            now: 0,
+            ticked: 0,
+            stopping: false,
+        }
+    }
+
     fn socket(&self, party: usize) -> Option<&Socket> {
         let lanes = self.lanes.len();
         if party < lanes {

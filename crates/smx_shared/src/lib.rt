@@ -14,8 +14,6 @@ mod exchange;
 mod fault;
 mod held;
 mod lane_seat;
-#[cfg(test)]
-mod lost_hold;
 mod make;
 mod offer;
 mod port;

@@ -149,6 +149,55 @@ fn last_line<'a>(alloc: Global, at: &'a Exchange, taps: Vec<Tap>) -> Option<Line
     Some(Line { alloc, at, tap })
 }
 
+// Whether the entries are of these kinds, in order.
+fn are_of(entries: &[Entry], kinds: &[Kind]) -> bool {
+    entries
+        .iter()
+        .map(|entry| entry.kind)
+        .eq(kinds.iter().copied())
+}
+
+// How many entries are of the kind.
+fn count_of(entries: &[Entry], kind: Kind) -> usize {
+    entries.iter().filter(|entry| entry.kind == kind).count()
+}
+
+fn client_is_spent<R: Wait>(rt: &R, client: &mut Client) -> bool {
+    client.collect(rt) == Err(Spent)
+        && client.try_collect() == Err(TryFault::Spent)
+        && client.submit(rt, 8) == Err((8, SubmitFault::Spent))
+}
+
+fn line_is_spent<R: Wait>(rt: &R, line: &mut Line) -> bool {
+    line.take(rt) == Err(TakeFault::Spent)
+        && line.try_take() == Err(TryTakeFault::Spent)
+        && line.turn_over(rt, 0) == Err(TurnFault::Spent)
+        && matches!(line.answer(rt, 1), Err(1))
+}
+
+// A client enters and submits, and then each call says that the tickets have ended.
+fn ends_tickets<R: Wait>(
+    rt: &R,
+    alloc: Global,
+    at: &Exchange,
+    door: &mut Door,
+    taps: Vec<Tap>,
+) -> Option<bool>
+    requires door { locks_of door.old.fronts ≡ at.now }
+    requires taps { All (λ t. slice_get at.now t.lane ≡ Some t.front.lock) taps.items }
+    ensures { locks_of door.new.fronts ≡ at.now }
+{
+    let mut line = last_line(alloc, at, taps)?;
+    let mut client = enter(rt, alloc, at, door).ok()?;
+    let port = &client.port;
+    let named = (port.client(), port.lanes(), line.tap.lane()) == (1, 1, 0);
+    let submitted = client.submit(rt, 7) == Ok(0);
+    let spent = client_is_spent(rt, &mut client) && line_is_spent(rt, &mut line);
+    let entered = enter(rt, alloc, at, door).err() == Some(EnterFault::Spent);
+    let left = client.leave(rt) == Err(Spent);
+    Some(named && submitted && spent && entered && left)
+}
+
 // The last four tickets: the tap's seat, the client's seat, its admit and its request.
 #[test]
 fn tickets_end(rt: HostRuntime) -> Result<(), Fail> {
@@ -159,45 +208,42 @@ fn tickets_end(rt: HostRuntime) -> Result<(), Fail> {
     let Ok((exchange, mut door, taps)) = Exchange::new_at(&rt, rt.alloc(), ROOMY, 1, starts) else {
         panic!(rt; "four tickets are left")
     };
-    let Some(mut line) = last_line(rt.alloc(), &exchange, taps) else {
-        panic!(rt; "there is one lane")
-    };
-    let Ok(mut client) = enter(&rt, rt.alloc(), &exchange, &mut door) else {
-        panic!(rt; "three tickets are left")
-    };
-    let port = &client.port;
-    assert_eq!(rt; (port.client(), port.lanes(), line.tap.lane()), (1, 1, 0));
-    assert_eq!(rt; client.submit(&rt, 7), Ok(0));
-    assert_eq!(rt; client.collect(&rt), Err(Spent));
-    assert_eq!(rt; client.try_collect(), Err(TryFault::Spent));
-    assert_eq!(rt; line.take(&rt), Err(TakeFault::Spent));
-    assert_eq!(rt; line.try_take(), Err(TryTakeFault::Spent));
-    assert_eq!(rt; line.turn_over(&rt, 0), Err(TurnFault::Spent));
-    assert!(rt; matches!(line.answer(&rt, 1), Err(1)));
-    assert_eq!(rt; client.submit(&rt, 8), Err((8, SubmitFault::Spent)));
-    let entered = enter(&rt, rt.alloc(), &exchange, &mut door).err();
-    assert_eq!(rt; entered, Some(EnterFault::Spent));
-    assert_eq!(rt; client.leave(&rt), Err(Spent));
-    drop(line);
+    let ended = ends_tickets(&rt, rt.alloc(), &exchange, &mut door, taps);
+    assert_eq!(rt; ended, Some(true));
     let Ok(lanes) = exchange.finish(door) else {
         panic!(rt; "the lane is out")
     };
-    let kinds = [Kind::Admit, Kind::Accept];
-    for lane in &lanes {
-        assert!(rt; lane.entries().iter().map(|entry| entry.kind).eq(kinds));
-    }
     assert_eq!(rt; lanes.len(), 1);
+    for lane in &lanes {
+        assert!(rt; are_of(lane.entries(), &[Kind::Admit, Kind::Accept]));
+    }
     Ok(())
 }
 
 #[test]
-fn counts_end(rt: HostRuntime) -> Result<(), Fail> {
+fn tickets_have_ended(rt: HostRuntime) {
     let spent = Starts {
         ticket: LAST,
         ..Starts::FIRST
     };
     let made = Exchange::new_at(&rt, rt.alloc(), ROOMY, 1, spent);
     assert!(rt; matches!(made, Err(MakeFault::Spent)));
+}
+
+// The last client, and its last request. Ordinal 2^62 tries lane (2^62 - 1) % 2 first.
+fn ends_counts<R: Wait>(rt: &R, alloc: Global, at: &Exchange, door: &mut Door) -> Option<bool>
+    requires { locks_of door.old.fronts ≡ at.now }
+{
+    let mut client = enter(rt, alloc, at, door).ok()?;
+    let numbered = client.port.client() == LAST;
+    let entered = enter(rt, alloc, at, door).err() == Some(EnterFault::Exhausted);
+    let first = client.submit(rt, 7) == Ok(1);
+    let second = client.submit(rt, 8) == Err((8, SubmitFault::Exhausted));
+    Some(numbered && entered && first && second)
+}
+
+#[test]
+fn counts_end(rt: HostRuntime) -> Result<(), Fail> {
     let late = Starts {
         client: LAST,
         ordinal: LAST,
@@ -206,15 +252,8 @@ fn counts_end(rt: HostRuntime) -> Result<(), Fail> {
     let Ok((exchange, mut door, _taps)) = Exchange::new_at(&rt, rt.alloc(), ROOMY, 2, late) else {
         panic!(rt; "there is memory")
     };
-    let Ok(mut client) = enter(&rt, rt.alloc(), &exchange, &mut door) else {
-        panic!(rt; "one number is left")
-    };
-    assert_eq!(rt; client.port.client(), LAST);
-    let entered = enter(&rt, rt.alloc(), &exchange, &mut door).err();
-    assert_eq!(rt; entered, Some(EnterFault::Exhausted));
-    // Ordinal 2^62 tries lane (2^62 - 1) % 2 first.
-    assert_eq!(rt; client.submit(&rt, 7), Ok(1));
-    assert_eq!(rt; client.submit(&rt, 8), Err((8, SubmitFault::Exhausted)));
+    let ended = ends_counts(&rt, rt.alloc(), &exchange, &mut door);
+    assert_eq!(rt; ended, Some(true));
     Ok(())
 }
 
@@ -235,51 +274,44 @@ fn lanes_and_limits_have_ranges(rt: HostRuntime) {
     }
 }
 
-// Two clients on one lane: one leaves with a request taken, the other is dropped. The lane that
-// comes back has the calls of both.
-#[test]
-fn lane_has_all_calls(rt: HostRuntime) -> Result<(), Fail> {
-    let Ok((exchange, mut door, taps)) = Exchange::new(&rt, rt.alloc(), ROOMY, 1) else {
-        panic!(rt; "there is memory")
-    };
-    let Some(mut line) = last_line(rt.alloc(), &exchange, taps) else {
-        panic!(rt; "there is one lane")
-    };
-    let Ok(mut one) = enter(&rt, rt.alloc(), &exchange, &mut door) else {
-        panic!(rt; "there is memory")
-    };
-    let Ok(mut two) = enter(&rt, rt.alloc(), &exchange, &mut door) else {
-        panic!(rt; "there is memory")
-    };
+// A request of each is taken.
+fn both_are_taken<R: Wait>(rt: &R, line: &mut Line, one: &mut Client, two: &mut Client) -> bool {
     let empty = TryTakeFault::Refused(TakeRefusal::QueueEmpty);
-    assert_eq!(rt; line.try_take(), Err(empty));
-    assert_eq!(rt; one.submit(&rt, 7), Ok(0));
-    assert_eq!(rt; two.submit(&rt, 7), Ok(0));
-    assert_eq!(rt; line.take(&rt), Ok(1));
-    assert_eq!(rt; line.try_take(), Ok(2));
-    assert_eq!(rt; one.leave(&rt), Ok(()));
-    assert!(rt; matches!(line.answer(&rt, 1), Ok(Answered::Late)));
-    assert_eq!(rt; two.try_collect(), Ok(0));
-    assert!(rt; matches!(line.answer(&rt, 2), Ok(Answered::Queued { client: 2 })));
-    assert!(rt;
-        matches!(
-            line.answer(&rt, 2),
-            Ok(Answered::Unknown(Pdu { number: 2, .. }))
-        )
-    );
-    assert_eq!(rt; two.try_collect(), Ok(7));
-    drop(two);
-    drop(line);
-    let Ok(lanes) = exchange.finish(door) else {
-        panic!(rt; "the lane is out")
-    };
-    for lane in &lanes {
-        for (entry, call) in lane.entries().iter().zip(CALLS) {
-            assert_eq!(rt; (entry.by, entry.kind, entry.client), call);
-        }
-        assert_eq!(rt; lane.entries().len(), CALLS.len());
-    }
-    Ok(())
+    line.try_take() == Err(empty)
+        && one.submit(rt, 7) == Ok(0)
+        && two.submit(rt, 7) == Ok(0)
+        && line.take(rt) == Ok(1)
+        && line.try_take() == Ok(2)
+}
+
+// The response for the client that left comes late, the other's is queued, and known once.
+fn each_is_answered<R: Wait>(rt: &R, line: &mut Line, two: &mut Client) -> bool {
+    let late = matches!(line.answer(rt, 1), Ok(Answered::Late));
+    let none = two.try_collect() == Ok(0);
+    let queued = matches!(line.answer(rt, 2), Ok(Answered::Queued { client: 2 }));
+    let again = line.answer(rt, 2);
+    let unknown = matches!(again, Ok(Answered::Unknown(Pdu { number: 2, .. })));
+    late && none && queued && unknown && two.try_collect() == Ok(7)
+}
+
+// Two clients on one lane: one leaves with a request taken, the other is dropped.
+fn two_clients<R: Wait>(
+    rt: &R,
+    alloc: Global,
+    at: &Exchange,
+    door: &mut Door,
+    taps: Vec<Tap>,
+) -> Option<bool>
+    requires door { locks_of door.old.fronts ≡ at.now }
+    requires taps { All (λ t. slice_get at.now t.lane ≡ Some t.front.lock) taps.items }
+    ensures { locks_of door.new.fronts ≡ at.now }
+{
+    let mut line = last_line(alloc, at, taps)?;
+    let mut one = enter(rt, alloc, at, door).ok()?;
+    let mut two = enter(rt, alloc, at, door).ok()?;
+    let taken = both_are_taken(rt, &mut line, &mut one, &mut two);
+    let left = one.leave(rt) == Ok(());
+    Some(taken && left && each_is_answered(rt, &mut line, &mut two))
 }
 
 // Seat 0 is the door's, 1 the tap's, 2 and 3 the clients'.
@@ -295,6 +327,49 @@ const CALLS: [(u64, Kind, u64); 10] = [
     (1, Kind::Answer, 2),
     (3, Kind::Collect, 2),
 ];
+
+// The lane that comes back has the calls of both.
+#[test]
+fn lane_has_all_calls(rt: HostRuntime) -> Result<(), Fail> {
+    let Ok((exchange, mut door, taps)) = Exchange::new(&rt, rt.alloc(), ROOMY, 1) else {
+        panic!(rt; "there is memory")
+    };
+    let well = two_clients(&rt, rt.alloc(), &exchange, &mut door, taps);
+    assert_eq!(rt; well, Some(true));
+    let Ok(lanes) = exchange.finish(door) else {
+        panic!(rt; "the lane is out")
+    };
+    for lane in &lanes {
+        let calls = lane.entries().iter();
+        let calls = calls.map(|entry| (entry.by, entry.kind, entry.client));
+        assert!(rt; calls.eq(CALLS.iter().copied()));
+    }
+    Ok(())
+}
+
+// An admit takes 2 of a lane's 1,000 entries and a request 4: 249 on lane 1 leave 2, 248 on lane 0
+// leave 6. What then refuses the next client.
+fn fills<R: Wait>(rt: &R, alloc: Global, at: &Exchange, door: &mut Door) -> Option<EnterFault>
+    requires { locks_of door.old.fronts ≡ at.now }
+    ensures { locks_of door.new.fronts ≡ at.now }
+{
+    let mut client = enter(rt, alloc, at, door).ok()?;
+    for own in 1..=497 {
+        if client.submit(rt, own) != Ok(own as usize % 2) {
+            return None;
+        }
+    }
+    enter(rt, alloc, at, door).err()
+}
+
+// Whether these are the lane's calls, but for its accepts.
+fn are_members(entries: &[Entry], wanted: &[(Kind, u64)]) -> bool {
+    entries
+        .iter()
+        .filter(|entry| entry.kind != Kind::Accept)
+        .map(|entry| (entry.kind, entry.client))
+        .eq(wanted.iter().copied())
+}
 
 // Lane 1 has no room for a client more where lane 0 still has: the second client is admitted on lane
 // 0, refused on lane 1, and so retired on lane 0.
@@ -314,17 +389,8 @@ fn refused_client_leaves_again(rt: HostRuntime) -> Result<(), Fail> {
     else {
         panic!(rt; "there is memory")
     };
-    let Ok(mut client) = enter(&rt, rt.alloc(), &exchange, &mut door) else {
-        panic!(rt; "there is room")
-    };
-    // An admit takes 2 of a lane's 1,000 entries and a request 4: 249 on lane 1 leave 2, 248 on lane
-    // 0 leave 6.
-    for own in 1..=497 {
-        assert_eq!(rt; client.submit(&rt, own), Ok(own as usize % 2));
-    }
-    let entered = enter(&rt, rt.alloc(), &exchange, &mut door).err();
-    assert_eq!(rt; entered, Some(EnterFault::HistoryFull));
-    drop(client);
+    let refused = fills(&rt, rt.alloc(), &exchange, &mut door);
+    assert_eq!(rt; refused, Some(EnterFault::HistoryFull));
     let Ok(lanes) = exchange.finish(door) else {
         panic!(rt; "a lane is out")
     };
@@ -332,16 +398,10 @@ fn refused_client_leaves_again(rt: HostRuntime) -> Result<(), Fail> {
         [(Kind::Admit, 1), (Kind::Admit, 2), (Kind::Retire, 2)].as_slice(),
         [(Kind::Admit, 1)].as_slice(),
     ];
-    for (lane, wanted) in lanes.iter().zip(members) {
-        let entries = lane.entries().iter();
-        let calls = entries.filter(|entry| entry.kind != Kind::Accept);
-        assert!(rt;
-            calls
-                .map(|entry| (entry.kind, entry.client))
-                .eq(wanted.iter().copied())
-        );
-    }
     assert_eq!(rt; lanes.len(), 2);
+    for (lane, wanted) in lanes.iter().zip(members) {
+        assert!(rt; are_members(lane.entries(), wanted));
+    }
     Ok(())
 }
 
@@ -361,26 +421,41 @@ fn compare_all(at: &Exchange, door: &mut Door, port: &mut Port, tap: &mut Tap)
     at.compare(port, door, 0);
 }
 
+// Tokens are compared, and go on.
+fn compared<R: Wait>(
+    rt: &R,
+    alloc: Global,
+    at: &Exchange,
+    door: &mut Door,
+    taps: Vec<Tap>,
+) -> Option<bool>
+    requires lanes { 0 < length at.now }
+    requires door { locks_of door.old.fronts ≡ at.now }
+    requires taps { All (λ t. slice_get at.now t.lane ≡ Some t.front.lock) taps.items }
+    ensures { locks_of door.new.fronts ≡ at.now }
+{
+    let mut taps = taps;
+    let mut tap = taps.pop()?;
+    let mut port = door.enter(at, rt).ok()?;
+    let submitted = port.submit(at, rt, offer(alloc, 7)).is_ok();
+    if tap.lane() != 0 {
+        return None;
+    }
+    compare_all(at, door, &mut port, &mut tap);
+    let taken = tap.take(at, rt).is_ok();
+    let entered = door.enter(at, rt).is_ok();
+    let left = port.leave(at, rt).is_ok();
+    Some(submitted && taken && entered && left)
+}
+
 // Tokens that were compared go on as before.
 #[test]
 fn tokens_are_compared(rt: HostRuntime) -> Result<(), Fail> {
     let Ok((exchange, mut door, taps)) = Exchange::new(&rt, rt.alloc(), ROOMY, 1) else {
         panic!(rt; "there is memory")
     };
-    let Some(Line { mut tap, .. }) = last_line(rt.alloc(), &exchange, taps) else {
-        panic!(rt; "there is one lane")
-    };
-    let Ok(mut port) = door.enter(&exchange, &rt) else {
-        panic!(rt; "there is memory")
-    };
-    assert!(rt; port.submit(&exchange, &rt, offer(rt.alloc(), 7)).is_ok());
-    if tap.lane() != 0 {
-        panic!(rt; "there is one lane")
-    }
-    compare_all(&exchange, &mut door, &mut port, &mut tap);
-    assert!(rt; tap.take(&exchange, &rt).is_ok());
-    assert!(rt; door.enter(&exchange, &rt).is_ok());
-    assert!(rt; port.leave(&exchange, &rt).is_ok());
+    let well = compared(&rt, rt.alloc(), &exchange, &mut door, taps);
+    assert_eq!(rt; well, Some(true));
     let Ok(lanes) = exchange.finish(door) else {
         panic!(rt; "the lane is out")
     };
@@ -392,9 +467,29 @@ fn tokens_are_compared(rt: HostRuntime) -> Result<(), Fail> {
         Kind::Retire,
     ];
     for lane in &lanes {
-        assert!(rt; lane.entries().iter().map(|entry| entry.kind).eq(kinds));
+        assert!(rt; are_of(lane.entries(), &kinds));
     }
     Ok(())
+}
+
+// Whether a client enters under the number and leaves, or there is no memory for it.
+fn comes_and_goes<R: Wait>(
+    rt: &R,
+    alloc: Global,
+    at: &Exchange,
+    door: &mut Door,
+    number: u64,
+) -> bool
+    requires { locks_of door.old.fronts ≡ at.now }
+    ensures { locks_of door.new.fronts ≡ at.now }
+{
+    match enter(rt, alloc, at, door) {
+        Ok(client) => {
+            let numbered = client.port.client() == number;
+            client.leave(rt) == Ok(()) && numbered
+        }
+        Err(fault) => fault == EnterFault::NoMemory,
+    }
 }
 
 // Want of memory is said by name: tools/refuse-memory refuses each allocation in turn. A client that
@@ -405,28 +500,14 @@ fn refused_memory(rt: HostRuntime) {
         Ok((exchange, door, _)) => (exchange, door),
         Err(fault) => return assert_eq!(rt; fault, MakeFault::NoMemory),
     };
-    for number in 1..=2 {
-        match enter(&rt, rt.alloc(), &exchange, &mut door) {
-            Ok(client) => {
-                assert_eq!(rt; client.port.client(), number);
-                assert_eq!(rt; client.leave(&rt), Ok(()));
-            }
-            Err(fault) => assert_eq!(rt; fault, EnterFault::NoMemory),
-        }
-    }
+    let first = comes_and_goes(&rt, rt.alloc(), &exchange, &mut door, 1);
+    let second = comes_and_goes(&rt, rt.alloc(), &exchange, &mut door, 2);
+    assert!(rt; first && second);
     let Ok(lanes) = exchange.finish(door) else {
         return assert!(rt; false, "a lane is out");
     };
     for lane in &lanes {
-        let entries = lane.entries();
-        let admits = entries
-            .iter()
-            .filter(|entry| entry.kind == Kind::Admit)
-            .count();
-        let retires = entries
-            .iter()
-            .filter(|entry| entry.kind == Kind::Retire)
-            .count();
-        assert_eq!(rt; admits, retires);
+        let admits = count_of(lane.entries(), Kind::Admit);
+        assert_eq!(rt; admits, count_of(lane.entries(), Kind::Retire));
     }
 }

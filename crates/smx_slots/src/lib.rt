@@ -18,6 +18,3 @@ pub use guide::Guide;
 pub use ready::Ready;
 pub use roll::Roll;
 pub use slots::Slots;
-
-#[cfg(test)]
-mod tests;

@@ -6,6 +6,3 @@ mod writing;
 
 pub use reading::{ReadFault, read_octets};
 pub use writing::{WriteFault, write_text};
-
-#[cfg(test)]
-mod tests;

@@ -237,6 +237,21 @@ fn worker_at<'a>(
     })
 }
 
+// The same with boxes of one place, whose other ends nobody uses.
+fn plain_line<'a, R: Wait>(
+    rt: &R,
+    alloc: Global,
+    at: &'a Exchange,
+    tap: Tap,
+    script: Script,
+) -> Option<Line<'a>>
+    requires { slice_get at.now tap.lane ≡ Some tap.front.lock }
+{
+    let (_, senders) = Boxed::new(rt, alloc, 1, 1).ok()?;
+    let (answers, _) = Boxed::new(rt, alloc, 1, 1).ok()?;
+    worker_at(alloc, at, tap, script, answers, senders, 1_000)
+}
+
 // A port with its exchange.
 #[derive(Drop)]
 struct Client<'a> {

@@ -1,52 +1,105 @@
 //! Lanes that are turned over.
+ghost use Rattle.std.specs.Prelude.{◌≡◌, slice_get, Some, All};
+ghost use Rattle.smx_shared.specs.Views.{locks_of};
+
 use super::*;
 
-// 1,000 requests pass over a lane that stores 1,000 entries, since each 25th turn over its tap hands
-// them out. A request is taken before the one and answered after it.
+// A turn over hands out just this many entries: it hands out none where one more is wanted, and none
+// at once after it.
+fn hands_out<R: Wait>(rt: &R, line: &mut Line, wanted: usize) -> bool {
+    let more = line.turn_over(rt, wanted.saturating_add(1));
+    let handed = line.turn_over(rt, wanted);
+    let again = line.turn_over(rt, 1);
+    let just = handed.is_ok_and(|list| list.is_some_and(|entries| entries.len() == wanted));
+    more == Ok(None) && just && again == Ok(None)
+}
+
+// A request passes, which is taken before the turn over that each 25th brings and answered after it:
+// how many entries were handed out.
+fn pass_one<R: Wait>(rt: &R, line: &mut Line, client: &mut Client, own: u32) -> Option<usize> {
+    if client.submit(rt, own) != Ok(0) {
+        return None;
+    }
+    let number = line.take_number(rt).ok()?;
+    // The admit, 24 requests with four entries each, an accept and a take; from then on the answer
+    // and the collect of the last request, and the same.
+    let wanted = match own {
+        25 => 99,
+        own if own % 25 == 0 => 100,
+        _ => 0,
+    };
+    if wanted > 0 && !hands_out(rt, line, wanted) {
+        return None;
+    }
+    let queued = matches!(line.answer(rt, number), Ok(Answered::Queued { client: 1 }));
+    (queued && client.collect(rt) == Ok(own)).then_some(wanted)
+}
+
+// 1,000 requests: how many entries were handed out.
+fn pass_all<R: Wait>(rt: &R, line: &mut Line, client: &mut Client) -> Option<usize> {
+    let mut stored: usize = 0;
+    for own in 1..=1_000 {
+        stored = stored.saturating_add(pass_one(rt, line, client, own)?);
+    }
+    Some(stored)
+}
+
+fn shifts<R: Wait>(
+    rt: &R,
+    alloc: Global,
+    at: &Exchange,
+    door: &mut Door,
+    taps: Vec<Tap>,
+) -> Option<usize>
+    requires door { locks_of door.old.fronts ≡ at.now }
+    requires taps { All (λ t. slice_get at.now t.lane ≡ Some t.front.lock) taps.items }
+    ensures { locks_of door.new.fronts ≡ at.now }
+{
+    let mut line = last_line(alloc, at, taps)?;
+    let mut client = enter(rt, alloc, at, door).ok()?;
+    let stored = pass_all(rt, &mut line, &mut client)?;
+    (client.leave(rt) == Ok(())).then_some(stored)
+}
+
+// 1,000 requests pass over a lane that stores 1,000 entries: the admit, four entries of each request,
+// and the retire.
 #[test]
 fn lane_goes_on_over_shifts(rt: HostRuntime) -> Result<(), Fail> {
     let Ok((exchange, mut door, taps)) = Exchange::new(&rt, rt.alloc(), ROOMY, 1) else {
         panic!(rt; "there is memory")
     };
-    let Some(mut line) = last_line(rt.alloc(), &exchange, taps) else {
-        panic!(rt; "there is one lane")
-    };
-    let Ok(mut client) = enter(&rt, rt.alloc(), &exchange, &mut door) else {
-        panic!(rt; "there is memory")
-    };
-    let mut stored: usize = 0;
-    for own in 1..=1_000 {
-        assert_eq!(rt; client.submit(&rt, own), Ok(0));
-        let Ok(number) = line.take_number(&rt) else {
-            panic!(rt; "request {own} is queued")
-        };
-        if own % 25 == 0 {
-            // The admit, 24 requests with four entries each, an accept and a take; from then on the
-            // answer and the collect of the last request, and the same.
-            let wanted = if own == 25 { 99 } else { 100 };
-            assert_eq!(rt; line.turn_over(&rt, wanted + 1), Ok(None));
-            let Ok(Some(entries)) = line.turn_over(&rt, wanted) else {
-                panic!(rt; "at request {own} there are fewer entries")
-            };
-            assert_eq!(rt; entries.len(), wanted);
-            stored = stored.saturating_add(entries.len());
-            assert_eq!(rt; line.turn_over(&rt, 1), Ok(None));
-        }
-        assert!(rt; matches!(line.answer(&rt, number), Ok(Answered::Queued { client: 1 })));
-        assert_eq!(rt; client.collect(&rt), Ok(own));
-    }
-    assert_eq!(rt; client.leave(&rt), Ok(()));
-    drop(line);
+    let stored = shifts(&rt, rt.alloc(), &exchange, &mut door, taps);
+    assert_eq!(rt; stored, Some(3_999));
     let Ok(lanes) = exchange.finish(door) else {
         panic!(rt; "the lane is out")
     };
     let last = [Kind::Answer, Kind::Collect, Kind::Retire];
     for lane in &lanes {
-        assert!(rt; lane.entries().iter().map(|entry| entry.kind).eq(last));
-        // The admit, four of each request, and the retire.
-        assert_eq!(rt; stored.saturating_add(lane.entries().len()), 4_002);
+        assert!(rt; are_of(lane.entries(), &last));
     }
     Ok(())
+}
+
+// A client enters, and the lane is turned over: how many entries were stored, and how many of them
+// handed out. None where another fault than want of memory is said.
+fn hands_out_or_keeps<R: Wait>(
+    rt: &R,
+    alloc: Global,
+    at: &Exchange,
+    door: &mut Door,
+    taps: Vec<Tap>,
+) -> Option<(usize, usize)>
+    requires door { locks_of door.old.fronts ≡ at.now }
+    requires taps { All (λ t. slice_get at.now t.lane ≡ Some t.front.lock) taps.items }
+    ensures { locks_of door.new.fronts ≡ at.now }
+{
+    let mut line = last_line(alloc, at, taps)?;
+    let admits = usize::from(enter(rt, alloc, at, door).is_ok());
+    match line.turn_over(rt, 1) {
+        Ok(entries) => Some((admits, entries.map_or(0, |entries| entries.len()))),
+        Err(TurnFault::NoMemory) => Some((admits, 0)),
+        Err(TurnFault::Spent) => None,
+    }
 }
 
 // Where the new list is refused, the lane keeps its entry.
@@ -56,30 +109,16 @@ fn refused_turn_over(rt: HostRuntime) -> Result<(), Fail> {
         Ok(made) => made,
         Err(fault) => return Ok(assert_eq!(rt; fault, MakeFault::NoMemory)),
     };
-    let Some(mut line) = last_line(rt.alloc(), &exchange, taps) else {
-        panic!(rt; "there is one lane")
+    let made = hands_out_or_keeps(&rt, rt.alloc(), &exchange, &mut door, taps);
+    let Some((admits, handed)) = made else {
+        panic!(rt; "there is one lane, and tickets are left")
     };
-    let admits = match enter(&rt, rt.alloc(), &exchange, &mut door) {
-        Ok(_) => 1,
-        Err(_) => 0,
-    };
-    let handed = match line.turn_over(&rt, 1) {
-        Ok(entries) => entries.map_or(0, |entries| entries.len()),
-        Err(fault) => {
-            assert_eq!(rt; fault, TurnFault::NoMemory);
-            0
-        }
-    };
-    drop(line);
     let Ok(lanes) = exchange.finish(door) else {
         panic!(rt; "the lane is out")
     };
     for lane in &lanes {
-        let kept = lane.entries().iter();
-        assert_eq!(rt;
-            handed + kept.filter(|entry| entry.kind == Kind::Admit).count(),
-            admits
-        );
+        let kept = count_of(lane.entries(), Kind::Admit);
+        assert_eq!(rt; handed.saturating_add(kept), admits);
     }
     Ok(())
 }

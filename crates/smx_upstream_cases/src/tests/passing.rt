@@ -101,25 +101,41 @@ fn one_of_each(rt: HostRuntime) {
     assert_eq!(rt; entries_left(&rt, rt.alloc(), 8), Some(1));
 }
 
-// Turns of a worker whose return box has an answer with the greatest body: how each run ended, and
-// how many questions the gate was asked by then.
-fn filled<R: Wait>(rt: &R, alloc: Global) -> Option<[(RunEnd, u64); 3]> {
-    let (exchange, _door, taps) = Exchange::new(rt, alloc, ROOMY, 1).ok()?;
-    let tap = first_tap(&exchange, taps)?;
-    let answer = Pdu {
+// An answer with the greatest body.
+fn greatest(alloc: Global) -> Option<Pdu> {
+    let body = Body::new(vec![in alloc; 0; 65_520].ok()?).ok()?;
+    Some(Pdu {
         command: 0x8000_0005,
         status: 0,
         number: 3,
-        body: Body::new(vec![in alloc; 0; 65_520].ok()?).ok()?,
-    };
-    let answers = answered(rt, alloc, answer)?;
-    let (_inbox, senders) = Boxed::new(rt, alloc, 1, 1).ok()?;
-    let script = Script::new(alloc, 65_536);
-    let mut line = worker_at(alloc, &exchange, tap, script, answers, senders, 1_000)?;
+        body,
+    })
+}
+
+// How three runs ended, the first two of one turn, and how many questions the gate was asked by then.
+fn three_runs<R: Wait>(rt: &R, line: Line) -> [(RunEnd, u64); 3] {
+    let mut line = line;
     let first = (line.run(rt, 0, 1), line.gate.questions);
     let second = (line.run(rt, 0, 1), line.gate.questions);
     let third = (line.run(rt, 0, 1_000), line.gate.questions);
-    Some([first, second, third])
+    [first, second, third]
+}
+
+// A worker whose return box has that answer.
+fn filled_line<'a, R: Wait>(rt: &R, alloc: Global, at: &'a Exchange, tap: Tap) -> Option<Line<'a>>
+    requires { slice_get at.now tap.lane ≡ Some tap.front.lock }
+{
+    let answers = answered(rt, alloc, greatest(alloc)?)?;
+    let (_, senders) = Boxed::new(rt, alloc, 1, 1).ok()?;
+    let script = Script::new(alloc, 65_536);
+    worker_at(alloc, at, tap, script, answers, senders, 1_000)
+}
+
+fn filled<R: Wait>(rt: &R, alloc: Global) -> Option<[(RunEnd, u64); 3]> {
+    let (exchange, _, taps) = Exchange::new(rt, alloc, ROOMY, 1).ok()?;
+    let tap = first_tap(&exchange, taps)?;
+    let line = filled_line(rt, alloc, &exchange, tap)?;
+    Some(three_runs(rt, line))
 }
 
 // With 65,536 octets waiting a turn asks its gate nothing. The last turn is one in which nothing

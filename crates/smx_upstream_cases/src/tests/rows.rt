@@ -25,11 +25,9 @@ fn runs<R: Wait>(
     script: Script,
     moments: &[u64],
 ) -> Option<(RunEnd, Closed<MemoryLink<Script>>)> {
-    let (exchange, _door, taps) = Exchange::new(rt, alloc, ROOMY, 1).ok()?;
+    let (exchange, _, taps) = Exchange::new(rt, alloc, ROOMY, 1).ok()?;
     let tap = first_tap(&exchange, taps)?;
-    let (_inbox, senders) = Boxed::new(rt, alloc, 1, 1).ok()?;
-    let (answers, _clients) = Boxed::new(rt, alloc, 1, 1).ok()?;
-    let mut line = worker_at(alloc, &exchange, tap, script, answers, senders, 1_000)?;
+    let mut line = plain_line(rt, alloc, &exchange, tap, script)?;
     let mut end = RunEnd::Idle;
     for now in moments {
         end = line.run(rt, *now, 1_000);

@@ -45,24 +45,28 @@ fn runs_out<R: Wait>(
     Some((last, !early && stopped && first == RunEnd::Idle && well))
 }
 
+// The centre gives its response to the bind, then that to the request and a message, and answers the
+// unbind.
+fn centre(alloc: Global, most: usize) -> Script {
+    Script::new(alloc, most)
+        .and(30, &BOUND)
+        .and(80, &RESPONSE)
+        .and(80, &MESSAGE)
+        .and(96, &UNBOUND)
+}
+
+// The client has the one response, and no more.
+fn has_one<R: Wait>(rt: &R, client: &mut Client) -> bool {
+    client.collect(rt).is_some() && client.collect(rt).is_none()
+}
+
 fn ends_in_order<R: Wait>(rt: &R, alloc: Global, most: usize) -> Option<(RunEnd, bool)> {
     let (exchange, mut door, taps) = Exchange::new(rt, alloc, ROOMY, 1).ok()?;
     let tap = first_tap(&exchange, taps)?;
     let mut client = enter(rt, &exchange, &mut door).ok()?;
-    let (_inbox, senders) = Boxed::new(rt, alloc, 1, 1).ok()?;
-    let (answers, _clients) = Boxed::new(rt, alloc, 1, 1).ok()?;
-    let script = Script::new(alloc, most)
-        .and(30, &BOUND)
-        .and(80, &RESPONSE)
-        .and(80, &MESSAGE)
-        .and(96, &UNBOUND);
-    let line = worker_at(alloc, &exchange, tap, script, answers, senders, 1_000)?;
+    let line = plain_line(rt, alloc, &exchange, tap, centre(alloc, most))?;
     let (last, well) = runs_out(rt, alloc, line, &mut client)?;
-    let response = client.collect(rt);
-    Some((
-        last,
-        well && response.is_some() && client.collect(rt).is_none(),
-    ))
+    Some((last, well && has_one(rt, &mut client)))
 }
 
 // Over a link that takes all at once, and over one that takes an octet a write.

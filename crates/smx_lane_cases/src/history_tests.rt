@@ -1,4 +1,5 @@
-use super::*;
+//! The words of a lane's refusals.
+use smx_history::{AdmitRefusal, Refusal, TakeRefusal};
 use std::test::*;
 
 #[test]

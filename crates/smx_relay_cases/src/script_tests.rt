@@ -1,4 +1,5 @@
-use super::*;
+//! Lines of a script.
+use smx_script::{Action, Command, lines_of, read_command};
 use std::test::*;
 
 // Lines that say something to a run, whether or not there is such a client or lane.
@@ -44,7 +45,7 @@ const BAD: [&str; 18] = [
 ];
 
 #[test]
-fn lines_and_commands(rt: HostRuntime) -> Result<(), Fail> {
+fn good_and_bad_lines(rt: HostRuntime) -> Result<(), Fail> {
     for line in GOOD {
         let command = read_command(rt.alloc(), line.as_bytes())?;
         assert!(rt; command.is_some(), "{line}");
@@ -53,6 +54,11 @@ fn lines_and_commands(rt: HostRuntime) -> Result<(), Fail> {
         let command = read_command(rt.alloc(), line.as_bytes())?;
         assert!(rt; command.is_none(), "{line}");
     }
+    Ok(())
+}
+
+#[test]
+fn octets_of_a_client(rt: HostRuntime) -> Result<(), Fail> {
     match read_command(rt.alloc(), "in 7 0aF0".as_bytes())? {
         Some(Command::Run(Action::In { client, octets })) => {
             assert_eq!(rt; client, 7);
@@ -60,6 +66,11 @@ fn lines_and_commands(rt: HostRuntime) -> Result<(), Fail> {
         }
         _ => return Err("no octets of a client".into()),
     }
+    Ok(())
+}
+
+#[test]
+fn lines_of_a_script(rt: HostRuntime) -> Result<(), Fail> {
     let lines = lines_of(rt.alloc(), "take 0\n\ntake 1".as_bytes())?;
     assert_eq!(rt; lines.len(), 3);
     assert_eq!(rt; lines[2], "take 1".as_bytes());

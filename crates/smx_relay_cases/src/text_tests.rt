@@ -1,4 +1,5 @@
-use super::*;
+//! Whole texts, read and written.
+use smx_text::{ReadFault, read_octets, write_text};
 use std::test::*;
 
 // Why nothing was read, or `Err` for want of memory.

@@ -1,11 +1,9 @@
-use crate::bell::Bell;
-use crate::boxes::ends_of;
-use crate::guide::Guide;
-use crate::ready::Ready;
-use crate::roll::Roll;
-use crate::slots::Slots;
+//! The proxy's tables.
+
 use smx_routes::Routes;
+use smx_slots::{Bell, ClientEnds, Guide, Ready, Roll, Slots, ends_of};
 use smx_turns::{Directory, Gate, Party, Place, Point};
+use std::sync::Wait;
 use std::test::Fail;
 
 // Whoever is told of more than once is ready once, and again after it was begun.
@@ -60,6 +58,21 @@ fn a_bell_names_parties(rt: HostRuntime) -> Result<(), Fail> {
     Ok(())
 }
 
+// Adds a prefix of client 1, a longer one of client 2, and one of client 9, who has no slot.
+fn adds<R: Wait>(rt: &R, guide: &mut Guide) -> bool {
+    guide.add(rt, b"49", 1) == Ok(())
+        && guide.add(rt, b"491", 2) == Ok(())
+        && guide.add(rt, b"5", 9) == Ok(())
+}
+
+fn found<R: Wait>(rt: &R, guide: &mut Guide) -> [Option<Place>; 3] {
+    [
+        guide.find(rt, b"4915"),
+        guide.find(rt, b"4815"),
+        guide.find(rt, b"55"),
+    ]
+}
+
 // The longest prefix decides; a client that has no slot gets nothing.
 #[test]
 fn a_guide_finds_slots(rt: HostRuntime) -> Result<(), Fail> {
@@ -68,21 +81,33 @@ fn a_guide_finds_slots(rt: HostRuntime) -> Result<(), Fail> {
     roll.add(1, 3);
     roll.add(2, 0);
     let mut guide = Guide::new(&mut routes, &roll);
-    assert_eq!(rt; guide.add(&rt, b"49", 1), Ok(()));
-    assert_eq!(rt; guide.add(&rt, b"491", 2), Ok(()));
-    assert_eq!(rt; guide.add(&rt, b"5", 9), Ok(()));
-    assert_eq!(rt;
-        guide.find(&rt, b"4915"),
-        Some(Place { client: 2, slot: 0 })
-    );
-    assert_eq!(rt; guide.find(&rt, b"4815"), None);
-    assert_eq!(rt; guide.find(&rt, b"55"), None);
+    assert!(rt; adds(&rt, &mut guide));
+    let second = Some(Place { client: 2, slot: 0 });
+    let wanted = [second, None, None];
+    assert_eq!(rt; found(&rt, &mut guide), wanted);
     guide.remove(&rt, 2);
-    assert_eq!(rt;
-        guide.find(&rt, b"4915"),
-        Some(Place { client: 1, slot: 3 })
-    );
+    let first = Some(Place { client: 1, slot: 3 });
+    assert_eq!(rt; found(&rt, &mut guide), [first, None, None]);
     Ok(())
+}
+
+// The first slot and the second, how many senders the first has, and the slot that is given once the
+// first came back. None where there are others than two.
+fn picked(slots: &mut Slots) -> Option<[usize; 4]> {
+    let (first, ends) = slots.pick()?;
+    let senders = ends.senders.len();
+    let second = number_of(slots.pick())?;
+    if slots.pick().is_some() {
+        return None;
+    }
+    slots.give_back(first, ends);
+    let again = number_of(slots.pick())?;
+    Some([first, second, senders, again])
+}
+
+fn number_of(picked: Option<(usize, ClientEnds)>) -> Option<usize> {
+    let (slot, _) = picked?;
+    Some(slot)
 }
 
 // A slot is given once, and again when it came back.
@@ -91,20 +116,6 @@ fn slots_come_back(rt: HostRuntime) -> Result<(), Fail> {
     let (ends, lanes) = ends_of(&rt, rt.alloc(), 2, 3, 4)?;
     assert_eq!(rt; lanes.len(), 3);
     let mut slots = Slots::new(rt.alloc(), ends)?;
-    let Some((first, ends)) = slots.pick() else {
-        panic!(rt; "none is free");
-    };
-    assert_eq!(rt; first, 0);
-    assert_eq!(rt; ends.senders.len(), 3);
-    let Some((second, _)) = slots.pick() else {
-        panic!(rt; "none is free");
-    };
-    assert_eq!(rt; second, 1);
-    assert!(rt; slots.pick().is_none());
-    slots.give_back(first, ends);
-    let Some((again, _)) = slots.pick() else {
-        panic!(rt; "none is free");
-    };
-    assert_eq!(rt; again, 0);
+    assert_eq!(rt; picked(&mut slots), Some([0, 1, 3, 0]));
     Ok(())
 }
