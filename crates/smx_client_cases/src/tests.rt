@@ -1,14 +1,18 @@
 //! What a client's link takes, and what becomes of its requests and messages.
 
+ghost use Rattle.std.specs.Prelude.{◌≡◌, slice_get, Some, All};
+
 use crate::tests::stand::{
-    Boxes, World, answer_largest, desk, last_line, make_boxes, message, next_answer, run, worker_of,
+    Boxes, Line, Seat, answer_largest, desk, has_answers, last_line, make_boxes, next_answer,
+    plain_seat, put_messages, seat_of,
 };
+use smx_box::{Receiver, Sender};
 use smx_history::{Answered, Limits};
 use smx_memory::Script;
-use smx_pdu::Body;
+use smx_pdu::{Body, Pdu};
 use smx_session::ClientState;
-use smx_shared::Exchange;
-use smx_turns::{Fault, Party, RunEnd};
+use smx_shared::{Exchange, Tap};
+use smx_turns::{Fault, MoItem, Party, RunEnd};
 use std::alloc::Global;
 use std::cmp::Ord;
 use std::sync::Wait;
@@ -29,31 +33,37 @@ const BIND: &[u8] = b"\0\0\0\x19\0\0\0\x09\0\0\0\0\0\0\0\x01a\0p\0\0\x34\0\0\0";
 // Its answer: the system_id `smx`, and sc_interface_version 0x34.
 const BOUND: &[u8] = b"\0\0\0\x19\x80\0\0\x09\0\0\0\0\0\0\0\x01smx\0\x02\x10\0\x01\x34";
 
-// What the link took, and how many octets wait, so many turns after a client came that binds over a
-// link that takes one octet a write.
-fn after<R: Wait>(rt: &R, alloc: Global, turns: u64) -> Option<(Vec<u8>, usize)> {
-    let Ok((exchange, mut door, _taps)) = Exchange::new(rt, alloc, LIMITS, 1) else {
+// What a client's link took after its bind.
+fn taken_after_bind<R: Wait>(rt: &R, alloc: Global, seat: Seat) -> Option<Vec<u8>> {
+    let (closed, _) = seat.close(rt);
+    let octets = closed.link.peer().taken().get(25..)?;
+    Vec::from_slice(alloc, octets).ok()
+}
+
+// What the link took, and how many octets wait, after so many turns.
+fn taken_and_unsent<R: Wait>(
+    rt: &R,
+    alloc: Global,
+    seat: Seat,
+    turns: u64,
+) -> Option<(Vec<u8>, usize)> {
+    let mut seat = seat;
+    if let RunEnd::Fault(_) = seat.run(rt, turns) {
         return None;
-    };
-    let Ok(port) = door.enter(&exchange, rt) else {
-        return None;
-    };
-    let Some(boxes) = make_boxes(rt, alloc, 1, 1) else {
-        return None;
-    };
-    let desk = desk(alloc).ok()?;
-    let script = Script::new(alloc, 1).and(0, BIND);
-    let Boxes { inbox, senders, .. } = boxes;
-    let made = worker_of(alloc, port, &desk, inbox, senders, script);
-    let Some(mut worker) = made else {
-        return None;
-    };
-    let mut world = World::new();
-    run(&mut worker, &exchange, rt, &mut world, turns).ok()?;
-    let unsent = worker.unsent();
-    let closed = worker.close(&exchange, rt, &mut world.book);
+    }
+    let unsent = seat.worker.unsent();
+    let (closed, _) = seat.close(rt);
     let taken = Vec::from_slice(alloc, closed.link.peer().taken()).ok()?;
     Some((taken, unsent))
+}
+
+// The same of a client that binds over a link that takes one octet a write.
+fn after<R: Wait>(rt: &R, alloc: Global, turns: u64) -> Option<(Vec<u8>, usize)> {
+    let desk = desk(alloc).ok()?;
+    let (exchange, mut door, _) = Exchange::new(rt, alloc, LIMITS, 1).ok()?;
+    let script = Script::new(alloc, 1).and(0, BIND);
+    let seat = plain_seat(rt, alloc, &exchange, &mut door, &desk, 1, script)?;
+    taken_and_unsent(rt, alloc, seat, turns)
 }
 
 #[test]
@@ -78,46 +88,69 @@ const SUBMIT: &[u8] = b"\0\0\0\x11\0\0\0\x04\0\0\0\0\0\0\0\x07s";
 
 const SUBMITTED: &[u8] = b"\0\0\0\x12\x80\0\0\x04\0\0\0\0\0\0\0\x071\0";
 
+// The client's request is accepted, of which the lane is told, and its response collected.
+fn request_passes<R: Wait>(rt: &R, seat: &mut Seat, line: &mut Line, body: Body) -> bool {
+    let accepted = seat.run(rt, 100) == RunEnd::Idle;
+    let told = seat.world.gate.last == Some(Party::Lane(0));
+    let answered = line.answer(rt, body);
+    let queued = matches!(answered, Some(Answered::Queued { client: 1 }));
+    accepted && told && queued && seat.run(rt, 100) == RunEnd::Idle
+}
+
+// Client 1 is bound, and nothing waits for its link.
+fn is_at_rest(seat: &Seat) -> bool {
+    let worker = &seat.worker;
+    (worker.client(), worker.state(), worker.unsent()) == (1, ClientState::BoundTrx, 0)
+}
+
+// The link took the response; two routes were made and one client's taken back; no answer waits.
+fn leaves_with_a_response<R: Wait>(rt: &R, seat: Seat) -> bool {
+    let (closed, book) = seat.close(rt);
+    let taken = closed.link.peer().taken().get(25..) == Some(SUBMITTED);
+    taken && !closed.answered && (book.added, book.removed) == (2, 1)
+}
+
 #[test]
 fn response_bears_the_clients_number(rt: HostRuntime) -> Result<(), Fail> {
+    let desk = desk(rt.alloc())?;
+    let body = Body::short(Vec::from_slice(rt.alloc(), b"1\0")?);
     let Ok((exchange, mut door, mut taps)) = Exchange::new(&rt, rt.alloc(), LIMITS, 1) else {
         panic!(rt; "there is memory")
     };
-    let Ok(port) = door.enter(&exchange, &rt) else {
-        panic!(rt; "there is memory")
-    };
-    let Some(boxes) = make_boxes(&rt, rt.alloc(), 1, 1) else {
-        panic!(rt; "there is memory")
-    };
-    let desk = desk(rt.alloc())?;
-    let script = Script::new(rt.alloc(), 4_096).and(0, BIND).and(25, SUBMIT);
-    let Boxes { inbox, senders, .. } = boxes;
-    let made = worker_of(rt.alloc(), port, &desk, inbox, senders, script);
-    let Some(mut worker) = made else {
-        panic!(rt; "there is memory")
-    };
-    let mut world = World::new();
     let Some(mut line) = last_line(&exchange, &mut taps) else {
         panic!(rt; "there is one lane")
     };
-    let Ok(RunEnd::Idle) = run(&mut worker, &exchange, &rt, &mut world, 100) else {
-        panic!(rt; "the client goes on")
+    let script = Script::new(rt.alloc(), 4_096).and(0, BIND).and(25, SUBMIT);
+    let made = plain_seat(&rt, rt.alloc(), &exchange, &mut door, &desk, 1, script);
+    let Some(mut seat) = made else {
+        panic!(rt; "there is memory")
     };
-    assert_eq!(rt; world.gate.last, Some(Party::Lane(0)));
-    let body = Body::short(Vec::from_slice(rt.alloc(), b"1\0")?);
-    assert!(rt; matches!(line.answer(&rt, body), Some(Answered::Queued { client: 1 })));
-    let Ok(RunEnd::Idle) = run(&mut worker, &exchange, &rt, &mut world, 100) else {
-        panic!(rt; "the client goes on")
-    };
-    assert_eq!(rt;
-        (worker.client(), worker.state(), worker.unsent()),
-        (1, ClientState::BoundTrx, 0)
-    );
-    let closed = worker.close(&exchange, &rt, &mut world.book);
-    assert_eq!(rt; closed.link.peer().taken().get(25..), Some(SUBMITTED));
-    assert!(rt; !closed.answered);
-    assert_eq!(rt; (world.book.added, world.book.removed), (2, 1));
+    assert!(rt; request_passes(&rt, &mut seat, &mut line, body));
+    assert!(rt; is_at_rest(&seat));
+    assert!(rt; leaves_with_a_response(&rt, seat));
     Ok(())
+}
+
+// Two messages are sent, the first is answered, and a third is put into the box.
+fn messages_pass<R: Wait>(
+    rt: &R,
+    alloc: Global,
+    seat: &mut Seat,
+    sender: &mut Sender<MoItem>,
+) -> bool {
+    seat.run(rt, 100) == RunEnd::Idle
+        && put_messages(rt, alloc, sender, &[3, 4])
+        && seat.run(rt, 100) == RunEnd::Idle
+        && seat.world.gate.last == Some(Party::Lane(0))
+        && put_messages(rt, alloc, sender, &[5])
+}
+
+// The link took the messages under the numbers 1 and 2, and an answer waits.
+fn leaves_with_answers<R: Wait>(rt: &R, seat: Seat) -> bool {
+    let sent: &[u8] = b"\0\0\0\x10\0\0\0\x05\0\0\0\0\0\0\0\x01\
+        \0\0\0\x10\0\0\0\x05\0\0\0\0\0\0\0\x02";
+    let (closed, _) = seat.close(rt);
+    closed.answered && closed.link.peer().taken().get(25..) == Some(sent)
 }
 
 // Two messages are sent under the numbers 1 and 2. The answer to 1 goes back under the centre's
@@ -126,55 +159,51 @@ fn response_bears_the_clients_number(rt: HostRuntime) -> Result<(), Fail> {
 #[test]
 fn messages_are_answered(rt: HostRuntime) -> Result<(), Fail> {
     let answer = b"\0\0\0\x10\x80\0\0\x05\0\0\0\0\0\0\0\x01";
-    let Ok((exchange, mut door, _taps)) = Exchange::new(&rt, rt.alloc(), LIMITS, 1) else {
-        panic!(rt; "there is memory")
-    };
-    let Ok(port) = door.enter(&exchange, &rt) else {
-        panic!(rt; "there is memory")
-    };
+    let desk = desk(rt.alloc())?;
     let Some(boxes) = make_boxes(&rt, rt.alloc(), 1, 4) else {
         panic!(rt; "there is memory")
     };
-    let desk = desk(rt.alloc())?;
-    let script = Script::new(rt.alloc(), 4_096).and(0, BIND).and(57, answer);
     let Boxes {
         inbox,
         mut messages,
         mut answers,
         senders,
     } = boxes;
-    let made = worker_of(rt.alloc(), port, &desk, inbox, senders, script);
-    let Some(mut worker) = made else {
-        panic!(rt; "there is memory")
-    };
-    let mut world = World::new();
     let Some(mut sender) = messages.pop() else {
         panic!(rt; "the box has a sender")
     };
-    let Ok(RunEnd::Idle) = run(&mut worker, &exchange, &rt, &mut world, 100) else {
-        panic!(rt; "the client goes on")
+    let Ok((exchange, mut door, _taps)) = Exchange::new(&rt, rt.alloc(), LIMITS, 1) else {
+        panic!(rt; "there is memory")
     };
-    for number in [3, 4] {
-        assert!(rt; sender.put(&rt, message(rt.alloc(), number)).is_ok());
-    }
-    let Ok(RunEnd::Idle) = run(&mut worker, &exchange, &rt, &mut world, 100) else {
-        panic!(rt; "the client goes on")
+    let (rt, alloc, script) = (&rt, rt.alloc(), Script::new(rt.alloc(), 4_096));
+    let script = script.and(0, BIND).and(57, answer);
+    let made = seat_of(
+        rt, alloc, &exchange, &mut door, &desk, inbox, senders, script,
+    );
+    let Some(mut seat) = made else {
+        panic!(rt; "there is memory")
     };
-    assert_eq!(rt; world.gate.last, Some(Party::Lane(0)));
-    assert!(rt; sender.put(&rt, message(rt.alloc(), 5)).is_ok());
-    let closed = worker.close(&exchange, &rt, &mut world.book);
-    let sent: &[u8] = b"\0\0\0\x10\0\0\0\x05\0\0\0\0\0\0\0\x01\
-        \0\0\0\x10\0\0\0\x05\0\0\0\0\0\0\0\x02";
-    assert_eq!(rt; closed.link.peer().taken().get(25..), Some(sent));
-    assert!(rt; closed.answered);
-    for (status, number) in [(0, 3), (0x64, 4), (0x64, 5)] {
-        assert_eq!(rt;
-            next_answer(&rt, &mut answers),
-            Some((0x8000_0005, status, number))
-        );
-    }
-    assert_eq!(rt; next_answer(&rt, &mut answers), None);
+    assert!(rt; messages_pass(rt, alloc, &mut seat, &mut sender));
+    assert!(rt; leaves_with_answers(rt, seat));
+    let (bears, gone) = (0x8000_0005, 0x64);
+    let wanted = [(bears, 0, 3), (bears, gone, 4), (bears, gone, 5)];
+    assert!(rt; has_answers(rt, &mut answers, &wanted));
     Ok(())
+}
+
+// One answer is in the box and the other waits, and then has its place.
+fn answers_pass<R: Wait>(
+    rt: &R,
+    alloc: Global,
+    seat: &mut Seat,
+    sender: &mut Sender<MoItem>,
+    answers: &mut Vec<Receiver<Pdu>>,
+) -> bool {
+    put_messages(rt, alloc, sender, &[3, 4])
+        && seat.run(rt, 100) == RunEnd::Turns
+        && has_answers(rt, answers, &[(0x8000_0005, 0, 4)])
+        && seat.run(rt, 100) == RunEnd::Idle
+        && next_answer(rt, answers) == Some((0x8000_0000, 8, 3))
 }
 
 // The second answer waits while the return box, which has one place, has the first.
@@ -183,71 +212,44 @@ fn answer_waits_for_its_box(rt: HostRuntime) -> Result<(), Fail> {
     // The second is a generic_nack, which answers a message too.
     let both = b"\0\0\0\x10\x80\0\0\x05\0\0\0\0\0\0\0\x02\
         \0\0\0\x10\x80\0\0\0\0\0\0\x08\0\0\0\x01";
-    let Ok((exchange, mut door, _taps)) = Exchange::new(&rt, rt.alloc(), LIMITS, 1) else {
-        panic!(rt; "there is memory")
-    };
-    let Ok(port) = door.enter(&exchange, &rt) else {
-        panic!(rt; "there is memory")
-    };
+    let desk = desk(rt.alloc())?;
     let Some(boxes) = make_boxes(&rt, rt.alloc(), 1, 1) else {
         panic!(rt; "there is memory")
     };
-    let desk = desk(rt.alloc())?;
-    let script = Script::new(rt.alloc(), 4_096).and(0, BIND).and(57, both);
     let Boxes {
         inbox,
         mut messages,
         mut answers,
         senders,
     } = boxes;
-    let made = worker_of(rt.alloc(), port, &desk, inbox, senders, script);
-    let Some(mut worker) = made else {
-        panic!(rt; "there is memory")
-    };
-    let mut world = World::new();
     let Some(mut sender) = messages.pop() else {
         panic!(rt; "the box has a sender")
     };
-    for number in [3, 4] {
-        assert!(rt; sender.put(&rt, message(rt.alloc(), number)).is_ok());
-    }
-    let Ok(RunEnd::Turns) = run(&mut worker, &exchange, &rt, &mut world, 100) else {
-        panic!(rt; "an answer waits")
+    let Ok((exchange, mut door, _taps)) = Exchange::new(&rt, rt.alloc(), LIMITS, 1) else {
+        panic!(rt; "there is memory")
     };
-    assert_eq!(rt; next_answer(&rt, &mut answers), Some((0x8000_0005, 0, 4)));
-    assert_eq!(rt; next_answer(&rt, &mut answers), None);
-    let Ok(RunEnd::Idle) = run(&mut worker, &exchange, &rt, &mut world, 100) else {
-        panic!(rt; "no answer waits")
+    let (rt, alloc, script) = (&rt, rt.alloc(), Script::new(rt.alloc(), 4_096));
+    let script = script.and(0, BIND).and(57, both);
+    let made = seat_of(
+        rt, alloc, &exchange, &mut door, &desk, inbox, senders, script,
+    );
+    let Some(mut seat) = made else {
+        panic!(rt; "there is memory")
     };
-    assert_eq!(rt; next_answer(&rt, &mut answers), Some((0x8000_0000, 8, 3)));
+    assert!(rt; answers_pass(rt, alloc, &mut seat, &mut sender, &mut answers));
     Ok(())
 }
 
 // What a client is answered that says this once it is bound, where that ends it.
 fn last_answer<R: Wait>(rt: &R, alloc: Global, octets: &[u8]) -> Option<Vec<u8>> {
-    let Ok((exchange, mut door, _taps)) = Exchange::new(rt, alloc, LIMITS, 1) else {
-        return None;
-    };
-    let Ok(port) = door.enter(&exchange, rt) else {
-        return None;
-    };
-    let Some(boxes) = make_boxes(rt, alloc, 1, 1) else {
-        return None;
-    };
     let desk = desk(alloc).ok()?;
+    let (exchange, mut door, _) = Exchange::new(rt, alloc, LIMITS, 1).ok()?;
     let script = Script::new(alloc, 7).and(0, BIND).and(25, octets);
-    let Boxes { inbox, senders, .. } = boxes;
-    let made = worker_of(alloc, port, &desk, inbox, senders, script);
-    let Some(mut worker) = made else {
+    let mut seat = plain_seat(rt, alloc, &exchange, &mut door, &desk, 1, script)?;
+    if seat.run(rt, 100) != RunEnd::Left {
         return None;
-    };
-    let mut world = World::new();
-    let Ok(RunEnd::Left) = run(&mut worker, &exchange, rt, &mut world, 100) else {
-        return None;
-    };
-    let closed = worker.close(&exchange, rt, &mut world.book);
-    let answer = closed.link.peer().taken().get(25..)?;
-    Vec::from_slice(alloc, answer).ok()
+    }
+    taken_after_bind(rt, alloc, seat)
 }
 
 #[test]
@@ -267,64 +269,59 @@ fn unbind_and_bad_length_end_it(rt: HostRuntime) {
 
 #[test]
 fn link_that_fails(rt: HostRuntime) -> Result<(), Fail> {
+    let desk = desk(rt.alloc())?;
     let Ok((exchange, mut door, _taps)) = Exchange::new(&rt, rt.alloc(), LIMITS, 1) else {
         panic!(rt; "there is memory")
     };
-    let Ok(port) = door.enter(&exchange, &rt) else {
-        panic!(rt; "there is memory")
-    };
-    let Some(boxes) = make_boxes(&rt, rt.alloc(), 1, 1) else {
-        panic!(rt; "there is memory")
-    };
-    let desk = desk(rt.alloc())?;
     let mut script = Script::new(rt.alloc(), 4_096).and(0, BIND);
     script.failing_read = 2;
-    let Boxes { inbox, senders, .. } = boxes;
-    let made = worker_of(rt.alloc(), port, &desk, inbox, senders, script);
-    let Some(mut worker) = made else {
+    let made = plain_seat(&rt, rt.alloc(), &exchange, &mut door, &desk, 1, script);
+    let Some(mut seat) = made else {
         panic!(rt; "there is memory")
     };
-    let mut world = World::new();
-    let end = run(&mut worker, &exchange, &rt, &mut world, 100);
-    assert_eq!(rt; end, Err(Fault::Link));
+    assert_eq!(rt; seat.run(&rt, 100), RunEnd::Fault(Fault::Link));
     Ok(())
+}
+
+// The two requests are answered with 65,536 octets each: then a turn collects one, and the next none.
+fn two_turns<R: Wait>(
+    rt: &R,
+    alloc: Global,
+    at: &Exchange,
+    taps: &mut Vec<Tap>,
+    seat: &mut Seat,
+) -> Option<[(RunEnd, usize); 2]>
+    requires { All (λ t. slice_get at.now t.lane ≡ Some t.front.lock) taps.old.items }
+{
+    if seat.run(rt, 100) != RunEnd::Idle {
+        return None;
+    }
+    answer_largest(rt, alloc, at, taps)?;
+    answer_largest(rt, alloc, at, taps)?;
+    let first = (seat.run(rt, 1), seat.worker.unsent());
+    let second = (seat.run(rt, 1), seat.worker.unsent());
+    Some([first, second])
 }
 
 // Of two responses of 65,536 octets, on two lanes, one is collected in a turn.
 #[test]
 fn turn_stops_where_many_octets_wait(rt: HostRuntime) -> Result<(), Fail> {
+    let desk = desk(rt.alloc())?;
     let Ok((exchange, mut door, mut taps)) = Exchange::new(&rt, rt.alloc(), LIMITS, 2) else {
         panic!(rt; "there is memory")
     };
-    let Ok(port) = door.enter(&exchange, &rt) else {
-        panic!(rt; "there is memory")
-    };
-    let Some(boxes) = make_boxes(&rt, rt.alloc(), 2, 1) else {
-        panic!(rt; "there is memory")
-    };
-    let desk = desk(rt.alloc())?;
     let script = Script::new(rt.alloc(), 100_000)
         .and(0, BIND)
         .and(25, SUBMIT)
         .and(25, SUBMIT);
-    let Boxes { inbox, senders, .. } = boxes;
-    let made = worker_of(rt.alloc(), port, &desk, inbox, senders, script);
-    let Some(mut worker) = made else {
+    let made = plain_seat(&rt, rt.alloc(), &exchange, &mut door, &desk, 2, script);
+    let Some(mut seat) = made else {
         panic!(rt; "there is memory")
     };
-    let mut world = World::new();
-    let Ok(RunEnd::Idle) = run(&mut worker, &exchange, &rt, &mut world, 100) else {
-        panic!(rt; "the client goes on")
-    };
-    assert!(rt; answer_largest(&rt, rt.alloc(), &exchange, &mut taps).is_some());
-    assert!(rt; answer_largest(&rt, rt.alloc(), &exchange, &mut taps).is_some());
-    let Ok(RunEnd::Turns) = run(&mut worker, &exchange, &rt, &mut world, 1) else {
-        panic!(rt; "a response is collected")
-    };
-    assert_eq!(rt; worker.unsent(), 65_536);
-    let Ok(RunEnd::Turns) = run(&mut worker, &exchange, &rt, &mut world, 1) else {
-        panic!(rt; "a response is collected")
-    };
-    assert_eq!(rt; worker.unsent(), 65_536);
+    let turns = two_turns(&rt, rt.alloc(), &exchange, &mut taps, &mut seat);
+    assert_eq!(rt;
+        turns,
+        Some([(RunEnd::Turns, 65_536), (RunEnd::Turns, 65_536)])
+    );
     Ok(())
 }

@@ -1,18 +1,18 @@
 //! A client's worker with all that it turns on.
-ghost use Rattle.std.specs.Prelude.{◌≡◌, ◌≢◌, slice_get, Some, None, All, IfSome, OnOk};
+ghost use Rattle.std.specs.Prelude.{◌≡◌, ◌≢◌, slice_get, Some, None, All, false};
 ghost use Rattle.smx_shared.specs.Views.{locks_of};
-ghost use Rattle.smx_client.specs.declared.mark.Stage.TheVariants as stage;
+ghost use Rattle.smx_client.specs.declared.mark.Stage.{Stage};
 
 use smx_box::{Boxed, Got, Receiver, Sender};
-use smx_client::{ClientWorker, Desk, run_client};
+use smx_client::{ClientWorker, Closed, Desk, run_client};
 use smx_history::Answered;
 use smx_memory::{MemoryLink, Script};
 use smx_pdu::{Body, Pdu};
 use smx_routes::RouteFault;
 use smx_session::Account;
-use smx_shared::{Exchange, Port, Tap};
+use smx_shared::{Door, Exchange, Tap};
 use smx_trace::Trace;
-use smx_turns::{Directory, Fault, Gate, MoItem, Party, Place, Point, Query, Question, RunEnd};
+use smx_turns::{Directory, Gate, MoItem, Party, Place, Point, Query, Question, RunEnd};
 use std::alloc::{AllocError, Global};
 use std::sync::Wait;
 
@@ -150,47 +150,88 @@ pub fn make_boxes<R: Wait>(rt: &R, alloc: Global, lanes: usize, places: usize) -
     })
 }
 
-/// A client's worker over a link with this script. There must be a sender for each lane.
-pub fn worker_of<'d>(
+/// A client's worker with its exchange, and all that a turn is lent.
+#[derive(Drop)]
+pub struct Seat<'a, 'd> {
+    at: &'a Exchange,
+    pub worker: ClientWorker<'d, MemoryLink<Script>>,
+    pub world: World,
+    // A turn failed.
+    over: bool,
+    ghost fits: { locks_of worker.port.fronts ≡ at.now },
+    ghost goes_on: { over ≡ false → worker.stage ≢ Stage.Closed → worker.wire.failed ≡ None },
+}
+
+/// A client that enters, over a link with this script. There must be a sender for each lane.
+pub fn seat_of<'a, 'd, R: Wait>(
+    rt: &R,
     alloc: Global,
-    port: Port,
+    at: &'a Exchange,
+    door: &mut Door,
     desk: &'d Desk,
     inbox: Receiver<MoItem>,
     senders: Vec<Sender<Pdu>>,
     script: Script,
-) -> Option<ClientWorker<'d, MemoryLink<Script>>>
-    ensures locks { IfSome result (λ w. w.port ≡ port) }
-    ensures goes_on { IfSome result (λ w. w.wire.failed ≡ None) }
+) -> Option<Seat<'a, 'd>>
+    requires { locks_of door.old.fronts ≡ at.now }
 {
+    let port = door.enter(at, rt).ok()?;
     if senders.len() != port.lanes() {
         return None;
     }
     let link = MemoryLink::new(script);
     match ClientWorker::new(alloc, port, desk, inbox, senders, 4, link) {
-        Ok(worker) => Some(worker),
+        Ok(worker) => Some(Seat {
+            at,
+            worker,
+            world: World::new(),
+            over: false,
+        }),
         Err(_) => None,
     }
 }
 
-/// Turns it as long as there is something to do, at most so often.
-pub fn run<R: Wait>(
-    worker: &mut ClientWorker<'_, MemoryLink<Script>>,
-    at: &Exchange,
+/// The same with boxes of one place, whose other ends nobody uses.
+pub fn plain_seat<'a, 'd, R: Wait>(
     rt: &R,
-    world: &mut World,
-    turns: u64,
-) -> Result<RunEnd, Fault>
-    requires locks { locks_of worker.old.port.fronts ≡ at.now }
-    requires goes_on { worker.old.stage ≢ stage.Closed → worker.old.wire.failed ≡ None }
-    ensures locks { locks_of worker.new.port.fronts ≡ at.now }
-    ensures goes_on { OnOk result
-        (worker.new.stage ≢ stage.Closed → worker.new.wire.failed ≡ None) }
+    alloc: Global,
+    at: &'a Exchange,
+    door: &mut Door,
+    desk: &'d Desk,
+    lanes: usize,
+    script: Script,
+) -> Option<Seat<'a, 'd>>
+    requires { locks_of door.old.fronts ≡ at.now }
 {
-    match run_client(worker, at, rt, &mut world.gate, &mut world.book, turns) {
-        RunEnd::Left => Ok(RunEnd::Left),
-        RunEnd::Idle => Ok(RunEnd::Idle),
-        RunEnd::Turns => Ok(RunEnd::Turns),
-        RunEnd::Fault(fault) => Err(fault),
+    let Boxes { inbox, senders, .. } = make_boxes(rt, alloc, lanes, 1)?;
+    seat_of(rt, alloc, at, door, desk, inbox, senders, script)
+}
+
+impl Seat<'_, '_> {
+    /// Turns the worker as long as there is something to do, at most so often.
+    pub fn run<R: Wait>(&mut self, rt: &R, turns: u64) -> RunEnd {
+        if self.over {
+            return RunEnd::Left;
+        }
+        let World { gate, book } = &mut self.world;
+        let end = run_client(&mut self.worker, self.at, rt, gate, book, turns);
+        if let RunEnd::Fault(_) = end {
+            self.over = true;
+        }
+        end
+    }
+
+    /// Its client is gone: what is left, and what the directory was asked.
+    pub fn close<R: Wait>(self, rt: &R) -> (Closed<MemoryLink<Script>>, Book) {
+        let Seat {
+            at,
+            worker,
+            world,
+            ..
+        } = self;
+        let World { mut book, .. } = world;
+        let closed = worker.close(at, rt, &mut book);
+        (closed, book)
     }
 }
 
@@ -256,4 +297,33 @@ pub fn next_answer<R: Wait>(rt: &R, answers: &mut Vec<Receiver<Pdu>>) -> Option<
         Ok(Got::Item { content, .. }) => Some((content.command, content.status, content.number)),
         _ => None,
     }
+}
+
+/// Whether these answers, and no more, are in that box.
+pub fn has_answers<R: Wait>(
+    rt: &R,
+    answers: &mut Vec<Receiver<Pdu>>,
+    wanted: &[(u32, u32, u32)],
+) -> bool {
+    for answer in wanted {
+        if next_answer(rt, answers) != Some(*answer) {
+            return false;
+        }
+    }
+    next_answer(rt, answers).is_none()
+}
+
+/// Puts messages with these numbers into the client's box.
+pub fn put_messages<R: Wait>(
+    rt: &R,
+    alloc: Global,
+    sender: &mut Sender<MoItem>,
+    numbers: &[u32],
+) -> bool {
+    for number in numbers {
+        if sender.put(rt, message(alloc, *number)).is_err() {
+            return false;
+        }
+    }
+    true
 }
