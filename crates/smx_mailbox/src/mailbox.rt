@@ -48,7 +48,8 @@ impl Mailbox {
     /// client was sent a message before.
     pub fn after(alloc: Global, places: u32, last: u32) -> Result<Mailbox, WindowFault>
         requires { last ≤ greatest }
-        ensures ok { IfOk result (λ mailbox. IsSize places × (mailbox ≡ mailbox_after places last)) }
+        ensures ok { IfOk result (λ mailbox. IsSize places
+            × (mailbox ≡ mailbox_after places last)) }
         ensures err { IfErr result (IsWindowFault places) }
     {
         let window = MoWindow::after(alloc, places, last)?;

@@ -10,8 +10,8 @@ use smx_pdu::Pdu;
 use std::alloc::{AllocError, Global};
 use std::marker::Model;
 
-/// A mailbox. It takes its memory at the first message, and lets it go when the client leaves. One that
-/// is made anew goes on with the numbers of the one before.
+/// A mailbox. It takes its memory at the first message, and lets it go when the client leaves. One
+/// that is made anew goes on with the numbers of the one before.
 #[derive(Drop)]
 pub struct Inbox {
     alloc: Global,
