@@ -15,6 +15,10 @@ pub record Mailbox : Type 0 where
 abbrev pub new_mailbox : ℕ → Mailbox
 new_mailbox places = record { waiting = []; window = record { places = places; last = 0; waiting = [] } }
 
+-- no message, and the last number given is this
+abbrev pub mailbox_after : ℕ → ℕ → Mailbox
+mailbox_after places last = record { waiting = []; window = record { places = places; last = last; waiting = [] } }
+
 -- a message waits at each place
 abbrev pub is_full : Mailbox → Bool
 is_full m = nat_le m.window.places (length m.waiting)

@@ -1,8 +1,8 @@
 //! A client's mailbox.
-ghost use Rattle.std.specs.Prelude.{◌≡◌, [], ◌∷◌, true, false, Some, None, IfOk, OnOk, IfErr, OnErr, IfSome, IfNone, MatchOption};
+ghost use Rattle.std.specs.Prelude.{◌≡◌, ◌≤◌, [], ◌∷◌, true, false, Some, None, IfOk, OnOk, IfErr, OnErr, IfSome, IfNone, MatchOption};
 ghost use Rattle.smx_routes.specs.declared.mo_window.Waiting.{Waiting};
-ghost use Rattle.smx_routes.specs.Window.{IsSize, IsWindowFault, answered};
-ghost use Rattle.smx_mailbox.specs.Mailbox.{new_mailbox, is_full, with_message, sent, after_sent, settled, unanswered, emptied};
+ghost use Rattle.smx_routes.specs.Window.{IsSize, IsWindowFault, answered, greatest};
+ghost use Rattle.smx_mailbox.specs.Mailbox.{new_mailbox, mailbox_after, is_full, with_message, sent, after_sent, settled, unanswered, emptied};
 
 use crate::message::{Message, Unanswered};
 use circular_buffer::HeapCircularBuffer;
@@ -41,7 +41,18 @@ impl Mailbox {
         ensures ok { IfOk result (λ mailbox. IsSize places × (mailbox ≡ new_mailbox places)) }
         ensures err { IfErr result (IsWindowFault places) }
     {
-        let window = MoWindow::new(alloc, places)?;
+        Mailbox::after(alloc, places, 0)
+    }
+
+    /// A mailbox as `new` makes it, whose numbers go on behind `last`, the last one under which the
+    /// client was sent a message before.
+    pub fn after(alloc: Global, places: u32, last: u32) -> Result<Mailbox, WindowFault>
+        requires { last ≤ greatest }
+        ensures ok { IfOk result (λ mailbox. IsSize places
+            × (mailbox ≡ mailbox_after places last)) }
+        ensures err { IfErr result (IsWindowFault places) }
+    {
+        let window = MoWindow::after(alloc, places, last)?;
         match HeapCircularBuffer::with_capacity(alloc, places as usize) {
             Ok(waiting) => Ok(Mailbox {
                 alloc,
@@ -50,6 +61,14 @@ impl Mailbox {
             }),
             Err(AllocError) => Err(WindowFault::NoMemory),
         }
+    }
+
+    /// The last number under which the client was sent a message, or 0.
+    pub fn last(&self) -> u32
+        ensures last { result ≡ self.now.window.last }
+        ensures range { result ≤ greatest }
+    {
+        self.window.last()
     }
 
     /// Puts a message behind those that wait, or hands it back where one waits at each place. It takes no

@@ -4,7 +4,7 @@ ghost use Rattle.smx_pdu.specs.Pdu.{pdu_of, Spells, spelling, length_field, Neve
 
 use crate::body::Body;
 use crate::fault::PduFault;
-use crate::header::read_header;
+use crate::header::{Header, read_header, write_header};
 use crate::pdu::Pdu;
 use std::alloc::{AllocError, Global};
 
@@ -75,11 +75,13 @@ fn append_pdu(pdu: &Pdu, out: &mut Vec<u8>)
     ensures spells { Spells pdu.now (spelling pdu.now) }
 {
     let body = pdu.body.as_slice();
-    let length = 16 + body.len();
-    append_within(out, &(length as u32).to_be_bytes());
-    append_within(out, &pdu.command.to_be_bytes());
-    append_within(out, &pdu.status.to_be_bytes());
-    append_within(out, &pdu.number.to_be_bytes());
+    let header = Header {
+        length: (16 + body.len()) as u32,
+        command: pdu.command,
+        status: pdu.status,
+        number: pdu.number,
+    };
+    append_within(out, &write_header(header));
     append_within(out, body);
 }
 

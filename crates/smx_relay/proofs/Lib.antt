@@ -2,6 +2,7 @@ pub mod Offers
 pub mod LaneTurns
 pub mod Lanes
 pub mod Keeping
+pub mod Inboxes
 pub mod Beginning
 pub mod Ring
 pub mod Rows

@@ -1,4 +1,4 @@
-//! A client's mailbox, which is made at its first message.
+//! A client's mailbox, which is made at its first message and goes when the client leaves.
 ghost use Rattle.std.specs.Prelude.{◌≡◌, true, false, Some, None, IfOk, IfErr, IfSome, IfNone, OnOk};
 ghost use Rattle.smx_routes.specs.Window.{answered};
 ghost use Rattle.smx_routes.specs.declared.mo_window.Waiting.{Waiting};
@@ -10,26 +10,26 @@ use smx_pdu::Pdu;
 use std::alloc::{AllocError, Global};
 use std::marker::Model;
 
-/// A mailbox. It takes its memory at the first message, and lets it go when the client leaves and
-/// was never sent one.
+/// A mailbox. It takes its memory at the first message, and lets it go when the client leaves. One
+/// that is made anew goes on with the numbers of the one before.
 #[derive(Drop)]
 pub struct Inbox {
     alloc: Global,
     places: u32,
-    // Whether the client may have been sent a message.
-    has_sent: bool,
+    // The last number that was given before the mailbox is made, or 0.
+    last: u32,
     mailbox: Option<Mailbox>,
 }
 
 impl Model for Inbox {
     ghost use Rattle.smx_mailbox.specs.Mailbox.{Mailbox};
-    ghost use Rattle.smx_relay.specs.Private.Inboxes.{mailbox_of, KeepsNew};
+    ghost use Rattle.smx_relay.specs.Private.Inboxes.{mailbox_of, KeepsSize};
 
     ghost Value = { Mailbox };
 
     ghost view = { mailbox_of };
 
-    ghost invariant = { KeepsNew };
+    ghost invariant = { KeepsSize };
 }
 
 impl Inbox {
@@ -40,7 +40,7 @@ impl Inbox {
         Inbox {
             alloc,
             places,
-            has_sent: false,
+            last: 0,
             mailbox: None,
         }
     }
@@ -55,7 +55,7 @@ impl Inbox {
         if let Some(mailbox) = &mut self.mailbox {
             return Ok(mailbox.put(message));
         }
-        let Ok(mut mailbox) = Mailbox::new(self.alloc, self.places) else {
+        let Ok(mut mailbox) = Mailbox::after(self.alloc, self.places, self.last) else {
             return Err(AllocError);
         };
         let put = mailbox.put(message);
@@ -71,7 +71,6 @@ impl Inbox {
         let Some(mailbox) = &mut self.mailbox else {
             return Ok(Vec::new(self.alloc));
         };
-        self.has_sent = true;
         mailbox.send()
     }
 
@@ -85,9 +84,6 @@ impl Inbox {
         ensures none { IfNone result
             ((answered number command self.old.window.waiting ≡ None) × (self.new ≡ self.old)) }
     {
-        if !self.has_sent {
-            return None;
-        }
         match &mut self.mailbox {
             Some(mailbox) => mailbox.settle(number, command),
             None => None,
@@ -103,9 +99,8 @@ impl Inbox {
             return Ok(Vec::new(self.alloc));
         };
         let messages = mailbox.empty()?;
-        if !self.has_sent {
-            self.mailbox = None;
-        }
+        self.last = mailbox.last();
+        self.mailbox = None;
         Ok(messages)
     }
 }

@@ -1,7 +1,7 @@
 //! The messages that a client was sent and has not answered.
 ghost use Rattle.std.specs.Prelude.{◌≡◌, ◌≤◌, ◌<◌, ◌+◌, ◌↔◌, [], ◌∷◌, ◌++◌, length, Some, None, IsTrue, IsErr, IfOk, IfErr, IfSome, IfNone, OnSome, OnErr, MatchOption};
 ghost use Rattle.smx_pdu.specs.Command.{is_response_to};
-ghost use Rattle.smx_routes.specs.Window.{IsSize, IsWindowFault, waits, without, answered, AreApart, IsNext, IsFirst};
+ghost use Rattle.smx_routes.specs.Window.{IsSize, IsWindowFault, greatest, waits, without, answered, AreApart, IsNext, IsFirst};
 
 use crate::fault::WindowFault;
 use std::alloc::{AllocError, Global};
@@ -72,13 +72,24 @@ impl MoWindow {
         ensures ok { IfOk result (λ window. IsSize places × (window ≡ record { places = places; last = 0; waiting = [] })) }
         ensures err { IfErr result (IsWindowFault places) }
     {
+        MoWindow::after(alloc, places, 0)
+    }
+
+    /// A window as `new` makes it, whose numbers go on behind `last`, the last one that was given
+    /// before.
+    pub fn after(alloc: Global, places: u32, last: u32) -> Result<MoWindow, WindowFault>
+        requires { last ≤ greatest }
+        ensures ok { IfOk result (λ window. IsSize places
+            × (window ≡ record { places = places; last = last; waiting = [] })) }
+        ensures err { IfErr result (IsWindowFault places) }
+    {
         if !(1..=256).contains(&places) {
             return Err(WindowFault::BadSize);
         }
         match Vec::with_capacity(alloc, places as usize) {
             Ok(waiting) => Ok(MoWindow {
                 places,
-                last: 0,
+                last,
                 waiting,
             }),
             Err(AllocError) => Err(WindowFault::NoMemory),
@@ -91,6 +102,14 @@ impl MoWindow {
         ensures size { IsSize result }
     {
         self.places
+    }
+
+    /// The last number given, or 0.
+    pub fn last(&self) -> u32
+        ensures last { result ≡ self.now.last }
+        ensures range { result ≤ greatest }
+    {
+        self.last
     }
 
     /// Whether all places wait for answers.

@@ -104,6 +104,18 @@ fn emptied_when_the_client_leaves(rt: HostRuntime) -> Result<(), Fail> {
     Ok(())
 }
 
+#[test]
+fn numbers_go_on_in_a_new_mailbox(rt: HostRuntime) -> Result<(), Fail> {
+    let mut mailbox = Mailbox::after(rt.alloc(), 1, 3)?;
+    assert_eq!(rt; mailbox.last(), 3);
+    assert!(rt; mailbox.put(deliver(rt.alloc(), 0, 10)).is_ok());
+    let sent = mailbox.send()?;
+    assert_eq!(rt; sent.len(), 1);
+    assert_eq!(rt; sent[0].number, 4);
+    assert_eq!(rt; mailbox.last(), 4);
+    Ok(())
+}
+
 // Want of memory is said by name: tools/refuse-memory refuses each allocation in turn. What does not come stays.
 #[test]
 fn refused_memory(rt: HostRuntime) {

@@ -1,16 +1,18 @@
 -- What the fields of a client's inbox show, and what they keep.
-use Rattle.std.specs.Prelude.{◌≡◌, ℕ, false, Option, Some, None}
-use Rattle.smx_mailbox.specs.Mailbox.{Mailbox, new_mailbox}
+use Rattle.std.specs.Prelude.{◌≡◌, ◌≤◌, ℕ, Option, Some, None}
+use Rattle.smx_routes.specs.Window.{greatest}
+use Rattle.smx_mailbox.specs.Mailbox.{Mailbox, mailbox_after}
 use Rattle.smx_relay.specs.declared.inbox.Inbox.TheInside.{Inside}
 
--- a mailbox that isn't made is a new one
-abbrev pub made_or_new : ℕ → Option Mailbox → Mailbox
-made_or_new places None = new_mailbox places
-made_or_new places (Some mailbox) = mailbox
+-- a mailbox that isn't made is an empty one
+abbrev pub made_or_empty : ℕ → ℕ → Option Mailbox → Mailbox
+made_or_empty places last None = mailbox_after places last
+made_or_empty places last (Some mailbox) = mailbox
 
 abbrev pub mailbox_of : Inside → Mailbox
-mailbox_of a = made_or_new a.places a.mailbox
+mailbox_of a = made_or_empty a.places a.last a.mailbox
 
--- where nothing was sent, the window is a new one
-pub record KeepsNew (a : Inside) : Type 0 where
-  pub unsent : a.has_sent ≡ false → (mailbox_of a).window ≡ (new_mailbox a.places).window
+-- the places never change, and the last number is a sequence number or 0
+pub record KeepsSize (a : Inside) : Type 0 where
+  pub places : (mailbox_of a).window.places ≡ a.places
+  pub last : a.last ≤ greatest

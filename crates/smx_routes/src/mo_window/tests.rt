@@ -35,6 +35,17 @@ fn numbers_go_round(rt: HostRuntime) -> Result<(), Fail> {
 }
 
 #[test]
+fn numbers_go_on_in_a_new_window(rt: HostRuntime) -> Result<(), Fail> {
+    let mut window = MoWindow::after(rt.alloc(), 2, 5)?;
+    assert_eq!(rt; window.last(), 5);
+    assert_eq!(rt; window.give(0, 10, DELIVER_SM), Ok(6));
+    let mut window = MoWindow::after(rt.alloc(), 2, 0x7FFF_FFFF)?;
+    assert_eq!(rt; window.give(0, 11, DELIVER_SM), Ok(1));
+    assert_eq!(rt; window.last(), 1);
+    Ok(())
+}
+
+#[test]
 fn sizes_have_a_range(rt: HostRuntime) {
     for places in [0, 257, u32::MAX] {
         assert_eq!(rt;
