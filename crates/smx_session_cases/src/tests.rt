@@ -24,11 +24,9 @@ fn account(alloc: Global, texts: [u8; 2]) -> Result<Account, AllocError> {
     })
 }
 
-fn assert_octets(rt: &impl Abort, alloc: Global, pdu: &Pdu, wanted: &[u8]) -> Result<(), Fail> {
+fn is_spelled(alloc: Global, pdu: &Pdu, wanted: &[u8]) -> bool {
     let mut octets = Vec::new(alloc);
-    encode(pdu, &mut octets)?;
-    assert_eq!(rt; octets.as_slice(), wanted);
-    Ok(())
+    encode(pdu, &mut octets).is_ok() && octets.as_slice() == wanted
 }
 
 // The answer to a client of SMPP 3.4 says so, and that to an earlier one doesn't.
@@ -55,10 +53,26 @@ fn bind_answers(rt: HostRuntime) -> Result<(), Fail> {
             return Err("refused".into());
         };
         assert_eq!(&rt; (kind, account), (Kind::Trx, 1));
-        assert_octets(&rt, alloc, &answer, wanted)?;
+        assert!(rt; is_spelled(alloc, &answer, wanted));
         assert_eq!(rt; session.state(), ClientState::BoundTrx);
     }
     Ok(())
+}
+
+// The command, the status and the number of the answer to a bind that is refused, and the length of
+// its body.
+fn refused(
+    session: &mut ClientSession,
+    accounts: &[Account],
+    pdu: &Pdu,
+) -> Option<(u32, u32, u32, usize)> {
+    match session.on_pdu(pdu, accounts).ok()? {
+        Act::Answer(answer) => {
+            let length = answer.body.len();
+            Some((answer.command, answer.status, answer.number, length))
+        }
+        _ => None,
+    }
 }
 
 // Of accounts with one system_id the first counts; a body that can't be read comes before an
@@ -69,30 +83,27 @@ fn bind_refusals(rt: HostRuntime) -> Result<(), Fail> {
     let accounts = [account(alloc, *b"ap")?, account(alloc, *b"aq")?];
     let mut session = ClientSession::new(alloc);
     for (texts, status) in [(*b"aq", 0x0E), (*b"bp", 0x0F), (*b"\0p", 0x0F)] {
-        let act = session.on_pdu(&bind(alloc, texts, 0x34)?, &accounts)?;
-        let Act::Answer(answer) = act else {
-            return Err("no answer".into());
-        };
-        assert_eq!(rt;
-            (answer.command, answer.status, answer.number),
-            (0x8000_0009, status, 7)
-        );
+        let pdu = bind(alloc, texts, 0x34)?;
+        let answer = refused(&mut session, &accounts, &pdu);
+        assert_eq!(rt; answer, Some((0x8000_0009, status, 7, 0)));
     }
-    // The bodies lack their last octet.
+    assert_eq!(rt; session.state(), ClientState::Opened);
+    Ok(())
+}
+
+// The bodies lack their last octet.
+#[test]
+fn binds_that_cannot_be_read(rt: HostRuntime) -> Result<(), Fail> {
+    let alloc = rt.alloc();
+    let accounts = [account(alloc, *b"ap")?];
+    let mut session = ClientSession::new(alloc);
     for octets in [b"a\0p\0\0\x34\0\0", b"b\0p\0\0\x34\0\0"] {
         let Ok(pdu) = Pdu::new(9, 0, 7, Vec::from_slice(alloc, octets)?) else {
             return Err("too long".into());
         };
-        let Act::Answer(answer) = session.on_pdu(&pdu, &accounts)? else {
-            return Err("no answer".into());
-        };
-        assert_eq!(rt;
-            (answer.command, answer.status, answer.number),
-            (0x8000_0009, 2, 7)
-        );
-        assert!(rt; answer.body.is_empty());
+        let answer = refused(&mut session, &accounts, &pdu);
+        assert_eq!(rt; answer, Some((0x8000_0009, 2, 7, 0)));
     }
-    assert_eq!(rt; session.state(), ClientState::Opened);
     Ok(())
 }
 
@@ -150,57 +161,89 @@ fn upstream(rt: &impl Abort, alloc: Global) -> Result<UpstreamSession, AllocErro
     Ok(UpstreamSession::new(alloc, system_id, password, 1000, 0))
 }
 
-// The bind of the proxy, an enquiry after a silence, and the unbind.
-#[test]
-fn upstream_run(rt: HostRuntime) -> Result<(), Fail> {
-    let alloc = rt.alloc();
-    let mut session = upstream(&rt, alloc)?;
+// The bind, and its answer at this moment.
+fn binds(alloc: Global, session: &mut UpstreamSession, now: u64) -> bool {
     let wanted = [
         0, 0, 0, 0x1e, 0, 0, 0, 9, 0, 0, 0, 0, 0x7f, 0xff, 0xff, 0xfd, 0x70, 0x72, 0x6f, 0x78,
         0x79, 0, 0x70, 0x77, 0, 0, 0x34, 0, 0, 0,
     ];
-    assert_octets(&rt, alloc, &session.start()?, &wanted)?;
+    let Ok(bind) = session.start() else {
+        return false;
+    };
+    is_spelled(alloc, &bind, &wanted) && comes_up(alloc, session, now)
+}
+
+fn comes_up(alloc: Global, session: &mut UpstreamSession, now: u64) -> bool {
     let up = Pdu::header_only(alloc, 0x8000_0009, 0, 0x7fff_fffd);
-    assert!(rt; matches!(session.on_pdu(&up, 5), UpAct::Up));
-    assert!(rt; session.on_moment(1004).is_none());
-    let enquiry = session.on_moment(1005).ok_or("no enquiry")?;
+    matches!(session.on_pdu(&up, now), UpAct::Up)
+}
+
+// Heard last at 5, it enquires at 1005, and is silent at 2005.
+fn enquires(alloc: Global, session: &mut UpstreamSession) -> bool {
     let wanted = [
         0, 0, 0, 0x10, 0, 0, 0, 0x15, 0, 0, 0, 0, 0x7f, 0xff, 0xff, 0xfe,
     ];
-    assert_octets(&rt, alloc, &enquiry, &wanted)?;
-    assert!(rt; !session.is_silent(2004));
-    assert!(rt; session.is_silent(2005));
-    let unbind = session.stop().ok_or("no unbind")?;
+    let early = session.on_moment(1004).is_some();
+    let Some(enquiry) = session.on_moment(1005) else {
+        return false;
+    };
+    let silent = (session.is_silent(2004), session.is_silent(2005));
+    !early && silent == (false, true) && is_spelled(alloc, &enquiry, &wanted)
+}
+
+// The unbind, once, and its answer.
+fn unbinds(alloc: Global, session: &mut UpstreamSession) -> bool {
     let wanted = [
         0, 0, 0, 0x10, 0, 0, 0, 6, 0, 0, 0, 0, 0x7f, 0xff, 0xff, 0xff,
     ];
-    assert_octets(&rt, alloc, &unbind, &wanted)?;
-    assert!(rt; session.stop().is_none());
+    let Some(unbind) = session.stop() else {
+        return false;
+    };
+    let again = session.stop().is_some();
     let closed = Pdu::header_only(alloc, 0x8000_0006, 0, 0x7fff_ffff);
-    assert!(rt; matches!(session.on_pdu(&closed, 2006), UpAct::Closed));
+    let ended = matches!(session.on_pdu(&closed, 2006), UpAct::Closed);
+    !again && ended && is_spelled(alloc, &unbind, &wanted)
+}
+
+// The bind of the proxy, an enquiry after a silence, and the unbind.
+#[test]
+fn upstream_run(rt: HostRuntime) -> Result<(), Fail> {
+    let mut session = upstream(&rt, rt.alloc())?;
+    assert!(rt; binds(rt.alloc(), &mut session, 5));
+    assert!(rt; enquires(rt.alloc(), &mut session));
+    assert!(rt; unbinds(rt.alloc(), &mut session));
     assert_eq!(rt; session.state(), UpstreamState::Ended);
     Ok(())
+}
+
+// Before it is bound it neither enquires nor unbinds.
+#[test]
+fn binding_waits(rt: HostRuntime) -> Result<(), Fail> {
+    let mut session = upstream(&rt, rt.alloc())?;
+    assert!(rt; session.on_moment(5000).is_none());
+    assert!(rt; session.stop().is_none());
+    assert_eq!(rt; session.state(), UpstreamState::Binding);
+    Ok(())
+}
+
+// Whether it enquires at each of these moments.
+fn enquiries(session: &mut UpstreamSession, moments: [u64; 3]) -> [bool; 3] {
+    moments.map(|now| session.on_moment(now).is_some())
 }
 
 // One enquiry at a time; its answer in Bound ends it, and a moment that goes back counts as the
 // last one.
 #[test]
 fn moments(rt: HostRuntime) -> Result<(), Fail> {
-    let alloc = rt.alloc();
-    let mut session = upstream(&rt, alloc)?;
-    assert!(rt; session.on_moment(5000).is_none());
-    assert!(rt; session.stop().is_none());
-    assert_eq!(rt; session.state(), UpstreamState::Binding);
-    let up = Pdu::header_only(alloc, 0x8000_0009, 0, 0x7fff_fffd);
-    assert!(rt; matches!(session.on_pdu(&up, 10), UpAct::Up));
-    assert!(rt; session.on_moment(5999).is_none());
-    assert!(rt; session.on_moment(6000).is_some());
-    assert!(rt; session.on_moment(9000).is_none());
-    let answer = Pdu::header_only(alloc, 0x8000_0015, 0, 1);
+    let mut session = upstream(&rt, rt.alloc())?;
+    session.on_moment(5000);
+    assert!(rt; comes_up(rt.alloc(), &mut session, 10));
+    let asked = enquiries(&mut session, [5999, 6000, 9000]);
+    assert_eq!(rt; asked, [false, true, false]);
+    let answer = Pdu::header_only(rt.alloc(), 0x8000_0015, 0, 1);
     assert!(rt; matches!(session.on_pdu(&answer, 20), UpAct::Ignore));
     assert!(rt; !session.is_silent(20_000));
     assert!(rt; session.on_moment(30).is_some());
-    assert!(rt; !session.is_silent(20_999));
-    assert!(rt; session.is_silent(21_000));
+    assert!(rt; !session.is_silent(20_999) && session.is_silent(21_000));
     Ok(())
 }
