@@ -52,7 +52,8 @@ pub(crate) fn run<R: Print + Clock + AllocGlobal>(rt: &R) -> anyhow::Result<()> 
     Ok(())
 }
 
-fn measure<R: Print + Clock + AllocGlobal>(
+/// Prints the nanoseconds of a round with so many clients, from so many stored entries on.
+pub(crate) fn measure<R: Print + Clock + AllocGlobal>(
     rt: &R,
     clients: u64,
     stored: usize,

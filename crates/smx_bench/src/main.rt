@@ -8,6 +8,7 @@ mod lane;
 mod lock;
 mod shared;
 mod shifts;
+mod worker;
 
 use std::env;
 
@@ -17,6 +18,7 @@ lock    the ticket lock, alone and among threads, beside the toolchain's Mutex
 lane    rounds of accept, take, answer and collect on one lane
 frame   PDUs from a stream in pieces of four sizes
 shared  requests of several ports over shared lanes, with a tap for each lane
+worker  requests through a client's worker and one towards the centre, and turns that do nothing
 ";
 
 fn main(rt: HostRuntime) -> anyhow::Result<()> {
@@ -26,6 +28,7 @@ fn main(rt: HostRuntime) -> anyhow::Result<()> {
         Some("lane") => lane::run(&rt),
         Some("frame") => frame::run(&rt),
         Some("shared") => shared::run(&rt),
+        Some("worker") => worker::run(&rt),
         _ => Ok(print!(rt; "{USAGE}")?),
     }
 }

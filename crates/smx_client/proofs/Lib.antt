@@ -9,4 +9,3 @@ pub mod Filters
 pub mod Replying
 pub mod Leavings
 pub mod Entering
-pub mod Rounding

@@ -7,5 +7,4 @@ pub mod Sayings
 pub mod Table
 pub mod Turns
 pub mod Scenes
-pub mod Rounds
 pub mod Leaving

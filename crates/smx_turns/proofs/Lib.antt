@@ -1,3 +1,4 @@
 pub mod Chains
 pub mod Logged
 pub mod Putting
+pub mod Rounding

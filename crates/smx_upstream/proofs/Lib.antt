@@ -1,4 +1,3 @@
 pub mod Eventful
 pub mod Cells
 pub mod Keeping
-pub mod Rounding

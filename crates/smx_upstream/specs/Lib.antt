@@ -5,5 +5,4 @@ pub mod Ages
 pub mod Standing
 pub mod Working
 pub mod Phases
-pub mod Rounds
 pub mod Laws

@@ -1,6 +1,7 @@
 //! Two clients' workers and one towards the centre, each in a thread of its own, over links in
-//! memory. The first client's gate holds its submit until the second client's response was
-//! written, so a program that serves the first client to its end before the second can't end well.
+//! memory. The first client's gate holds its submit until the second client's response was written,
+//! and the second's until the first's bind was answered. So a program that serves one client to its
+//! end before the other can't end well, in either order.
 #![tactic(auto)]
 
 ghost use Rattle.std.specs.Prelude.{◌≡◌, slice_get, Some, All};
@@ -123,14 +124,14 @@ fn serve_all<'a, R: Threads + Wait + Clock + Sync>(
 ) -> (bool, bool, bool) {
     let (first, second, drawer) = seats;
     let (mine, other, ends) = boxes;
-    let (held, free) = (signals.held(), signals.free());
+    let (told, other_told) = (signals.first(), signals.second());
     let ((first, second), lane) = join(
         rt,
         || {
             join(
                 rt,
-                || first.serve(rt, alloc, desk, mine, held, FIRST),
-                || second.serve(rt, alloc, desk, other, free, SECOND),
+                || first.serve(rt, alloc, desk, mine, told, FIRST),
+                || second.serve(rt, alloc, desk, other, other_told, SECOND),
             )
         },
         || drawer.serve(rt, alloc, ends, &signals.done),

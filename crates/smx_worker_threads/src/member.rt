@@ -25,8 +25,11 @@ const BEGIN: &[u8] = b"\0\0\0\x19\0\0\0\x09\0\0\0\0\0\0\0\x01a\0p\0\0\x34\0\0\0\
 /// A client's unbind, number 9.
 const UNBIND: &[u8] = b"\0\0\0\x10\0\0\0\x06\0\0\0\0\0\0\0\x09";
 
+/// How many octets the bind's answer has.
+const BIND_ANSWER: usize = 25;
+
 /// How many octets the answers to [`BEGIN`] have.
-const ANSWERS: usize = 25 + 18;
+const ANSWERS: usize = BIND_ANSWER + 18;
 
 /// A client that has entered, beside its exchange.
 #[derive(Drop)]
@@ -39,9 +42,10 @@ pub(crate) struct Seat<'a> {
 /// What the threads tell one another.
 #[derive(Drop)]
 pub(crate) struct Signals {
-    open: AtomicBool,
-    written: AtomicBool,
-    unseen: AtomicBool,
+    // The first client's bind was answered.
+    first_bound: AtomicBool,
+    // The second client's response was written.
+    second_served: AtomicBool,
     /// How many clients are done.
     pub done: AtomicU64,
 }
@@ -51,35 +55,37 @@ pub(crate) struct Signals {
 pub(crate) struct Flags<'a> {
     // The client's gate holds its submit until this is set.
     gate: &'a AtomicBool,
-    // It is set once the client's response was written.
-    written: &'a AtomicBool,
+    // What the client tells, and once so many octets were written to it.
+    told: &'a AtomicBool,
+    after: usize,
     done: &'a AtomicU64,
 }
 
 impl Signals {
     pub(crate) fn new() -> Signals {
         Signals {
-            open: AtomicBool::new(true),
-            written: AtomicBool::new(false),
-            unseen: AtomicBool::new(false),
+            first_bound: AtomicBool::new(false),
+            second_served: AtomicBool::new(false),
             done: AtomicU64::new(0),
         }
     }
 
-    /// Those of the client whose submit is held until the other's response was written.
-    pub(crate) fn held(&self) -> Flags<'_> {
+    /// Those of the first client, whose submit is held until the second's response was written.
+    pub(crate) fn first(&self) -> Flags<'_> {
         Flags {
-            gate: &self.written,
-            written: &self.unseen,
+            gate: &self.second_served,
+            told: &self.first_bound,
+            after: BIND_ANSWER,
             done: &self.done,
         }
     }
 
-    /// Those of the other client.
-    pub(crate) fn free(&self) -> Flags<'_> {
+    /// Those of the second client, whose submit is held until the first's bind was answered.
+    pub(crate) fn second(&self) -> Flags<'_> {
         Flags {
-            gate: &self.open,
-            written: &self.written,
+            gate: &self.first_bound,
+            told: &self.second_served,
+            after: ANSWERS,
             done: &self.done,
         }
     }
@@ -97,11 +103,11 @@ struct Member<'a> {
 }
 
 // The other end of the client's link, which takes one octet a write.
-fn peer<'a>(alloc: Global, flag: &'a AtomicBool) -> Flagged<'a> {
+fn peer<'a>(alloc: Global, flags: Flags<'a>) -> Flagged<'a> {
     Flagged {
         script: Script::new(alloc, 1).and(0, BEGIN).and(ANSWERS, UNBIND),
-        after: ANSWERS,
-        flag,
+        after: flags.after,
+        flag: flags.told,
     }
 }
 
@@ -185,7 +191,7 @@ impl<'a> Seat<'a> {
     ) -> bool {
         let mut gate = FlagGate::new(flags.gate);
         let mut nobody = Nobody::new();
-        let peer = peer(alloc, flags.written);
+        let peer = peer(alloc, flags);
         let Some(mut member) = Member::new(alloc, self, desk, ends, peer) else {
             return false;
         };

@@ -1,6 +1,7 @@
 //! Turns of a client's worker, one after another.
 ghost use Rattle.std.specs.Prelude.{◌≡◌, ◌≢◌, ◌+◌, ◌-◌, ◌^◌, ◌++◌, ◌∷◌, [], ℕ, List, min, Ok, None, OnOk};
 ghost use Rattle.smx_shared.specs.Views.{locks_of};
+ghost use Rattle.smx_turns.specs.Rounds.{EndsSo};
 ghost use Rattle.smx_turns.specs.Runs.{Runs, Ran};
 ghost use Rattle.smx_turns.specs.Steps.{asks, polls, events, are_quiet};
 ghost use Rattle.smx_turns.specs.declared.end.Fault.{Fault};
@@ -10,7 +11,6 @@ ghost use Rattle.smx_client.specs.Parts.{Does};
 ghost use Rattle.smx_client.specs.Scenes.{scene_of, parts_of, before, Moves};
 ghost use Rattle.smx_client.specs.Table.{Before, Phase, phase_of, Opening, Closing, begins, IsAt, EndsIn, IsTurn, Stands, last_end};
 ghost use Rattle.smx_client.specs.Turns.{Leads, Changes, faults};
-ghost use Rattle.smx_client.specs.Rounds.{EndsSo};
 
 use super::ClientWorker;
 use crate::event::{Event, Progress};

@@ -6,7 +6,7 @@ use Rattle.smx_turns.proofs.Chains.{ran_none}
 use Rattle.smx_turns.proofs.Logged.{ran_turn}
 use Rattle.smx_upstream.specs.Events.{tell_of, find_of}
 use Rattle.smx_upstream.specs.Standing.{Does}
-use Rattle.smx_upstream.proofs.Rounding.{last_one, round_more, end_as}
+use Rattle.smx_turns.proofs.Rounding.{last_one, round_more, end_as}
 use Rattle.smx_upstream.proofs.running.run_upstream.Goals as goal
 
 pub loop-turn-init : goal.loop-turn-init

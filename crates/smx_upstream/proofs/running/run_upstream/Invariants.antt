@@ -1,7 +1,7 @@
 use Rattle.std.proofs.Common.{◌≡◌, ◌++◌, [], None, Some, slice_get}
 use denote.Param.Always.{always_mut}
 use Rattle.smx_turns.specs.Runs.{Ran}
-use Rattle.smx_upstream.specs.Rounds.{worked}
+use Rattle.smx_turns.specs.Rounds.{worked_turns}
 use Rattle.smx_upstream.specs.Standing.{Does}
 use Rattle.smx_upstream.proofs.running.run_upstream.Given as goal
 
@@ -11,6 +11,6 @@ invariant-loop-turn g l = record {
   held : l.worker.held ≡ None;
   lock : slice_get l.fn.at l.worker.stand.tap.lane ≡ Some l.worker.stand.tap.front.lock;
   first : l.worker.first ≡ l.fn.worker.first;
-  ends : l.worker.ends ≡ l.fn.worker.ends ++ worked l._turn [];
+  ends : l.worker.ends ≡ l.fn.worker.ends ++ worked_turns l._turn [];
   ran : Ran Does l.fn.worker.stand l.fn.worker.events l.worker.stand l.worker.events;
 }

@@ -3,7 +3,7 @@ use Rattle.std.proofs.lemmas.List.{append-nil}
 use Rattle.smx_turns.specs.declared.end.TurnEnd.TheVariants.{Idle, Done}
 use Rattle.smx_turns.proofs.Chains.{ran_none, ran_more}
 use Rattle.smx_client.specs.Parts.{Does}
-use Rattle.smx_client.proofs.Rounding.{last_one, round_more, end_as}
+use Rattle.smx_turns.proofs.Rounding.{last_one, round_more, end_as}
 use Rattle.smx_client.proofs.worker.running.run_client.Goals as goal
 
 pub loop-turn-init : goal.loop-turn-init

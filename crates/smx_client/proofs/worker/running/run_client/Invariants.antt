@@ -3,7 +3,7 @@ use Rattle.smx_shared.specs.Views.{locks_of}
 use Rattle.smx_turns.specs.Runs.{Ran}
 use Rattle.smx_client.specs.declared.mark.Stage.TheVariants.{Closed}
 use Rattle.smx_client.specs.Parts.{Does}
-use Rattle.smx_client.specs.Rounds.{worked}
+use Rattle.smx_turns.specs.Rounds.{worked_turns}
 use Rattle.smx_client.specs.Scenes.{parts_of}
 use Rattle.smx_client.proofs.worker.running.run_client.Given as goal
 
@@ -12,6 +12,6 @@ invariant-loop-turn g l = record {
   locks : locks_of l.worker.port.fronts ≡ locks_of l.fn.worker.port.fronts;
   origin : l.worker.origin ≡ l.fn.worker.origin;
   goes_on : l.worker.stage ≢ Closed → l.worker.wire.failed ≡ None;
-  ends : l.worker.ends ≡ l.fn.worker.ends ++ worked l._turn [];
+  ends : l.worker.ends ≡ l.fn.worker.ends ++ worked_turns l._turn [];
   ran : Ran Does (parts_of l.fn.worker) l.fn.worker.events (parts_of l.worker) l.worker.events;
 }

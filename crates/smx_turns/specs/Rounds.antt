@@ -7,17 +7,17 @@ use Rattle.smx_turns.specs.declared.end.TurnEnd.{TurnEnd}
 use Rattle.smx_turns.specs.declared.end.TurnEnd.TheVariants.{Worked, Idle, Done}
 
 -- these ends, after so many turns that worked
-abbrev pub worked : ℕ → List (Result TurnEnd Fault) → List (Result TurnEnd Fault)
-worked zero ends = ends
-worked (suc k) ends = Ok Worked ∷ worked k ends
+abbrev pub worked_turns : ℕ → List (Result TurnEnd Fault) → List (Result TurnEnd Fault)
+worked_turns zero ends = ends
+worked_turns (suc k) ends = Ok Worked ∷ worked_turns k ends
 
 -- the last turn, after fewer than n that worked
 abbrev pub LastIs : ℕ → Result TurnEnd Fault → List (Result TurnEnd Fault) → List (Result TurnEnd Fault) → Type 0
-LastIs n last old new = (k : ℕ) × (k < n) × (new ≡ old ++ worked k (last ∷ []))
+LastIs n last old new = (k : ℕ) × (k < n) × (new ≡ old ++ worked_turns k (last ∷ []))
 
 -- how n turns at most ended: each but the last worked
 abbrev pub EndsSo : ℕ → RunEnd → List (Result TurnEnd Fault) → List (Result TurnEnd Fault) → Type 0
-EndsSo n run.Turns old new = new ≡ old ++ worked n []
+EndsSo n run.Turns old new = new ≡ old ++ worked_turns n []
 EndsSo n run.Left old new = LastIs n (Ok Done) old new
 EndsSo n run.Idle old new = LastIs n (Ok Idle) old new
 EndsSo n (run.Fault fault) old new = LastIs n (Err fault) old new

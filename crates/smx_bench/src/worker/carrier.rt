@@ -1,0 +1,89 @@
+//! The worker towards the centre beside the exchange that its tap came from.
+ghost use Rattle.std.specs.Prelude.{◌≡◌, None, slice_get, Some, IfSome, false};
+ghost use Rattle.smx_session.specs.declared.upstream_state.UpstreamState.{UpstreamState};
+
+use crate::worker::boxes::LaneEnds;
+use crate::worker::hall::Worker;
+use smx_centre::{Centre, Mode};
+use smx_memory::{CentrePeer, FlagGate, MemoryLink, Nobody};
+use smx_session::UpstreamSession;
+use smx_shared::{Exchange, Tap};
+use smx_turns::RunEnd;
+use smx_upstream::{Parts, UpstreamWorker, run_upstream};
+use std::alloc::Global;
+use std::sync::Wait;
+
+/// A lane's tap.
+#[derive(Drop)]
+pub(crate) struct Drawer<'a> {
+    pub at: &'a Exchange,
+    pub tap: Tap,
+    ghost fits: { slice_get at.now tap.lane ≡ Some tap.front.lock },
+}
+
+/// The worker over a link to a loopback centre.
+#[derive(Drop)]
+pub(crate) struct Carrier<'a> {
+    at: &'a Exchange,
+    worker: UpstreamWorker<MemoryLink<CentrePeer>>,
+    // A turn of it failed: it is turned no more.
+    over: bool,
+    ghost fits: { slice_get at.now worker.stand.tap.lane ≡ Some worker.stand.tap.front.lock },
+    ghost goes_on: { over ≡ false → worker.held ≡ None },
+}
+
+fn session(alloc: Global) -> Option<UpstreamSession>
+    ensures { IfSome result (λ s. s.state ≡ UpstreamState.Binding) }
+{
+    let system_id = Vec::from_slice(alloc, b"proxy").ok()?;
+    let password = Vec::from_slice(alloc, b"pw").ok()?;
+    Some(UpstreamSession::new(alloc, system_id, password, 30_000, 0))
+}
+
+impl<'a> Carrier<'a> {
+    /// A worker before a loopback centre. The lane's history may have so many entries.
+    pub(crate) fn new(
+        alloc: Global,
+        drawer: Drawer<'a>,
+        ends: LaneEnds,
+        history: usize,
+    ) -> Option<Carrier<'a>> {
+        let Drawer { at, tap } = drawer;
+        let LaneEnds { answers, senders } = ends;
+        let centre = CentrePeer::new(alloc, Centre::new(alloc, Mode::Plain));
+        let parts = Parts {
+            link: MemoryLink::new(centre),
+            tap,
+            session: session(alloc)?,
+            answers,
+            senders,
+        };
+        match UpstreamWorker::new(alloc, parts, history) {
+            Ok(worker) => Some(Carrier {
+                at,
+                worker,
+                over: false,
+            }),
+            Err(_) => None,
+        }
+    }
+}
+
+impl Worker for Carrier<'_> {
+    fn run<R: Wait>(
+        &mut self,
+        rt: &R,
+        gate: &mut FlagGate,
+        nobody: &mut Nobody,
+        turns: u64,
+    ) -> RunEnd {
+        if self.over {
+            return RunEnd::Left;
+        }
+        let end = run_upstream(&mut self.worker, self.at, rt, gate, nobody, || 0, turns);
+        if let RunEnd::Fault(_) = end {
+            self.over = true;
+        }
+        end
+    }
+}
