@@ -48,11 +48,12 @@ fn taken_and_unsent<R: Wait>(
     turns: u64,
 ) -> Option<(Vec<u8>, usize)> {
     let mut seat = seat;
-    if let RunEnd::Fault(_) = seat.run(rt, turns) {
-        return None;
-    }
+    let end = seat.run(rt, turns);
     let unsent = seat.worker.unsent();
     let (closed, _) = seat.close(rt);
+    if let RunEnd::Fault(_) = end {
+        return None;
+    }
     let taken = Vec::from_slice(alloc, closed.link.peer().taken()).ok()?;
     Some((taken, unsent))
 }
@@ -236,7 +237,9 @@ fn answer_waits_for_its_box(rt: HostRuntime) -> Result<(), Fail> {
     let Some(mut seat) = made else {
         panic!(rt; "there is memory")
     };
-    assert!(rt; answers_pass(rt, alloc, &mut seat, &mut sender, &mut answers));
+    let passed = answers_pass(rt, alloc, &mut seat, &mut sender, &mut answers);
+    drop(seat);
+    assert!(rt; passed);
     Ok(())
 }
 
@@ -246,10 +249,9 @@ fn last_answer<R: Wait>(rt: &R, alloc: Global, octets: &[u8]) -> Option<Vec<u8>>
     let (exchange, mut door, _) = Exchange::new(rt, alloc, LIMITS, 1).ok()?;
     let script = Script::new(alloc, 7).and(0, BIND).and(25, octets);
     let mut seat = plain_seat(rt, alloc, &exchange, &mut door, &desk, 1, script)?;
-    if seat.run(rt, 100) != RunEnd::Left {
-        return None;
-    }
-    taken_after_bind(rt, alloc, seat)
+    let end = seat.run(rt, 100);
+    let taken = taken_after_bind(rt, alloc, seat)?;
+    (end == RunEnd::Left).then_some(taken)
 }
 
 #[test]
@@ -279,7 +281,9 @@ fn link_that_fails(rt: HostRuntime) -> Result<(), Fail> {
     let Some(mut seat) = made else {
         panic!(rt; "there is memory")
     };
-    assert_eq!(rt; seat.run(&rt, 100), RunEnd::Fault(Fault::Link));
+    let end = seat.run(&rt, 100);
+    drop(seat);
+    assert_eq!(rt; end, RunEnd::Fault(Fault::Link));
     Ok(())
 }
 
@@ -319,6 +323,7 @@ fn turn_stops_where_many_octets_wait(rt: HostRuntime) -> Result<(), Fail> {
         panic!(rt; "there is memory")
     };
     let turns = two_turns(&rt, rt.alloc(), &exchange, &mut taps, &mut seat);
+    drop(seat);
     assert_eq!(rt;
         turns,
         Some([(RunEnd::Turns, 65_536), (RunEnd::Turns, 65_536)])
