@@ -9,6 +9,7 @@ ghost use Rattle.smx_lane.specs.Members.{IsRowOf, waiting_of};
 use circular_buffer::HeapCircularBuffer;
 use smx_history::Response;
 use std::alloc::{AllocError, Global};
+use std::collections::VecDeque;
 use std::marker::Model;
 
 // A client, and the box of its responses.
@@ -28,7 +29,7 @@ struct Row {
 pub(crate) struct Roster {
     places: u32,
     alloc: Global,
-    rows: Vec<Row>,
+    rows: VecDeque<Row>,
     // How many responses wait in all boxes.
     waiting: usize,
 }
@@ -53,7 +54,7 @@ impl Roster {
         Roster {
             places,
             alloc,
-            rows: Vec::new(alloc),
+            rows: VecDeque::new(alloc),
             waiting: 0,
         }
     }
@@ -125,7 +126,7 @@ impl Roster {
         ensures err { OnErr result (self.new ≡ self.old) }
     {
         let waiting = HeapCircularBuffer::with_capacity(self.alloc, self.places as usize)?;
-        self.rows.push(Row {
+        self.rows.push_back(Row {
             client,
             by,
             last: 0,
@@ -184,7 +185,7 @@ impl Roster {
         ensures members { (m : Member) → slice_get self.old.members at ≡ Some m → self.new.members ≡ without m.client self.old.members }
         ensures places { self.new.places ≡ self.old.places }
     {
-        let row = self.rows.remove(at);
+        let row = self.rows.remove(at).unwrap();
         self.waiting -= row.waiting.len();
     }
 }

@@ -8,4 +8,4 @@ pub returns : goal.returns
 returns c =
     let facts = c.binary_search_by_key.ensures in
     let by_key = facts.position (λ (row : Row). row.client) (answers_always _ _ _ (λ f a r g called. search rules)) in
-    rw (← c.self.view_is, c.ok.ensures.value) (searched c.self.inside.rows.items c.self.invariant.clients c.args.client c.binary_search_by_key.result (rw c.deref.ensures.value at facts.bound) (rw c.deref.ensures.value at by_key))
+    rw (← c.self.view_is, c.ok.ensures.value) (searched c.self.inside.rows.items c.self.invariant.clients c.args.client c.binary_search_by_key.result (rw c.self.inside.rows.ok.0 at facts.bound) by_key)
