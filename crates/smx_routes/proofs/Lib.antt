@@ -1,6 +1,6 @@
 pub mod Apart
-pub mod Firsts
+pub mod Holding
 pub mod Numbers
-pub mod Places
-pub mod Removing
+pub mod Owning
 pub mod Routed
+pub mod Tying

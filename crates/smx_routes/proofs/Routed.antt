@@ -163,7 +163,7 @@ routed_is rs address (Some client) is = ap (λ n. Some n) (sym is.2) ∙ longest
 bytes : (p q : List ℕ) → bytes_eq p q ≡ true → p ≡ q
 bytes p q is = (bytes_eq-Decides p q).0 is
 
-same_route : (r s : Route) → is_route r s ≡ true → r ≡ s
+pub same_route : (r s : Route) → is_route r s ≡ true → r ≡ s
 same_route r s is =
     let parts = and_parts (bytes_eq r.prefix s.prefix) (r.client == s.client) is in
     λ i. record { prefix = bytes r.prefix s.prefix parts.0 i; client = eqb-true r.client s.client parts.1 i }
@@ -174,8 +174,11 @@ route_itself r s same = and_from (bytes_eq r.prefix s.prefix) (r.client == s.cli
 pub has_it : (rs : List Route) (r : Route) → Contains rs r → has_route rs r ≡ true
 has_it rs r has = list_any_at (is_route r) rs has.0 r has.1 (route_itself r (get_or rs has.0 r) has.2)
 
+pub is_there : (rs : List Route) (r : Route) → has_route rs r ≡ true → Contains rs r
+is_there rs r has = Contains-from_any same_route r rs has
+
 pub has_not : (rs : List Route) (r : Route) → ¬ Contains rs r → has_route rs r ≡ false
 has_not rs r has = elim (cases_Bool (has_route rs r)) [
-  | inl there ↦ absurd (has (Contains-from_any same_route r rs there))
+  | inl there ↦ absurd (has (is_there rs r there))
   | inr missing ↦ missing
 ]

@@ -1,3 +1,5 @@
 -- What contracts of private functions, models and invariants cite: no public contract does.
-pub mod Rows
+pub mod Holders
+pub mod Owned
+pub mod Tables
 pub mod WindowFields

@@ -2,6 +2,8 @@
 //! No lock is here: one thread owns the routes and each window.
 #![tactic(auto)]
 
+mod by_client;
+mod by_prefix;
 mod fault;
 mod mo_window;
 mod routes;
