@@ -11,6 +11,7 @@ use smx_lock::Spent;
 use smx_pdu::status::ESME_RX_T_APPN;
 use smx_pdu::{Pdu, response_id};
 use smx_routes::MoWindow;
+use smx_shared::Departed;
 use smx_trace::Trace;
 use smx_turns::{MoItem, put_at};
 use std::alloc::Global;
@@ -22,6 +23,8 @@ use std::sync::Wait;
 pub struct Closed<L: Link + Drop> {
     /// Octets that it has not taken are let go.
     pub link: L,
+    /// Its seats on the lanes, which it has left, as far as they aren't spent.
+    pub departed: Departed,
     /// The box of the slot, for its next client.
     pub inbox: Receiver<MoItem>,
     pub senders: Vec<Sender<Pdu>>,
@@ -249,8 +252,9 @@ impl Leaver {
     }
 
     // What is left.
-    pub(crate) fn into_closed<L: Link + Drop>(self, link: L) -> Closed<L>
+    pub(crate) fn into_closed<L: Link + Drop>(self, link: L, departed: Departed) -> Closed<L>
         ensures link { result.link ≡ link }
+        ensures departed { result.departed ≡ departed }
         ensures closing { result.closing ≡ self.closing }
         ensures left { Left
             (rest_of self.first_parked.value self.first_window.value self.first_inbox.value
@@ -268,6 +272,7 @@ impl Leaver {
         } = self;
         Closed {
             link,
+            departed,
             inbox,
             senders,
             answered,

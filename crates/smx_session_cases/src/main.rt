@@ -13,6 +13,7 @@ use anyhow::{Context, bail};
 use smx_pdu::Pdu;
 use smx_session::{Act, ClientSession, ClientState, Kind, UpAct, UpstreamSession, UpstreamState};
 use std::alloc::{AllocError, Global};
+use std::str::SplitWhitespace;
 
 const CLIENT_STATES: [ClientState; 5] = [
     ClientState::Opened,
@@ -124,31 +125,50 @@ fn number_in(word: Option<&str>) -> anyhow::Result<u32> {
     Ok(number)
 }
 
+// The PDU without a body whose three numbers these are.
+fn pdu_in(alloc: Global, words: &mut SplitWhitespace<'_>) -> anyhow::Result<Pdu> {
+    let command = number_in(words.next())?;
+    let status = number_in(words.next())?;
+    let number = number_in(words.next())?;
+    Ok(Pdu::header_only(alloc, command, status, number))
+}
+
+fn client_cells(alloc: Global, pdu: &Pdu) -> Result<String, AllocError> {
+    let mut text = String::new(alloc);
+    for state in CLIENT_STATES {
+        text.push(' ')?;
+        text.push_str(&client_cell(alloc, state, pdu)?)?;
+    }
+    Ok(text)
+}
+
+fn centre_cells(alloc: Global, pdu: &Pdu) -> Result<String, AllocError> {
+    let mut text = String::new(alloc);
+    for state in CENTRE_STATES {
+        text.push(' ')?;
+        text.push_str(&centre_cell(alloc, state, pdu)?)?;
+    }
+    Ok(text)
+}
+
+// The cells of a line, each behind a space.
+fn cells(alloc: Global, line: &str) -> anyhow::Result<String> {
+    let mut words = line.split_whitespace();
+    let session = words.next();
+    let pdu = pdu_in(alloc, &mut words)?;
+    let text = match session {
+        Some("client") => client_cells(alloc, &pdu)?,
+        Some("centre") => centre_cells(alloc, &pdu)?,
+        _ => bail!("a line begins with client or centre"),
+    };
+    Ok(text)
+}
+
 fn main(rt: HostRuntime) -> anyhow::Result<()> {
-    let alloc = rt.alloc();
-    for line in rt.lines(alloc) {
+    for line in rt.lines(rt.alloc()) {
         let line = line?;
-        let mut words = line.split_whitespace();
-        let session = words.next();
-        let command = number_in(words.next())?;
-        let status = number_in(words.next())?;
-        let number = number_in(words.next())?;
-        let pdu = Pdu::header_only(alloc, command, status, number);
-        print!(rt; "{line}:")?;
-        match session {
-            Some("client") => {
-                for state in CLIENT_STATES {
-                    print!(rt; " {}", client_cell(alloc, state, &pdu)?)?;
-                }
-            }
-            Some("centre") => {
-                for state in CENTRE_STATES {
-                    print!(rt; " {}", centre_cell(alloc, state, &pdu)?)?;
-                }
-            }
-            _ => bail!("a line begins with client or centre"),
-        }
-        println!(rt;)?;
+        let cells = cells(rt.alloc(), &line)?;
+        println!(rt; "{line}:{cells}")?;
     }
     Ok(())
 }

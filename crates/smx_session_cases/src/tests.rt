@@ -29,6 +29,33 @@ fn is_spelled(alloc: Global, pdu: &Pdu, wanted: &[u8]) -> bool {
     encode(pdu, &mut octets).is_ok() && octets.as_slice() == wanted
 }
 
+// What a bind that is accepted comes to.
+#[derive(Drop)]
+struct Bound {
+    kind: Kind,
+    account: usize,
+    answer: Pdu,
+    state: ClientState,
+}
+
+// A new session, bound by this PDU.
+fn bind_with(alloc: Global, accounts: &[Account], pdu: &Pdu) -> Option<Bound> {
+    let mut session = ClientSession::new(alloc);
+    match session.on_pdu(pdu, accounts).ok()? {
+        Act::Bind {
+            kind,
+            account,
+            answer,
+        } => Some(Bound {
+            kind,
+            account,
+            answer,
+            state: session.state(),
+        }),
+        _ => None,
+    }
+}
+
 // The answer to a client of SMPP 3.4 says so, and that to an earlier one doesn't.
 #[test]
 fn bind_answers(rt: HostRuntime) -> Result<(), Fail> {
@@ -42,19 +69,21 @@ fn bind_answers(rt: HostRuntime) -> Result<(), Fail> {
         0, 0, 0, 0x14, 0x80, 0, 0, 9, 0, 0, 0, 0, 0, 0, 0, 7, 0x73, 0x6d, 0x78, 0,
     ];
     for (version, wanted) in [(0x34, latest.as_slice()), (0x33, earlier.as_slice())] {
-        let mut session = ClientSession::new(alloc);
-        let act = session.on_pdu(&bind(alloc, *b"ap", version)?, &accounts)?;
-        let Act::Bind {
+        let pdu = bind(alloc, *b"ap", version)?;
+        let Some(bound) = bind_with(alloc, &accounts, &pdu) else {
+            return Err("refused".into());
+        };
+        let Bound {
             kind,
             account,
             answer,
-        } = act
-        else {
-            return Err("refused".into());
-        };
-        assert_eq!(&rt; (kind, account), (Kind::Trx, 1));
+            state,
+        } = bound;
         assert!(rt; is_spelled(alloc, &answer, wanted));
-        assert_eq!(rt; session.state(), ClientState::BoundTrx);
+        assert_eq!(rt;
+            (kind, account, state),
+            (Kind::Trx, 1, ClientState::BoundTrx)
+        );
     }
     Ok(())
 }
@@ -75,6 +104,17 @@ fn refused(
     }
 }
 
+// The refusal of a bind with these texts.
+fn refusal(
+    alloc: Global,
+    session: &mut ClientSession,
+    accounts: &[Account],
+    texts: [u8; 2],
+) -> Result<Option<(u32, u32, u32, usize)>, Fail> {
+    let pdu = bind(alloc, texts, 0x34)?;
+    Ok(refused(session, accounts, &pdu))
+}
+
 // Of accounts with one system_id the first counts; a body that can't be read comes before an
 // unknown system_id.
 #[test]
@@ -83,8 +123,7 @@ fn bind_refusals(rt: HostRuntime) -> Result<(), Fail> {
     let accounts = [account(alloc, *b"ap")?, account(alloc, *b"aq")?];
     let mut session = ClientSession::new(alloc);
     for (texts, status) in [(*b"aq", 0x0E), (*b"bp", 0x0F), (*b"\0p", 0x0F)] {
-        let pdu = bind(alloc, texts, 0x34)?;
-        let answer = refused(&mut session, &accounts, &pdu);
+        let answer = refusal(alloc, &mut session, &accounts, texts)?;
         assert_eq!(rt; answer, Some((0x8000_0009, status, 7, 0)));
     }
     assert_eq!(rt; session.state(), ClientState::Opened);
@@ -118,12 +157,13 @@ fn kinds(rt: HostRuntime) -> Result<(), Fail> {
     ] {
         let mut pdu = bind(alloc, *b"ap", 0x34)?;
         pdu.command = command;
-        let mut session = ClientSession::new(alloc);
-        let Act::Bind { answer, .. } = session.on_pdu(&pdu, &accounts)? else {
+        let Some(bound) = bind_with(alloc, &accounts, &pdu) else {
             return Err("refused".into());
         };
-        assert_eq!(rt; answer.command, 0x8000_0000 + command);
-        assert_eq!(rt; session.state(), state);
+        assert_eq!(rt;
+            (bound.answer.command, bound.state),
+            (0x8000_0000 + command, state)
+        );
     }
     Ok(())
 }

@@ -3,7 +3,7 @@ use Rattle.std.specs.Prelude.{◌≡◌, ◌⊎◌, ℕ, ◌≤◌, ◌<◌, Boo
 use Rattle.smx_lock.specs.Fronts.{Front, IsSpent}
 use Rattle.smx_history.specs.declared.limits.Limits.{Limits}
 use Rattle.smx_history.specs.declared.note.Note.{Note}
-use Rattle.smx_shared.specs.Views.{PortView, locks_of}
+use Rattle.smx_shared.specs.Views.{PortView, DepartedView, locks_of}
 use Rattle.smx_shared.specs.Serving.{RetireServes}
 
 -- the lane's tickets are spent, or one hold retired the client
@@ -22,7 +22,8 @@ abbrev pub Retired : Bool → ℕ → ℕ → List (Front Note Limits) → List 
 Retired true to c old new = (k : ℕ) (f g : Front Note Limits) → k < to → slice_get old k ≡ Some f → slice_get new k ≡ Some g → RetireServes f g c
 Retired false to c old new = (k : ℕ) × (f : Front Note Limits) × (g : Front Note Limits) × (k < to) × (slice_get old k ≡ Some f) × (slice_get new k ≡ Some g) × IsSpent f g
 
--- every lane was left by the port's seats, which are gone with it
-abbrev pub HasLeft : Bool → PortView → Type 0
-HasLeft all v = (last : List (Front Note Limits)) × Left (length v.fronts) v.client v.fronts last
-    × Retired all (length v.fronts) v.client v.fronts last
+-- every lane was left by the port's seats, and these are handed back
+pub record HasLeft (all : Bool) (v : PortView) (d : DepartedView) : Type 0 where
+  pub client : d.client ≡ v.client
+  pub left : Left (length v.fronts) v.client v.fronts d.fronts
+  pub retired : Retired all (length v.fronts) v.client v.fronts d.fronts

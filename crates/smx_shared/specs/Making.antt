@@ -17,6 +17,10 @@ pub record AreStarts (s : Starts) : Type 0 where
   pub client : (0 < s.client) × (s.client ≤ 2 ^ 62)
   pub ordinal : (0 < s.ordinal) × (s.ordinal ≤ 2 ^ 62)
 
+-- the first ticket, client and ordinal
+abbrev pub first_starts : Starts
+first_starts = record { ticket = 0; client = 1; ordinal = 1 }
+
 abbrev pub AreLanes : ℕ → Type 0
 AreLanes lanes = (0 < lanes) × (lanes ≤ 16)
 

@@ -27,6 +27,11 @@ abbrev pub front_in : Option (Front Note Limits) → Front Note Limits
 front_in (Some f) = f
 front_in None = blank
 
+-- what is left of a client that is gone: its number, and the fronts of its seats, one a lane
+pub record DepartedView : Type 0 where
+  pub client : ℕ
+  pub fronts : List (Front Note Limits)
+
 -- a door: the next client's number, the first ordinal of each, and the fronts of its seats, one a lane
 pub record DoorView : Type 0 where
   pub next : ℕ

@@ -2,7 +2,7 @@
 ghost use Rattle.std.specs.Prelude.{◌≡◌, ◌<◌, ◌≤◌, [], length, slice_get, vec_capacity, Some, All, IfOk, IfErr};
 ghost use Rattle.smx_shared.specs.Ending.{AreGiven, GivenBefore};
 ghost use Rattle.smx_shared.specs.Views.{locks_of};
-ghost use Rattle.smx_shared.specs.Making.{AreStarts, Opens, IsUnused, IsMakeFault};
+ghost use Rattle.smx_shared.specs.Making.{AreStarts, first_starts, Opens, IsUnused, IsMakeFault};
 ghost use Rattle.smx_shared.specs.Tokens.{SawOneHistory};
 
 use crate::door::Door;
@@ -50,7 +50,7 @@ impl Exchange {
         limits: Limits,
         lanes: usize,
     ) -> Result<(Exchange, Door, Vec<Tap>), MakeFault>
-        ensures ok { IfOk result (λ made. Opens lanes limits Starts.FIRST made.0 made.1 made.2.items) }
+        ensures ok { IfOk result (λ made. Opens lanes limits first_starts made.0 made.1 made.2.items) }
         ensures taps { IfOk result (λ made. All (λ t. slice_get made.0 t.lane ≡ Some t.front.lock) made.2.items) }
         ensures empty { IfOk result (λ made. All IsUnused made.1.fronts × All (λ t. IsUnused t.front) made.2.items) }
         ensures err { IfErr result (IsMakeFault lanes limits) }

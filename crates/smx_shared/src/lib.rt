@@ -8,6 +8,7 @@
 #![tactic(auto)]
 
 mod admit;
+mod departed;
 mod did;
 mod door;
 mod exchange;
@@ -23,6 +24,7 @@ mod submit;
 mod tap;
 mod token;
 
+pub use departed::Departed;
 pub use door::Door;
 pub use exchange::Exchange;
 pub use fault::{EnterFault, MakeFault, StateOut, SubmitFault, TakeFault, TryTakeFault, TurnFault};

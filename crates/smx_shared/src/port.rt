@@ -8,6 +8,7 @@ ghost use Rattle.smx_shared.specs.Leaving.{HasLeft};
 ghost use Rattle.smx_shared.specs.Collecting.{Collects, TriesCollect};
 ghost use Rattle.smx_shared.specs.Submits.{Submitted, Refuses};
 
+use crate::departed::Departed;
 use crate::exchange::Exchange;
 use crate::fault::SubmitFault;
 use crate::lane_seat::LaneSeat;
@@ -145,13 +146,12 @@ impl Port {
         self.seats[lane].try_collect(&at.locks[lane], client)
     }
 
-    /// Retires the client on each lane that isn't spent. `Spent` comes where some lane is. It may
-    /// wait at each lane.
-    // The seats go with the port, so the clauses speak of fronts that no one holds any more.
-    pub fn leave<R: Wait>(self, at: &Exchange, rt: &R) -> Result<(), Spent>
+    /// Retires the client on each lane that isn't spent, and gives the seats back. `Spent` comes
+    /// where some lane is, and there alone. It may wait at each lane, and takes no memory.
+    pub fn leave<R: Wait>(self, at: &Exchange, rt: &R) -> Result<Departed, (Departed, Spent)>
         requires { locks_of self.fronts ≡ at.now }
-        ensures ok { OnOk result (HasLeft true self) }
-        ensures err { OnErr result (HasLeft false self) }
+        ensures ok { IfOk result (HasLeft true self) }
+        ensures err { IfErr result (λ e. HasLeft false self e.0) }
     {
         let Port {
             client,
@@ -159,10 +159,12 @@ impl Port {
             next: _,
             mut seats,
         } = self;
-        if retire_all(rt, &mut seats, at.locks.as_slice(), client) {
-            Ok(())
+        let all = retire_all(rt, &mut seats, at.locks.as_slice(), client);
+        let departed = Departed { client, seats };
+        if all {
+            Ok(departed)
         } else {
-            Err(Spent)
+            Err((departed, Spent))
         }
     }
 

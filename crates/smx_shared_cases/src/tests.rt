@@ -79,7 +79,10 @@ impl Client<'_> {
 
     fn leave<R: Wait>(self, rt: &R) -> Result<(), Spent> {
         let Client { at, port, .. } = self;
-        port.leave(at, rt)
+        match port.leave(at, rt) {
+            Ok(_) => Ok(()),
+            Err((_, spent)) => Err(spent),
+        }
     }
 }
 

@@ -1,10 +1,7 @@
 //! The end of a client's worker.
-ghost use Rattle.std.specs.Prelude.{◌≡◌, ◌++◌, ◌∷◌, [], Bool, List, length, None};
-ghost use Rattle.smx_lock.specs.Fronts.{Front};
-ghost use Rattle.smx_history.specs.declared.limits.Limits.{Limits};
-ghost use Rattle.smx_history.specs.declared.note.Note.{Note};
+ghost use Rattle.std.specs.Prelude.{◌≡◌, ◌++◌, ◌∷◌, [], Bool, None};
 ghost use Rattle.smx_shared.specs.Views.{locks_of};
-ghost use Rattle.smx_shared.specs.Leaving.{Left, Retired};
+ghost use Rattle.smx_shared.specs.Leaving.{HasLeft};
 ghost use Rattle.smx_turns.specs.declared.directory.Query.TheVariants as query;
 ghost use Rattle.smx_routes.specs.Window.{Window};
 ghost use Rattle.smx_client.specs.Leaving.{IsEmptied, is_answered, rest_of, Left as LeftBy};
@@ -12,9 +9,20 @@ ghost use Rattle.smx_client.specs.Leaving.{IsEmptied, is_answered, rest_of, Left
 use super::ClientWorker;
 use crate::leaver::{Closed, Leaver};
 use smx_link::Link;
-use smx_shared::Exchange;
+use smx_shared::{Departed, Exchange, Port};
 use smx_turns::Directory;
 use std::sync::Wait;
+
+// Leaves the lanes that aren't spent.
+fn leave_lanes<R: Wait>(port: Port, at: &Exchange, rt: &R) -> Departed
+    requires { locks_of port.fronts ≡ at.now }
+    ensures { (all : Bool) × HasLeft all port result }
+{
+    match port.leave(at, rt) {
+        Ok(departed) => departed,
+        Err((departed, _)) => departed,
+    }
+}
 
 impl<'d, L: Link + Drop> ClientWorker<'d, L> {
     /// Leaves the directory and the lanes, as far as they aren't spent, and answers the messages
@@ -25,11 +33,7 @@ impl<'d, L: Link + Drop> ClientWorker<'d, L> {
         requires locks { locks_of self.port.fronts ≡ at.now }
         ensures directory { D.queries directory.new
             ≡ D.queries directory.old ++ query.Removed self.entry.port.client ∷ [] }
-        ensures retired { (whole : Bool) × (last : List (Front Note Limits))
-            × Left (length self.entry.port.fronts) self.entry.port.client
-            self.entry.port.fronts last
-            × Retired whole (length self.entry.port.fronts) self.entry.port.client
-            self.entry.port.fronts last }
+        ensures retired { (all : Bool) × HasLeft all self.entry.port result.departed }
         ensures link { result.link ≡ self.entry.wire.link }
         ensures left { (last : Window) × (last.waiting ≡ []) × LeftBy
             (rest_of self.entry.parked self.entry.window self.entry.inbox
@@ -50,9 +54,9 @@ impl<'d, L: Link + Drop> ClientWorker<'d, L> {
             ..
         } = self;
         directory.remove(rt, port.client());
-        let _ = port.leave(at, rt);
+        let departed = leave_lanes(port, at, rt);
         let mut leaver = Leaver::new(alloc, inbox, senders, window, parked);
         leaver.answer_all(rt);
-        leaver.into_closed(wire.into_link())
+        leaver.into_closed(wire.into_link(), departed)
     }
 }
