@@ -68,6 +68,7 @@ module _ (old new : ByPrefix) (prefix : List ℕ) (w : Option (BTreeSet ℕ)) (u
 pub none-HasSame : (mid new : ByPrefix) (prefix : List ℕ) → UpdatesBy (λ x y. slice_cmp nat_cmp x.items y.items) (λ k. slice_cmp nat_cmp prefix k.items) mid.clients new.clients None → ((c : ℕ) → has_holder mid prefix c ≡ false) → HasSame mid new
 none-HasSame mid new prefix updates none = same-HasSame mid new prefix None updates (λ c. sym (none c))
 
+-- what holds anyway
 pub on_err : {T E P : Type 0} (r : Result T E) → P → OnErr r P
 on_err (Ok x) p = search rules
 on_err (Err e) p = p
