@@ -1,62 +1,48 @@
-ghost use Rattle.std.specs.Prelude.{◌≡◌};
+ghost use Rattle.std.specs.Prelude.{◌≡◌, IfSome};
 ghost use Rattle.std.specs.Arc.{arc_value};
 
+use crate::tests::stand::{Opened, Pair, added, compared, last_counts, refused, split, unserved};
 use crate::{Adder, Counter, Deed};
 use smx_lock::{LockSeat, Spent, StateOut, TicketLock, TryFault};
+use std::alloc::Global;
 use std::sync::atomic::{AtomicBool, Ordering};
 use std::sync::{Arc, Wait};
-use std::test::Fail;
 use std::thread;
 use std::thread::{Parker, join};
 
-const LAST_TICKET: u64 = 4611686018427387903;
+mod stand;
 
 #[test]
-fn one_seat_reads_what_it_added(rt: HostRuntime) -> Result<(), Fail> {
-    let Ok((lock, seat)) = TicketLock::new(rt.alloc(), Counter::new(10)) else {
+fn one_seat_reads_what_it_added(rt: HostRuntime) {
+    let Ok(Opened { lock, seat }) = Opened::new(rt.alloc(), 10) else {
         panic!(rt; "no memory")
     };
     let mut adder = Adder::new(seat);
-    assert_eq!(rt; adder.add(&rt, &lock, 1), Ok(true));
-    assert_eq!(rt; adder.read(&rt, &lock), Ok(1));
-    assert_eq!(rt; adder.add(&rt, &lock, 10), Ok(false));
-    assert_eq!(rt; adder.read(&rt, &lock), Ok(1));
+    let first = (adder.add(&rt, &lock, 1), adder.read(&rt, &lock));
+    let second = (adder.add(&rt, &lock, 10), adder.read(&rt, &lock));
+    assert_eq!(rt; [first, second], [(Ok(true), Ok(1)), (Ok(false), Ok(1))]);
     let Ok(counter) = adder.finish(lock) else {
         panic!(rt; "the value is out")
     };
     assert_eq!(rt; (counter.count, counter.limit), (1, 10));
-    Ok(())
 }
 
 // No test makes 2^62 seats, so that a split is refused there is said by its clause alone.
 #[test]
-fn two_seats_are_compared(rt: HostRuntime) -> Result<(), Fail> {
-    let Ok((lock, seat)) = TicketLock::new(rt.alloc(), Counter::new(10)) else {
-        panic!(rt; "no memory")
+fn two_seats_are_compared(rt: HostRuntime) {
+    let Some(pair) = Pair::new(&rt, rt.alloc(), 10) else {
+        panic!(rt; "no memory, or spent")
     };
-    let Ok(mut held) = lock.acquire(&rt, seat) else {
-        panic!(rt; "spent")
-    };
-    let Ok(mut other) = lock.split(&mut held) else {
-        panic!(rt; "spent")
-    };
-    lock.compare_held(&mut held, &mut other);
-    let mut seat = lock.release_told(held, &Deed::Nothing);
-    lock.compare(&mut seat, &mut other);
-    lock.compare(&mut other, &mut seat);
-    assert_eq!(rt; (seat.number(), other.number()), (0, 1));
-    let mut adder = Adder::new(other);
-    assert_eq!(rt; adder.add(&rt, &lock, 2), Ok(true));
-    let mut other = adder.into_seat();
-    lock.compare(&mut seat, &mut other);
-    assert_eq!(rt; (seat.number(), other.number()), (0, 1));
-    let mut adder = Adder::new(seat);
-    assert_eq!(rt; adder.read(&rt, &lock), Ok(2));
-    let Ok(counter) = adder.finish(lock) else {
-        panic!(rt; "the value is out")
-    };
-    assert_eq!(rt; counter.count, 2);
-    Ok(())
+    let Pair {
+        lock,
+        mut one,
+        mut two,
+    } = pair;
+    let before = compared(&lock, &mut one, &mut two);
+    let (mut two, done) = added(&rt, &lock, two, 2);
+    let after = compared(&lock, &mut one, &mut two);
+    assert_eq!(rt; (before, done, after), ((0, 1), Ok(true), (0, 1)));
+    assert_eq!(rt; last_counts(&rt, lock, one), Some((2, 2)));
 }
 
 fn add_many<R: Wait>(
@@ -75,27 +61,19 @@ fn add_many<R: Wait>(
 }
 
 #[test]
-fn two_threads_add(rt: HostRuntime) -> Result<(), Fail> {
-    let Ok((lock, seat)) = TicketLock::new(rt.alloc(), Counter::new(5000)) else {
-        panic!(rt; "no memory")
+fn two_threads_add(rt: HostRuntime) {
+    let Some(Pair { lock, one, two }) = Pair::new(&rt, rt.alloc(), 5000) else {
+        panic!(rt; "no memory, or spent")
     };
-    let Ok(mut held) = lock.acquire(&rt, seat) else {
-        panic!(rt; "spent")
-    };
-    let Ok(other) = lock.split(&mut held) else {
-        panic!(rt; "spent")
-    };
-    let seat = lock.release_told(held, &Deed::Nothing);
-    let (seat, _other) = join(
+    let (one, _two) = join(
         &rt,
-        || add_many(&rt, &lock, seat),
-        || add_many(&rt, &lock, other),
+        || add_many(&rt, &lock, one),
+        || add_many(&rt, &lock, two),
     );
-    let Ok(counter) = lock.finish(seat) else {
+    let Ok(counter) = lock.finish(one) else {
         panic!(rt; "the value is out")
     };
     assert_eq!(rt; counter.count, 2000);
-    Ok(())
 }
 
 fn compare_many(
@@ -115,118 +93,136 @@ fn compare_many(
 }
 
 #[test]
-fn seats_are_compared_while_another_thread_adds(rt: HostRuntime) -> Result<(), Fail> {
-    let Ok((lock, seat)) = TicketLock::new(rt.alloc(), Counter::new(5000)) else {
-        panic!(rt; "no memory")
+fn seats_are_compared_while_another_thread_adds(rt: HostRuntime) {
+    let Some(pair) = Pair::new(&rt, rt.alloc(), 5000) else {
+        panic!(rt; "no memory, or spent")
     };
-    let Ok(mut held) = lock.acquire(&rt, seat) else {
+    let Pair {
+        lock,
+        one: seat,
+        two: one,
+    } = pair;
+    let Ok((seat, two)) = split(&rt, &lock, seat) else {
         panic!(rt; "spent")
     };
-    let Ok(one) = lock.split(&mut held) else {
-        panic!(rt; "spent")
-    };
-    let Ok(two) = lock.split(&mut held) else {
-        panic!(rt; "spent")
-    };
-    let seat = lock.release_told(held, &Deed::Nothing);
     let (mut seat, (mut one, two)) = join(
         &rt,
         || add_many(&rt, &lock, seat),
         || compare_many(&lock, one, two),
     );
-    lock.compare(&mut seat, &mut one);
-    assert_eq!(rt; (seat.number(), one.number(), two.number()), (0, 1, 2));
-    let Ok(held) = lock.acquire(&rt, two) else {
-        panic!(rt; "spent")
+    let (first, second) = compared(&lock, &mut seat, &mut one);
+    assert_eq!(rt; (first, second, two.number()), (0, 1, 2));
+    assert_eq!(rt; last_counts(&rt, lock, two), Some((1000, 1000)));
+}
+
+// A seat's number in a hold that it tries for, and the count found.
+fn tried(
+    lock: &TicketLock<Counter>,
+    seat: LockSeat<Counter>,
+) -> Option<(LockSeat<Counter>, (u64, u64))>
+    requires { seat.lock ≡ lock.now }
+    ensures { IfSome result (λ t. t.0.lock ≡ lock.now) }
+{
+    let held = lock.try_acquire(seat).ok()?;
+    let found = (held.number(), held.value().count);
+    Some((lock.release_told(held, &Deed::Nothing), found))
+}
+
+// A hold that splits two seats off.
+#[derive(Drop)]
+struct Splits {
+    // The hold's number, and those of the seats.
+    numbers: (u64, u64, u64),
+    // What the first of them is answered, which tries beside the hold.
+    fault: TryFault,
+    seat: LockSeat<Counter>,
+    one: LockSeat<Counter>,
+}
+
+fn tried_beside(lock: &TicketLock<Counter>, seat: LockSeat<Counter>) -> Option<Splits>
+    requires { seat.lock ≡ lock.now }
+    ensures { IfSome result (λ s. s.one.lock ≡ lock.now) }
+{
+    let mut held = lock.try_acquire(seat).ok()?;
+    let (one, two) = (lock.split(&mut held), lock.split(&mut held));
+    let number = held.number();
+    let refusal = match one {
+        Ok(one) => refused(lock, one),
+        Err(_) => None,
     };
-    assert_eq!(rt; held.value().count, 1000);
-    let last = lock.release_told(held, &Deed::Nothing);
-    let Ok(counter) = lock.finish(last) else {
-        panic!(rt; "the value is out")
-    };
-    assert_eq!(rt; counter.count, 1000);
-    Ok(())
+    let seat = lock.release_told(held, &Deed::Nothing);
+    let (one, fault) = refusal?;
+    Some(Splits {
+        numbers: (number, one.number(), two.ok()?.number()),
+        fault,
+        seat,
+        one,
+    })
 }
 
 #[test]
-fn a_try_fails_only_beside_another(rt: HostRuntime) -> Result<(), Fail> {
-    let Ok((lock, seat)) = TicketLock::new(rt.alloc(), Counter::new(10)) else {
+fn a_try_fails_only_beside_another(rt: HostRuntime) {
+    let Ok(Opened { lock, seat }) = Opened::new(rt.alloc(), 10) else {
         panic!(rt; "no memory")
     };
     assert_eq!(rt; seat.number(), 0);
-    let Ok(mut held) = lock.try_acquire(seat) else {
+    let Some(splits) = tried_beside(&lock, seat) else {
+        panic!(rt; "two hold, or a try with nobody there is refused")
+    };
+    let Splits {
+        numbers,
+        fault,
+        seat,
+        one,
+    } = splits;
+    assert_eq!(rt; (numbers, fault), ((0, 1, 2), TryFault::Busy));
+    let Some((one, found)) = tried(&lock, one) else {
         panic!(rt; "a try with nobody there is refused")
     };
-    let Ok(one) = lock.split(&mut held) else {
-        panic!(rt; "spent")
-    };
-    let Ok(two) = lock.split(&mut held) else {
-        panic!(rt; "spent")
-    };
-    assert_eq!(rt; (held.number(), one.number(), two.number()), (0, 1, 2));
-    let answer = lock.try_acquire(one);
-    let Err((one, fault)) = answer else {
-        panic!(rt; "two hold")
-    };
-    assert_eq!(rt; fault, TryFault::Busy);
-    let seat = lock.release_told(held, &Deed::Nothing);
-    let Ok(held) = lock.try_acquire(one) else {
-        panic!(rt; "a try with nobody there is refused")
-    };
-    assert_eq!(rt; (held.number(), held.value().count), (1, 0));
-    let one = lock.release_told(held, &Deed::Nothing);
-    assert_eq!(rt; (seat.number(), one.number()), (0, 1));
-    Ok(())
+    assert_eq!(rt; (found, seat.number(), one.number()), ((1, 0), 0, 1));
 }
 
 #[test]
-fn the_last_ticket_is_used(rt: HostRuntime) -> Result<(), Fail> {
-    let Ok((lock, seat)) = TicketLock::new_at(rt.alloc(), Counter::new(10), LAST_TICKET) else {
+fn the_last_ticket_is_used(rt: HostRuntime) {
+    let Ok(Opened { lock, seat }) = Opened::late(rt.alloc(), 1) else {
         panic!(rt; "no memory")
     };
     let Ok(held) = lock.acquire(&rt, seat) else {
         panic!(rt; "a ticket is left")
     };
     let seat = lock.release_told(held, &Deed::Nothing);
-    let answer = lock.acquire(&rt, seat);
-    let Err((seat, Spent)) = answer else {
+    let Some(seat) = unserved(&rt, &lock, seat) else {
         panic!(rt; "no ticket is left")
     };
-    let answer = lock.try_acquire(seat);
-    let Err((seat, fault)) = answer else {
+    let Some((seat, fault)) = refused(&lock, seat) else {
         panic!(rt; "no ticket is left")
     };
-    assert_eq!(rt; fault, TryFault::Spent);
     let Ok(counter) = lock.finish(seat) else {
         panic!(rt; "the value is out")
     };
-    assert_eq!(rt; counter.limit, 10);
-    Ok(())
+    assert_eq!(rt; (fault, counter.limit), (TryFault::Spent, 10));
 }
 
 #[test]
-fn a_spent_lock_gives_the_seat_back(rt: HostRuntime) -> Result<(), Fail> {
-    let Ok((lock, seat)) = TicketLock::new_at(rt.alloc(), Counter::new(10), LAST_TICKET + 1) else {
+fn a_spent_lock_gives_the_seat_back(rt: HostRuntime) {
+    let Ok(Opened { lock, seat }) = Opened::late(rt.alloc(), 0) else {
         panic!(rt; "no memory")
     };
-    let answer = lock.try_acquire(seat);
-    let Err((seat, fault)) = answer else {
+    let Some((seat, fault)) = refused(&lock, seat) else {
         panic!(rt; "no ticket is left")
     };
     assert_eq!(rt; (seat.number(), fault), (0, TryFault::Spent));
-    let answer = lock.acquire(&rt, seat);
-    let Err((seat, Spent)) = answer else {
+    let Some(seat) = unserved(&rt, &lock, seat) else {
         panic!(rt; "no ticket is left")
     };
     let mut adder = Adder::new(seat);
-    assert_eq!(rt; adder.add(&rt, &lock, 1), Err(Spent));
-    assert_eq!(rt; adder.read(&rt, &lock), Err(Spent));
-    assert_eq!(rt; adder.into_seat().number(), 0);
-    Ok(())
+    let answers = (adder.add(&rt, &lock, 1), adder.read(&rt, &lock));
+    let number = adder.into_seat().number();
+    assert_eq!(rt; (answers, number), ((Err(Spent), Err(Spent)), 0));
 }
 
 #[test]
-fn refused_memory_gives_the_value_back(rt: HostRuntime) -> Result<(), Fail> {
+fn refused_memory_gives_the_value_back(rt: HostRuntime) {
     match TicketLock::new(rt.alloc(), Counter::new(10)) {
         Ok((lock, seat)) => {
             let Ok(counter) = lock.finish(seat) else {
@@ -238,57 +234,78 @@ fn refused_memory_gives_the_value_back(rt: HostRuntime) -> Result<(), Fail> {
             assert_eq!(rt; (counter.count, counter.limit), (0, 10));
         }
     }
-    Ok(())
 }
 
-// A thread that takes the lock and never gives it back.
-fn keep<R: Wait>(
-    rt: &R,
+// What a thread has that takes the lock and never gives it back.
+#[derive(Drop)]
+struct Keeper {
     lock: Arc<TicketLock<Counter>>,
     seat: LockSeat<Counter>,
+    // The thread has the lock.
     taken: Arc<AtomicBool>,
-)
-    requires { seat.lock ≡ arc_value lock }
-{
-    let Ok(held) = lock.acquire(rt, seat) else {
-        return;
-    };
-    drop(lock);
-    taken.store(true, Ordering::SeqCst);
-    let parker = Parker::new();
-    for _ in rt.forever() {
-        parker.park(rt);
-    }
-    let _never = held;
-    unreachable!()
+    ghost fits: { seat.lock ≡ arc_value lock },
 }
 
-#[test]
-fn a_hold_that_never_ends_keeps_the_value(rt: HostRuntime) -> Result<(), Fail> {
-    let Ok((lock, seat)) = TicketLock::new(rt.alloc(), Counter::new(10)) else {
-        panic!(rt; "no memory")
-    };
-    let Ok(mut held) = lock.acquire(&rt, seat) else {
-        panic!(rt; "spent")
-    };
-    let Ok(other) = lock.split(&mut held) else {
-        panic!(rt; "spent")
-    };
-    let last = lock.release_told(held, &Deed::Nothing);
-    let taken = Arc::new(rt.alloc(), AtomicBool::new(false))?;
-    let lock = Arc::new(rt.alloc(), lock)?;
-    let theirs = Arc::try_clone(&lock)?;
-    let told = Arc::try_clone(&taken)?;
-    thread::spawn(&rt, move || keep(&rt, theirs, other, told))?;
+impl Keeper {
+    fn new(alloc: Global, lock: TicketLock<Counter>, seat: LockSeat<Counter>) -> Option<Keeper>
+        requires { seat.lock ≡ lock }
+        ensures { IfSome result (λ k. arc_value k.lock ≡ lock) }
+    {
+        let taken = Arc::new(alloc, AtomicBool::new(false)).ok()?;
+        let lock = Arc::new(alloc, lock).ok()?;
+        Some(Keeper { lock, seat, taken })
+    }
+
+    fn keep<R: Wait>(self, rt: &R) {
+        let Keeper { lock, seat, taken } = self;
+        let Ok(held) = lock.acquire(rt, seat) else {
+            return;
+        };
+        drop(lock);
+        taken.store(true, Ordering::SeqCst);
+        let parker = Parker::new();
+        for _ in rt.forever() {
+            parker.park(rt);
+        }
+        let _never = held;
+        unreachable!()
+    }
+}
+
+// Waits until the flag is set.
+fn wait_for<R: Wait>(rt: &R, flag: &AtomicBool) {
     for _ in rt.forever() {
-        if taken.load(Ordering::SeqCst) {
+        if flag.load(Ordering::SeqCst) {
             break;
         }
         thread::yield_now();
     }
+}
+
+#[test]
+fn a_hold_that_never_ends_keeps_the_value(rt: HostRuntime) {
+    let Some(
+        Pair {
+            lock,
+            one: last,
+            two,
+        },
+    ) = Pair::new(&rt, rt.alloc(), 10)
+    else {
+        panic!(rt; "no memory, or spent")
+    };
+    let Some(keeper) = Keeper::new(rt.alloc(), lock, two) else {
+        panic!(rt; "no memory")
+    };
+    let (Ok(lock), Ok(taken)) = (Arc::try_clone(&keeper.lock), Arc::try_clone(&keeper.taken)) else {
+        panic!(rt; "too many shares")
+    };
+    let Ok(_thread) = thread::spawn(&rt, move || keeper.keep(&rt)) else {
+        panic!(rt; "no thread")
+    };
+    wait_for(&rt, &taken);
     let Ok(lock) = Arc::try_unwrap(lock) else {
         panic!(rt; "the lock is shared")
     };
     assert!(rt; matches!(lock.finish(last), Err(StateOut)));
-    Ok(())
 }

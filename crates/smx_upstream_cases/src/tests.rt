@@ -12,7 +12,7 @@ use smx_session::{UpstreamSession, UpstreamState};
 use smx_shared::{Door, EnterFault, Exchange, Offer, Port, Tap};
 use smx_trace::Trace;
 use smx_turns::{Directory, Fault, Gate, MoItem, Party, Place, Point, Query, Question, RunEnd};
-use smx_upstream::{Closed, Parts, UpstreamWorker, run_upstream};
+use smx_upstream::{Parts, UpstreamWorker, run_upstream};
 use std::alloc::{AllocError, Global};
 use std::sync::Wait;
 use std::test::Fail;
@@ -106,6 +106,14 @@ struct Book {
     queries: Trace<Query>,
 }
 
+impl Book {
+    fn new() -> Book {
+        Book {
+            queries: Trace::new(),
+        }
+    }
+}
+
 fn octets_of(octets: &[u8]) -> Trace<u8>
     ensures { result ≡ octets.now }
 {
@@ -145,6 +153,8 @@ impl Directory for Book {
 struct Line<'a> {
     at: &'a Exchange,
     worker: UpstreamWorker<MemoryLink<Script>>,
+    // What the worker's messages to the client come into.
+    inbox: Receiver<MoItem>,
     gate: Open,
     book: Book,
     // A fault ended a run.
@@ -172,10 +182,23 @@ impl Line<'_> {
         end
     }
 
-    fn close<R: Wait>(self, rt: &R) -> Closed<MemoryLink<Script>> {
+    // Closes the worker. Whether its link took just these octets, one part after another.
+    fn took<R: Wait>(self, rt: &R, parts: &[&[u8]]) -> bool {
         let Line { at, worker, .. } = self;
-        worker.close(at, rt)
+        let closed = worker.close(at, rt);
+        is_made_of(closed.link.peer().taken(), parts)
     }
+}
+
+fn is_made_of(octets: &[u8], parts: &[&[u8]]) -> bool {
+    let mut rest = octets;
+    for part in parts {
+        match rest.strip_prefix(*part) {
+            Some(behind) => rest = behind,
+            None => return false,
+        }
+    }
+    rest.is_empty()
 }
 
 // The session of `proxy` with the password `pw` at the moment 0. It enquires after a second.
@@ -207,21 +230,86 @@ fn first_tap(at: &Exchange, taps: Vec<Tap>) -> Option<Tap>
     taps.pop()
 }
 
-fn worker_at<'a>(
+// An exchange of one lane, with its door and its tap.
+#[derive(Drop)]
+struct Hall {
+    exchange: Exchange,
+    door: Door,
+    tap: Tap,
+    ghost door_fits: { locks_of door.fronts ≡ exchange },
+    ghost tap_fits: { slice_get exchange tap.lane ≡ Some tap.front.lock },
+}
+
+impl Hall {
+    fn new<R: Wait>(rt: &R, alloc: Global) -> Option<Hall> {
+        let (exchange, door, taps) = Exchange::new(rt, alloc, ROOMY, 1).ok()?;
+        let tap = first_tap(&exchange, taps)?;
+        Some(Hall {
+            exchange,
+            door,
+            tap,
+        })
+    }
+}
+
+// The boxes of a worker, each of one place: its ends, and what its messages come into.
+#[derive(Drop)]
+struct Boxes {
+    answers: Receiver<Pdu>,
+    senders: Vec<Sender<MoItem>>,
+    inbox: Receiver<MoItem>,
+}
+
+impl Boxes {
+    fn new<R: Wait>(rt: &R, alloc: Global, answer: Option<Pdu>) -> Option<Boxes> {
+        let answers = return_box(rt, alloc, answer)?;
+        let (inbox, senders) = Boxed::new(rt, alloc, 1, 1).ok()?;
+        Some(Boxes {
+            answers,
+            senders,
+            inbox,
+        })
+    }
+}
+
+// A client's answer may be in the return box before the first turn.
+fn return_box<R: Wait>(rt: &R, alloc: Global, answer: Option<Pdu>) -> Option<Receiver<Pdu>> {
+    let (answers, clients) = Boxed::new(rt, alloc, 1, 1).ok()?;
+    match answer {
+        Some(answer) => put_last(rt, clients, answer).then_some(answers),
+        None => Some(answers),
+    }
+}
+
+fn put_last<R: Wait>(rt: &R, clients: Vec<Sender<Pdu>>, answer: Pdu) -> bool {
+    let mut clients = clients;
+    match clients.last_mut() {
+        Some(client) => client.put(rt, answer).is_ok(),
+        None => false,
+    }
+}
+
+fn line_at<'a>(
     alloc: Global,
     at: &'a Exchange,
     tap: Tap,
     script: Script,
-    answers: Receiver<Pdu>,
-    senders: Vec<Sender<MoItem>>,
+    boxes: Boxes,
     history: usize,
 ) -> Option<Line<'a>>
     requires { slice_get at.now tap.lane ≡ Some tap.front.lock }
 {
+    let session = session(alloc)?;
+    let Boxes {
+        answers,
+        senders,
+        inbox,
+    } = boxes;
+    let link = MemoryLink::new(script);
     let parts = Parts {
-        link: MemoryLink::new(script),
+        link,
         tap,
-        session: session(alloc)?,
+        session,
         answers,
         senders,
     };
@@ -229,15 +317,14 @@ fn worker_at<'a>(
     Some(Line {
         at,
         worker,
+        inbox,
         gate: Open::new(),
-        book: Book {
-            queries: Trace::new(),
-        },
+        book: Book::new(),
         faulty: false,
     })
 }
 
-// The same with boxes of one place, whose other ends nobody uses.
+// The same with no answer.
 fn plain_line<'a, R: Wait>(
     rt: &R,
     alloc: Global,
@@ -247,9 +334,8 @@ fn plain_line<'a, R: Wait>(
 ) -> Option<Line<'a>>
     requires { slice_get at.now tap.lane ≡ Some tap.front.lock }
 {
-    let (_, senders) = Boxed::new(rt, alloc, 1, 1).ok()?;
-    let (answers, _) = Boxed::new(rt, alloc, 1, 1).ok()?;
-    worker_at(alloc, at, tap, script, answers, senders, 1_000)
+    let boxes = Boxes::new(rt, alloc, None)?;
+    line_at(alloc, at, tap, script, boxes, 1_000)
 }
 
 // A port with its exchange.
@@ -291,10 +377,4 @@ fn enter<'a, R: Wait>(rt: &R, at: &'a Exchange, door: &mut Door) -> Result<Clien
 fn body_of(alloc: Global, octets: &[u8]) -> Option<Body> {
     let body = Vec::from_slice(alloc, octets.get(16..)?).ok()?;
     Body::new(body).ok()
-}
-
-fn joined(alloc: Global, first: &[u8], second: &[u8]) -> Result<Vec<u8>, AllocError> {
-    let mut octets = Vec::from_slice(alloc, first)?;
-    octets.extend_from_slice(second)?;
-    Ok(octets)
 }

@@ -19,27 +19,64 @@ pub(crate) struct LaneEnds {
     pub senders: Vec<Sender<MoItem>>,
 }
 
-fn client_ends<R: Wait>(
-    rt: &R,
-    alloc: Global,
-    answers: Sender<Pdu>,
-    places: &mut Vec<Sender<MoItem>>,
-) -> Option<ClientEnds> {
-    let (inbox, mut made) = Boxed::new(rt, alloc, 1, 4).ok()?;
-    places.push(made.pop()?).ok()?;
-    let mut senders = Vec::new(alloc);
-    senders.push(answers).ok()?;
-    Some(ClientEnds { inbox, senders })
+/// The ends of two clients, and those of the lane.
+#[derive(Drop)]
+pub(crate) struct Boxes {
+    pub first: ClientEnds,
+    pub second: ClientEnds,
+    pub lane: LaneEnds,
 }
 
-/// The ends of two clients, and those of the lane.
-pub(crate) fn make_boxes<R: Wait>(
-    rt: &R,
-    alloc: Global,
-) -> Option<(ClientEnds, ClientEnds, LaneEnds)> {
-    let (answers, mut returns) = Boxed::new(rt, alloc, 2, 4).ok()?;
-    let mut senders = Vec::new(alloc);
-    let first = client_ends(rt, alloc, returns.pop()?, &mut senders)?;
-    let second = client_ends(rt, alloc, returns.pop()?, &mut senders)?;
-    Some((first, second, LaneEnds { answers, senders }))
+// A client's ends, and what its messages are sent by.
+#[derive(Drop)]
+struct ClientBox {
+    ends: ClientEnds,
+    messages: Sender<MoItem>,
+}
+
+impl ClientBox {
+    fn new<R: Wait>(rt: &R, alloc: Global, answers: Option<Sender<Pdu>>) -> Option<ClientBox> {
+        let senders = Vec::from_array(alloc, [answers?]).ok()?;
+        let (inbox, mut made) = Boxed::new(rt, alloc, 1, 4).ok()?;
+        let messages = made.pop()?;
+        Some(ClientBox {
+            ends: ClientEnds { inbox, senders },
+            messages,
+        })
+    }
+}
+
+// Those of both clients.
+#[derive(Drop)]
+struct Pair {
+    first: ClientBox,
+    second: ClientBox,
+}
+
+impl Pair {
+    fn new<R: Wait>(rt: &R, alloc: Global, returns: &mut Vec<Sender<Pdu>>) -> Option<Pair> {
+        let first = ClientBox::new(rt, alloc, returns.pop())?;
+        let second = ClientBox::new(rt, alloc, returns.pop())?;
+        Some(Pair { first, second })
+    }
+
+    fn with_lane(self, alloc: Global, answers: Receiver<Pdu>) -> Option<Boxes> {
+        let Pair { first, second } = self;
+        let messages = [first.messages, second.messages];
+        let (first, second) = (first.ends, second.ends);
+        let senders = Vec::from_array(alloc, messages).ok()?;
+        Some(Boxes {
+            first,
+            second,
+            lane: LaneEnds { answers, senders },
+        })
+    }
+}
+
+impl Boxes {
+    pub(crate) fn new<R: Wait>(rt: &R, alloc: Global) -> Option<Boxes> {
+        let (answers, mut returns) = Boxed::new(rt, alloc, 2, 4).ok()?;
+        let pair = Pair::new(rt, alloc, &mut returns)?;
+        pair.with_lane(alloc, answers)
+    }
 }

@@ -46,24 +46,23 @@ fn session(alloc: Global) -> Option<UpstreamSession>
 
 impl<'a> Carrier<'a> {
     fn new(alloc: Global, drawer: Drawer<'a>, ends: LaneEnds) -> Option<Carrier<'a>> {
+        let session = session(alloc)?;
         let Drawer { at, tap } = drawer;
         let LaneEnds { answers, senders } = ends;
         let centre = CentrePeer::new(alloc, Centre::new(alloc, Mode::Plain));
         let parts = Parts {
             link: MemoryLink::new(centre),
             tap,
-            session: session(alloc)?,
+            session,
             answers,
             senders,
         };
-        match UpstreamWorker::new(alloc, parts, 1_000) {
-            Ok(worker) => Some(Carrier {
-                at,
-                worker,
-                over: false,
-            }),
-            Err(_) => None,
-        }
+        let worker = UpstreamWorker::new(alloc, parts, 1_000).ok()?;
+        Some(Carrier {
+            at,
+            worker,
+            over: false,
+        })
     }
 
     // Turns it once.
@@ -133,12 +132,12 @@ impl Drawer<'_> {
         ends: LaneEnds,
         done: &AtomicU64,
     ) -> bool {
-        let open = AtomicBool::new(true);
-        let mut gate = FlagGate::new(&open);
-        let mut nobody = Nobody::new();
         let Some(mut carrier) = Carrier::new(alloc, self, ends) else {
             return false;
         };
+        let open = AtomicBool::new(true);
+        let mut gate = FlagGate::new(&open);
+        let mut nobody = Nobody::new();
         carrier.turn_all(rt, &mut gate, &mut nobody, done)
             && carrier.stop(rt, &mut gate, &mut nobody)
     }

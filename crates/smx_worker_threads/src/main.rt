@@ -12,9 +12,9 @@ mod carrier;
 mod member;
 mod peer;
 
-use boxes::{ClientEnds, LaneEnds, make_boxes};
+use boxes::{Boxes, LaneEnds};
 use carrier::Drawer;
-use member::{Seat, Signals};
+use member::{Guest, Seat, Signals};
 use smx_client::Desk;
 use smx_lane::Limits;
 use smx_session::Account;
@@ -54,15 +54,17 @@ enum Difference {
     Ends(bool, bool, bool),
 }
 
-// Who may bind: one account without a prefix.
-fn desk(alloc: Global) -> Result<Desk, AllocError> {
-    let mut accounts = Vec::new(alloc);
-    let mut prefixes = Vec::new(alloc);
-    accounts.push(Account {
+fn account(alloc: Global) -> Result<Account, AllocError> {
+    Ok(Account {
         system_id: Vec::from_slice(alloc, b"a")?,
         password: Vec::from_slice(alloc, b"p")?,
-    })?;
-    prefixes.push(Vec::new(alloc))?;
+    })
+}
+
+// Who may bind: one account without a prefix.
+fn desk(alloc: Global) -> Result<Desk, AllocError> {
+    let accounts = Vec::from_array(alloc, [account(alloc)?])?;
+    let prefixes = Vec::from_array(alloc, [Vec::new(alloc)])?;
     Ok(Desk { accounts, prefixes })
 }
 
@@ -76,17 +78,7 @@ fn run<R: Print + Threads + Wait + Clock + Sync>(
     alloc: Global,
     desk: &Desk,
 ) -> anyhow::Result<()> {
-    let signals = Signals::new();
-    let Ok((exchange, mut door, taps)) = Exchange::new(rt, alloc, LIMITS, 1) else {
-        return Err(Difference::NoPart.into());
-    };
-    let Some(seats) = seats(rt, &exchange, &mut door, taps) else {
-        return Err(Difference::NoPart.into());
-    };
-    let Some(boxes) = make_boxes(rt, alloc) else {
-        return Err(Difference::NoPart.into());
-    };
-    let (first, second, lane) = serve_all(rt, alloc, desk, seats, boxes, &signals);
+    let (first, second, lane) = serve(rt, alloc, desk).ok_or(Difference::NoPart)?;
     if !(first && second && lane) {
         return Err(Difference::Ends(first, second, lane).into());
     }
@@ -94,44 +86,136 @@ fn run<R: Print + Threads + Wait + Clock + Sync>(
     Ok(())
 }
 
-// Two clients that have entered, and the only lane's tap.
-fn seats<'a, R: Wait>(
-    rt: &R,
-    at: &'a Exchange,
-    door: &mut Door,
+// An exchange of one lane, with its door and its taps.
+#[derive(Drop)]
+struct Hall {
+    exchange: Exchange,
+    door: Door,
     taps: Vec<Tap>,
-) -> Option<(Seat<'a>, Seat<'a>, Drawer<'a>)>
-    requires door { locks_of door.old.fronts ≡ at.now }
-    requires taps { All (λ t. slice_get at.now t.lane ≡ Some t.front.lock) taps.items }
+    ghost door_fits: { locks_of door.fronts ≡ exchange },
+    ghost taps_fit: { All (λ t. slice_get exchange t.lane ≡ Some t.front.lock) taps.items },
+}
+
+impl Hall {
+    fn new<R: Wait>(rt: &R, alloc: Global) -> Option<Hall> {
+        let (exchange, door, taps) = Exchange::new(rt, alloc, LIMITS, 1).ok()?;
+        Some(Hall {
+            exchange,
+            door,
+            taps,
+        })
+    }
+}
+
+// How the first client, the second and the lane ended.
+fn serve<R: Threads + Wait + Clock + Sync>(
+    rt: &R,
+    alloc: Global,
+    desk: &Desk,
+) -> Option<(bool, bool, bool)> {
+    let boxes = Boxes::new(rt, alloc)?;
+    let Hall {
+        exchange,
+        mut door,
+        taps,
+    } = Hall::new(rt, alloc)?;
+    let signals = Signals::new();
+    let party = Party::new(rt, &exchange, &mut door, taps, boxes, &signals)?;
+    Some(serve_all(rt, alloc, desk, party, &signals))
+}
+
+// A client that enters.
+fn seat<'a, R: Wait>(rt: &R, at: &'a Exchange, door: &mut Door) -> Option<Seat<'a>>
+    requires { locks_of door.old.fronts ≡ at.now }
+    ensures { locks_of door.new.fronts ≡ at.now }
+{
+    let port = door.enter(at, rt).ok()?;
+    Some(Seat { at, port })
+}
+
+// Two clients.
+fn seats<'a, R: Wait>(rt: &R, at: &'a Exchange, door: &mut Door) -> Option<(Seat<'a>, Seat<'a>)>
+    requires { locks_of door.old.fronts ≡ at.now }
+{
+    let first = seat(rt, at, door)?;
+    let second = seat(rt, at, door)?;
+    Some((first, second))
+}
+
+fn drawer<'a>(at: &'a Exchange, taps: Vec<Tap>) -> Option<Drawer<'a>>
+    requires { All (λ t. slice_get at.now t.lane ≡ Some t.front.lock) taps.items }
 {
     let mut taps = taps;
     let tap = taps.pop()?;
-    let port = door.enter(at, rt).ok()?;
-    let first = Seat { at, port };
-    let port = door.enter(at, rt).ok()?;
-    let second = Seat { at, port };
-    Some((first, second, Drawer { at, tap }))
+    Some(Drawer { at, tap })
 }
 
-// Each in a thread of its own: how the first client, the second and the lane ended.
+// Two clients that have entered, and the only lane's tap with its ends.
+#[derive(Drop)]
+struct Party<'a> {
+    first: Guest<'a>,
+    second: Guest<'a>,
+    drawer: Drawer<'a>,
+    ends: LaneEnds,
+}
+
+impl<'a> Party<'a> {
+    fn new<R: Wait>(
+        rt: &R,
+        at: &'a Exchange,
+        door: &mut Door,
+        taps: Vec<Tap>,
+        boxes: Boxes,
+        signals: &'a Signals,
+    ) -> Option<Party<'a>>
+        requires door { locks_of door.old.fronts ≡ at.now }
+        requires taps { All (λ t. slice_get at.now t.lane ≡ Some t.front.lock) taps.items }
+    {
+        let drawer = drawer(at, taps)?;
+        let (first, second) = seats(rt, at, door)?;
+        let Boxes {
+            first: first_ends,
+            second: second_ends,
+            lane,
+        } = boxes;
+        Some(Party {
+            first: Guest {
+                seat: first,
+                ends: first_ends,
+                flags: signals.first(),
+            },
+            second: Guest {
+                seat: second,
+                ends: second_ends,
+                flags: signals.second(),
+            },
+            drawer,
+            ends: lane,
+        })
+    }
+}
+
+// Each in a thread of its own.
 fn serve_all<'a, R: Threads + Wait + Clock + Sync>(
     rt: &R,
     alloc: Global,
     desk: &'a Desk,
-    seats: (Seat<'a>, Seat<'a>, Drawer<'a>),
-    boxes: (ClientEnds, ClientEnds, LaneEnds),
+    party: Party<'a>,
     signals: &'a Signals,
 ) -> (bool, bool, bool) {
-    let (first, second, drawer) = seats;
-    let (mine, other, ends) = boxes;
-    let (told, other_told) = (signals.first(), signals.second());
+    let Party {
+        first,
+        second,
+        drawer,
+        ends,
+    } = party;
     let ((first, second), lane) = join(
         rt,
         || {
             join(
                 rt,
-                || first.serve(rt, alloc, desk, mine, told, FIRST),
-                || second.serve(rt, alloc, desk, other, other_told, SECOND),
+                || first.serve(rt, alloc, desk, FIRST),
+                || second.serve(rt, alloc, desk, SECOND),
             )
         },
         || drawer.serve(rt, alloc, ends, &signals.done),

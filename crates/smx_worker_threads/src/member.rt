@@ -119,11 +119,11 @@ impl<'a> Member<'a> {
         ends: ClientEnds,
         peer: Flagged<'a>,
     ) -> Option<Member<'a>> {
-        let Seat { at, port } = seat;
-        let ClientEnds { inbox, senders } = ends;
-        if senders.len() != port.lanes() {
+        if ends.senders.len() != seat.port.lanes() {
             return None;
         }
+        let Seat { at, port } = seat;
+        let ClientEnds { inbox, senders } = ends;
         let link = MemoryLink::new(peer);
         match ClientWorker::new(alloc, port, desk, inbox, senders, 4, link) {
             Ok(worker) => Some(Member {
@@ -178,23 +178,29 @@ impl<'a> Member<'a> {
     }
 }
 
-impl<'a> Seat<'a> {
+/// A client that is to be served.
+#[derive(Drop)]
+pub(crate) struct Guest<'a> {
+    pub seat: Seat<'a>,
+    pub ends: ClientEnds,
+    pub flags: Flags<'a>,
+}
+
+impl<'a> Guest<'a> {
     /// Serves the client until it has left, and answers whether it was written these octets.
     pub(crate) fn serve<R: Wait + Clock>(
         self,
         rt: &R,
         alloc: Global,
         desk: &'a Desk,
-        ends: ClientEnds,
-        flags: Flags<'a>,
         wanted: &[u8],
     ) -> bool {
-        let mut gate = FlagGate::new(flags.gate);
-        let mut nobody = Nobody::new();
-        let peer = peer(alloc, flags);
-        let Some(mut member) = Member::new(alloc, self, desk, ends, peer) else {
+        let Guest { seat, ends, flags } = self;
+        let Some(mut member) = Member::new(alloc, seat, desk, ends, peer(alloc, flags)) else {
             return false;
         };
+        let mut gate = FlagGate::new(flags.gate);
+        let mut nobody = Nobody::new();
         let left = member.turn_all(rt, &mut gate, &mut nobody);
         let well = member.close(rt, &mut nobody, wanted);
         flags.done.fetch_add(1, Ordering::SeqCst);

@@ -1,20 +1,18 @@
 //! What passes between a client's tokens and the centre.
 ghost use Rattle.std.specs.Prelude.{◌≡◌, slice_get, Some};
+ghost use Rattle.smx_shared.specs.Views.{locks_of};
 
 use super::*;
 
 // The worker's runs write the bind, the client's answer and the request, and tell of the response
 // and the message.
-fn runs_through<R: Wait>(rt: &R, alloc: Global, line: Line) -> Option<bool> {
+fn runs_through<R: Wait>(rt: &R, line: Line) -> bool {
     let mut line = line;
     let end = line.run(rt, 0, 1_000);
-    let bound = line.worker.state() == UpstreamState::Bound;
-    let tidings = line.gate.tidings;
-    let closed = line.close(rt);
-    let answered = joined(alloc, &BIND, &ANSWER).ok()?;
-    let wanted = joined(alloc, &answered, &SUBMIT).ok()?;
-    let taken = closed.link.peer().taken() == wanted.as_slice();
-    Some(end == RunEnd::Idle && bound && tidings == 2 && taken)
+    let stand = (end, line.worker.state(), line.gate.tidings);
+    let message = has_message(rt, &mut line.inbox);
+    let taken = line.took(rt, &[&BIND, &ANSWER, &SUBMIT]);
+    stand == (RunEnd::Idle, UpstreamState::Bound, 2) && message && taken
 }
 
 // The response has the client's own number.
@@ -23,8 +21,7 @@ fn is_response(found: Option<Pdu>) -> bool {
 }
 
 // The message is the box's first, for client 1 of lane 0 under the centre's number.
-fn has_message<R: Wait>(rt: &R, inbox: Receiver<MoItem>) -> bool {
-    let mut inbox = inbox;
+fn has_message<R: Wait>(rt: &R, inbox: &mut Receiver<MoItem>) -> bool {
     let Ok(
         Got::Item {
             number: 1,
@@ -53,12 +50,18 @@ fn centre(alloc: Global) -> Script {
 }
 
 // A client's answer is in the return box before the first turn.
-fn answered<R: Wait>(rt: &R, alloc: Global, answer: Pdu) -> Option<Receiver<Pdu>> {
-    let (answers, clients) = Boxed::new(rt, alloc, 1, 1).ok()?;
-    let mut clients = clients;
-    let mut client = clients.pop()?;
-    client.put(rt, answer).ok()?;
-    Some(answers)
+fn answered_line<'a, R: Wait>(
+    rt: &R,
+    alloc: Global,
+    at: &'a Exchange,
+    tap: Tap,
+    history: usize,
+) -> Option<Line<'a>>
+    requires { slice_get at.now tap.lane ≡ Some tap.front.lock }
+{
+    let answer = decode(alloc, &ANSWER).ok()?;
+    let boxes = Boxes::new(rt, alloc, Some(answer))?;
+    line_at(alloc, at, tap, centre(alloc), boxes, history)
 }
 
 fn passes<R: Wait>(
@@ -71,26 +74,47 @@ fn passes<R: Wait>(
 ) -> Option<bool>
     requires { slice_get at.now tap.lane ≡ Some tap.front.lock }
 {
-    client.submit(rt, alloc)?;
-    let answer = decode(alloc, &ANSWER).ok()?;
-    let answers = answered(rt, alloc, answer)?;
-    let (inbox, senders) = Boxed::new(rt, alloc, 1, 1).ok()?;
-    let line = worker_at(alloc, at, tap, centre(alloc), answers, senders, history)?;
-    let through = runs_through(rt, alloc, line)?;
-    let response = client.collect(rt);
-    Some(through && is_response(response) && has_message(rt, inbox))
+    let line = answered_line(rt, alloc, at, tap, history)?;
+    let submitted = client.submit(rt, alloc).is_some();
+    let through = runs_through(rt, line);
+    let response = is_response(client.collect(rt));
+    Some(submitted && through && response)
+}
+
+// A client that enters for this.
+fn visited<R: Wait>(
+    rt: &R,
+    alloc: Global,
+    at: &Exchange,
+    door: &mut Door,
+    tap: Tap,
+    history: usize,
+) -> Option<bool>
+    requires door { locks_of door.old.fronts ≡ at.now }
+    requires tap { slice_get at.now tap.lane ≡ Some tap.front.lock }
+    ensures { locks_of door.new.fronts ≡ at.now }
+{
+    let mut client = enter(rt, at, door).ok()?;
+    passes(rt, alloc, at, tap, &mut client, history)
+}
+
+fn entries_of(exchange: Exchange, door: Door) -> Option<usize>
+    requires { locks_of door.fronts ≡ exchange }
+{
+    let lanes = exchange.finish(door).ok()?;
+    Some(lanes.first()?.entries().len())
 }
 
 // How many entries the lane has at the end.
 fn entries_left<R: Wait>(rt: &R, alloc: Global, history: usize) -> Option<usize> {
-    let (exchange, mut door, taps) = Exchange::new(rt, alloc, ROOMY, 1).ok()?;
-    let tap = first_tap(&exchange, taps)?;
-    let mut client = enter(rt, &exchange, &mut door).ok()?;
-    let passed = passes(rt, alloc, &exchange, tap, &mut client, history)?;
-    drop(client);
-    let lanes = exchange.finish(door).ok()?;
-    let lane = lanes.first()?;
-    passed.then_some(lane.entries().len())
+    let Hall {
+        exchange,
+        mut door,
+        tap,
+    } = Hall::new(rt, alloc)?;
+    let passed = visited(rt, alloc, &exchange, &mut door, tap, history);
+    let entries = entries_of(exchange, door)?;
+    passed?.then_some(entries)
 }
 
 // A request and its response, a message and a client's answer. A lane whose history is said to have
@@ -112,30 +136,32 @@ fn greatest(alloc: Global) -> Option<Pdu> {
     })
 }
 
-// How three runs ended, the first two of one turn, and how many questions the gate was asked by then.
-fn three_runs<R: Wait>(rt: &R, line: Line) -> [(RunEnd, u64); 3] {
-    let mut line = line;
-    let first = (line.run(rt, 0, 1), line.gate.questions);
-    let second = (line.run(rt, 0, 1), line.gate.questions);
-    let third = (line.run(rt, 0, 1_000), line.gate.questions);
-    [first, second, third]
+// How a run of so many turns ends, and how many questions the gate was asked by then.
+fn run_and_asked<R: Wait>(rt: &R, line: &mut Line, turns: u64) -> (RunEnd, u64) {
+    (line.run(rt, 0, turns), line.gate.questions)
+}
+
+// The first two are of one turn.
+fn three_runs<R: Wait>(rt: &R, line: &mut Line) -> [(RunEnd, u64); 3] {
+    let first = run_and_asked(rt, line, 1);
+    let second = run_and_asked(rt, line, 1);
+    [first, second, run_and_asked(rt, line, 1_000)]
 }
 
 // A worker whose return box has that answer.
 fn filled_line<'a, R: Wait>(rt: &R, alloc: Global, at: &'a Exchange, tap: Tap) -> Option<Line<'a>>
     requires { slice_get at.now tap.lane ≡ Some tap.front.lock }
 {
-    let answers = answered(rt, alloc, greatest(alloc)?)?;
-    let (_, senders) = Boxed::new(rt, alloc, 1, 1).ok()?;
+    let answer = greatest(alloc)?;
+    let boxes = Boxes::new(rt, alloc, Some(answer))?;
     let script = Script::new(alloc, 65_536);
-    worker_at(alloc, at, tap, script, answers, senders, 1_000)
+    line_at(alloc, at, tap, script, boxes, 1_000)
 }
 
 fn filled<R: Wait>(rt: &R, alloc: Global) -> Option<[(RunEnd, u64); 3]> {
-    let (exchange, _, taps) = Exchange::new(rt, alloc, ROOMY, 1).ok()?;
-    let tap = first_tap(&exchange, taps)?;
-    let line = filled_line(rt, alloc, &exchange, tap)?;
-    Some(three_runs(rt, line))
+    let Hall { exchange, tap, .. } = Hall::new(rt, alloc)?;
+    let mut line = filled_line(rt, alloc, &exchange, tap)?;
+    Some(three_runs(rt, &mut line))
 }
 
 // With 65,536 octets waiting a turn asks its gate nothing. The last turn is one in which nothing

@@ -18,21 +18,27 @@ const UNBIND: [u8; 16] = [0, 0, 0, 0x10, 0, 0, 0, 6, 0, 0, 0, 0, 0, 0, 0, 9];
 
 const UNBIND_ANSWER: [u8; 16] = [0, 0, 0, 0x10, 0x80, 0, 0, 6, 0, 0, 0, 0, 0, 0, 0, 9];
 
-// What came of runs at these moments: how the last one ended, and what is left.
+// How the last of the runs at these moments ends.
+fn run_at<R: Wait>(rt: &R, line: &mut Line, moments: &[u64]) -> RunEnd {
+    let mut end = RunEnd::Idle;
+    for now in moments {
+        end = line.run(rt, *now, 1_000);
+    }
+    end
+}
+
+// The same, and whether the link took the bind and then just this.
 fn runs<R: Wait>(
     rt: &R,
     alloc: Global,
     script: Script,
     moments: &[u64],
-) -> Option<(RunEnd, Closed<MemoryLink<Script>>)> {
-    let (exchange, _, taps) = Exchange::new(rt, alloc, ROOMY, 1).ok()?;
-    let tap = first_tap(&exchange, taps)?;
+    takes: &[u8],
+) -> Option<(RunEnd, bool)> {
+    let Hall { exchange, tap, .. } = Hall::new(rt, alloc)?;
     let mut line = plain_line(rt, alloc, &exchange, tap, script)?;
-    let mut end = RunEnd::Idle;
-    for now in moments {
-        end = line.run(rt, *now, 1_000);
-    }
-    Some((end, line.close(rt)))
+    let end = run_at(rt, &mut line, moments);
+    Some((end, line.took(rt, &[&BIND, takes])))
 }
 
 // Whether the last run ends so, and the link took the bind and then just this.
@@ -44,13 +50,7 @@ fn comes_to<R: Wait>(
     takes: &[u8],
     end: RunEnd,
 ) -> bool {
-    let Some((last, closed)) = runs(rt, alloc, script, moments) else {
-        return false;
-    };
-    let Ok(wanted) = joined(alloc, &BIND, takes) else {
-        return false;
-    };
-    last == end && closed.link.peer().taken() == wanted.as_slice()
+    runs(rt, alloc, script, moments, takes) == Some((end, true))
 }
 
 // The same over a link that takes all at once, and over one that takes an octet a write, where the
@@ -111,22 +111,31 @@ fn refusal(status: u8, number: u8) -> [u8; 16] {
     ]
 }
 
+// The centre gives five messages.
+fn messages(alloc: Global) -> Script {
+    let mut script = Script::new(alloc, 65_536).and(30, &BOUND);
+    for (number, address) in [(3, b'4'), (4, b'4'), (5, b'5'), (6, b'6')] {
+        script = script.and(30, &message(number, address));
+    }
+    script.and(30, &[0, 0, 0, 0x10, 0, 0, 0, 5, 0, 0, 0, 0, 0, 0, 0, 7])
+}
+
+// It is told that nobody gets the last four.
+fn refusals(alloc: Global) -> Result<Vec<u8>, AllocError> {
+    let mut octets = Vec::new(alloc);
+    for (status, number) in [(0x14, 4), (0x64, 5), (0x64, 6), (2, 7)] {
+        octets.extend_from_slice(&refusal(status, number))?;
+    }
+    Ok(octets)
+}
+
 // The box has one place; nobody has the address 5; no sender stands where 6 is; a message without a
 // body names no address.
 #[test]
 fn refused_messages(rt: HostRuntime) -> Result<(), Fail> {
     let alloc = rt.alloc();
-    let script = Script::new(alloc, 65_536)
-        .and(30, &BOUND)
-        .and(30, &message(3, b'4'))
-        .and(30, &message(4, b'4'))
-        .and(30, &message(5, b'5'))
-        .and(30, &message(6, b'6'))
-        .and(30, &[0, 0, 0, 0x10, 0, 0, 0, 5, 0, 0, 0, 0, 0, 0, 0, 7]);
-    let full = joined(alloc, &refusal(0x14, 4), &refusal(0x64, 5))?;
-    let none = joined(alloc, &refusal(0x64, 6), &refusal(2, 7))?;
-    let takes = joined(alloc, &full, &none)?;
-    assert!(rt; comes_to(&rt, alloc, script, &[0], &takes, RunEnd::Idle));
+    let takes = refusals(alloc)?;
+    assert!(rt; comes_to(&rt, alloc, messages(alloc), &[0], &takes, RunEnd::Idle));
     Ok(())
 }
 

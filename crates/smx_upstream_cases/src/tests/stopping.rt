@@ -1,4 +1,6 @@
 //! A worker whose session is to end in order.
+ghost use Rattle.std.specs.Prelude.{◌≡◌, slice_get, Some};
+
 use super::*;
 
 // The proxy's unbind, the centre's answer, and what tells it that its message is out of place.
@@ -12,37 +14,31 @@ const UNBOUND: [u8; 16] = [
 
 const REFUSAL: [u8; 16] = [0, 0, 0, 0x10, 0x80, 0, 0, 5, 0, 0, 0, 4, 0, 0, 0, 3];
 
-// Before it is bound a stop says nothing. Once it is, the first says the unbind and the second
-// nothing more.
-fn stops(line: &mut Line, wanted: &[bool]) -> Option<bool> {
+// Whether each stop says so, and the worker is in this state then.
+fn stops(line: &mut Line, wanted: &[bool], state: UpstreamState) -> bool {
     for said in wanted {
-        if line.worker.stop().ok()? != *said {
-            return Some(false);
+        if line.worker.stop() != Ok(*said) {
+            return false;
         }
     }
-    Some(line.worker.state() == UpstreamState::Unbinding)
+    line.worker.state() == state
 }
 
-// The request that came before the stop has its response, the one that came after it isn't taken.
-fn runs_out<R: Wait>(
-    rt: &R,
-    alloc: Global,
-    line: Line,
-    client: &mut Client,
-) -> Option<(RunEnd, bool)> {
+// Before it is bound a stop says nothing. Once it is, the first says the unbind and the second
+// nothing more. The request that came before the stop has its response, the one that came after it
+// isn't taken.
+fn runs_out<R: Wait>(rt: &R, alloc: Global, line: Line, client: &mut Client) -> (RunEnd, bool) {
     let mut line = line;
-    let early = stops(&mut line, &[false])?;
-    client.submit(rt, alloc)?;
+    let early = stops(&mut line, &[false], UpstreamState::Binding);
+    let before = client.submit(rt, alloc).is_some();
     let first = line.run(rt, 0, 1_000);
-    let stopped = stops(&mut line, &[true, false])?;
-    client.submit(rt, alloc)?;
+    let stopped = stops(&mut line, &[true, false], UpstreamState::Unbinding);
+    let behind = client.submit(rt, alloc).is_some();
     let last = line.run(rt, 0, 1_000);
-    let closed = line.close(rt);
-    let taken = joined(alloc, &BIND, &SUBMIT).ok()?;
-    let said = joined(alloc, &UNBIND, &REFUSAL).ok()?;
-    let wanted = joined(alloc, &taken, &said).ok()?;
-    let well = closed.link.peer().taken() == wanted.as_slice();
-    Some((last, !early && stopped && first == RunEnd::Idle && well))
+    let taken = line.took(rt, &[&BIND, &SUBMIT, &UNBIND, &REFUSAL]);
+    let idle = first == RunEnd::Idle;
+    let well = [early, before, idle, stopped, behind, taken] == [true; 6];
+    (last, well)
 }
 
 // The centre gives its response to the bind, then that to the request and a message, and answers the
@@ -60,13 +56,29 @@ fn has_one<R: Wait>(rt: &R, client: &mut Client) -> bool {
     client.collect(rt).is_some() && client.collect(rt).is_none()
 }
 
+fn ends_beside<R: Wait>(
+    rt: &R,
+    alloc: Global,
+    at: &Exchange,
+    tap: Tap,
+    client: &mut Client,
+    most: usize,
+) -> Option<(RunEnd, bool)>
+    requires { slice_get at.now tap.lane ≡ Some tap.front.lock }
+{
+    let line = plain_line(rt, alloc, at, tap, centre(alloc, most))?;
+    let (last, well) = runs_out(rt, alloc, line, client);
+    Some((last, well && has_one(rt, client)))
+}
+
 fn ends_in_order<R: Wait>(rt: &R, alloc: Global, most: usize) -> Option<(RunEnd, bool)> {
-    let (exchange, mut door, taps) = Exchange::new(rt, alloc, ROOMY, 1).ok()?;
-    let tap = first_tap(&exchange, taps)?;
+    let Hall {
+        exchange,
+        mut door,
+        tap,
+    } = Hall::new(rt, alloc)?;
     let mut client = enter(rt, &exchange, &mut door).ok()?;
-    let line = plain_line(rt, alloc, &exchange, tap, centre(alloc, most))?;
-    let (last, well) = runs_out(rt, alloc, line, &mut client)?;
-    Some((last, well && has_one(rt, &mut client)))
+    ends_beside(rt, alloc, &exchange, tap, &mut client, most)
 }
 
 // Over a link that takes all at once, and over one that takes an octet a write.
