@@ -104,22 +104,22 @@ fn measure_at<R: Wait + Print + Clock>(
     let answered = AtomicU64::new(0);
     let (ends, lane_ends) = make_boxes(rt, alloc, clients).ok_or(NotMade)?;
     let members = make_members(rt, alloc, desk, at, door, ends, &answered)?;
-    let mut hall = hall_of(alloc, members, drawer, lane_ends, &answered)?;
-    print_figures(rt, &mut hall, clients)
+    measure_with(rt, alloc, members, drawer, lane_ends, &answered)
 }
 
-// The clients' workers beside one towards the centre.
-fn hall_of<'a>(
+// Makes the worker towards the centre beside those of the clients, and prints the figures.
+fn measure_with<'a, R: Wait + Print + Clock>(
+    rt: &R,
     alloc: Global,
     members: Vec<Member<'a>>,
     drawer: Drawer<'a>,
     ends: LaneEnds,
     answered: &'a AtomicU64,
-) -> Result<Hall<'a>, NotMade> {
-    match Carrier::new(alloc, drawer, ends, HISTORY as usize) {
-        Some(carrier) => Ok(Hall::new(members, carrier, answered)),
-        None => Err(NotMade),
-    }
+) -> anyhow::Result<()> {
+    let clients = members.len();
+    let carrier = Carrier::new(alloc, drawer, ends, HISTORY as usize).ok_or(NotMade)?;
+    let mut hall = Hall::new(members, carrier, answered);
+    print_figures(rt, &mut hall, clients)
 }
 
 fn print_figures<R: Wait + Print + Clock>(
