@@ -1,7 +1,7 @@
 //! PDUs from a stream that comes in pieces.
 
 use crate::figures::{Hundredths, nanos_since};
-use smx_frame::Framer;
+use smx_frame::{FrameFault, Framer};
 use std::rt::Clock;
 use std::time::Instant;
 
@@ -40,19 +40,32 @@ fn frame_in_pieces<R: Clock + AllocGlobal>(
     size: usize,
 ) -> anyhow::Result<u64> {
     let mut framer = Framer::new(rt.alloc(), 65_536);
-    let mut found: u64 = 0;
     let start = Instant::now(rt)?;
-    for piece in stream.chunks(size.max(1)) {
-        framer.feed(piece)?;
-        // No more PDUs than headers fit.
-        for _ in 0..=framer.rest().len() / 16 {
-            if framer.next_pdu()?.is_none() {
-                break;
-            }
-            found = found.saturating_add(1);
-        }
-    }
+    let found = count_in_pieces(&mut framer, stream, size)?;
     let nanos = nanos_since(rt, start)?;
     anyhow::ensure!(found == PDUS, "{found} PDUs");
     Ok(nanos)
+}
+
+// How many PDUs the framer finds in a stream that it is fed in pieces of this size.
+fn count_in_pieces(framer: &mut Framer, stream: &[u8], size: usize) -> Result<u64, FrameFault> {
+    let mut found: u64 = 0;
+    for piece in stream.chunks(size.max(1)) {
+        framer.feed(piece)?;
+        found = found.saturating_add(count_pdus(framer)?);
+    }
+    Ok(found)
+}
+
+// How many PDUs are whole.
+fn count_pdus(framer: &mut Framer) -> Result<u64, FrameFault> {
+    let mut found: u64 = 0;
+    // No more PDUs than headers fit.
+    for _ in 0..=framer.rest().len() / 16 {
+        if framer.next_pdu()?.is_none() {
+            break;
+        }
+        found = found.saturating_add(1);
+    }
+    Ok(found)
 }

@@ -38,17 +38,25 @@ struct Refused;
 /// Prints the nanoseconds of a round with 1 and with 256 clients, from 1,000 and from 900,000 stored entries on, and
 /// then a table of them beside a window that is full but for one place.
 pub(crate) fn run<R: Print + Clock + AllocGlobal>(rt: &R) -> anyhow::Result<()> {
-    measure(rt, 1, 1_000)?;
-    measure(rt, 1, 900_000)?;
-    measure(rt, 256, 1_000)?;
-    measure(rt, 256, 900_000)?;
+    for (clients, stored) in [(1, 1_000), (1, 900_000), (256, 1_000), (256, 900_000)] {
+        measure(rt, clients, stored)?;
+    }
     println!(rt; "window full but for one place, and clients that take turns:")?;
     for window in WINDOWS {
         for clients in CLIENTS {
-            let nanos = measure_full(rt, window, clients)?;
-            println!(rt; "window {window}, {clients} clients: {nanos} ns a round")?;
+            print_full(rt, window, clients)?;
         }
     }
+    Ok(())
+}
+
+fn print_full<R: Print + Clock + AllocGlobal>(
+    rt: &R,
+    window: u32,
+    clients: u64,
+) -> anyhow::Result<()> {
+    let nanos = measure_full(rt, window, clients)?;
+    println!(rt; "window {window}, {clients} clients: {nanos} ns a round")?;
     Ok(())
 }
 
@@ -58,23 +66,44 @@ pub(crate) fn measure<R: Print + Clock + AllocGlobal>(
     clients: u64,
     stored: usize,
 ) -> anyhow::Result<()> {
-    let mut lane = Lane::new(rt.alloc(), LIMITS)?;
-    admit_all(&mut lane, 0, clients)?;
-    let done = fill(rt.alloc(), &mut lane, clients, stored)?;
-    let nanos = time_rounds(rt, &mut lane, 0, clients, done, ROUNDS)?;
+    let nanos = measure_filled(rt, clients, stored)?;
     println!(rt; "{clients} clients, {stored} entries: {nanos} ns a round")?;
     Ok(())
 }
 
+// The nanoseconds of a round with so many clients, from so many stored entries on.
+fn measure_filled<R: Clock + AllocGlobal>(
+    rt: &R,
+    clients: u64,
+    stored: usize,
+) -> anyhow::Result<u64> {
+    let mut lane = lane_with(rt.alloc(), LIMITS, clients)?;
+    let done = fill(rt.alloc(), &mut lane, clients, stored)?;
+    time_rounds(rt, &mut lane, 0, clients, done, ROUNDS)
+}
+
+// A lane with these limits and so many clients.
+fn lane_with(alloc: Global, limits: Limits, clients: u64) -> anyhow::Result<Lane> {
+    let mut lane = Lane::new(alloc, limits)?;
+    admit_all(&mut lane, 0, clients)?;
+    Ok(lane)
+}
+
 // The nanoseconds of a round on a lane whose window has one free place: the least of some measurements.
 fn measure_full<R: Clock + AllocGlobal>(rt: &R, window: u32, clients: u64) -> anyhow::Result<u64> {
-    let mut lane = Lane::new(rt.alloc(), Limits { window, ..LIMITS })?;
-    admit_all(&mut lane, 0, FILLERS)?;
-    for taken in 1..u64::from(window) {
-        take_one(rt.alloc(), &mut lane, taken)?;
-    }
+    let limits = Limits { window, ..LIMITS };
+    let mut lane = lane_with(rt.alloc(), limits, FILLERS)?;
+    take_all_but_one(rt.alloc(), &mut lane, window)?;
     admit_all(&mut lane, FILLERS, clients)?;
     least_nanos(rt, &mut lane, clients)
+}
+
+// Fills the window but for one place.
+fn take_all_but_one(alloc: Global, lane: &mut Lane, window: u32) -> Result<(), Refused> {
+    for taken in 1..u64::from(window) {
+        take_one(alloc, lane, taken)?;
+    }
+    Ok(())
 }
 
 // Accepts a request of the next of the clients that fill the window, and takes it.

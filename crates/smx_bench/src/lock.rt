@@ -19,6 +19,14 @@ const TOGETHER: u64 = 400_000;
 pub(crate) fn run<R: Threads + Wait + Sync + Print + Clock + AllocGlobal>(
     rt: &R,
 ) -> anyhow::Result<()> {
+    print_alone(rt)?;
+    for threads in [2, 4, 8] {
+        print_together(rt, threads)?;
+    }
+    Ok(())
+}
+
+fn print_alone<R: Wait + Print + Clock + AllocGlobal>(rt: &R) -> anyhow::Result<()> {
     let ticket = alone_under_ticket_lock(rt)?;
     let mutex = alone_under_mutex(rt)?;
     println!(rt;
@@ -26,17 +34,22 @@ pub(crate) fn run<R: Threads + Wait + Sync + Print + Clock + AllocGlobal>(
         Hundredths::quotient(u128::from(ticket), u128::from(ALONE)),
         Hundredths::quotient(u128::from(mutex), u128::from(ALONE))
     )?;
-    for threads in [2, 4, 8] {
-        let times = TOGETHER / threads;
-        let ticket = together_under_ticket_lock(rt, threads, times)?;
-        let mutex = together_under_mutex(rt, threads, times)?;
-        println!(rt;
-            "{threads} threads, million holds a second: ticket lock {}, std Mutex {} ({} to 1)",
-            millions_a_second(TOGETHER, ticket),
-            millions_a_second(TOGETHER, mutex),
-            Hundredths::quotient(u128::from(ticket), u128::from(mutex))
-        )?;
-    }
+    Ok(())
+}
+
+fn print_together<R: Threads + Wait + Sync + Print + Clock + AllocGlobal>(
+    rt: &R,
+    threads: u64,
+) -> anyhow::Result<()> {
+    let times = TOGETHER / threads.max(1);
+    let ticket = together_under_ticket_lock(rt, threads, times)?;
+    let mutex = together_under_mutex(rt, threads, times)?;
+    println!(rt;
+        "{threads} threads, million holds a second: ticket lock {}, std Mutex {} ({} to 1)",
+        millions_a_second(TOGETHER, ticket),
+        millions_a_second(TOGETHER, mutex),
+        Hundredths::quotient(u128::from(ticket), u128::from(mutex))
+    )?;
     Ok(())
 }
 
@@ -81,20 +94,29 @@ fn together_under_ticket_lock<R: Threads + Wait + Sync + Clock + AllocGlobal>(
         Err((_, refused)) => return Err(refused.into()),
     };
     let (works, seat) = works_on(rt, &lock, seat, threads, times)?;
+    let took = nanos_of_works(rt, works)?;
+    let counter = lock.finish(seat)?;
+    ensure_times(counter.count / threads.max(1) == times, counter.count)?;
+    Ok(took)
+}
+
+fn ensure_times(well: bool, count: u64) -> anyhow::Result<()> {
+    anyhow::ensure!(well, "{count} additions");
+    Ok(())
+}
+
+// The nanoseconds that the works take, each in a thread of its own.
+fn nanos_of_works<R: Threads + Wait + Sync + Clock>(
+    rt: &R,
+    works: Vec<Work>,
+) -> anyhow::Result<u64> {
     let start = Instant::now(rt)?;
     thread::map_vec(
         rt,
         works,
         &|work: Work| { add_many(rt, work.lock, work.adder, work.times) },
     )?;
-    let took = nanos_since(rt, start)?;
-    let counter = lock.finish(seat)?;
-    anyhow::ensure!(
-        counter.count / threads.max(1) == times,
-        "{} additions",
-        counter.count
-    );
-    Ok(took)
+    Ok(nanos_since(rt, start)?)
 }
 
 // The work of so many threads, and a seat that takes no part.

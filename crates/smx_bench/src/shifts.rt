@@ -1,13 +1,13 @@
 //! Requests over one lane that is turned over all the while. A port and the lane's tap take turns on
 //! one thread, so that nothing but the lane's own work shows in the time.
-ghost use Rattle.std.specs.Prelude.{◌≡◌, slice_get, Some};
+ghost use Rattle.std.specs.Prelude.{◌≡◌, slice_get, Some, All};
 ghost use Rattle.smx_shared.specs.Views.{locks_of};
 
 use crate::figures::{Hundredths, nanos_since};
 use smx_lane::{Answered, Limits};
 use smx_pdu::command::{RESPONSE, SUBMIT_SM};
 use smx_pdu::{Body, Pdu};
-use smx_shared::{Exchange, Offer, Port, Tap};
+use smx_shared::{Door, Exchange, Offer, Port, Tap};
 use std::alloc::Global;
 use std::rt::Clock;
 use std::sync::Wait;
@@ -34,19 +34,36 @@ const SHIFT: usize = 12_500;
 /// Prints the requests in thousands a second, from the submit to the collected response: those of
 /// the first 25,000, and of all 10,000,000.
 pub(crate) fn run<R: Wait + Print + Clock + AllocGlobal>(rt: &R) -> anyhow::Result<()> {
-    let alloc = rt.alloc();
-    let (exchange, mut door, mut taps) = Exchange::new(rt, alloc, LIMITS, 1)?;
+    let (exchange, door, taps) = Exchange::new(rt, rt.alloc(), LIMITS, 1)?;
+    let mut pair = pair_of(rt, rt.alloc(), &exchange, door, taps)?;
+    print_rates(rt, &mut pair)
+}
+
+// A port and the tap of the only lane.
+fn pair_of<'a, R: Wait>(
+    rt: &R,
+    alloc: Global,
+    at: &'a Exchange,
+    door: Door,
+    taps: Vec<Tap>,
+) -> anyhow::Result<Pair<'a>>
+    requires door { locks_of door.fronts ≡ at.now }
+    requires taps { All (λ t. slice_get at.now t.lane ≡ Some t.front.lock) taps.items }
+{
+    let (mut door, mut taps) = (door, taps);
     let tap = taps.pop().ok_or(Stopped::NoTap)?;
-    let port = door.enter(&exchange, rt)?;
-    let at = &exchange;
-    let mut pair = Pair {
+    let port = door.enter(at, rt)?;
+    Ok(Pair {
         alloc,
         at,
         port,
         tap,
         notes: 0,
         shifts: 0,
-    };
+    })
+}
+
+fn print_rates<R: Wait + Print + Clock>(rt: &R, pair: &mut Pair) -> anyhow::Result<()> {
     let start = Instant::now(rt)?;
     pair.serve(rt, FIRST)?;
     let first = nanos_since(rt, start)?;
@@ -94,18 +111,39 @@ impl Pair<'_> {
     // So many requests, less what is left of whole batches.
     fn serve<R: Wait>(&mut self, rt: &R, requests: u64) -> Result<(), Stopped> {
         for _ in 0..requests / BATCH {
-            for _ in 0..BATCH {
-                self.submit(rt)?;
-            }
-            for _ in 0..BATCH {
-                self.bring(rt)?;
-            }
-            for _ in 0..BATCH {
-                self.collect(rt)?;
-            }
-            if self.notes >= SHIFT {
-                self.turn_over(rt)?;
-            }
+            self.serve_batch(rt)?;
+        }
+        Ok(())
+    }
+
+    // The requests of a batch, and a shift where it is time.
+    fn serve_batch<R: Wait>(&mut self, rt: &R) -> Result<(), Stopped> {
+        self.submit_batch(rt)?;
+        self.bring_batch(rt)?;
+        self.collect_batch(rt)?;
+        if self.notes < SHIFT {
+            return Ok(());
+        }
+        self.turn_over(rt)
+    }
+
+    fn submit_batch<R: Wait>(&mut self, rt: &R) -> Result<(), Stopped> {
+        for _ in 0..BATCH {
+            self.submit(rt)?;
+        }
+        Ok(())
+    }
+
+    fn bring_batch<R: Wait>(&mut self, rt: &R) -> Result<(), Stopped> {
+        for _ in 0..BATCH {
+            self.bring(rt)?;
+        }
+        Ok(())
+    }
+
+    fn collect_batch<R: Wait>(&mut self, rt: &R) -> Result<(), Stopped> {
+        for _ in 0..BATCH {
+            self.collect(rt)?;
         }
         Ok(())
     }

@@ -10,7 +10,7 @@ mod member;
 
 use crate::figures::nanos_since;
 use crate::lane;
-use boxes::{ClientEnds, make_boxes};
+use boxes::{ClientEnds, LaneEnds, make_boxes};
 use carrier::{Carrier, Drawer};
 use flood::Flood;
 use hall::Hall;
@@ -19,7 +19,7 @@ use smx_client::Desk;
 use smx_lane::Limits;
 use smx_memory::{FlagGate, Nobody};
 use smx_session::Account;
-use smx_shared::{Door, Exchange, Tap};
+use smx_shared::{Door, EnterFault, Exchange, Tap};
 use std::alloc::{AllocError, Global};
 use std::rt::Clock;
 use std::sync::Wait;
@@ -100,12 +100,25 @@ fn measure_at<R: Wait + Print + Clock>(
 ) -> anyhow::Result<()>
     requires { locks_of door.old.fronts ≡ drawer.at.now }
 {
-    let answered = AtomicU64::new(0);
     let at = drawer.at;
+    let answered = AtomicU64::new(0);
     let (ends, lane_ends) = make_boxes(rt, alloc, clients).ok_or(NotMade)?;
     let members = make_members(rt, alloc, desk, at, door, ends, &answered)?;
-    let carrier = Carrier::new(alloc, drawer, lane_ends, HISTORY as usize).ok_or(NotMade)?;
-    let mut hall = Hall::new(members, carrier, &answered);
+    measure_with(rt, alloc, members, drawer, lane_ends, &answered)
+}
+
+// Makes the worker towards the centre beside those of the clients, and prints the figures.
+fn measure_with<'a, R: Wait + Print + Clock>(
+    rt: &R,
+    alloc: Global,
+    members: Vec<Member<'a>>,
+    drawer: Drawer<'a>,
+    ends: LaneEnds,
+    answered: &'a AtomicU64,
+) -> anyhow::Result<()> {
+    let clients = members.len();
+    let carrier = Carrier::new(alloc, drawer, ends, HISTORY as usize).ok_or(NotMade)?;
+    let mut hall = Hall::new(members, carrier, answered);
     print_figures(rt, &mut hall, clients)
 }
 
@@ -116,14 +129,24 @@ fn print_figures<R: Wait + Print + Clock>(
 ) -> anyhow::Result<()> {
     let open = AtomicBool::new(true);
     let (mut gate, mut nobody) = (FlagGate::new(&open), Nobody::new());
-    let start = Instant::now(rt)?;
-    hall.serve(rt, &mut gate, &mut nobody, REQUESTS)?;
-    let request = nanos_since(rt, start)? / REQUESTS;
+    let request = nanos_of_request(rt, hall, &mut gate, &mut nobody)?;
     let client = hall.client_idles(rt, &mut gate, &mut nobody)?;
     let centre = hall.centre_idles(rt, &mut gate, &mut nobody)?;
     println!(rt; "{clients} clients: {request} ns a request through both workers")?;
     println!(rt; "a turn that does nothing: client {client} ns, centre {centre} ns")?;
     Ok(())
+}
+
+// The nanoseconds of one of the requests of a case.
+fn nanos_of_request<R: Wait + Clock>(
+    rt: &R,
+    hall: &mut Hall,
+    gate: &mut FlagGate,
+    nobody: &mut Nobody,
+) -> anyhow::Result<u64> {
+    let start = Instant::now(rt)?;
+    hall.serve(rt, gate, nobody, REQUESTS)?;
+    Ok(nanos_since(rt, start)? / REQUESTS)
 }
 
 // A worker for each of these ends, whose clients together submit the requests of a case.
@@ -141,10 +164,18 @@ fn make_members<'a, R: Wait>(
     let each = REQUESTS / (ends.len() as u64).max(1);
     let mut members = Vec::new(alloc);
     for ends in ends {
-        let port = door.enter(at, rt)?;
+        let seat = seat_at(rt, at, door)?;
         let flood = Flood::new(alloc, answered, each)?;
-        let member = Member::new(alloc, Seat { at, port }, desk, ends, flood).ok_or(NotMade)?;
-        members.push(member)?;
+        members.push(Member::new(alloc, seat, desk, ends, flood).ok_or(NotMade)?)?;
     }
     Ok(members)
+}
+
+// The next client's seat.
+fn seat_at<'a, R: Wait>(rt: &R, at: &'a Exchange, door: &mut Door) -> Result<Seat<'a>, EnterFault>
+    requires { locks_of door.old.fronts ≡ at.now }
+    ensures { locks_of door.new.fronts ≡ at.now }
+{
+    let port = door.enter(at, rt)?;
+    Ok(Seat { at, port })
 }

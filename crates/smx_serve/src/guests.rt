@@ -2,10 +2,13 @@
 
 use crate::notice::Notice;
 use crate::seats::Member;
+use mio::event::Event;
 use smx_slots::{ClientEnds, Slots};
 use smx_socket::{Flushed, Socket};
+use smx_turns::{Directory, Gate, RunEnd};
 use std::alloc::{AllocError, Global};
 use std::rc::Rc;
+use std::sync::Wait;
 
 /// How long the octets of a client that is gone may wait for its socket, in milliseconds.
 const LINGER: u64 = 2_000;
@@ -20,8 +23,36 @@ pub(crate) struct Guest<'d> {
 }
 
 impl Guest<'_> {
+    // Turns the worker until it is idle, at most so often: how that ended, and whether octets moved.
+    pub fn turn<R: Wait + Eprint, G: Gate, D: Directory>(
+        &mut self,
+        rt: &R,
+        gate: &mut G,
+        directory: &mut D,
+        turns: u64,
+    ) -> (RunEnd, bool) {
+        let before = self.socket.traffic();
+        let was_bound = self.member.kind().is_some();
+        let end = self.member.run(rt, gate, directory, turns);
+        if !was_bound {
+            self.say_bound(rt);
+        }
+        (end, self.socket.traffic() != before)
+    }
+
+    // Says why its client is gone.
+    pub fn say_gone<R: Eprint>(&self, rt: &R, end: RunEnd) {
+        let name = self.address.as_str();
+        let notice = match end {
+            RunEnd::Fault(fault) => Notice::Failed(self.client, name, fault),
+            _ if self.socket.has_ended() => Notice::Closed(self.client, name),
+            _ => Notice::Left(self.client, name),
+        };
+        let _ = eprintln!(rt; "{notice}");
+    }
+
     // Says as what its client is bound, where it is.
-    pub fn say_bound<R: Eprint>(&self, rt: &R) {
+    fn say_bound<R: Eprint>(&self, rt: &R) {
         if let Some(kind) = self.member.kind() {
             let address = self.address.as_str();
             let _ = eprintln!(rt; "{}", Notice::Admitted(self.client, address, kind));
@@ -122,6 +153,16 @@ impl<'d> Guests<'d> {
             return Some(&lingering.socket);
         }
         None
+    }
+
+    // Heeds what the system says of the slot's socket.
+    pub fn note(&mut self, slot: usize, event: &Event, now: u64) {
+        let Some(socket) = self.socket(slot) else {
+            return;
+        };
+        socket.note(event);
+        socket.flush();
+        self.settle(slot, now);
     }
 
     // The slot's client is gone: the slot is free once its socket has taken what waits.

@@ -62,36 +62,62 @@ impl fmt::Display for Notice<'_> {
             Notice::Listening(address) => write!(f, "listening on {address}"),
             Notice::NotListening(address) => write!(f, "{address} can't be listened at"),
             Notice::Connected(lane, address, name) => {
-                write!(f, "upstream {lane} {name} at {address}: connected")
+                write_lane(f, *lane, address, name, "connected")
             }
             Notice::Unreached(lane, address, name) => {
-                write!(f, "upstream {lane} {name} at {address}: can't be reached")
+                write_lane(f, *lane, address, name, "can't be reached")
             }
-            Notice::Bound(lane, address, name) => {
-                write!(f, "upstream {lane} {name} at {address}: bound")
-            }
-            Notice::Lost(lane, address, name) => {
-                write!(f, "upstream {lane} {name} at {address}: ended")
-            }
-            Notice::Unbound(lane, address, name) => {
-                write!(f, "upstream {lane} {name} at {address}: unbound")
-            }
-            Notice::Came(client, address) => write!(f, "client {client} at {address}: connected"),
-            Notice::Admitted(client, address, kind) => {
-                write!(f, "client {client} at {address}: bound as {kind}")
-            }
-            Notice::Left(client, address) => write!(f, "client {client} at {address}: left"),
+            Notice::Bound(lane, address, name) => write_lane(f, *lane, address, name, "bound"),
+            Notice::Lost(lane, address, name) => write_lane(f, *lane, address, name, "ended"),
+            Notice::Unbound(lane, address, name) => write_lane(f, *lane, address, name, "unbound"),
+            Notice::Came(client, address) => write_client(f, *client, address, &"connected"),
+            Notice::Admitted(client, address, kind) => write_bound(f, *client, address, kind),
+            Notice::Left(client, address) => write_client(f, *client, address, &"left"),
             Notice::Closed(client, address) => {
-                write!(f, "client {client} at {address}: closed its connection")
+                write_client(f, *client, address, &"closed its connection")
             }
-            Notice::Failed(client, address, fault) => {
-                write!(f, "client {client} at {address}: {fault}")
-            }
-            Notice::NoSlot(address) => write!(f, "{address}: refused, no slot is free"),
-            Notice::Refused(address, fault) => write!(f, "{address}: refused, {fault}"),
-            Notice::Unwatched(address) => write!(f, "{address}: refused, it can't be watched"),
-            Notice::NoDescriptor => write!(f, "no connection can be accepted now"),
-            Notice::Stopping => write!(f, "stopping"),
+            Notice::Failed(client, address, fault) => write_client(f, *client, address, fault),
+            Notice::NoSlot(address) => write_refusal(f, address, &"no slot is free"),
+            Notice::Refused(address, fault) => write_refusal(f, address, fault),
+            Notice::Unwatched(address) => write_refusal(f, address, &"it can't be watched"),
+            Notice::NoDescriptor => f.write_str("no connection can be accepted now"),
+            Notice::Stopping => f.write_str("stopping"),
         }
     }
+}
+
+fn write_lane<W: fmt::Write>(
+    f: &mut fmt::Formatter<W>,
+    lane: usize,
+    address: &str,
+    name: &str,
+    words: &str,
+) -> fmt::Result {
+    write!(f, "upstream {lane} {name} at {address}: {words}")
+}
+
+fn write_client<W: fmt::Write, T: fmt::Display>(
+    f: &mut fmt::Formatter<W>,
+    client: u64,
+    address: &str,
+    words: &T,
+) -> fmt::Result {
+    write!(f, "client {client} at {address}: {words}")
+}
+
+fn write_bound<W: fmt::Write>(
+    f: &mut fmt::Formatter<W>,
+    client: u64,
+    address: &str,
+    kind: &str,
+) -> fmt::Result {
+    write!(f, "client {client} at {address}: bound as {kind}")
+}
+
+fn write_refusal<W: fmt::Write, T: fmt::Display>(
+    f: &mut fmt::Formatter<W>,
+    address: &str,
+    reason: &T,
+) -> fmt::Result {
+    write!(f, "{address}: refused, {reason}")
 }

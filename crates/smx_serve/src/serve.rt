@@ -97,6 +97,57 @@ fn boxes_of<R: Wait>(
     Ok(ends_of(rt, alloc, clients, config.upstream.len(), places)?)
 }
 
+// The lanes and the boxes, before anybody is connected.
+#[derive(Drop)]
+struct Wiring {
+    gateway: Gateway,
+    drawers: Vec<Drawer>,
+    ends: Vec<ClientEnds>,
+    lane_ends: Vec<LaneEnds>,
+}
+
+fn wiring_of<R: Wait>(rt: &R, alloc: Global, config: &Config) -> Result<Wiring, Ended> {
+    let (gateway, drawers) = gateway_of(rt, alloc, config)?;
+    let (ends, lane_ends) = boxes_of(rt, alloc, config)?;
+    Ok(Wiring {
+        gateway,
+        drawers,
+        ends,
+        lane_ends,
+    })
+}
+
+// The loop, which listens and is connected to all upstreams.
+fn loop_of<'d, R>(
+    rt: &R,
+    alloc: Global,
+    config: &'d Config,
+    desk: &'d Desk,
+    poll: Poll,
+) -> Result<Loop<'d>, Ended>
+where
+    R: Wait + Net<Listener = std::net::TcpListener, Stream = TcpStream> + Eprint,
+{
+    let wiring = wiring_of(rt, alloc, config)?;
+    let listener = announce(rt, &poll, config)?;
+    let Wiring {
+        gateway,
+        drawers,
+        ends,
+        lane_ends,
+    } = wiring;
+    let lanes = lanes_of(rt, alloc, poll.registry(), config, drawers, lane_ends, 0)?;
+    let entrance = Entrance {
+        alloc,
+        listener,
+        gateway,
+        places: config.places,
+        short: false,
+    };
+    let tables = Tables::new(alloc, config, ends)?;
+    Ok(Loop::new(config, desk, poll, lanes, entrance, tables))
+}
+
 impl Server {
     /// A proxy, and with it what stops it. None where the system has no descriptors or no memory.
     pub fn new<R: Net>(rt: &R, alloc: Global) -> Option<Server> {
@@ -150,22 +201,9 @@ impl Server {
         let Ok(start) = Instant::now(rt) else {
             return Err(Ended::NoEvents);
         };
-        let (gateway, drawers) = gateway_of(rt, alloc, config)?;
-        let (ends, lane_ends) = boxes_of(rt, alloc, config)?;
-        let listener = announce(rt, &poll, config)?;
-        let port = port_of(&listener);
-        let lanes = lanes_of(rt, alloc, poll.registry(), config, drawers, lane_ends, 0)?;
-        let entrance = Entrance {
-            alloc,
-            listener,
-            gateway,
-            places: config.places,
-            short: false,
-        };
-        let tables = Tables::new(alloc, config, ends)?;
-        let mut turning = Loop::new(config, desk, poll, lanes, entrance, tables);
+        let mut turning = loop_of(rt, alloc, config, desk, poll)?;
         let _ = eprintln!(rt; "{}", Notice::Listening(config.listen.as_str()));
-        remote.listen(port);
+        remote.listen(port_of(&turning.entrance.listener));
         Ok(turning.run(rt, &remote, start))
     }
 }

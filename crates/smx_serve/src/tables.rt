@@ -15,6 +15,12 @@ pub(crate) struct Tables<'d> {
     pub guests: Guests<'d>,
     pub roll: Roll,
     pub routes: Routes,
+    pub queues: Queues,
+}
+
+/// Who has something to do.
+#[derive(Drop)]
+pub(crate) struct Queues {
     pub ready: Ready,
     // Those of the pass that is made.
     pub current: Vec<usize>,
@@ -34,16 +40,31 @@ impl<'d> Tables<'d> {
         let lanes = config.upstream.len();
         let parties = lanes.saturating_add(ends.len());
         let roll = Roll::new(alloc, ends.len())?;
+        let queues = Queues::new(alloc, lanes, parties)?;
+        let events = Events::with_capacity(alloc, 512)?;
         let guests = Guests::new(alloc, Slots::new(alloc, ends)?)?;
         Ok(Tables {
-            events: Events::with_capacity(alloc, 512)?,
+            events,
             guests,
             roll,
             routes: Routes::new(alloc),
-            ready: ready_lanes(alloc, lanes, parties)?,
-            current: Vec::with_capacity(alloc, parties)?,
-            dirty: Ready::new(alloc, parties)?,
-            stalled: Vec::with_capacity(alloc, parties)?,
+            queues,
+        })
+    }
+}
+
+impl Queues {
+    // Of so many parties the lanes are ready.
+    fn new(alloc: Global, lanes: usize, parties: usize) -> Result<Queues, AllocError> {
+        let ready = ready_lanes(alloc, lanes, parties)?;
+        let dirty = Ready::new(alloc, parties)?;
+        let current = Vec::with_capacity(alloc, parties)?;
+        let stalled = Vec::with_capacity(alloc, parties)?;
+        Ok(Queues {
+            ready,
+            current,
+            dirty,
+            stalled,
         })
     }
 }

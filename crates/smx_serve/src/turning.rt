@@ -4,7 +4,7 @@ use crate::entrance::Entrance;
 use crate::guests::{Guest, Guests};
 use crate::notice::{Ended, Notice};
 use crate::remote::Remote;
-use crate::tables::Tables;
+use crate::tables::{Queues, Tables};
 use crate::upstreams::Lane;
 use mio::{Events, Poll, Token};
 use smx_client::Desk;
@@ -71,11 +71,14 @@ impl<'d> Loop<'d> {
             guests,
             roll,
             routes,
+            queues,
+        } = tables;
+        let Queues {
             ready,
             current,
             dirty,
             stalled,
-        } = tables;
+        } = queues;
         Loop {
             config,
             desk,
@@ -151,23 +154,17 @@ impl<'d> Loop<'d> {
         if place.carrier.is_over() {
             return true;
         }
-        let before = place.socket.traffic();
-        let was_bound = place.carrier.is_bound();
         let mut bell = Bell::new(count, &mut self.ready, &self.roll);
         let mut guide = Guide::new(&mut self.routes, &self.roll);
-        let end = place
-            .carrier
-            .run(rt, &mut bell, &mut guide, self.now, TURNS);
-        let newly = place.carrier.is_bound() && !was_bound;
-        let moved = place.socket.traffic() != before;
-        if newly {
+        let turned = place.turn(rt, &mut bell, &mut guide, self.now, TURNS);
+        if turned.newly_bound {
             self.say_of_lane(rt, lane, true);
         }
-        if moved {
+        if turned.moved {
             self.unstall();
         }
-        self.was_turned(lane, end, moved);
-        match end {
+        self.was_turned(lane, turned.end, turned.moved);
+        match turned.end {
             RunEnd::Idle | RunEnd::Turns => true,
             RunEnd::Left | RunEnd::Fault(_) => {
                 self.say_of_lane(rt, lane, false);
@@ -182,15 +179,9 @@ impl<'d> Loop<'d> {
         let Some(guest) = self.guests.guest(slot) else {
             return;
         };
-        let before = guest.socket.traffic();
-        let was_bound = guest.member.kind().is_some();
         let mut bell = Bell::new(lanes, &mut self.ready, &self.roll);
         let mut guide = Guide::new(&mut self.routes, &self.roll);
-        let end = guest.member.run(rt, &mut bell, &mut guide, TURNS);
-        if !was_bound {
-            guest.say_bound(rt);
-        }
-        let moved = guest.socket.traffic() != before;
+        let (end, moved) = guest.turn(rt, &mut bell, &mut guide, TURNS);
         self.was_turned(lanes.saturating_add(slot), end, moved);
         match end {
             RunEnd::Idle | RunEnd::Turns => {}
@@ -204,19 +195,13 @@ impl<'d> Loop<'d> {
 
     // Lets a client go; the lanes may have answers to its messages.
     pub fn let_go<R: Wait + Eprint>(&mut self, rt: &R, slot: usize, guest: Guest<'d>, end: RunEnd) {
+        guest.say_gone(rt, end);
         let Guest {
             client,
-            address,
             member,
             socket,
+            ..
         } = guest;
-        let name = address.as_str();
-        let notice = match end {
-            RunEnd::Fault(fault) => Notice::Failed(client, name, fault),
-            _ if socket.has_ended() => Notice::Closed(client, name),
-            _ => Notice::Left(client, name),
-        };
-        let _ = eprintln!(rt; "{notice}");
         let mut guide = Guide::new(&mut self.routes, &self.roll);
         let (ends, answered) = member.close(rt, &mut guide);
         self.roll.remove(client);
@@ -342,15 +327,11 @@ impl<'d> Loop<'d> {
             if party == WAKER {
                 continue;
             }
-            if party < lanes {
-                if let Some(lane) = self.lanes.get(party) {
-                    lane.socket.note(event);
-                    lane.socket.flush();
-                }
-            } else if let Some(socket) = self.guests.socket(party - lanes) {
-                socket.note(event);
-                socket.flush();
-                self.guests.settle(party - lanes, self.now);
+            match self.lanes.get(party) {
+                Some(lane) => lane.note(event),
+                None => self
+                    .guests
+                    .note(party.saturating_sub(lanes), event, self.now),
             }
             self.ready.add(party);
         }

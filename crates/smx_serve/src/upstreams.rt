@@ -7,22 +7,61 @@ ghost use Rattle.smx_session.specs.declared.upstream_state.UpstreamState.{Upstre
 use crate::entrance::link_of;
 use crate::notice::{Ended, Notice};
 use crate::seats::{Carrier, Drawer};
+use mio::event::Event;
 use mio::{Registry, Token};
 use smx_config::{Config, Upstream};
 use smx_session::UpstreamSession;
 use smx_shared::{Exchange, Tap};
 use smx_slots::LaneEnds;
-use smx_socket::Socket;
+use smx_socket::{Socket, SocketLink};
+use smx_turns::{Directory, Gate, RunEnd};
 use std::alloc::{AllocError, Global};
 use std::net::{Net, TcpListener, TcpStream};
 use std::rc::Rc;
-use std::sync::Arc;
+use std::sync::{Arc, Wait};
 
 /// One upstream: its worker, and its socket.
 #[derive(Drop)]
 pub(crate) struct Lane {
     pub carrier: Carrier,
     pub socket: Rc<Socket>,
+}
+
+/// What a turn of a worker did.
+#[derive(Clone, Copy)]
+pub(crate) struct Turned {
+    pub end: RunEnd,
+    // Octets moved.
+    pub moved: bool,
+    // It is bound since.
+    pub newly_bound: bool,
+}
+
+impl Lane {
+    // Heeds what the system says of the socket.
+    pub fn note(&self, event: &Event) {
+        self.socket.note(event);
+        self.socket.flush();
+    }
+
+    // Turns the worker until it is idle, at most so often.
+    pub fn turn<R: Wait, G: Gate, D: Directory>(
+        &mut self,
+        rt: &R,
+        gate: &mut G,
+        directory: &mut D,
+        now: u64,
+        turns: u64,
+    ) -> Turned {
+        let before = self.socket.traffic();
+        let was_bound = self.carrier.is_bound();
+        let end = self.carrier.run(rt, gate, directory, now, turns);
+        Turned {
+            end,
+            moved: self.socket.traffic() != before,
+            newly_bound: self.carrier.is_bound() && !was_bound,
+        }
+    }
 }
 
 // Each tap beside its exchange.
@@ -82,6 +121,22 @@ fn session_of(alloc: Global, upstream: &Upstream, silence: u64, now: u64) -> Opt
     Some(UpstreamSession::new(alloc, system_id, password, silence, now))
 }
 
+// A connection to this address, which the loop knows by this lane.
+fn linked<R>(
+    rt: &R,
+    alloc: Global,
+    registry: &Registry,
+    address: &str,
+    lane: usize,
+) -> Option<(Rc<Socket>, SocketLink)>
+where
+    R: Net<Listener = TcpListener, Stream = TcpStream>,
+{
+    let stream = connect(rt, address)?;
+    let socket = Socket::new(alloc, stream, registry, Token(lane))?;
+    link_of(alloc, socket)
+}
+
 // One upstream, connected; its bind is the first that its worker writes.
 fn lane_of<R>(
     rt: &R,
@@ -96,10 +151,8 @@ fn lane_of<R>(
 where
     R: Net<Listener = TcpListener, Stream = TcpStream>,
 {
-    let stream = connect(rt, upstream.address.as_str())?;
-    let token = Token(drawer.tap.lane());
-    let socket = Socket::new(alloc, stream, registry, token)?;
-    let (socket, link) = link_of(alloc, socket)?;
+    let lane = drawer.tap.lane();
+    let (socket, link) = linked(rt, alloc, registry, upstream.address.as_str(), lane)?;
     let session = session_of(alloc, upstream, config.silence, now)?;
     let history = config.limits.history as usize;
     let carrier = Carrier::new(alloc, drawer, session, ends, link, history)?;
@@ -125,16 +178,29 @@ where
         let Some(upstream) = config.upstream.get(at) else {
             break;
         };
-        let address = upstream.address.as_str();
-        let name = upstream.system_id.as_str();
-        let Some(lane) = lane_of(rt, alloc, registry, config, upstream, drawer, ends, now) else {
-            let _ = eprintln!(rt; "{}", Notice::Unreached(at, address, name));
-            return Err(Ended::Unreached(at));
-        };
-        if lanes.push(lane).is_err() {
-            return Err(Ended::NoMemory);
-        }
-        let _ = eprintln!(rt; "{}", Notice::Connected(at, address, name));
+        let lane = lane_of(rt, alloc, registry, config, upstream, drawer, ends, now);
+        keep_lane(rt, &mut lanes, upstream, lane)?;
     }
     Ok(lanes)
+}
+
+// Keeps the next lane, and says whether it could be reached.
+fn keep_lane<R: Eprint>(
+    rt: &R,
+    lanes: &mut Vec<Lane>,
+    upstream: &Upstream,
+    lane: Option<Lane>,
+) -> Result<(), Ended> {
+    let at = lanes.len();
+    let address = upstream.address.as_str();
+    let name = upstream.system_id.as_str();
+    let Some(lane) = lane else {
+        let _ = eprintln!(rt; "{}", Notice::Unreached(at, address, name));
+        return Err(Ended::Unreached(at));
+    };
+    if lanes.push(lane).is_err() {
+        return Err(Ended::NoMemory);
+    }
+    let _ = eprintln!(rt; "{}", Notice::Connected(at, address, name));
+    Ok(())
 }

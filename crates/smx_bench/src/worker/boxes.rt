@@ -25,11 +25,26 @@ fn client_ends<R: Wait>(
     answers: Sender<Pdu>,
     places: &mut Vec<Sender<MoItem>>,
 ) -> Option<ClientEnds> {
+    let senders = only(alloc, answers)?;
+    let inbox = inbox_of(rt, alloc, places)?;
+    Some(ClientEnds { inbox, senders })
+}
+
+fn only(alloc: Global, sender: Sender<Pdu>) -> Option<Vec<Sender<Pdu>>> {
+    let mut senders = Vec::new(alloc);
+    senders.push(sender).ok()?;
+    Some(senders)
+}
+
+// A client's inbox, whose sender comes to the places.
+fn inbox_of<R: Wait>(
+    rt: &R,
+    alloc: Global,
+    places: &mut Vec<Sender<MoItem>>,
+) -> Option<Receiver<MoItem>> {
     let (inbox, mut made) = Boxed::new(rt, alloc, 1, 4).ok()?;
     places.push(made.pop()?).ok()?;
-    let mut senders = Vec::new(alloc);
-    senders.push(answers).ok()?;
-    Some(ClientEnds { inbox, senders })
+    Some(inbox)
 }
 
 /// The ends of so many clients, and those of the lane.

@@ -48,13 +48,26 @@ impl<'a> Carrier<'a> {
         ends: LaneEnds,
         history: usize,
     ) -> Option<Carrier<'a>> {
+        let session = session(alloc)?;
+        Carrier::with_session(alloc, drawer, session, ends, history)
+    }
+
+    fn with_session(
+        alloc: Global,
+        drawer: Drawer<'a>,
+        session: UpstreamSession,
+        ends: LaneEnds,
+        history: usize,
+    ) -> Option<Carrier<'a>>
+        requires { session.state ≡ UpstreamState.Binding }
+    {
         let Drawer { at, tap } = drawer;
         let LaneEnds { answers, senders } = ends;
         let centre = CentrePeer::new(alloc, Centre::new(alloc, Mode::Plain));
         let parts = Parts {
             link: MemoryLink::new(centre),
             tap,
-            session: session(alloc)?,
+            session,
             answers,
             senders,
         };

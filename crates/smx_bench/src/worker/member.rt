@@ -41,11 +41,11 @@ impl<'a> Member<'a> {
         ends: ClientEnds,
         flood: Flood<'a>,
     ) -> Option<Member<'a>> {
-        let Seat { at, port } = seat;
-        let ClientEnds { inbox, senders } = ends;
-        if senders.len() != port.lanes() {
+        if ends.senders.len() != seat.port.lanes() {
             return None;
         }
+        let Seat { at, port } = seat;
+        let ClientEnds { inbox, senders } = ends;
         let link = MemoryLink::new(flood);
         match ClientWorker::new(alloc, port, desk, inbox, senders, 4, link) {
             Ok(worker) => Some(Member {
