@@ -59,42 +59,17 @@ fn measure<R: Threads + Wait + Sync + Clock + AllocGlobal>(
     ports: u64,
     lanes: usize,
 ) -> anyhow::Result<u64> {
-    let Opened { entrance, taps } = open(rt, rt.alloc(), lanes)?;
-    let active = AtomicU64::new(ports);
-    let upstreams = upstreams_of(rt.alloc(), &entrance.at, taps, &active)?;
-    let clients = clients_of(rt, entrance, ports, &active)?;
-    nanos_together(rt, clients, upstreams)
-}
-
-/// The door beside its exchange, and the taps of the exchange's lanes.
-#[derive(Drop)]
-struct Opened {
-    entrance: Entrance,
-    taps: Vec<Tap>,
-    ghost fit: { All (λ t. slice_get (arc_value entrance.at) t.lane ≡ Some t.front.lock) taps.items },
-}
-
-fn open<R: Wait>(rt: &R, alloc: Global, lanes: usize) -> anyhow::Result<Opened> {
+    let alloc = rt.alloc();
     let (exchange, door, taps) = Exchange::new(rt, alloc, LIMITS, lanes)?;
     let at = Arc::new(alloc, exchange)?;
-    let entrance = Entrance { alloc, at, door };
-    Ok(Opened { entrance, taps })
-}
-
-// So many clients, which together submit the requests of a case.
-fn clients_of<'a, R: Wait>(
-    rt: &R,
-    entrance: Entrance,
-    ports: u64,
-    active: &'a AtomicU64,
-) -> anyhow::Result<Vec<Client<'a>>> {
-    let mut entrance = entrance;
-    let requests = REQUESTS / ports.max(1);
-    let mut clients = Vec::new(entrance.alloc);
+    let active = AtomicU64::new(ports);
+    let upstreams = upstreams_of(alloc, &at, taps, &active)?;
+    let mut entrance = Entrance { alloc, at, door };
+    let mut clients = Vec::new(alloc);
     for _ in 0..ports {
-        clients.push(entrance.enter(rt, requests, active)?)?;
+        clients.push(entrance.enter(rt, REQUESTS / ports.max(1), &active)?)?;
     }
-    Ok(clients)
+    nanos_together(rt, clients, upstreams)
 }
 
 // The nanoseconds that they take, each in a thread of its own.
@@ -110,16 +85,12 @@ fn nanos_together<R: Threads + Wait + Sync + Clock>(
         || thread::map_vec(rt, upstreams, &|upstream: Upstream| serve_all(rt, upstream)),
     );
     let nanos = nanos_since(rt, start)?;
-    ensure_all(sum_of(&collected?), sum_of(&queued?))?;
-    Ok(nanos)
-}
-
-fn ensure_all(collected: u64, queued: u64) -> anyhow::Result<()> {
+    let (collected, queued) = (sum_of(&collected?), sum_of(&queued?));
     anyhow::ensure!(
         collected == REQUESTS && queued == REQUESTS,
         "{collected} responses collected, {queued} queued"
     );
-    Ok(())
+    Ok(nanos)
 }
 
 fn sum_of(counts: &[u64]) -> u64 {

@@ -10,7 +10,7 @@ mod member;
 
 use crate::figures::nanos_since;
 use crate::lane;
-use boxes::{ClientEnds, LaneEnds, make_boxes};
+use boxes::{ClientEnds, make_boxes};
 use carrier::{Carrier, Drawer};
 use flood::Flood;
 use hall::Hall;
@@ -100,25 +100,12 @@ fn measure_at<R: Wait + Print + Clock>(
 ) -> anyhow::Result<()>
     requires { locks_of door.old.fronts ≡ drawer.at.now }
 {
-    let at = drawer.at;
     let answered = AtomicU64::new(0);
+    let at = drawer.at;
     let (ends, lane_ends) = make_boxes(rt, alloc, clients).ok_or(NotMade)?;
     let members = make_members(rt, alloc, desk, at, door, ends, &answered)?;
-    measure_with(rt, alloc, members, drawer, lane_ends, &answered)
-}
-
-// Makes the worker towards the centre beside those of the clients, and prints the figures.
-fn measure_with<'a, R: Wait + Print + Clock>(
-    rt: &R,
-    alloc: Global,
-    members: Vec<Member<'a>>,
-    drawer: Drawer<'a>,
-    ends: LaneEnds,
-    answered: &'a AtomicU64,
-) -> anyhow::Result<()> {
-    let clients = members.len();
-    let carrier = Carrier::new(alloc, drawer, ends, HISTORY as usize).ok_or(NotMade)?;
-    let mut hall = Hall::new(members, carrier, answered);
+    let carrier = Carrier::new(alloc, drawer, lane_ends, HISTORY as usize).ok_or(NotMade)?;
+    let mut hall = Hall::new(members, carrier, &answered);
     print_figures(rt, &mut hall, clients)
 }
 
@@ -129,24 +116,14 @@ fn print_figures<R: Wait + Print + Clock>(
 ) -> anyhow::Result<()> {
     let open = AtomicBool::new(true);
     let (mut gate, mut nobody) = (FlagGate::new(&open), Nobody::new());
-    let request = nanos_of_request(rt, hall, &mut gate, &mut nobody)?;
+    let start = Instant::now(rt)?;
+    hall.serve(rt, &mut gate, &mut nobody, REQUESTS)?;
+    let request = nanos_since(rt, start)? / REQUESTS;
     let client = hall.client_idles(rt, &mut gate, &mut nobody)?;
     let centre = hall.centre_idles(rt, &mut gate, &mut nobody)?;
     println!(rt; "{clients} clients: {request} ns a request through both workers")?;
     println!(rt; "a turn that does nothing: client {client} ns, centre {centre} ns")?;
     Ok(())
-}
-
-// The nanoseconds of one of the requests of a case.
-fn nanos_of_request<R: Wait + Clock>(
-    rt: &R,
-    hall: &mut Hall,
-    gate: &mut FlagGate,
-    nobody: &mut Nobody,
-) -> anyhow::Result<u64> {
-    let start = Instant::now(rt)?;
-    hall.serve(rt, gate, nobody, REQUESTS)?;
-    Ok(nanos_since(rt, start)? / REQUESTS)
 }
 
 // A worker for each of these ends, whose clients together submit the requests of a case.
