@@ -5,7 +5,7 @@
 #
 # Lines of standard input name a call of Net::SMPP and its words, as `submit_sm seq=0x1 short_message=6869`:
 # what begins with `0x` is a number, else octets in hexadecimal; `tlv:TAG=HEX` is an optional parameter of
-# any tag. `close` closes the link. What goes over the link is said on standard
+# any tag. `close` closes the link; from `hold` on to `go` a centre leaves submit_sm unanswered. What goes over the link is said on standard
 # output, one line a PDU: `out COMMAND STATUS NUMBER BODY` and `in ..`, hexadecimal, and behind what
 # came in the name of the PDU and the fields that Net::SMPP read. A centre answers binds, requests,
 # enquire_link and unbind by itself; an ESME answers deliver_sm, data_sm and enquire_link.
@@ -31,6 +31,12 @@ sub syswrite {
     return $me->SUPER::syswrite($octets);
 }
 
+# An answer that is a header alone, of any command.
+sub header {
+    my ($me, %words) = @_;
+    $me->resp_backend($words{command}, '', $me, seq => $words{seq}, status => $words{status});
+}
+
 package main;
 $| = 1;
 $SIG{__WARN__} = sub { print "warn $_[0]" };
@@ -44,12 +50,14 @@ if ($what eq 'esme') {
 }
 print "ready\n";
 my $messages = 0;
+my $holds = 0;
 
 # What the peer answers by itself.
 sub answer {
     my ($pdu) = @_;
     my ($command, @seq) = ($pdu->{cmd}, seq => $pdu->{seq});
-    if ($command == 0x15) { $link->enquire_link_resp(@seq) }
+    if ($command == 0x04 && $holds) { return }
+    elsif ($command == 0x15) { $link->enquire_link_resp(@seq) }
     elsif ($command == 0x06) { $link->unbind_resp(@seq) }
     elsif ($command == 0x05) { $link->deliver_sm_resp(@seq, message_id => '') }
     elsif ($what eq 'esme' && $command == 0x103) { $link->data_sm_resp(@seq, message_id => '') }
@@ -82,6 +90,7 @@ sub obey {
     my ($line) = @_;
     my ($call, @words) = split / /, $line;
     if ($call eq 'close') { close $link; $link = undef; return; }
+    if ($call eq 'hold' || $call eq 'go') { $holds = $call eq 'hold'; return; }
     my @pairs;
     for (@words) {
         my ($key, $value) = split /=/, $_, 2;
