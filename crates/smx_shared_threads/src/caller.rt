@@ -14,7 +14,7 @@ use std::thread;
 pub(crate) const REQUESTS: u32 = 200;
 
 /// How often a client looks for the other's first accept, and how often for a response.
-const LOOKS: u32 = 10_000;
+const LOOKS: u32 = 10_000_000;
 
 const COLLECTS: u32 = 100_000_000;
 
