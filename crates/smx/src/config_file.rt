@@ -1,34 +1,60 @@
 //! The check of a configuration's file.
-use smx_config::{Config, FileFault, advice, check, read, read_text, reject};
+use crate::watched::{Because, Watched};
+use smx_config::{Config, ConfigFault, FileFault, advice, check, read, read_text, reject, unread};
 use std::process::ExitCode;
 use std::rt::Files;
 use std::{fs, io};
 
-// The text of a file.
-fn text_of<R: Files + AllocGlobal>(rt: &R, path: &str) -> Result<String, FileFault> {
-    match fs::open(rt, path) {
-        Ok(file) => {
-            let mut file = file;
-            read_text(rt.alloc(), &mut file)
+// The text of a file. Where there is none, that is said.
+fn text_of<R: Files + Eprint + AllocGlobal>(rt: &R, path: &str) -> Result<String, FileFault> {
+    let file = match fs::open(rt, path) {
+        Ok(file) => file,
+        Err(error) => {
+            let _ = eprintln!(rt; "{path}: {error}");
+            return Err(FileFault::Failed);
         }
-        Err(_) => Err(FileFault::Failed),
+    };
+    let mut file = Watched::new(file);
+    match read_text(rt.alloc(), &mut file) {
+        Ok(text) => Ok(text),
+        Err(fault) => {
+            let error = file.error();
+            let _ = eprintln!(rt; "{path}: {}", Because { fault, error });
+            Err(fault)
+        }
     }
 }
 
-// Says on standard error what is wrong with a text, and what would be right.
+// Says on standard error what is wrong with a text, and what would be right. A fault that isn't met
+// again was want of memory.
 fn advise<R: Eprint + AllocGlobal>(rt: &R, path: &str, text: &str) {
-    if let Err(fault) = read(rt.alloc(), text) {
-        let _ = match advice(rt.alloc(), text, fault) {
-            Ok(words) => eprintln!(rt; "{path}: {words}"),
-            Err(_) => eprintln!(rt; "{path}: {fault}"),
-        };
+    let fault = match read(rt.alloc(), text) {
+        Ok(_) => ConfigFault::NoMemory,
+        Err(fault) => fault,
+    };
+    let _ = match advice(rt.alloc(), text, fault) {
+        Ok(words) => eprintln!(rt; "{path}: {words}"),
+        Err(_) => eprintln!(rt; "{path}: {fault}"),
+    };
+}
+
+// Says on standard error which keys of a text nobody reads.
+fn name_unread<R: Eprint + AllocGlobal>(rt: &R, path: &str, text: &str) {
+    match unread(rt.alloc(), text) {
+        Ok(all) => {
+            for words in all.as_slice() {
+                let _ = eprintln!(rt; "{path}: {words}");
+            }
+        }
+        Err(_) => {
+            let _ = eprintln!(rt; "{path}: out of memory; keys that nobody reads aren't named");
+        }
     }
 }
 
-// Says which line the check of a file that gives no text writes.
-fn refuse<R: Print + Eprint>(rt: &R, path: &str, fault: FileFault) {
+// Writes the line of the check of a file that gives no text.
+fn refuse<R: Print + Eprint>(rt: &R, fault: FileFault) {
     let mut writer = io::writer(rt);
-    let _ = eprintln!(rt; "{path}: {fault}");
     if let Err(fault) = reject(fault, &mut writer) {
         let _ = eprintln!(rt; "{fault}");
     }
@@ -49,7 +75,7 @@ pub(crate) fn config_of<R: Files + Print + Eprint + AllocGlobal>(
             }
         },
         Err(fault) => {
-            refuse(rt, path, fault);
+            refuse(rt, fault);
             None
         }
     }
@@ -75,9 +101,13 @@ fn check_text<R: Print + Eprint + AllocGlobal>(rt: &R, path: &str, text: &str) -
 /// right, in words that nothing fixes, to standard error.
 pub(crate) fn run<R: Files + Print + Eprint + AllocGlobal>(rt: &R, path: &str) -> ExitCode {
     match text_of(rt, path) {
-        Ok(text) => check_text(rt, path, &text),
+        Ok(text) => {
+            let status = check_text(rt, path, &text);
+            name_unread(rt, path, &text);
+            status
+        }
         Err(fault) => {
-            refuse(rt, path, fault);
+            refuse(rt, fault);
             ExitCode::FAILURE
         }
     }

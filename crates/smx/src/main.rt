@@ -4,50 +4,42 @@
 mod config_file;
 mod demonstrating;
 mod options;
+mod relaying;
 mod serving;
+mod watched;
+mod words;
 
+use clap::Error;
 use config_file::config_of;
 use options::Asked;
-use smx_relay::RunEnd;
 use smx_serve::{Ended, Server};
-use std::io::{BufWriter, Write};
+use std::io::IsTerminal;
 use std::process::ExitCode;
-use std::rt::Env;
-use std::{env, io, thread};
+use std::thread;
 
 /// The status where the command line is wrong.
 const USAGE: u8 = 2;
 
-fn words_of(rt: &(impl Env + AllocGlobal)) -> io::Result<Vec<String>> {
-    Ok(env::args(rt)?.collect(rt.alloc())?)
-}
-
-// Runs a script from standard input. What it prints is flushed in any case.
-fn run_relay<R: Input + Print + Eprint + AllocGlobal>(rt: &R) -> ExitCode {
-    let Ok(mut writer) = BufWriter::new(rt.alloc(), io::writer(rt)) else {
-        let _ = eprintln!(rt; "{}", RunEnd::NoMemory);
-        return ExitCode::FAILURE;
-    };
-    let end = smx_relay::run(rt.alloc(), &mut rt.reader(), &mut writer);
-    let flushed = writer.flush();
-    if end != RunEnd::Clean {
-        let _ = eprintln!(rt; "{end}");
-        return ExitCode::FAILURE;
+// Says what is wrong with the command line, or the help or the version that it asks for.
+fn say<R: Print + Eprint>(rt: &R, error: &Error) -> ExitCode {
+    let printed = error.print(rt);
+    if error.use_stderr() {
+        return ExitCode::from(USAGE);
     }
-    if flushed.is_err() {
-        let _ = eprintln!(rt; "{}", RunEnd::WriteFault);
-        return ExitCode::FAILURE;
+    match printed {
+        Ok(()) => ExitCode::SUCCESS,
+        Err(_) => ExitCode::FAILURE,
     }
-    ExitCode::SUCCESS
 }
 
 fn main(rt: HostRuntime) -> ExitCode {
-    let Ok(words) = words_of(&rt) else {
-        let _ = eprintln!(rt; "the command line can't be read");
+    let Ok(words) = words::words_of(&rt) else {
+        words::say_bad(&rt);
         return ExitCode::from(USAGE);
     };
     match options::read(rt.alloc(), words.as_slice()) {
-        Ok(Asked::Relay) => run_relay(&rt),
+        Ok(Asked::Relay(None)) => relaying::run_input(&rt, rt.stdin().is_terminal()),
+        Ok(Asked::Relay(Some(path))) => relaying::run_file(&rt, path),
         Ok(Asked::Check(path)) => config_file::run(&rt, path),
         Ok(Asked::Serve(path)) => {
             let Some(config) = config_of(&rt, path) else {
@@ -64,9 +56,6 @@ fn main(rt: HostRuntime) -> ExitCode {
         }
         Ok(Asked::Demo(path)) => demonstrating::run(&rt, path),
         Ok(Asked::Nothing) => ExitCode::FAILURE,
-        Err(error) => {
-            let _ = rt.eprint(&error);
-            ExitCode::from(USAGE)
-        }
+        Err(error) => say(&rt, &error),
     }
 }

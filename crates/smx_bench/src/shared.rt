@@ -4,7 +4,7 @@ ghost use Rattle.std.specs.Prelude.{◌≡◌, slice_get, Some, All};
 ghost use Rattle.std.specs.Arc.{arc_value};
 ghost use Rattle.smx_shared.specs.Views.{locks_of};
 
-use crate::figures::{Hundredths, nanos_since};
+use crate::figures::{Hundredths, nanos_from, now};
 use crate::shifts;
 use smx_lane::{Answered, Limits};
 use smx_lock::Spent;
@@ -12,12 +12,12 @@ use smx_pdu::command::{RESPONSE, SUBMIT_SM};
 use smx_pdu::{Body, Pdu};
 use smx_shared::{Door, Exchange, Offer, Port, TakeFault, Tap};
 use std::alloc::{AllocError, Global};
+use std::process::Abort;
 use std::rt::Clock;
 use std::sync::atomic::{AtomicU64, Ordering};
 use std::sync::{Arc, Wait};
 use std::thread;
 use std::thread::Threads;
-use std::time::Instant;
 
 const LIMITS: Limits = Limits {
     queue: 64,
@@ -38,12 +38,12 @@ const LOOKS: usize = 1_000_000_000;
 /// Prints the requests in thousands a second, from the submit to the collected response, of 1, 2 and
 /// 4 ports on one lane and on four. The starts and ends of the threads are in the time. Then of one
 /// port on one lane that is turned over all the while.
-pub(crate) fn run<R: Threads + Wait + Sync + Print + Clock + AllocGlobal>(
+pub(crate) fn run<R: Threads + Wait + Sync + Print + Clock + Abort + AllocGlobal>(
     rt: &R,
 ) -> anyhow::Result<()> {
     for lanes in [1, 4] {
         for ports in [1, 2, 4] {
-            let nanos = measure(rt, ports, lanes)?;
+            let nanos = measure(rt, ports, lanes);
             println!(rt;
                 "ports {ports}, lanes {lanes}: {} thousand requests a second",
                 Hundredths::quotient(u128::from(REQUESTS) * 1_000_000, u128::from(nanos))
@@ -53,44 +53,65 @@ pub(crate) fn run<R: Threads + Wait + Sync + Print + Clock + AllocGlobal>(
     shifts::run(rt)
 }
 
+/// What is said where a part of a case is missing.
+const NOT_MADE: &str = "a client or an upstream couldn't be made";
+
 // The nanoseconds of a case.
-fn measure<R: Threads + Wait + Sync + Clock + AllocGlobal>(
+fn measure<R: Threads + Wait + Sync + Clock + Abort + AllocGlobal>(
     rt: &R,
     ports: u64,
     lanes: usize,
-) -> anyhow::Result<u64> {
+) -> u64 {
     let alloc = rt.alloc();
-    let (exchange, door, taps) = Exchange::new(rt, alloc, LIMITS, lanes)?;
-    let at = Arc::new(alloc, exchange)?;
+    let made = Exchange::new(rt, alloc, LIMITS, lanes);
+    let (exchange, door, taps) = made.ok().expect(rt, NOT_MADE);
+    let at = Arc::new(alloc, exchange).ok().expect(rt, NOT_MADE);
     let active = AtomicU64::new(ports);
-    let upstreams = upstreams_of(alloc, &at, taps, &active)?;
+    let upstreams = upstreams_of(alloc, &at, taps, &active);
+    let upstreams = upstreams.ok().expect(rt, NOT_MADE);
     let mut entrance = Entrance { alloc, at, door };
-    let mut clients = Vec::new(alloc);
-    for _ in 0..ports {
-        clients.push(entrance.enter(rt, REQUESTS / ports.max(1), &active)?)?;
-    }
+    let clients = clients_of(rt, &mut entrance, ports, &active);
     nanos_together(rt, clients, upstreams)
 }
 
+// So many clients, who together submit the requests of a case.
+fn clients_of<'a, R: Wait + Abort>(
+    rt: &R,
+    entrance: &mut Entrance,
+    ports: u64,
+    active: &'a AtomicU64,
+) -> Vec<Client<'a>> {
+    let mut clients = Vec::new(entrance.alloc);
+    for _ in 0..ports {
+        let client = entrance.enter(rt, REQUESTS / ports.max(1), active);
+        clients
+            .push(client.expect(rt, NOT_MADE))
+            .ok()
+            .expect(rt, NOT_MADE);
+    }
+    clients
+}
+
 // The nanoseconds that they take, each in a thread of its own.
-fn nanos_together<R: Threads + Wait + Sync + Clock>(
+fn nanos_together<R: Threads + Wait + Sync + Clock + Abort>(
     rt: &R,
     clients: Vec<Client>,
     upstreams: Vec<Upstream>,
-) -> anyhow::Result<u64> {
-    let start = Instant::now(rt)?;
+) -> u64 {
+    let start = now(rt);
     let (collected, queued) = thread::join(
         rt,
         || thread::map_vec(rt, clients, &|client: Client| submit_all(rt, client)),
         || thread::map_vec(rt, upstreams, &|upstream: Upstream| serve_all(rt, upstream)),
     );
-    let nanos = nanos_since(rt, start)?;
-    let (collected, queued) = (sum_of(&collected?), sum_of(&queued?));
-    anyhow::ensure!(
-        collected == REQUESTS && queued == REQUESTS,
-        "{collected} responses collected, {queued} queued"
-    );
-    Ok(nanos)
+    let nanos = nanos_from(rt, start);
+    let collected = collected.ok().expect(rt, "a thread couldn't be made");
+    let queued = queued.ok().expect(rt, "a thread couldn't be made");
+    let (collected, queued) = (sum_of(&collected), sum_of(&queued));
+    if collected != REQUESTS || queued != REQUESTS {
+        panic!(rt; "{collected} responses collected, {queued} queued")
+    }
+    nanos
 }
 
 fn sum_of(counts: &[u64]) -> u64 {
@@ -114,10 +135,10 @@ impl Entrance {
         rt: &R,
         requests: u64,
         active: &'a AtomicU64,
-    ) -> anyhow::Result<Client<'a>> {
-        let at = Arc::try_clone(&self.at)?;
-        let port = self.door.enter(&self.at, rt)?;
-        Ok(Client {
+    ) -> Option<Client<'a>> {
+        let at = Arc::try_clone(&self.at).ok()?;
+        let port = self.door.enter(&self.at, rt).ok()?;
+        Some(Client {
             alloc: self.alloc,
             at,
             port,

@@ -1,37 +1,68 @@
 use smx_box::{BoxFault, Boxed, Got, PutFault, Receiver, Sender, Spent};
 use std::alloc::Global;
 use std::sync::Wait;
-use std::test::Fail;
+use std::test::*;
 use std::thread;
 use std::thread::join;
 
 const LAST_TICKET: u64 = 4611686018427387903;
 
+// Whether the sender is refused, with its content, since the box is full.
+fn is_refused<R: Wait>(rt: &R, sender: &mut Sender<char>, content: char) -> bool {
+    sender.put(rt, content) == Err((content, PutFault::Full))
+}
+
+fn gets<R: Wait>(rt: &R, receiver: &mut Receiver<char>, wanted: Got<char>) -> bool {
+    receiver.get(rt) == Ok(wanted)
+}
+
+// Of two places each sender takes one, and the first to be free goes to sender 0.
+fn share<R: Wait>(
+    rt: &R,
+    receiver: &mut Receiver<char>,
+    zero: &mut Sender<char>,
+    one: &mut Sender<char>,
+) -> bool {
+    receiver.places() == 2
+        && zero.put(rt, 'a') == Ok(1)
+        && one.put(rt, 'b') == Ok(1)
+        && is_refused(rt, zero, 'c')
+        && gets(rt, receiver, item(0, 1, 'a'))
+        && zero.put(rt, 'c') == Ok(2)
+}
+
+// The sender of `b` is shut once that is out, and not before.
+fn is_shut_late<R: Wait>(rt: &R, receiver: &mut Receiver<char>, one: Sender<char>) -> bool {
+    let Err((one, PutFault::Full)) = one.shut(rt) else {
+        return false;
+    };
+    let is_out = gets(rt, receiver, item(1, 1, 'b'));
+    is_out && one.shut(rt).is_ok()
+}
+
+fn ends<R: Wait>(rt: &R, receiver: &mut Receiver<char>, zero: Sender<char>) -> bool {
+    let are_out = gets(rt, receiver, item(0, 2, 'c'))
+        && gets(rt, receiver, Got::Shut { sender: 1 });
+    let is_open = !receiver.ended();
+    are_out && is_open && zero.shut(rt).is_ok()
+}
+
+fn has_ended<R: Wait>(rt: &R, receiver: &mut Receiver<char>) -> bool {
+    gets(rt, receiver, Got::Shut { sender: 0 })
+        && receiver.ended()
+        && gets(rt, receiver, Got::Empty)
+}
+
 #[test]
-fn two_senders_share_two_places(rt: HostRuntime) -> Result<(), Fail> {
-    let (mut receiver, mut senders) = Boxed::new(&rt, rt.alloc(), 2, 2)?;
-    let (Some(mut one), Some(mut zero)) = (senders.pop(), senders.pop()) else {
-        panic!(rt; "no senders")
-    };
-    assert_eq!(rt; receiver.places(), 2);
-    assert_eq!(rt; zero.put(&rt, 'a'), Ok(1));
-    assert_eq!(rt; one.put(&rt, 'b'), Ok(1));
-    assert_eq!(rt; zero.put(&rt, 'c'), Err(('c', PutFault::Full)));
-    assert_eq!(rt; receiver.get(&rt), Ok(item(0, 1, 'a')));
-    assert_eq!(rt; zero.put(&rt, 'c'), Ok(2));
-    let Err((one, PutFault::Full)) = one.shut(&rt) else {
-        panic!(rt; "a full box took a mark")
-    };
-    assert_eq!(rt; receiver.get(&rt), Ok(item(1, 1, 'b')));
-    assert!(rt; one.shut(&rt).is_ok());
-    assert_eq!(rt; receiver.get(&rt), Ok(item(0, 2, 'c')));
-    assert_eq!(rt; receiver.get(&rt), Ok(Got::Shut { sender: 1 }));
-    assert!(rt; !receiver.ended());
-    assert!(rt; zero.shut(&rt).is_ok());
-    assert_eq!(rt; receiver.get(&rt), Ok(Got::Shut { sender: 0 }));
-    assert!(rt; receiver.ended());
-    assert_eq!(rt; receiver.get(&rt), Ok(Got::Empty));
-    Ok(())
+fn two_senders_share_two_places(rt: HostRuntime) {
+    let made = Boxed::new(&rt, rt.alloc(), 2, 2);
+    let (mut receiver, mut senders) = made.expect(&rt, "no box");
+    let mut one = senders.pop().expect(&rt, "no sender");
+    let mut zero = senders.pop().expect(&rt, "no sender");
+    assert!(rt; share(&rt, &mut receiver, &mut zero, &mut one));
+    assert!(rt; is_shut_late(&rt, &mut receiver, one));
+    assert!(rt; ends(&rt, &mut receiver, zero));
+    assert!(rt; has_ended(&rt, &mut receiver));
 }
 
 fn item<T>(sender: usize, number: u64, content: T) -> Got<T> {
@@ -51,57 +82,78 @@ fn refusal<R: Wait>(rt: &R, alloc: Global, senders: usize, places: usize) -> Opt
 }
 
 #[test]
-fn sizes_are_1_to_256(rt: HostRuntime) -> Result<(), Fail> {
+fn sizes_are_1_to_256(rt: HostRuntime) {
     for (senders, places) in [(0, 1), (257, 1), (1, 0), (1, 257)] {
-        assert_eq!(rt;
-            refusal(&rt, rt.alloc(), senders, places),
-            Some(BoxFault::BadSize)
-        );
+        let fault = refusal(&rt, rt.alloc(), senders, places);
+        assert!(rt; fault == Some(BoxFault::BadSize));
     }
-    Ok(())
 }
 
 // Want of memory is said by name: tools/refuse-memory refuses each allocation in turn.
 #[test]
-fn the_largest_box_is_made(rt: HostRuntime) -> Result<(), Fail> {
+fn the_largest_box_is_made(rt: HostRuntime) {
     let fault = refusal(&rt, rt.alloc(), 256, 256);
     assert!(rt; fault.is_none() || fault == Some(BoxFault::NoMemory));
-    Ok(())
 }
 
-#[test]
-fn a_spent_lock_is_named(rt: HostRuntime) -> Result<(), Fail> {
+// How a box is refused whose lock has no ticket left.
+fn late_refusal<R: Wait>(rt: &R, alloc: Global) -> Option<BoxFault> {
     let made: Result<(Receiver<u8>, Vec<Sender<u8>>), BoxFault> = Boxed::new_at(
-        &rt,
-        rt.alloc(),
+        rt,
+        alloc,
         1,
         1,
         LAST_TICKET + 1,
     );
-    let fault = made.err();
-    assert!(rt; matches!(fault, Some(BoxFault::Spent | BoxFault::NoMemory)));
-    let (mut receiver, mut senders) = Boxed::new_at(&rt, rt.alloc(), 1, 1, LAST_TICKET)?;
-    let Some(mut sender) = senders.pop() else {
-        panic!(rt; "no sender")
-    };
-    assert_eq!(rt; sender.put(&rt, 7), Err((7_u8, PutFault::Spent)));
-    assert_eq!(rt; receiver.get(&rt), Err(Spent));
-    assert!(rt; matches!(sender.shut(&rt), Err((_, PutFault::Spent))));
-    Ok(())
+    made.err()
 }
 
-// Puts 1, 2, 3, .., each again where the box was full, and shuts.
-fn put_all<R: Wait>(rt: &R, from: Sender<u64>) -> bool {
+#[test]
+fn a_spent_lock_makes_no_box(rt: HostRuntime) {
+    let fault = late_refusal(&rt, rt.alloc());
+    assert!(rt; matches!(fault, Some(BoxFault::Spent | BoxFault::NoMemory)));
+}
+
+fn is_spent<R: Wait>(rt: &R, receiver: &mut Receiver<u8>, from: Sender<u8>) -> bool {
     let mut sender = from;
-    for wanted in 1..=100 {
-        for _ in rt.forever() {
-            match sender.put(rt, wanted) {
-                Ok(number) if number == wanted => break,
-                Err((_, PutFault::Full)) => thread::yield_now(),
-                _ => return false,
-            }
+    let refused = sender.put(rt, 7) == Err((7, PutFault::Spent));
+    let received = receiver.get(rt) == Err(Spent);
+    refused && received && matches!(sender.shut(rt), Err((_, PutFault::Spent)))
+}
+
+#[test]
+fn a_spent_lock_is_named(rt: HostRuntime) {
+    let made = Boxed::new_at(&rt, rt.alloc(), 1, 1, LAST_TICKET);
+    let (mut receiver, mut senders) = made.expect(&rt, "no box");
+    let sender = senders.pop().expect(&rt, "no sender");
+    assert!(rt; is_spent(&rt, &mut receiver, sender));
+}
+
+// Puts this, again where the box was full, as the sender's item of that number.
+fn puts<R: Wait>(rt: &R, sender: &mut Sender<u64>, wanted: u64) -> bool {
+    for _ in rt.forever() {
+        match sender.put(rt, wanted) {
+            Ok(number) => return number == wanted,
+            Err((_, PutFault::Full)) => thread::yield_now(),
+            Err(_) => return false,
         }
     }
+    false
+}
+
+// Puts 1, 2, 3, .., 100.
+fn put_hundred<R: Wait>(rt: &R, sender: &mut Sender<u64>) -> bool {
+    for wanted in 1..=100 {
+        if !puts(rt, sender, wanted) {
+            return false;
+        }
+    }
+    true
+}
+
+// Shuts the sender, again where the box was full.
+fn shuts<R: Wait>(rt: &R, from: Sender<u64>) -> bool {
+    let mut sender = from;
     for _ in rt.forever() {
         match sender.shut(rt) {
             Ok(()) => return true,
@@ -113,44 +165,60 @@ fn put_all<R: Wait>(rt: &R, from: Sender<u64>) -> bool {
     false
 }
 
+fn put_all<R: Wait>(rt: &R, from: Sender<u64>) -> bool {
+    let mut sender = from;
+    let are_put = put_hundred(rt, &mut sender);
+    shuts(rt, sender) && are_put
+}
+
+// Gets what is there next: whether it is the sender's next item, or its mark behind 100 of them.
+fn gets_next<R: Wait>(rt: &R, receiver: &mut Receiver<u64>, next: &mut [u64; 2]) -> bool {
+    match receiver.get(rt) {
+        Ok(
+            Got::Item {
+                sender,
+                number,
+                content,
+            },
+        ) if sender < 2 => {
+            let is_next = number == next[sender] && content == number;
+            next[sender] = next[sender].saturating_add(1);
+            is_next
+        }
+        Ok(Got::Shut { sender }) if sender < 2 => next[sender] == 101,
+        Ok(Got::Empty) => {
+            thread::yield_now();
+            true
+        }
+        _ => false,
+    }
+}
+
 // Whether each of two senders sent 1 to 100 in order and nothing else.
 fn get_all<R: Wait>(rt: &R, from: Receiver<u64>) -> bool {
     let mut receiver = from;
     let mut next = [1, 1];
     for _ in rt.forever() {
-        match receiver.get(rt) {
-            Ok(
-                Got::Item {
-                    sender,
-                    number,
-                    content,
-                },
-            ) if sender < 2 && number == next[sender] && content == number => {
-                next[sender] = next[sender].saturating_add(1);
-            }
-            Ok(Got::Shut { sender }) if sender < 2 && next[sender] == 101 => {
-                if receiver.ended() {
-                    return next == [101, 101];
-                }
-            }
-            Ok(Got::Empty) => thread::yield_now(),
-            _ => return false,
+        if !gets_next(rt, &mut receiver, &mut next) {
+            return false;
+        }
+        if receiver.ended() {
+            return next == [101, 101];
         }
     }
     false
 }
 
 #[test]
-fn two_threads_put_and_one_gets(rt: HostRuntime) -> Result<(), Fail> {
-    let (receiver, mut senders) = Boxed::new(&rt, rt.alloc(), 2, 4)?;
-    let (Some(one), Some(zero)) = (senders.pop(), senders.pop()) else {
-        panic!(rt; "no senders")
-    };
-    let (got, (first, second)) = join(
+fn two_threads_put_and_one_gets(rt: HostRuntime) {
+    let made = Boxed::new(&rt, rt.alloc(), 2, 4);
+    let (receiver, mut senders) = made.expect(&rt, "no box");
+    let one = senders.pop().expect(&rt, "no sender");
+    let zero = senders.pop().expect(&rt, "no sender");
+    let (got, put) = join(
         &rt,
         || get_all(&rt, receiver),
         || join(&rt, || put_all(&rt, zero), || put_all(&rt, one)),
     );
-    assert_eq!(rt; (got, first, second), (true, true, true));
-    Ok(())
+    assert!(rt; got && put == (true, true));
 }

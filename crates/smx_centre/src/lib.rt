@@ -10,6 +10,3 @@ mod response;
 
 pub use centre::Centre;
 pub use mode::Mode;
-
-#[cfg(test)]
-mod tests;

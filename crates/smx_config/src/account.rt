@@ -15,7 +15,7 @@ use std::marker::Model;
 use toml::Value;
 
 /// The most prefixes of an account.
-const MAX_PREFIXES: usize = 16;
+pub(crate) const MAX_PREFIXES: usize = 16;
 
 /// A client that may bind, and the messages that it gets.
 #[derive(Debug, Drop)]
@@ -94,11 +94,8 @@ fn read_prefixes(alloc: Global, values: &[Value]) -> Result<Option<Vec<String>>,
     Ok(Some(list))
 }
 
-/// The prefixes of an account, of which it may have none.
-pub(crate) fn prefixes_within(
-    alloc: Global,
-    value: &Value,
-) -> Result<Option<Vec<String>>, AllocError>
+// The prefixes of an account, of which it may have none.
+fn prefixes_within(alloc: Global, value: &Value) -> Result<Option<Vec<String>>, AllocError>
     ensures value { IfOk result (λ r. option_map (λ list. map string_bytes list.items) r ≡ prefixes_in (view value.now)) }
     ensures kept { IfOk result (λ r. IfSome r (λ list. ArePrefixes (map string_bytes list.items))) }
 {

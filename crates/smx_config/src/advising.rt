@@ -2,9 +2,11 @@
 ghost use Rattle.std.specs.Prelude.{◌≡◌, List, ℕ, ◌++◌, IfOk, string_bytes};
 ghost use Rattle.smx_config.specs.Lines.{place_of};
 
-use crate::account::prefixes_within;
+use crate::account::MAX_PREFIXES;
 use crate::fault::ConfigFault;
+use crate::listing::{on_prefixes, on_table_list};
 use crate::number::Number;
+use crate::reading::{MAX_ACCOUNTS, MAX_UPSTREAMS};
 use crate::table::find;
 use crate::text::Text;
 use std::alloc::{AllocError, Global};
@@ -32,20 +34,24 @@ fn sample(key: Text) -> &'static str {
     }
 }
 
+// What is wrong with a value that isn't the text that may stand at a key.
+fn text_wrong(alloc: Global, key: Text, value: &Value) -> Result<String, AllocError> {
+    let Some(text) = value.as_str() else {
+        return String::from_str(alloc, "is no text");
+    };
+    let length = text.len();
+    if key.fewest() <= length && length <= key.longest() {
+        return String::from_str(alloc, "has an octet 0");
+    }
+    format!(in alloc; "has {length} octets")
+}
+
 // Words on the text at a key, unless it is as it may be.
 fn on_text(alloc: Global, key: Text, value: Option<&Value>) -> Result<Option<String>, AllocError> {
     let what = match value {
-        Some(value) => match key.of(value) {
-            Some(_) => return Ok(None),
-            None => {
-                if value.is_str() {
-                    "is out of its limits"
-                } else {
-                    "is no text"
-                }
-            }
-        },
-        None => "is missing",
+        Some(value) if key.of(value).is_some() => return Ok(None),
+        Some(value) => text_wrong(alloc, key, value)?,
+        None => String::from_str(alloc, "is missing")?,
     };
     let name = key.key();
     let sample = sample(key);
@@ -150,6 +156,29 @@ fn on_upstream(alloc: Global, table: &Table, index: usize) -> Result<Option<Stri
     }
 }
 
+// Words on the system_id of an account that an earlier one has.
+fn on_twin(
+    alloc: Global,
+    table: &Table,
+    index: usize,
+    value: &Value,
+) -> Result<String, AllocError> {
+    let name = value.get(Text::SystemId.key());
+    for before in 0..index {
+        if let Some(other) = nth(table, "account", before) {
+            if name.is_some() && other.get(Text::SystemId.key()) == name {
+                return format!(in alloc;
+                    "system_id is that of account {before}: write another one"
+                );
+            }
+        }
+    }
+    String::from_str(
+        alloc,
+        "system_id is that of an earlier account: write another one",
+    )
+}
+
 fn on_account(alloc: Global, table: &Table, index: usize) -> Result<Option<String>, AllocError> {
     let Some(value) = nth(table, "account", index) else {
         return Ok(None);
@@ -158,12 +187,13 @@ fn on_account(alloc: Global, table: &Table, index: usize) -> Result<Option<Strin
     if words.is_some() {
         return Ok(words);
     }
-    let words = if prefixes_within(alloc, value)?.is_none() {
-        "prefixes is no list of prefixes: write prefixes = [\"49\"], at most 16 texts of 0 to 64 octets, no two equal"
-    } else {
-        "system_id is that of an earlier account: write another one"
-    };
-    Ok(Some(String::from_str(alloc, words)?))
+    if let Some(prefixes) = value.get(Text::Prefix.key()) {
+        let words = on_prefixes(alloc, prefixes, MAX_PREFIXES)?;
+        if words.is_some() {
+            return Ok(words);
+        }
+    }
+    Ok(Some(on_twin(alloc, table, index, value)?))
 }
 
 // Words on a fault of a table.
@@ -179,17 +209,23 @@ fn on_fault(
             on_numbers(alloc, &keys, table)
         }
         ConfigFault::Limits => on_limits(alloc, table),
-        ConfigFault::Upstreams => Ok(Some(String::from_str(
-            alloc,
-            "upstream is missing or no list of 1 to 16 tables: write [[upstream]] and its keys below it",
-        )?)),
+        ConfigFault::Upstreams => on_table_list(alloc, "upstream", MAX_UPSTREAMS, table),
         ConfigFault::Upstream(index) => on_upstream(alloc, table, index),
-        ConfigFault::Accounts => Ok(Some(String::from_str(
-            alloc,
-            "account is missing or no list of 1 to 256 tables: write [[account]] and its keys below it",
-        )?)),
+        ConfigFault::Accounts => on_table_list(alloc, "account", MAX_ACCOUNTS, table),
         ConfigFault::Account(index) => on_account(alloc, table, index),
         ConfigFault::NotToml | ConfigFault::NoMemory => Ok(None),
+    }
+}
+
+// Words on a text that isn't TOML, in one line: where it isn't, and why.
+fn on_toml(alloc: Global, error: &toml::de::Error) -> Result<String, AllocError> {
+    let lines = format!(in alloc; "{error}")?;
+    match lines.as_str().trim_end().split_once("\n") {
+        Some((place, why)) => format!(in alloc; "the text is not TOML: {place}: {why}"),
+        None => {
+            let why = lines.as_str().trim_end();
+            format!(in alloc; "the text is not TOML: {why}")
+        }
     }
 }
 
@@ -198,7 +234,7 @@ fn words_on(alloc: Global, text: &str, fault: ConfigFault) -> Result<String, All
     let words = match toml::table_from_str(alloc, text) {
         Ok(table) => on_fault(alloc, &table, fault)?,
         Err(error) if error.is_memory() => None,
-        Err(error) => Some(format!(in alloc; "the text is not TOML: {error}")?),
+        Err(error) => Some(on_toml(alloc, &error)?),
     };
     match words {
         Some(words) => Ok(words),

@@ -4,9 +4,6 @@
 //! out.
 #![tactic(auto)]
 
-#[cfg(test)]
-mod tests;
-
 use std::alloc::{AllocError, Global};
 use std::io;
 

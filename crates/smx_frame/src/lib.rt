@@ -12,6 +12,3 @@ pub use buffer::compact;
 pub use fault::FrameFault;
 pub use framer::Framer;
 pub use law::stream_law;
-
-#[cfg(test)]
-mod tests;

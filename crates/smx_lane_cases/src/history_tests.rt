@@ -3,16 +3,15 @@ use smx_history::{AdmitRefusal, Refusal, TakeRefusal};
 use std::test::*;
 
 #[test]
-fn refusals_say_why(rt: HostRuntime) -> Result<(), Fail> {
+fn refusals_say_why(rt: HostRuntime) {
     let why = format!(in rt.alloc();
         "{}; {}; {}",
         AdmitRefusal::Known,
         Refusal::ClientFull,
         TakeRefusal::WindowFull
-    )?;
+    );
     assert_eq!(rt;
-        why.as_str(),
+        why.expect(&rt, "out of memory").as_str(),
         "the client's number is not above that of every client admitted so far; the client has as many requests as it may have; the window is full"
     );
-    Ok(())
 }

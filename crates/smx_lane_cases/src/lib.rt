@@ -1,8 +1,11 @@
-//! A lane against replies worked out by hand, and the words of its refusals. It has tests alone, in a
-//! crate of their own, so that neither the lane nor its history is proved twice.
+//! A lane against replies worked out by hand, the words of its refusals, and the check of finished
+//! histories. It has tests alone, in a crate of their own, so that neither the lane nor its history
+//! nor the check is proved twice.
 #![tactic(auto)]
 
 #[cfg(test)]
 mod history_tests;
+#[cfg(test)]
+mod legal_tests;
 #[cfg(test)]
 mod tests;

@@ -6,7 +6,8 @@ use smx_lane::{
 };
 use smx_pdu::{Body, Pdu};
 use std::alloc::{AllocError, Global};
-use std::test::Fail;
+use std::process::Abort;
+use std::test::*;
 
 const ROOMY: Limits = Limits {
     queue: 10,
@@ -84,58 +85,68 @@ fn collect_number(lane: &mut Lane, client: u64) -> Option<u32> {
     lane.collect(0, client).map(|pdu| pdu.number)
 }
 
-// What a retire of the client answers.
-fn retired(lane: &mut Lane, client: u64) -> Option<Result<(), NotAdmitted>> {
-    if !lane.is_own(0, client) {
-        return None;
-    }
-    Some(lane.retire(0, client))
+// Whether the client is retired, which it is once.
+fn retires(lane: &mut Lane, client: u64) -> bool {
+    lane.is_own(0, client) && lane.retire(0, client).is_ok()
+}
+
+// Whether the client is retired already.
+fn has_retired(lane: &mut Lane, client: u64) -> bool {
+    lane.is_own(0, client) && lane.retire(0, client) == Err(NotAdmitted)
 }
 
 // The length of the list that a turn over hands out: none where the lane has fewer entries.
-fn turned(lane: &mut Lane, least: usize) -> Result<Option<usize>, AllocError> {
-    match lane.turn_over(0, least)? {
-        Some(entries) => Ok(Some(entries.len())),
-        None => Ok(None),
-    }
+fn turned(rt: &impl Abort, lane: &mut Lane, least: usize) -> Option<usize> {
+    let list = lane.turn_over(0, least).expect(rt, "out of memory")?;
+    Some(list.len())
+}
+
+// A lane under these limits.
+fn lane_of(rt: &impl Abort, alloc: Global, limits: Limits) -> Lane {
+    Lane::new(alloc, limits).expect(rt, "no lane")
+}
+
+// A lane under these limits, to which client 1 is admitted.
+fn lane_with_one(rt: &impl Abort, alloc: Global, limits: Limits) -> Lane {
+    let mut lane = lane_of(rt, alloc, limits);
+    lane.admit(0, 1).expect(rt, "not admitted");
+    lane
 }
 
 #[test]
-fn limits_have_ranges(rt: HostRuntime) -> Result<(), Fail> {
+fn limits_have_ranges(rt: HostRuntime) {
     let wide = Limits {
         window: 1_025,
         ..ROOMY
     };
-    assert_eq!(rt;
-        Lane::new(rt.alloc(), wide).err(),
-        Some(LaneFault::BadLimits)
-    );
-    assert_eq!(rt; Lane::new(rt.alloc(), ROOMY)?.limits(), ROOMY);
-    Ok(())
+    assert!(rt; Lane::new(rt.alloc(), wide).err() == Some(LaneFault::BadLimits));
+    assert!(rt; lane_of(&rt, rt.alloc(), ROOMY).limits() == ROOMY);
+}
+
+fn fills_its_client(lane: &mut Lane, alloc: Global) -> bool {
+    accepts(lane, alloc, 1, 1) && refusal_of(lane, alloc, 1, 2) == Some(Refusal::ClientFull)
 }
 
 #[test]
-fn client_is_full_before_the_queue(rt: HostRuntime) -> Result<(), Fail> {
+fn client_is_full_before_the_queue(rt: HostRuntime) {
     let tight = Limits {
         queue: 1,
         window: 1,
         client: 1,
         history: 1_000,
     };
-    let mut lane = Lane::new(rt.alloc(), tight)?;
-    lane.admit(0, 1)?;
-    assert!(rt; accepts(&mut lane, rt.alloc(), 1, 1));
-    let refused = refusal_of(&mut lane, rt.alloc(), 1, 2);
-    assert_eq!(rt; refused, Some(Refusal::ClientFull));
-    Ok(())
+    let mut lane = lane_with_one(&rt, rt.alloc(), tight);
+    assert!(rt; fills_its_client(&mut lane, rt.alloc()));
 }
 
 // A round of take, answer and collect, for client 1.
 fn goes_round(lane: &mut Lane, alloc: Global) -> bool {
-    let Some(number) = take_number(lane) else {
-        return false;
-    };
-    answer_to(lane, alloc, number) == Some(1) && collect_number(lane, 1) == Some(7)
+    match take_number(lane) {
+        Some(number) => {
+            answer_to(lane, alloc, number) == Some(1) && collect_number(lane, 1) == Some(7)
+        }
+        None => false,
+    }
 }
 
 // Rounds of accept, take, answer and collect, as many as the lane has room for: how many there were
@@ -154,57 +165,73 @@ fn rounds(lane: &mut Lane, alloc: Global, first: u64) -> Option<(u64, Refusal)> 
 }
 
 // 1 + 4 * 249 entries, and no room for four more beside the client's retire.
-#[test]
-fn rounds_fill_the_history(rt: HostRuntime) -> Result<(), Fail> {
-    let mut lane = Lane::new(rt.alloc(), ROOMY)?;
-    lane.admit(0, 1)?;
-    let full = Refusal::HistoryFull;
-    assert_eq!(rt; rounds(&mut lane, rt.alloc(), 1), Some((249, full)));
-    assert_eq!(rt; retired(&mut lane, 1), Some(Ok(())));
-    assert_eq!(rt; lane.entries().len(), 998);
-    let last = lane.last_entry().map(|entry| entry.kind);
-    assert_eq!(rt; last, Some(Kind::Retire));
-    Ok(())
+fn fills_its_history(lane: &mut Lane, alloc: Global) -> bool {
+    rounds(lane, alloc, 1) == Some((249, Refusal::HistoryFull))
+        && retires(lane, 1)
+        && lane.entries().len() == 998
+        && lane.last_entry().map(|entry| entry.kind) == Some(Kind::Retire)
 }
 
 #[test]
-fn clients_fill_the_history(rt: HostRuntime) -> Result<(), Fail> {
-    let mut lane = Lane::new(rt.alloc(), ROOMY)?;
-    for client in 1..=499 {
-        assert_eq!(rt; lane.admit(0, client), Ok(()));
+fn rounds_fill_the_history(rt: HostRuntime) {
+    let mut lane = lane_with_one(&rt, rt.alloc(), ROOMY);
+    assert!(rt; fills_its_history(&mut lane, rt.alloc()));
+}
+
+// Whether these clients are admitted, one after another.
+fn admits(lane: &mut Lane, clients: u64) -> bool {
+    for client in 1..=clients {
+        if lane.admit(0, client).is_err() {
+            return false;
+        }
     }
-    assert_eq!(rt; lane.admit(0, 500), Err(AdmitFault::HistoryFull));
-    Ok(())
+    true
+}
+
+// Client 500 has no room.
+fn admits_499(lane: &mut Lane) -> bool {
+    admits(lane, 499) && lane.admit(0, 500) == Err(AdmitFault::HistoryFull)
 }
 
 #[test]
-fn numbers_rise(rt: HostRuntime) -> Result<(), Fail> {
-    let mut lane = Lane::new(rt.alloc(), ROOMY)?;
-    assert_eq!(rt; lane.admit(0, 5), Ok(()));
-    assert_eq!(rt; lane.admit(0, 5), Err(AdmitFault::Known));
-    assert_eq!(rt; lane.admit(0, 4), Err(AdmitFault::Known));
-    assert_eq!(rt; lane.entries().len(), 1);
-    Ok(())
+fn clients_fill_the_history(rt: HostRuntime) {
+    let mut lane = lane_of(&rt, rt.alloc(), ROOMY);
+    assert!(rt; admits_499(&mut lane));
+}
+
+// Only a greater number than each before is admitted.
+fn admits_greater(lane: &mut Lane) -> bool {
+    lane.admit(0, 5).is_ok()
+        && lane.admit(0, 5) == Err(AdmitFault::Known)
+        && lane.admit(0, 4) == Err(AdmitFault::Known)
+        && lane.entries().len() == 1
+}
+
+#[test]
+fn numbers_rise(rt: HostRuntime) {
+    let mut lane = lane_of(&rt, rt.alloc(), ROOMY);
+    assert!(rt; admits_greater(&mut lane));
 }
 
 // Client 1 retires with a request queued, which is taken all the same. Its response comes late.
 fn retires_early(lane: &mut Lane, alloc: Global) -> bool {
     accepts(lane, alloc, 1, 1)
-        && retired(lane, 1) == Some(Ok(()))
-        && retired(lane, 1) == Some(Err(NotAdmitted))
+        && retires(lane, 1)
+        && has_retired(lane, 1)
         && take_number(lane) == Some(1)
         && is_unknown(lane, alloc, 2)
+        && is_late(lane, alloc, 1)
+        && collect_number(lane, 1).is_none()
+}
+
+fn is_late(lane: &mut Lane, alloc: Global, number: u32) -> bool {
+    matches!(lane.answer(0, submitted(alloc, number)), Answered::Late)
 }
 
 #[test]
-fn retired_clients_get_nothing(rt: HostRuntime) -> Result<(), Fail> {
-    let mut lane = Lane::new(rt.alloc(), ROOMY)?;
-    lane.admit(0, 1)?;
+fn retired_clients_get_nothing(rt: HostRuntime) {
+    let mut lane = lane_with_one(&rt, rt.alloc(), ROOMY);
     assert!(rt; retires_early(&mut lane, rt.alloc()));
-    let late = lane.answer(0, submitted(rt.alloc(), 1));
-    assert!(rt; matches!(late, Answered::Late));
-    assert_eq!(rt; collect_number(&mut lane, 1), None);
-    Ok(())
 }
 
 // A window of two takes the numbers 1 and 2 and then no more: the number that is given once 1 is
@@ -223,16 +250,16 @@ fn number_given_again(lane: &mut Lane, alloc: Global) -> Option<u32> {
 }
 
 // A number is free again once its request is answered, and not before.
+fn gives_again(lane: &mut Lane, alloc: Global) -> bool {
+    let again = number_given_again(lane, alloc).unwrap_or(2);
+    again != 2 && answer_to(lane, alloc, 2) == Some(1) && answer_to(lane, alloc, again) == Some(1)
+}
+
 #[test]
-fn numbers_are_given_again(rt: HostRuntime) -> Result<(), Fail> {
+fn numbers_are_given_again(rt: HostRuntime) {
     let narrow = Limits { window: 2, ..ROOMY };
-    let mut lane = Lane::new(rt.alloc(), narrow)?;
-    lane.admit(0, 1)?;
-    let again = number_given_again(&mut lane, rt.alloc()).unwrap_or(2);
-    assert!(rt; again != 2);
-    assert_eq!(rt; answer_to(&mut lane, rt.alloc(), 2), Some(1));
-    assert_eq!(rt; answer_to(&mut lane, rt.alloc(), again), Some(1));
-    Ok(())
+    let mut lane = lane_with_one(&rt, rt.alloc(), narrow);
+    assert!(rt; gives_again(&mut lane, rt.alloc()));
 }
 
 // Has four clients take turns to fill a window of 1,024, so the request with number n is that of
@@ -263,43 +290,52 @@ fn answer_all(lane: &mut Lane, alloc: Global) -> u32 {
     1_024
 }
 
+// A full window takes no more, is answered, and takes the next.
+fn fills_and_answers(lane: &mut Lane, alloc: Global) -> bool {
+    admits(lane, 5)
+        && fill(lane, alloc) == 1_025
+        && accepts(lane, alloc, 5, 1)
+        && lane.take(0).err() == Some(TakeRefusal::WindowFull)
+        && answer_all(lane, alloc) == 1_024
+        && take_number(lane).is_some()
+}
+
 #[test]
-fn full_window_is_answered_in_another_order(rt: HostRuntime) -> Result<(), Fail> {
+fn full_window_is_answered_in_another_order(rt: HostRuntime) {
     let wide = Limits {
         queue: 1,
         window: 1_024,
         client: 256,
         history: 10_000,
     };
-    let mut lane = Lane::new(rt.alloc(), wide)?;
-    for client in 1..=5 {
-        lane.admit(0, client)?;
-    }
-    assert_eq!(rt; fill(&mut lane, rt.alloc()), 1_025);
-    assert!(rt; accepts(&mut lane, rt.alloc(), 5, 1));
-    assert_eq!(rt; lane.take(0).err(), Some(TakeRefusal::WindowFull));
-    assert_eq!(rt; answer_all(&mut lane, rt.alloc()), 1_024);
-    assert!(rt; take_number(&mut lane).is_some());
-    Ok(())
+    let mut lane = lane_of(&rt, rt.alloc(), wide);
+    assert!(rt; fills_and_answers(&mut lane, rt.alloc()));
 }
 
 // Ten calls, of which the third and the sixth don't keep to their conditions.
-fn ten_calls(alloc: Global) -> Result<Vec<Call>, AllocError> {
-    let mut calls = Vec::new(alloc);
-    calls.push(Call::Admit { by: 3, client: 1 })?;
-    for _ in 0..2 {
-        let request = submit(alloc, 1, 1);
-        calls.push(Call::Accept { by: 3, request })?;
-    }
-    calls.push(Call::Take { by: 9 })?;
-    let response = submitted(alloc, 1);
-    calls.push(Call::Answer { by: 9, response })?;
-    calls.push(Call::Collect { by: 9, client: 1 })?;
-    calls.push(Call::Collect { by: 3, client: 1 })?;
-    calls.push(Call::TurnOver { by: 9, least: 6 })?;
-    calls.push(Call::TurnOver { by: 9, least: 5 })?;
-    calls.push(Call::Retire { by: 3, client: 1 })?;
-    Ok(calls)
+fn ten_calls(rt: &impl Abort, alloc: Global) -> Vec<Call> {
+    let calls = [
+        Call::Admit { by: 3, client: 1 },
+        Call::Accept {
+            by: 3,
+            request: submit(alloc, 1, 1),
+        },
+        Call::Accept {
+            by: 3,
+            request: submit(alloc, 1, 1),
+        },
+        Call::Take { by: 9 },
+        Call::Answer {
+            by: 9,
+            response: submitted(alloc, 1),
+        },
+        Call::Collect { by: 9, client: 1 },
+        Call::Collect { by: 3, client: 1 },
+        Call::TurnOver { by: 9, least: 6 },
+        Call::TurnOver { by: 9, least: 5 },
+        Call::Retire { by: 3, client: 1 },
+    ];
+    Vec::from_array(alloc, calls).expect(rt, "out of memory")
 }
 
 // A reply in a word.
@@ -342,53 +378,55 @@ fn first_other(replies: &[Reply]) -> Option<usize> {
     None
 }
 
+// Whether the ten calls are replied to by these words, and one entry is left.
+fn makes_ten_calls(rt: &impl Abort, alloc: Global, lane: &mut Lane) -> bool {
+    let calls = ten_calls(rt, alloc);
+    let replies = run_all(lane, alloc, calls).expect(rt, "out of memory");
+    replies.len() == WORDS.len()
+        && first_other(replies.as_slice()).is_none()
+        && lane.entries().len() == 1
+}
+
 // The calls of a list are made in order, but for those that don't keep to their conditions.
 #[test]
-fn lists_of_calls(rt: HostRuntime) -> Result<(), Fail> {
-    let mut lane = Lane::new(rt.alloc(), ROOMY)?;
-    let calls = ten_calls(rt.alloc())?;
-    let replies = run_all(&mut lane, rt.alloc(), calls)?;
-    assert_eq!(rt; replies.len(), WORDS.len());
-    assert_eq!(rt; first_other(replies.as_slice()), None);
-    assert_eq!(rt; lane.entries().len(), 1);
-    Ok(())
+fn lists_of_calls(rt: HostRuntime) {
+    let mut lane = lane_of(&rt, rt.alloc(), ROOMY);
+    assert!(rt; makes_ten_calls(&rt, rt.alloc(), &mut lane));
 }
 
-// A lane under history 1,000 takes 249 rounds of one client, and as many again after a shift: the
-// lengths of the lists that are handed out.
-fn shifts(lane: &mut Lane, alloc: Global) -> Option<[Option<usize>; 3]> {
-    let full = Some((249, Refusal::HistoryFull));
-    if rounds(lane, alloc, 1) != full {
-        return None;
-    }
-    let first = turned(lane, 1).ok()?;
-    if rounds(lane, alloc, 250) != full {
-        return None;
-    }
-    let none = turned(lane, 997).ok()?;
-    let second = turned(lane, 996).ok()?;
-    Some([first, none, second])
+// Whether the history is filled by 249 rounds, of which this is the first ordinal.
+fn is_filled(lane: &mut Lane, alloc: Global, first: u64) -> bool {
+    rounds(lane, alloc, first) == Some((249, Refusal::HistoryFull))
+}
+
+// A lane under history 1,000 takes 249 rounds of one client, and as many again after a shift.
+fn goes_on(rt: &impl Abort, alloc: Global, lane: &mut Lane) -> bool {
+    is_filled(lane, alloc, 1)
+        && turned(rt, lane, 1) == Some(997)
+        && is_filled(lane, alloc, 250)
+        && turned(rt, lane, 997).is_none()
+        && turned(rt, lane, 996) == Some(996)
+        && lane.entries().is_empty()
 }
 
 #[test]
-fn turned_lanes_go_on(rt: HostRuntime) -> Result<(), Fail> {
-    let mut lane = Lane::new(rt.alloc(), ROOMY)?;
-    lane.admit(0, 1)?;
-    let wanted = [Some(997), None, Some(996)];
-    assert_eq!(rt; shifts(&mut lane, rt.alloc()), Some(wanted));
-    assert!(rt; lane.entries().is_empty());
-    Ok(())
+fn turned_lanes_go_on(rt: HostRuntime) {
+    let mut lane = lane_with_one(&rt, rt.alloc(), ROOMY);
+    assert!(rt; goes_on(&rt, rt.alloc(), &mut lane));
+}
+
+fn knows_its_client(rt: &impl Abort, lane: &mut Lane) -> bool {
+    lane.admit(0, 5).is_ok()
+        && retires(lane, 5)
+        && turned(rt, lane, 1) == Some(2)
+        && lane.admit(0, 5) == Err(AdmitFault::Known)
+        && lane.entries().is_empty()
 }
 
 #[test]
-fn turned_lanes_know_their_clients(rt: HostRuntime) -> Result<(), Fail> {
-    let mut lane = Lane::new(rt.alloc(), ROOMY)?;
-    lane.admit(0, 5)?;
-    assert_eq!(rt; retired(&mut lane, 5), Some(Ok(())));
-    assert_eq!(rt; turned(&mut lane, 1)?, Some(2));
-    assert_eq!(rt; lane.admit(0, 5), Err(AdmitFault::Known));
-    assert!(rt; lane.entries().is_empty());
-    Ok(())
+fn turned_lanes_know_their_clients(rt: HostRuntime) {
+    let mut lane = lane_of(&rt, rt.alloc(), ROOMY);
+    assert!(rt; knows_its_client(&rt, &mut lane));
 }
 
 // What an admit left: true where it said want of memory and changed nothing, or did its work.
@@ -402,21 +440,23 @@ fn admits_or_says(lane: &mut Lane) -> bool {
 // The same of a turn over.
 fn turns_or_says(lane: &mut Lane) -> bool {
     let stored = lane.entries().len();
-    match turned(lane, 0) {
-        Ok(length) => length == Some(stored) && lane.entries().is_empty(),
+    match lane.turn_over(0, 0) {
+        Ok(Some(list)) => list.len() == stored && lane.entries().is_empty(),
+        Ok(None) => false,
         Err(AllocError) => lane.entries().len() == stored,
     }
+}
+
+fn does_or_says(lane: &mut Lane) -> bool {
+    admits_or_says(lane) && lane.limits() == ROOMY && turns_or_says(lane)
 }
 
 // Want of memory is said by name, and leaves the lane as it was: tools/refuse-memory refuses each
 // allocation in turn.
 #[test]
 fn refused_memory(rt: HostRuntime) {
-    let mut lane = match Lane::new(rt.alloc(), ROOMY) {
-        Ok(lane) => lane,
-        Err(fault) => return assert_eq!(rt; fault, LaneFault::NoMemory),
-    };
-    assert!(rt; admits_or_says(&mut lane));
-    assert_eq!(rt; lane.limits(), ROOMY);
-    assert!(rt; turns_or_says(&mut lane));
+    match Lane::new(rt.alloc(), ROOMY) {
+        Ok(mut lane) => assert!(rt; does_or_says(&mut lane)),
+        Err(fault) => assert!(rt; fault == LaneFault::NoMemory),
+    }
 }

@@ -7,6 +7,3 @@ mod past;
 mod totals;
 
 pub use legal::{is_legal, is_legal_shifts};
-
-#[cfg(test)]
-mod tests;

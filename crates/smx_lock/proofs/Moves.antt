@@ -475,13 +475,13 @@ module _ {S N F : Type 0} (writer : N → ℕ) (fixed_of : S → F) (suits : S �
       )
 
   -- what the value that a finished lock gives back agrees with
-  abbrev pub Ended : List N → S → Type 0
-  Ended seen x = (h : List N) × IsPrefix seen h × suits x h × (fixed_of x ≡ fixed)
+  abbrev pub Ended : V → S → Type 0
+  Ended v x = (h : List N) × IsPrefix v.seen h × (notes_of writer v.number h ≡ v.mine) × suits x h × (fixed_of x ≡ fixed)
 
   -- *close*: where every ticket drawn was served, the value is at home
-  pub ends : (id : ℕ) (v : V) (words : List ℕ) (slots : List (Option (Case S))) (n : ℕ) → Final (Seen R id v) words slots → get_elem? words 0 ≡ some n → get_elem? words 1 ≡ some n → (x : Case S) × (get_elem? slots 0 ≡ some (Some x)) × Ended v.seen x.value.value
-  ends id v words slots n final a b = let s = final.0 in let r = final.1.0 in let at = final.1.1 in let so = sound s r in
+  pub ends : (id : ℕ) (v : V) (words : List ℕ) (slots : List (Option (Case S))) (n : ℕ) → Final (Seen R id v) words slots → get_elem? words 0 ≡ some n → get_elem? words 1 ≡ some n → v.is_seat ≡ true → (x : Case S) × (get_elem? slots 0 ≡ some (Some x)) × Ended v x.value.value
+  ends id v words slots n final a b seat = let s = final.0 in let r = final.1.0 in let at = final.1.1 in let so = sound s r in
       let na : r.next ≡ n = some-injective r.next n (sym (ap (λ (l : List ℕ). get_elem? l 0) (sym final.2 ∙ r.words)) ∙ a) in
       let nb : r.serving ≡ n = some-injective r.serving n (sym (ap (λ (l : List ℕ). get_elem? l 1) (sym final.2 ∙ r.words)) ∙ b) in
       let home = at_home s r (λ i t u there e. let g = subst (Fits r.next r.serving) e (so.each i u.caller (at_map caller s.views i u there)) in omega arith) in
-      (home.0, final.4 0 (Some home.0) (ap (λ (l : List (maybe.Option (Option (Case S)))). get_elem? l 0) home.1), (r.history, (r.each_seat id v at).saw, home.2.agrees, home.2.fixed_is))
+      (home.0, final.4 0 (Some home.0) (ap (λ (l : List (maybe.Option (Option (Case S)))). get_elem? l 0) home.1), (r.history, (r.each_seat id v at).saw, (r.each_seat id v at).own seat, home.2.agrees, home.2.fixed_is))

@@ -18,7 +18,7 @@ use Rattle.smx_lock.specs.Rule.{Seated, Ruled}
 use Rattle.smx_lock.specs.Steps.{turned, newcomer, drew, Takes, left, released, Found, guest}
 use Rattle.smx_lock.specs.Invariants.{IsFree, IsHold}
 use Rattle.smx_lock.proofs.OwnNotes.{own_all}
-use Rattle.smx_lock.proofs.Moves.{opens, draws, leaves}
+use Rattle.smx_lock.proofs.Moves.{opens, draws, leaves, Ended}
 
 slot_value : {A : Type 0} → List (ℕ × Option A) → Option A
 slot_value [] = None
@@ -113,5 +113,6 @@ module _ {S N F : Type 0} (writer : N → ℕ) (fixed_of : S → F) (suits : S �
   pub free_guest : (me : Seated S N F) (v : View N F) → me ≡ (guest v, []) → notes_of writer v.seats v.seen ≡ [] → (k : ℕ) → k ≡ v.seats → IsFree writer me k false
   free_guest me v is own k e = subst (λ (m : Seated S N F). IsFree writer m k false) (sym is) record { number_is = e; empty = refl; caller = refl; stands = refl; own = own }
 
-  pub last_one : (f : Front N F) (id : TableId) (v : View N F) (x : S) (fixed : F) → f ≡ front_of id v → (h : (h : List N) × IsPrefix v.seen h × suits x h × (fixed_of x ≡ fixed)) → f.lock.fixed ≡ fixed → IsLast fixed_of suits f x
-  last_one f id v x fixed is h same = ((h.0, subst (λ (z : Front N F). IsPrefix z.seen h.0) (sym is) h.1, h.2), h.3 ∙ sym same)
+  pub last_one : (f : Front N F) (id : TableId) (v : View N F) (x : S) (first : ℕ) (fixed : F) → f ≡ front_of id v → Ended writer fixed_of suits first fixed v x → f.lock.fixed ≡ fixed → IsLast writer fixed_of suits f x
+  last_one f id v x first fixed is h same =
+      ((h.0, subst (λ (z : Front N F). IsPrefix z.seen h.0) (sym is) h.1, subst (λ (z : Front N F). notes_of writer z.number h.0 ≡ z.mine) (sym is) h.2, h.3), h.4 ∙ sym same)

@@ -99,9 +99,9 @@ module _ {S N F : Type 0} where
   abbrev pub guest_front : Hold S N F → Front N F
   guest_front h = record { lock = h.lock; caller = Idle; number = h.seats; seen = h.found; mine = []; last = 0; seats = h.seats + 1 }
 
-  -- a value that agrees with a history which begins with what the seat has seen
-  abbrev pub IsLast : (S → F) → (S → List N → Type 0) → Front N F → S → Type 0
-  IsLast fixed_of suits f x = ((h : List N) × IsPrefix f.seen h × suits x h) × (fixed_of x ≡ f.lock.fixed)
+  -- a value that agrees with a history which begins with what the seat has seen and has just the seat's own notes under its number
+  abbrev pub IsLast : (N → ℕ) → (S → F) → (S → List N → Type 0) → Front N F → S → Type 0
+  IsLast writer fixed_of suits f x = ((h : List N) × IsPrefix f.seen h × (notes_of writer f.number h ≡ f.mine) × suits x h) × (fixed_of x ≡ f.lock.fixed)
 
   -- the hold with another value
   abbrev pub holding : Hold S N F → S → Hold S N F

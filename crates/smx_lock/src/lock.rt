@@ -316,7 +316,7 @@ impl<S: Kept> TicketLock<S> {
     // it is proved. Tests show both answers.
     pub fn finish(self, last: LockSeat<S>) -> Result<S, StateOut>
         requires { last.lock ≡ self }
-        ensures { IfOk result (IsLast S.fixed S.agrees last) }
+        ensures { IfOk result (IsLast S.writer S.fixed S.agrees last) }
     {
         let TicketLock { table } = self;
         let LockSeat { seat, .. } = last;

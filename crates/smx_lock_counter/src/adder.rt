@@ -1,7 +1,7 @@
 //! A caller with one seat.
 ghost use Rattle.std.specs.Prelude.{◌≡◌, IfOk, IfErr};
 ghost use Rattle.smx_lock.specs.Fronts.{IsSpent, IsLast};
-ghost use Rattle.smx_lock_counter.specs.Counting.{AddServes, ReadServes, deed_of, limit, agrees};
+ghost use Rattle.smx_lock_counter.specs.Counting.{AddServes, ReadServes, by, deed_of, limit, agrees};
 
 use crate::{Counter, Deed};
 use smx_lock::{LockSeat, Spent, StateOut, TicketLock};
@@ -99,7 +99,7 @@ impl Adder {
     // As of the lock's own `finish`, no clause says when `StateOut` comes.
     pub fn finish(self, lock: TicketLock<Counter>) -> Result<Counter, StateOut>
         requires { self.lock ≡ lock }
-        ensures { IfOk result (IsLast limit agrees self) }
+        ensures { IfOk result (IsLast by limit agrees self) }
     {
         lock.finish(self.into_seat())
     }

@@ -11,9 +11,6 @@ use smx_routes::{MoWindow, WindowFault};
 use std::alloc::{AllocError, Global};
 use std::marker::Model;
 
-#[cfg(test)]
-mod tests;
-
 /// The messages that wait for a client, and those that it was sent and has not answered, each as many as
 /// there are places. Contracts see both lists.
 #[derive(Drop)]

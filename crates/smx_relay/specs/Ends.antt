@@ -10,7 +10,7 @@ BeginsRelay script out = (more : List ℕ) × (stop : Option ℕ) × Relays scri
 
 abbrev pub Ends : RunEnd → List ℕ → List ℕ → Type 0
 Ends Clean script out = Relays script out None
-Ends (BadLine n) script out = Relays script out (Some n)
+Ends (BadLine n reason) script out = Relays script out (Some n)
 Ends WriteFault script out = BeginsRelay script out
 Ends NoMemory script out = BeginsRelay script out
 Ends TooLong script out = (1048576 < length script) × (out ≡ [])

@@ -1,4 +1,5 @@
 //! How a run ends.
+use smx_script::Reason;
 use thiserror::Error;
 
 /// How the run of a script ended.
@@ -7,11 +8,11 @@ pub enum RunEnd {
     /// Each line was run.
     #[error("each line was run")]
     Clean,
-    /// The line with this number, from 1 on, is bad. The lines before it were run.
-    #[error("line {0} is bad")]
-    BadLine(u64),
+    /// The line with this number, from 1 on, is bad, for this reason. The lines before it were run.
+    #[error("line {0}: {1}")]
+    BadLine(u64, Reason),
     /// The script has more than 1,048,576 octets.
-    #[error("the script is too long")]
+    #[error("the script has more than 1,048,576 octets")]
     TooLong,
     /// The reader failed.
     #[error("the script could not be read")]

@@ -5,6 +5,7 @@ ghost use Rattle.smx_relay.specs.Ends.{Ends};
 
 use crate::end::RunEnd;
 use crate::line::run_line;
+use crate::reason::reason;
 use crate::settings::new_state;
 use crate::texts::bad_line;
 use smx_script::lines_of;
@@ -39,7 +40,7 @@ fn relay<W: Write>(alloc: Global, script: &[u8], writer: &mut W) -> RunEnd
                     return RunEnd::NoMemory;
                 };
                 match write_text(writer, text.as_bytes()) {
-                    Ok(()) => return RunEnd::BadLine(number),
+                    Ok(()) => return RunEnd::BadLine(number, reason(alloc, &state, line)),
                     Err(_) => return RunEnd::WriteFault,
                 }
             }

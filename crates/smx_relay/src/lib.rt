@@ -12,6 +12,7 @@ mod link;
 mod messages;
 mod offer;
 mod on_lane;
+mod reason;
 mod receive;
 mod refusal;
 mod requests;

@@ -2,9 +2,10 @@
 ghost use Rattle.std.specs.Prelude.{Some};
 
 use smx_relay::{RunEnd, run};
-use std::alloc::{AllocError, Global};
+use std::alloc::Global;
 use std::io;
 use std::io::{ErrorKind, Read, Write};
+use std::process::Abort;
 use std::test::*;
 
 const SCRIPT: &str =
@@ -66,81 +67,81 @@ impl Write for Weary {
     }
 }
 
-// How a run ends over the reader that fails after so many reads, and what it prints.
-fn read_by(alloc: Global, reads: usize) -> Result<(RunEnd, Vec<u8>), AllocError> {
-    let mut out = Vec::with_capacity(alloc, 1_024)?;
-    let end = run(alloc, &mut Broken { reads, at: 0 }, &mut out);
-    Ok((end, out))
+// Whether a run over the reader that fails after so many reads ends so, and prints this.
+fn reads(rt: &impl Abort, alloc: Global, reads: usize, end: RunEnd, output: &str) -> bool {
+    let mut out = Vec::with_capacity(alloc, 1_024).expect(rt, "out of memory");
+    let found = run(alloc, &mut Broken { reads, at: 0 }, &mut out);
+    found == end && out.as_slice() == output.as_bytes()
 }
 
 #[test]
-fn a_reader_that_fails(rt: HostRuntime) -> Result<(), Fail> {
-    for reads in 0..=SCRIPT.len() {
-        let (end, out) = read_by(rt.alloc(), reads)?;
-        assert!(rt; end == RunEnd::ReadFault && out.is_empty(), "{reads} reads");
+fn a_reader_that_fails(rt: HostRuntime) {
+    for count in 0..=SCRIPT.len() {
+        let well = reads(&rt, rt.alloc(), count, RunEnd::ReadFault, "");
+        assert!(rt; well, "{count} reads");
     }
-    let (end, out) = read_by(rt.alloc(), SCRIPT.len() + 1)?;
-    assert!(rt; end == RunEnd::Clean && out.as_slice() == OUTPUT.as_bytes());
-    Ok(())
+    assert!(rt; reads(&rt, rt.alloc(), SCRIPT.len() + 1, RunEnd::Clean, OUTPUT));
 }
 
-// How a run ends over the writer, and what was written.
-fn written_by(
-    alloc: Global,
-    writes: usize,
-    takes: usize,
-    fails: bool,
-) -> Result<(RunEnd, Vec<u8>), AllocError> {
-    let mut out = Weary {
-        held: Vec::with_capacity(alloc, 1_024)?,
+// A writer that takes so many octets at a time, and fails after so many writes or takes nothing.
+fn make_weary(rt: &impl Abort, alloc: Global, writes: usize, takes: usize, fails: bool) -> Weary {
+    Weary {
+        held: Vec::with_capacity(alloc, 1_024).expect(rt, "out of memory"),
         writes,
         takes,
         fails,
-    };
+    }
+}
+
+// How a run ends over the writer.
+fn end_over(alloc: Global, out: &mut Weary) -> RunEnd {
     let mut script = SCRIPT.as_bytes();
-    let end = run(alloc, &mut script, &mut out);
-    Ok((end, out.held))
+    run(alloc, &mut script, out)
 }
 
 // What was written before the writer failed is a front, as long as the writes were.
 fn writes_a_front(
+    rt: &impl Abort,
     alloc: Global,
     writes: usize,
     takes: usize,
     fails: bool,
-) -> Result<bool, AllocError> {
-    let (end, held) = written_by(alloc, writes, takes, fails)?;
-    let front = OUTPUT.as_bytes().starts_with(held.as_slice());
-    let long = takes != 1 || held.len() == writes;
-    Ok(end == RunEnd::WriteFault && front && long)
+) -> bool {
+    let mut out = make_weary(rt, alloc, writes, takes, fails);
+    let end = end_over(alloc, &mut out);
+    let held = out.held.as_slice();
+    let front = OUTPUT.as_bytes().starts_with(held);
+    end == RunEnd::WriteFault && front && (takes != 1 || held.len() == writes)
+}
+
+fn writes_all(rt: &impl Abort, alloc: Global, writes: usize, takes: usize) -> bool {
+    let mut out = make_weary(rt, alloc, writes, takes, true);
+    end_over(alloc, &mut out) == RunEnd::Clean && out.held.as_slice() == OUTPUT.as_bytes()
 }
 
 // Each octet is written alone, or each text at once.
 #[test]
-fn a_writer_that_fails(rt: HostRuntime) -> Result<(), Fail> {
+fn a_writer_that_fails(rt: HostRuntime) {
     for (takes, most) in [(1, OUTPUT.len()), (1_000, 5)] {
         for turn in 0..2 * most {
-            assert!(rt; writes_a_front(rt.alloc(), turn / 2, takes, turn % 2 == 0)?);
+            let fails = turn % 2 == 0;
+            assert!(rt; writes_a_front(&rt, rt.alloc(), turn / 2, takes, fails));
         }
-        let (end, held) = written_by(rt.alloc(), most, takes, true)?;
-        assert!(rt; end == RunEnd::Clean && held.as_slice() == OUTPUT.as_bytes());
+        assert!(rt; writes_all(&rt, rt.alloc(), most, takes));
     }
-    Ok(())
+}
+
+// Whether a run over the script ends so, and prints nothing.
+fn runs(rt: &impl Abort, alloc: Global, script: &[u8], end: RunEnd) -> bool {
+    let mut out = Vec::with_capacity(alloc, 1_024).expect(rt, "out of memory");
+    let mut reader = script;
+    run(alloc, &mut reader, &mut out) == end && out.is_empty()
 }
 
 #[test]
-fn the_longest_script(rt: HostRuntime) -> Result<(), Fail> {
-    let mut text = vec![in rt.alloc(); b'#'; 1_048_576]?;
-    let mut out = Vec::with_capacity(rt.alloc(), 1_024)?;
-    assert_eq!(rt;
-        run(rt.alloc(), &mut text.as_slice(), &mut out),
-        RunEnd::Clean
-    );
-    text.push(b'#')?;
-    assert_eq!(rt;
-        run(rt.alloc(), &mut text.as_slice(), &mut out),
-        RunEnd::TooLong
-    );
-    assert!(rt; out.is_empty());
-    Ok(())
+fn the_longest_script(rt: HostRuntime) {
+    let text = vec![in rt.alloc(); b'#'; 1_048_577].expect(&rt, "out of memory");
+    let (longest, _) = text.split_at(text.len().saturating_sub(1));
+    assert!(rt; runs(&rt, rt.alloc(), longest, RunEnd::Clean));
+    assert!(rt; runs(&rt, rt.alloc(), &text, RunEnd::TooLong));
 }

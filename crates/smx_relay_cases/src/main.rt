@@ -1,8 +1,10 @@
 //! Runs the script of standard input. Beside that it has the tests of the relay, scripts and what they
-//! print, worked out by hand, and those of lines and of whole texts: in a crate of their own, so that
-//! nothing below is proved twice.
+//! print, worked out by hand, and those of lines, of whole texts and of configurations: in a crate of
+//! their own, so that nothing below is proved twice.
 #![tactic(auto)]
 
+#[cfg(test)]
+mod config_tests;
 #[cfg(test)]
 mod fakes;
 #[cfg(test)]

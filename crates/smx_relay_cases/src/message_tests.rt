@@ -1,5 +1,5 @@
 //! Scripts in which the centre sends messages.
-use crate::tests::{outcome, prints};
+use crate::tests::{prints, says};
 use smx_relay::RunEnd;
 use std::test::*;
 
@@ -60,38 +60,63 @@ const ROWS: [(&str, &str, &str); 10] = [
 #[test]
 fn messages_go_to_clients(rt: HostRuntime) {
     for (name, script, output) in ROWS {
-        let well = prints(rt.alloc(), script.as_bytes(), RunEnd::Clean, output);
+        let well = prints(&rt, rt.alloc(), script.as_bytes(), RunEnd::Clean, output);
         assert!(rt; well, "{name}");
     }
 }
 
-// Scripts that end with a bad line, and its number.
-const BAD: [(&str, u64); 15] = [
-    ("box 0\n", 1),
-    ("box 257\n", 1),
-    ("client trx\nbox 1\n", 2),
-    ("route 1 49\n", 1),
-    ("client tx\nroute 1 49\n", 2),
-    ("client open\nroute 1 49\n", 2),
-    ("client trx\nroute 1 49\nroute 1 49\n", 3),
-    ("client trx\nroute 1 -\nroute 1 -\n", 3),
-    ("client trx\nroute 0 49\n", 2),
-    ("client trx\nroute 1 123456789012345678901\n", 2),
-    ("client trx\nroute 1 \u{7f}\n", 2),
-    ("client trx\nroute 1\n", 2),
-    ("client trx\nroute 1 49 1\n", 2),
+// Scripts that end with a bad line, and what is said of it.
+const BAD: [(&str, &str); 15] = [
+    ("box 0\n", "line 1: box 0, at least 1"),
+    ("box 257\n", "line 1: box 257, at most 256"),
+    (
+        "client trx\nbox 1\n",
+        "line 2: a setting; settings stand before the first other line",
+    ),
+    ("route 1 49\n", "line 1: client 1 is unknown"),
+    (
+        "client tx\nroute 1 49\n",
+        "line 2: the client isn't bound as receiver or transceiver",
+    ),
+    (
+        "client open\nroute 1 49\n",
+        "line 2: the client isn't bound as receiver or transceiver",
+    ),
+    (
+        "client trx\nroute 1 49\nroute 1 49\n",
+        "line 3: the client has this prefix",
+    ),
+    (
+        "client trx\nroute 1 -\nroute 1 -\n",
+        "line 3: the client has this prefix",
+    ),
+    ("client trx\nroute 0 49\n", "line 2: client 0 is unknown"),
+    (
+        "client trx\nroute 1 123456789012345678901\n",
+        "line 2: PREFIX is too long, at most 20 octets",
+    ),
+    (
+        "client trx\nroute 1 \u{7f}\n",
+        "line 2: an octet that is neither printable ASCII nor a space",
+    ),
+    (
+        "client trx\nroute 1\n",
+        "line 2: its form is route C PREFIX",
+    ),
+    (
+        "client trx\nroute 1 49 1\n",
+        "line 2: its form is route C PREFIX",
+    ),
     (
         "client trx\nin 1 00000010000000060000000000000008\nroute 1 49\n",
-        3,
+        "line 3: the client isn't bound as receiver or transceiver",
     ),
-    ("client trx\nroute 2 49\n", 2),
+    ("client trx\nroute 2 49\n", "line 2: client 2 is unknown"),
 ];
 
 #[test]
-fn bad_lines_of_messages(rt: HostRuntime) -> Result<(), Fail> {
-    for (script, line) in BAD {
-        let (found, _) = outcome(rt.alloc(), script.as_bytes())?;
-        assert_eq!(rt; found, RunEnd::BadLine(line), "{script}");
+fn bad_lines_of_messages(rt: HostRuntime) {
+    for (script, words) in BAD {
+        assert!(rt; says(&rt, rt.alloc(), script.as_bytes(), words), "{script}");
     }
-    Ok(())
 }

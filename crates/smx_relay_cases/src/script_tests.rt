@@ -1,5 +1,7 @@
 //! Lines of a script.
-use smx_script::{Action, Command, lines_of, read_command};
+use smx_script::{Action, Command, lines_of, read_command, subject_of};
+use std::alloc::Global;
+use std::process::Abort;
 use std::test::*;
 
 // Lines that say something to a run, whether or not there is such a client or lane.
@@ -44,35 +46,42 @@ const BAD: [&str; 18] = [
     "turns 1",
 ];
 
+// What the line says.
+fn command_of(rt: &impl Abort, alloc: Global, line: &str) -> Option<Command> {
+    read_command(alloc, line.as_bytes()).expect(rt, "out of memory")
+}
+
 #[test]
-fn good_and_bad_lines(rt: HostRuntime) -> Result<(), Fail> {
+fn good_and_bad_lines(rt: HostRuntime) {
     for line in GOOD {
-        let command = read_command(rt.alloc(), line.as_bytes())?;
-        assert!(rt; command.is_some(), "{line}");
+        assert!(rt; command_of(&rt, rt.alloc(), line).is_some(), "{line}");
+        assert!(rt; subject_of(rt.alloc(), line.as_bytes()).is_ok(), "{line}");
     }
     for line in BAD {
-        let command = read_command(rt.alloc(), line.as_bytes())?;
-        assert!(rt; command.is_none(), "{line}");
+        assert!(rt; command_of(&rt, rt.alloc(), line).is_none(), "{line}");
+        assert!(rt; subject_of(rt.alloc(), line.as_bytes()).is_err(), "{line}");
     }
-    Ok(())
 }
 
 #[test]
-fn octets_of_a_client(rt: HostRuntime) -> Result<(), Fail> {
-    match read_command(rt.alloc(), "in 7 0aF0".as_bytes())? {
+fn octets_of_a_client(rt: HostRuntime) {
+    let command = command_of(&rt, rt.alloc(), "in 7 0aF0");
+    let is_read = match &command {
         Some(Command::Run(Action::In { client, octets })) => {
-            assert_eq!(rt; client, 7);
-            assert_eq!(rt; octets.as_slice(), [10, 240].as_slice());
+            *client == 7 && octets.as_slice() == [10, 240].as_slice()
         }
-        _ => return Err("no octets of a client".into()),
-    }
-    Ok(())
+        _ => false,
+    };
+    assert!(rt; is_read);
 }
 
 #[test]
-fn lines_of_a_script(rt: HostRuntime) -> Result<(), Fail> {
-    let lines = lines_of(rt.alloc(), "take 0\n\ntake 1".as_bytes())?;
-    assert_eq!(rt; lines.len(), 3);
-    assert_eq!(rt; lines[2], "take 1".as_bytes());
-    Ok(())
+fn lines_of_a_script(rt: HostRuntime) {
+    let lines = lines_of(rt.alloc(), "take 0\n\ntake 1".as_bytes());
+    let lines = lines.expect(&rt, "out of memory");
+    let is_third = match lines.as_slice() {
+        [_, _, third] => *third == "take 1".as_bytes(),
+        _ => false,
+    };
+    assert!(rt; is_third);
 }

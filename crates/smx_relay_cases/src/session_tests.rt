@@ -1,6 +1,8 @@
 //! Scripts in which sessions decide, and octets come in any pieces.
 use crate::tests::prints;
 use smx_relay::RunEnd;
+use std::alloc::Global;
+use std::process::Abort;
 use std::test::*;
 
 // A script, and what it prints when each line is run.
@@ -85,7 +87,7 @@ const ROWS: [(&str, &str, &str); 15] = [
 #[test]
 fn sessions_decide(rt: HostRuntime) {
     for (name, script, output) in ROWS {
-        let well = prints(rt.alloc(), script.as_bytes(), RunEnd::Clean, output);
+        let well = prints(&rt, rt.alloc(), script.as_bytes(), RunEnd::Clean, output);
         assert!(rt; well, "{name}");
     }
 }
@@ -109,31 +111,34 @@ const LINES: [(&str, &str); 6] = [
 const PRINTED: &str =
     "client 1\naccepted 1 0\naccepted 1 0\nup 0 00000022000000040000000000000001000000000000310000000000000000000000\nup 0 00000022000000040000000000000002000000000000320000000000000000000000\nqueued 1\nqueued 1\nto 1 000000128000000400000000000000073200\nto 1 000000128000000400000000000000073100\n";
 
+// Adds the texts and the end of their line.
+fn add_line(rt: &impl Abort, script: &mut Vec<u8>, command: &str, digits: &[u8]) {
+    for text in [command.as_bytes(), digits, b"\n"] {
+        script.extend_from_slice(text).expect(rt, "out of memory");
+    }
+}
+
 // The lines with octets are cut behind so many of them, where they have more.
-fn cut_script(rt: HostRuntime, octets: usize) -> Result<Vec<u8>, Fail> {
-    let mut script = Vec::from_slice(rt.alloc(), b"client trx\n")?;
+fn cut_script(rt: &impl Abort, alloc: Global, octets: usize) -> Vec<u8> {
+    let mut script = Vec::new(alloc);
+    add_line(rt, &mut script, "client trx", &[]);
     for (command, digits) in LINES {
         let place = digits.len().min(octets.saturating_mul(2));
         let (front, back) = digits.as_bytes().split_at(place);
-        script.extend_from_slice(command.as_bytes())?;
-        script.extend_from_slice(front)?;
-        script.push(b'\n')?;
+        add_line(rt, &mut script, command, front);
         if !back.is_empty() {
-            script.extend_from_slice(command.as_bytes())?;
-            script.extend_from_slice(back)?;
-            script.push(b'\n')?;
+            add_line(rt, &mut script, command, back);
         }
     }
-    script.extend_from_slice(b"collect 1\n")?;
-    Ok(script)
+    add_line(rt, &mut script, "collect 1", &[]);
+    script
 }
 
 #[test]
-fn lines_cut_at_each_octet(rt: HostRuntime) -> Result<(), Fail> {
+fn lines_cut_at_each_octet(rt: HostRuntime) {
     for octets in 1..=34 {
-        let script = cut_script(rt, octets)?;
-        let well = prints(rt.alloc(), &script, RunEnd::Clean, PRINTED);
+        let script = cut_script(&rt, rt.alloc(), octets);
+        let well = prints(&rt, rt.alloc(), &script, RunEnd::Clean, PRINTED);
         assert!(rt; well, "cut behind {octets} octets");
     }
-    Ok(())
 }

@@ -1,21 +1,37 @@
 use smx_relay::{RunEnd, run};
-use std::alloc::{AllocError, Global};
+use std::alloc::Global;
+use std::process::Abort;
 use std::test::*;
 
 // How a run over the script ends, and what it prints.
-pub fn outcome(alloc: Global, script: &[u8]) -> Result<(RunEnd, Vec<u8>), AllocError> {
-    let mut out = Vec::with_capacity(alloc, 32_768)?;
+pub fn outcome(rt: &impl Abort, alloc: Global, script: &[u8]) -> (RunEnd, Vec<u8>) {
+    let mut out = Vec::with_capacity(alloc, 32_768).expect(rt, "out of memory");
     let mut reader = script;
     let end = run(alloc, &mut reader, &mut out);
-    Ok((end, out))
+    (end, out)
+}
+
+// What is said of how a run over the script ends, and what it prints.
+pub fn said(rt: &impl Abort, alloc: Global, script: &[u8]) -> (String, Vec<u8>) {
+    let (end, out) = outcome(rt, alloc, script);
+    let words = format!(in alloc; "{end}");
+    (words.expect(rt, "out of memory"), out)
+}
+
+// Whether this is said of how a run over the script ends.
+pub fn says(rt: &impl Abort, alloc: Global, script: &[u8], words: &str) -> bool {
+    said(rt, alloc, script).0.as_str() == words
 }
 
 // Whether a run over the script ends so, and prints this.
-pub fn prints(alloc: Global, script: &[u8], end: RunEnd, output: &str) -> bool {
-    match outcome(alloc, script) {
-        Ok((found, out)) => found == end && out.as_slice() == output.as_bytes(),
-        Err(AllocError) => false,
-    }
+pub fn prints(rt: &impl Abort, alloc: Global, script: &[u8], end: RunEnd, output: &str) -> bool {
+    let (found, out) = outcome(rt, alloc, script);
+    found == end && out.as_slice() == output.as_bytes()
+}
+
+// Whether a run over the script ends so, whatever it prints.
+pub fn ends(rt: &impl Abort, alloc: Global, script: &[u8], end: RunEnd) -> bool {
+    outcome(rt, alloc, script).0 == end
 }
 
 // A script, and what it prints when each line is run.
@@ -83,128 +99,201 @@ const ROWS: [(&str, &str, &str); 13] = [
     ),
 ];
 
-// Lines that are bad after one client entered.
-const BAD_LINES: [&str; 25] = [
-    "take 1",
-    "take 00",
-    "take +0",
-    "take 0 ",
-    " take 0",
-    "take 0\r",
-    "take",
-    "collect 2",
-    "collect 0",
-    "collect 01",
-    "client xx",
-    "client",
-    "account a p",
-    "back 0 0g",
-    "in 1 ",
-    "in 1 0",
-    "in 2 00000022000000040000000000000001000000000000310000000000000000000000",
-    "back 1 000000128000000400000000000000013100",
-    "history 1",
-    "turn 1",
-    "turn",
-    "limits 1 1 3 1000",
-    "lanes 1",
-    "take 18446744073709551616",
-    "nothing",
+// Lines that are bad after one client entered, and why.
+const BAD_LINES: [(&str, &str); 25] = [
+    ("take 1", "lane 1 is unknown; lanes 1, from 0"),
+    (
+        "take 00",
+        "lane is no number below 2^64; digits alone, no leading zeros",
+    ),
+    (
+        "take +0",
+        "lane is no number below 2^64; digits alone, no leading zeros",
+    ),
+    (
+        "take 0 ",
+        "a space too many; one space stands between two fields",
+    ),
+    (
+        " take 0",
+        "a space too many; one space stands between two fields",
+    ),
+    (
+        "take 0\r",
+        "a carriage return; lines end with a line feed alone",
+    ),
+    ("take", "its form is take LANE"),
+    ("collect 2", "client 2 is unknown"),
+    ("collect 0", "client 0 is unknown"),
+    (
+        "collect 01",
+        "client is no number below 2^64; digits alone, no leading zeros",
+    ),
+    ("client xx", "KIND is open, tx, rx or trx"),
+    ("client", "its form is client KIND"),
+    (
+        "account a p",
+        "a setting; settings stand before the first other line",
+    ),
+    ("back 0 0g", "HEX has an octet that is no hexadecimal digit"),
+    (
+        "in 1 ",
+        "a space too many; one space stands between two fields",
+    ),
+    ("in 1 0", "odd count of hexadecimal digits"),
+    (
+        "in 2 00000022000000040000000000000001000000000000310000000000000000000000",
+        "client 2 is unknown",
+    ),
+    (
+        "back 1 000000128000000400000000000000013100",
+        "lane 1 is unknown; lanes 1, from 0",
+    ),
+    ("history 1", "lane 1 is unknown; lanes 1, from 0"),
+    ("turn 1", "lane 1 is unknown; lanes 1, from 0"),
+    ("turn", "its form is turn LANE"),
+    (
+        "limits 1 1 3 1000",
+        "a setting; settings stand before the first other line",
+    ),
+    (
+        "lanes 1",
+        "a setting; settings stand before the first other line",
+    ),
+    (
+        "take 18446744073709551616",
+        "lane is no number below 2^64; digits alone, no leading zeros",
+    ),
+    ("nothing", "no such command"),
 ];
 
 #[test]
 fn scripts_print_what_their_lines_cause(rt: HostRuntime) {
     for (name, script, output) in ROWS {
-        let well = prints(rt.alloc(), script.as_bytes(), RunEnd::Clean, output);
+        let well = prints(&rt, rt.alloc(), script.as_bytes(), RunEnd::Clean, output);
         assert!(rt; well, "{name}");
     }
 }
 
+// Whether a run of a client and these lines ends at the first of them, for this reason.
+fn ends_at(rt: &impl Abort, alloc: Global, line: &str, reason: &str) -> bool {
+    let script = format!(in alloc; "client trx\n{line}\ncollect 1\n");
+    let script = script.expect(rt, "out of memory");
+    let (words, out) = said(rt, alloc, script.as_bytes());
+    words.strip_prefix("line 2: ") == Some(reason)
+        && out.as_slice() == "client 1\nbad line 2\n".as_bytes()
+}
+
 #[test]
-fn bad_lines_end_a_run(rt: HostRuntime) -> Result<(), Fail> {
-    for line in BAD_LINES {
-        let script = format!(in rt.alloc(); "client trx\n{line}\ncollect 1\n")?;
-        let end = RunEnd::BadLine(2);
-        let well = prints(rt.alloc(), script.as_bytes(), end, "client 1\nbad line 2\n");
-        assert!(rt; well, "{line}");
+fn bad_lines_end_a_run(rt: HostRuntime) {
+    for (line, reason) in BAD_LINES {
+        assert!(rt; ends_at(&rt, rt.alloc(), line, reason), "{line}");
     }
-    Ok(())
 }
 
 #[test]
 fn a_first_line_that_is_bad(rt: HostRuntime) {
-    let end = RunEnd::BadLine(1);
-    assert!(rt; prints(rt.alloc(), b"take 1", end, "bad line 1\n"));
+    let (found, out) = said(&rt, rt.alloc(), b"lanes 17");
+    assert!(rt; found.as_str() == "line 1: lanes 17, at most 16");
+    assert!(rt; out.as_slice() == "bad line 1\n".as_bytes());
+}
+
+// Adds the text.
+fn add(rt: &impl Abort, to: &mut String, text: &str) {
+    to.push_str(text).expect(rt, "out of memory");
+}
+
+// Adds the word and the number of a client, and what stands behind them.
+fn add_client(
+    rt: &impl Abort,
+    alloc: Global,
+    to: &mut String,
+    word: &str,
+    client: u32,
+    rest: &str,
+) {
+    let text = format!(in alloc; "{word} {client}{rest}\n");
+    add(rt, to, &text.expect(rt, "out of memory"));
 }
 
 // Two clients of which one has two requests on lane 1, and then 496 more.
-fn crowd(alloc: Global) -> Result<String, AllocError> {
-    let mut script = String::from_str(
-        alloc,
+fn crowd(rt: &impl Abort, alloc: Global) -> String {
+    let mut script = String::new(alloc);
+    add(
+        rt,
+        &mut script,
         "lanes 2\nlimits 1 2 2 1000\nclient trx\nclient trx\nin 1 00000022000000040000000000000001000000000000310000000000000000000000\nin 2 00000022000000040000000000000001000000000000310000000000000000000000\ntake 1\nin 2 00000022000000040000000000000002000000000000310000000000000000000000\n",
-    )?;
+    );
     for _ in 0..496 {
-        script.push_str("client trx\n")?;
+        add(rt, &mut script, "client trx\n");
     }
-    script.push_str("history 0\ncollect 496\n")?;
-    Ok(script)
+    add(rt, &mut script, "history 0\ncollect 496\n");
+    script
 }
 
 // Lane 1 has one accepted request more than lane 0, and so no room for the 496th client first: with
 // n clients present, the next one needs 2n + 8 of the 1,000 places on lane 0 and 2n + 12 on lane 1.
 #[test]
-fn clients_that_are_refused(rt: HostRuntime) -> Result<(), Fail> {
-    let script = crowd(rt.alloc())?;
-    let (found, out) = outcome(rt.alloc(), script.as_bytes())?;
-    assert_eq!(rt; found, RunEnd::BadLine(506));
+fn clients_that_are_refused(rt: HostRuntime) {
+    let script = crowd(&rt, rt.alloc());
+    let (found, out) = said(&rt, rt.alloc(), script.as_bytes());
+    assert!(rt; found.as_str() == "line 506: client 496 is unknown");
     let begin =
         "client 1\nclient 2\naccepted 1 0\naccepted 2 1\nup 1 00000022000000040000000000000001000000000000310000000000000000000000\naccepted 2 1\nclient 3\n";
     let end =
         "admit 495 0 0\nadmit 496 0 0\nretire 496 0 0\nadmit 497 0 0\nretire 497 0 0\nbad line 506\n";
     assert!(rt; out.as_slice().starts_with(begin.as_bytes()));
     assert!(rt; out.as_slice().ends_with(end.as_bytes()));
-    Ok(())
 }
 
-// A script of 499 clients, and what it prints: a lane with 499 entries and 499 clients has no room for
-// the next, and once it is turned over it has.
-fn full_lane(alloc: Global) -> Result<(String, String), AllocError> {
-    let mut script = String::from_str(alloc, "limits 1 1 1 1000\n")?;
-    let mut output = String::new(alloc);
-    let mut entries = String::new(alloc);
-    for client in 1..=499 {
-        script.push_str("client trx\n")?;
-        output.push_str(&format!(in alloc; "client {client}\n")?)?;
-        entries.push_str(&format!(in alloc; "admit {client} 0 0\n")?)?;
+// A script of 499 clients, one more, a turn over, and one more again.
+fn full_lane(rt: &impl Abort, alloc: Global) -> String {
+    let mut script = String::new(alloc);
+    add(rt, &mut script, "limits 1 1 1 1000\n");
+    for _ in 0..499 {
+        add(rt, &mut script, "client trx\n");
     }
-    script.push_str("client trx\nturn 0\nclient trx\nhistory 0\n")?;
-    output.push_str("refused\n")?;
-    output.push_str(&entries)?;
-    output.push_str("turned 0 499\nclient 501\nadmit 501 0 0\n")?;
-    Ok((script, output))
+    add(
+        rt,
+        &mut script,
+        "client trx\nturn 0\nclient trx\nhistory 0\n",
+    );
+    script
+}
+
+// What it prints: a lane with 499 entries and 499 clients has no room for the next, and once it is
+// turned over it has.
+fn of_full_lane(rt: &impl Abort, alloc: Global) -> String {
+    let mut output = String::new(alloc);
+    for client in 1..=499 {
+        add_client(rt, alloc, &mut output, "client", client, "");
+    }
+    add(rt, &mut output, "refused\n");
+    for client in 1..=499 {
+        add_client(rt, alloc, &mut output, "admit", client, " 0 0");
+    }
+    add(rt, &mut output, "turned 0 499\nclient 501\nadmit 501 0 0\n");
+    output
 }
 
 // An admit wants 4 places more, which goes beyond the lane's 1,000. After a turn over the 499 present
 // alone count.
 #[test]
-fn a_full_lane_that_goes_on(rt: HostRuntime) -> Result<(), Fail> {
-    let (script, output) = full_lane(rt.alloc())?;
-    let well = prints(rt.alloc(), script.as_bytes(), RunEnd::Clean, &output);
-    assert!(rt; well);
-    Ok(())
+fn a_full_lane_that_goes_on(rt: HostRuntime) {
+    let script = full_lane(&rt, rt.alloc());
+    let output = of_full_lane(&rt, rt.alloc());
+    assert!(rt; prints(&rt, rt.alloc(), script.as_bytes(), RunEnd::Clean, &output));
 }
 
 // The 257th account is one too many.
 #[test]
-fn the_most_accounts(rt: HostRuntime) -> Result<(), Fail> {
+fn the_most_accounts(rt: HostRuntime) {
     let mut script = String::new(rt.alloc());
     for _ in 0..256 {
-        script.push_str("account a p\n")?;
+        add(&rt, &mut script, "account a p\n");
     }
-    for (more, end) in [("", RunEnd::Clean), ("account a p\n", RunEnd::BadLine(257))] {
-        script.push_str(more)?;
-        let (found, _) = outcome(rt.alloc(), script.as_bytes())?;
-        assert_eq!(rt; found, end);
-    }
-    Ok(())
+    assert!(rt; ends(&rt, rt.alloc(), script.as_bytes(), RunEnd::Clean));
+    add(&rt, &mut script, "account a p\n");
+    let words = "line 257: one account too many, at most 256";
+    assert!(rt; says(&rt, rt.alloc(), script.as_bytes(), words));
 }

@@ -1,28 +1,26 @@
 //! Whole texts, read and written.
 use smx_text::{ReadFault, read_octets, write_text};
+use std::alloc::Global;
+use std::process::Abort;
 use std::test::*;
 
-// Why nothing was read, or `Err` for want of memory.
-fn refusal(read: Result<Vec<u8>, ReadFault>) -> Result<Option<ReadFault>, ReadFault> {
-    match read {
-        Ok(_) => Ok(None),
-        Err(ReadFault::NoMemory) => Err(ReadFault::NoMemory),
-        Err(fault) => Ok(Some(fault)),
-    }
+// Whether the text is read where so many octets are the most, and written as it was.
+fn is_copied(rt: &impl Abort, alloc: Global, text: &str, most: usize) -> bool {
+    let mut reader = text.as_bytes();
+    let octets = read_octets(alloc, &mut reader, most).expect(rt, "no text");
+    let mut out = Vec::with_capacity(alloc, 64).expect(rt, "out of memory");
+    write_text(&mut out, &octets).is_ok() && out.as_slice() == text.as_bytes()
+}
+
+// Why the text is not read where so many octets are the most.
+fn refusal(alloc: Global, text: &str, most: usize) -> Option<ReadFault> {
+    let mut reader = text.as_bytes();
+    read_octets(alloc, &mut reader, most).err()
 }
 
 #[test]
-fn a_text_that_is_read_and_written(rt: HostRuntime) -> Result<(), Fail> {
-    let mut text = "whole".as_bytes();
-    let octets = read_octets(rt.alloc(), &mut text, 5)?;
-    let mut out = Vec::with_capacity(rt.alloc(), 64)?;
-    write_text(&mut out, &octets)?;
-    assert_eq!(rt; out.as_slice(), "whole".as_bytes());
-    let mut longer = "whole".as_bytes();
-    let refused = refusal(read_octets(rt.alloc(), &mut longer, 4))?;
-    assert_eq!(rt; refused, Some(ReadFault::TooLong));
-    let mut nothing: &[u8] = &[];
-    let none = read_octets(rt.alloc(), &mut nothing, 0)?;
-    assert!(rt; none.is_empty());
-    Ok(())
+fn a_text_that_is_read_and_written(rt: HostRuntime) {
+    assert!(rt; is_copied(&rt, rt.alloc(), "whole", 5));
+    assert!(rt; is_copied(&rt, rt.alloc(), "", 0));
+    assert_eq!(rt; refusal(rt.alloc(), "whole", 4), Some(ReadFault::TooLong));
 }

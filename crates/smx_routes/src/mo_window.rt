@@ -7,9 +7,6 @@ use crate::fault::WindowFault;
 use std::alloc::{AllocError, Global};
 use std::marker::Model;
 
-#[cfg(test)]
-mod tests;
-
 // The greatest sequence number (SMPP 3.4, section 5.1.4).
 const GREATEST: u32 = 0x7FFF_FFFF;
 

@@ -8,9 +8,6 @@ use crate::fault::RouteFault;
 use std::alloc::{AllocError, Global};
 use std::marker::Model;
 
-#[cfg(test)]
-mod tests;
-
 // The greatest length of a prefix in octets.
 const LONGEST: usize = 64;
 

@@ -8,8 +8,8 @@ use smx_history::Limits;
 use smx_session::{Account, Kind};
 use std::alloc::{AllocError, Global};
 
-// How a client enters.
-fn entry_of(word: &[u8]) -> Option<Option<Kind>>
+/// How a client enters.
+pub(crate) fn entry_of(word: &[u8]) -> Option<Option<Kind>>
     ensures { result ≡ entry_of word.now }
 {
     if word == "open".as_bytes() {

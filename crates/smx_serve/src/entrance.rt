@@ -1,8 +1,9 @@
 //! Where clients connect.
 
 use crate::guests::{Guest, Guests};
-use crate::notice::Notice;
+use crate::notice::{Notice, Words};
 use crate::seats::{Entrant, Gateway, Member};
+use crate::teller::Teller;
 use mio::net::{TcpListener, TcpStream};
 use mio::{Registry, Token};
 use smx_client::Desk;
@@ -24,6 +25,8 @@ pub(crate) struct Entrance {
     pub places: u32,
     // The system had no descriptor for a connection that waits.
     pub short: bool,
+    // What it says of clients.
+    pub teller: Teller,
 }
 
 // A link over a socket, and the socket for the loop.
@@ -47,7 +50,15 @@ struct Arrival {
     socket: Socket,
 }
 
+/// What is said of a connection that the loop can't watch, or that there is no memory for.
+const UNWATCHED: Words = Words::Said("it can't be watched");
+
 impl Entrance {
+    fn refuse<R: Eprint>(&self, rt: &R, now: u64, address: &str, words: Words) {
+        let notice = Notice::Refused(address, words);
+        self.teller.refused.say(rt, now, notice);
+    }
+
     // The next connection, or none for now. A want of descriptors is said once.
     pub fn accept<R: Eprint>(&mut self, rt: &R) -> Option<(TcpStream, SocketAddr)> {
         for _ in 0..u64::MAX {
@@ -64,7 +75,10 @@ impl Entrance {
                 Err(error) if error.kind() == ErrorKind::ConnectionAborted => {}
                 Err(_) => {
                     if !self.short {
-                        let _ = eprintln!(rt; "{}", Notice::NoDescriptor);
+                        let _ = eprintln!(rt;
+                            "{}",
+                            Notice::Plain("no connection can be accepted now")
+                        );
                     }
                     self.short = true;
                     return None;
@@ -85,16 +99,18 @@ impl Entrance {
         roll: &mut Roll,
         stream: TcpStream,
         address: String,
+        now: u64,
     ) -> Option<usize> {
         let Some((slot, ends)) = guests.slots.pick() else {
-            let _ = eprintln!(rt; "{}", Notice::NoSlot(address.as_str()));
+            let words = Words::Said("no slot is free");
+            self.refuse(rt, now, address.as_str(), words);
             return None;
         };
         let entrant = match self.gateway.enter(rt) {
             Ok(entrant) => entrant,
             Err(fault) => {
                 guests.slots.give_back(slot, ends);
-                let _ = eprintln!(rt; "{}", Notice::Refused(address.as_str(), fault));
+                self.refuse(rt, now, address.as_str(), Words::Unentered(fault));
                 return None;
             }
         };
@@ -103,7 +119,7 @@ impl Entrance {
         let Some(socket) = Socket::new(self.alloc, stream, registry, token) else {
             entrant.leave(rt);
             guests.slots.give_back(slot, ends);
-            let _ = eprintln!(rt; "{}", Notice::Unwatched(address.as_str()));
+            self.refuse(rt, now, address.as_str(), UNWATCHED);
             return None;
         };
         let arrival = Arrival {
@@ -113,7 +129,7 @@ impl Entrance {
             ends,
             socket,
         };
-        self.seat(rt, desk, guests, roll, arrival)
+        self.seat(rt, desk, guests, roll, arrival, now)
     }
 
     // Makes the worker of a client that has entered.
@@ -124,6 +140,7 @@ impl Entrance {
         guests: &mut Guests<'d>,
         roll: &mut Roll,
         arrival: Arrival,
+        now: u64,
     ) -> Option<usize> {
         let Arrival {
             slot,
@@ -136,13 +153,15 @@ impl Entrance {
         let Some((socket, link)) = link_of(self.alloc, socket) else {
             entrant.leave(rt);
             guests.slots.give_back(slot, ends);
-            let _ = eprintln!(rt; "{}", Notice::Unwatched(address.as_str()));
+            self.refuse(rt, now, address.as_str(), UNWATCHED);
             return None;
         };
         match Member::new(rt, self.alloc, entrant, desk, ends, self.places, link) {
             Ok(member) => {
                 let _ = roll.add(client, slot);
-                let _ = eprintln!(rt; "{}", Notice::Came(client, address.as_str()));
+                let words = Words::Said("connected");
+                let notice = Notice::Client(client, address.as_str(), "", words);
+                self.teller.came.say(rt, now, notice);
                 guests.seat(
                     slot,
                     Guest {
@@ -150,13 +169,15 @@ impl Entrance {
                         address,
                         member,
                         socket,
+                        desk,
+                        name: "",
                     },
                 );
                 Some(slot)
             }
             Err(ends) => {
                 guests.slots.give_back(slot, ends);
-                let _ = eprintln!(rt; "{}", Notice::Unwatched(address.as_str()));
+                self.refuse(rt, now, address.as_str(), UNWATCHED);
                 None
             }
         }

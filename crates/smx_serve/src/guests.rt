@@ -1,8 +1,11 @@
 //! The clients that are served.
 
-use crate::notice::Notice;
+use crate::heard::bound_name;
+use crate::notice::{Notice, Words};
 use crate::seats::Member;
+use crate::teller::Teller;
 use mio::event::Event;
+use smx_client::Desk;
 use smx_slots::{ClientEnds, Slots};
 use smx_socket::{Flushed, Socket};
 use smx_turns::{Directory, Gate, RunEnd};
@@ -20,7 +23,13 @@ pub(crate) struct Guest<'d> {
     pub address: String,
     pub member: Member<'d>,
     pub socket: Rc<Socket>,
+    pub desk: &'d Desk,
+    // The system_id of its account, once it is bound.
+    pub name: &'d str,
 }
+
+/// The end of what is written where the proxy hangs up: generic_nack of a bad length.
+pub(crate) const NACK: u64 = 0x0000_0002_0000_0000;
 
 impl Guest<'_> {
     // Turns the worker until it is idle, at most so often: how that ended, and whether octets moved.
@@ -32,33 +41,44 @@ impl Guest<'_> {
         turns: u64,
     ) -> (RunEnd, bool) {
         let before = self.socket.traffic();
-        let was_bound = self.member.kind().is_some();
         let end = self.member.run(rt, gate, directory, turns);
-        if !was_bound {
-            self.say_bound(rt);
-        }
         (end, self.socket.traffic() != before)
     }
 
     // Says why its client is gone.
-    pub fn say_gone<R: Eprint>(&self, rt: &R, end: RunEnd) {
-        let name = self.address.as_str();
-        let notice = match end {
-            RunEnd::Fault(fault) => Notice::Failed(self.client, name, fault),
-            _ if self.socket.has_ended() => Notice::Closed(self.client, name),
-            _ => Notice::Left(self.client, name),
+    pub fn say_gone<R: Eprint>(&self, rt: &R, teller: &Teller, now: u64, end: RunEnd) {
+        let words = match end {
+            RunEnd::Fault(fault) => Words::Fault(fault),
+            _ if self.socket.has_ended() => Words::Said("closed its connection"),
+            RunEnd::Left if self.socket.tail() == NACK => Words::Said("hung up, a bad length"),
+            _ => Words::Said("left"),
         };
-        let _ = eprintln!(rt; "{notice}");
+        let notice = Notice::Client(self.client, self.address.as_str(), self.name, words);
+        teller.gone.say(rt, now, notice);
     }
 
-    // Says as what its client is bound, where it is.
-    fn say_bound<R: Eprint>(&self, rt: &R) {
-        if let Some(kind) = self.member.kind() {
-            let address = self.address.as_str();
-            let _ = eprintln!(rt; "{}", Notice::Admitted(self.client, address, kind));
+    // Says as what its client is bound, and by which account, where it is and that wasn't said.
+    pub fn say_bound<R: Eprint>(&mut self, rt: &R, alloc: Global, teller: &Teller, now: u64) {
+        if !self.name.is_empty() {
+            return;
         }
+        let Some(kind) = self.member.kind() else {
+            return;
+        };
+        self.name = match self.socket.head(alloc) {
+            Some(octets) => {
+                bound_name(octets.as_slice(), self.desk.accounts.as_slice()).unwrap_or(UNNAMED)
+            }
+            None => UNNAMED,
+        };
+        let words = Words::Bound(kind);
+        let notice = Notice::Client(self.client, self.address.as_str(), self.name, words);
+        teller.bound.say(rt, now, notice);
     }
 }
+
+/// The name of a client whose bind came behind so much else that it isn't kept.
+const UNNAMED: &str = "?";
 
 // The socket of a client that is gone, until all is written, or until this moment.
 #[derive(Drop)]

@@ -4,12 +4,14 @@
 mod desk;
 mod entrance;
 mod guests;
+mod heard;
 mod notice;
 mod remote;
 mod seats;
 mod serve;
 mod stop;
 mod tables;
+mod teller;
 mod turning;
 mod upstreams;
 

@@ -34,90 +34,59 @@ impl From<AllocError> for Ended {
     }
 }
 
-/// One line for whoever runs the proxy. No password is in it.
+/// What became of a link.
 #[derive(Clone, Copy)]
-pub(crate) enum Notice<'a> {
-    Listening(&'a str),
-    NotListening(&'a str),
-    Connected(usize, &'a str, &'a str),
-    Unreached(usize, &'a str, &'a str),
-    Bound(usize, &'a str, &'a str),
-    Lost(usize, &'a str, &'a str),
-    Unbound(usize, &'a str, &'a str),
-    Came(u64, &'a str),
-    Admitted(u64, &'a str, &'a str),
-    Left(u64, &'a str),
-    Closed(u64, &'a str),
-    Failed(u64, &'a str, Fault),
-    NoSlot(&'a str),
-    Refused(&'a str, EnterFault),
-    Unwatched(&'a str),
-    NoDescriptor,
-    Stopping,
+pub(crate) enum Words {
+    Said(&'static str),
+    // A client is bound so.
+    Bound(&'static str),
+    // The centre refused the bind with this status.
+    Status(u32),
+    Fault(Fault),
+    Unentered(EnterFault),
 }
 
-impl fmt::Display for Notice<'_> {
+impl fmt::Display for Words {
     fn fmt<W: fmt::Write>(&self, f: &mut fmt::Formatter<W>) -> fmt::Result {
-        match self {
-            Notice::Listening(address) => write!(f, "listening on {address}"),
-            Notice::NotListening(address) => write!(f, "{address} can't be listened at"),
-            Notice::Connected(lane, address, name) => {
-                write_lane(f, *lane, address, name, "connected")
-            }
-            Notice::Unreached(lane, address, name) => {
-                write_lane(f, *lane, address, name, "can't be reached")
-            }
-            Notice::Bound(lane, address, name) => write_lane(f, *lane, address, name, "bound"),
-            Notice::Lost(lane, address, name) => write_lane(f, *lane, address, name, "ended"),
-            Notice::Unbound(lane, address, name) => write_lane(f, *lane, address, name, "unbound"),
-            Notice::Came(client, address) => write_client(f, *client, address, &"connected"),
-            Notice::Admitted(client, address, kind) => write_bound(f, *client, address, kind),
-            Notice::Left(client, address) => write_client(f, *client, address, &"left"),
-            Notice::Closed(client, address) => {
-                write_client(f, *client, address, &"closed its connection")
-            }
-            Notice::Failed(client, address, fault) => write_client(f, *client, address, fault),
-            Notice::NoSlot(address) => write_refusal(f, address, &"no slot is free"),
-            Notice::Refused(address, fault) => write_refusal(f, address, fault),
-            Notice::Unwatched(address) => write_refusal(f, address, &"it can't be watched"),
-            Notice::NoDescriptor => f.write_str("no connection can be accepted now"),
-            Notice::Stopping => f.write_str("stopping"),
+        match *self {
+            Words::Said(words) => f.write_str(words),
+            Words::Bound(kind) => write!(f, "bound as {kind}"),
+            Words::Status(status) => write!(f, "bind refused with status 0x{status:02x}"),
+            Words::Fault(fault) => write!(f, "ended, {fault}"),
+            Words::Unentered(fault) => write!(f, "{fault}"),
         }
     }
 }
 
-fn write_lane<W: fmt::Write>(
-    f: &mut fmt::Formatter<W>,
-    lane: usize,
-    address: &str,
-    name: &str,
-    words: &str,
-) -> fmt::Result {
-    write!(f, "upstream {lane} {name} at {address}: {words}")
+/// One line for whoever runs the proxy. No password is in it.
+#[derive(Clone, Copy)]
+pub(crate) enum Notice<'a> {
+    Plain(&'static str),
+    // Of the address where clients connect.
+    Door(&'static str, &'a str),
+    // Of an upstream, its address and its name.
+    Lane(usize, &'a str, &'a str, Words),
+    // Of a client, its address, and its name, which is empty before it is bound.
+    Client(u64, &'a str, &'a str, Words),
+    // A connection from this address was closed at once.
+    Refused(&'a str, Words),
 }
 
-fn write_client<W: fmt::Write, T: fmt::Display>(
-    f: &mut fmt::Formatter<W>,
-    client: u64,
-    address: &str,
-    words: &T,
-) -> fmt::Result {
-    write!(f, "client {client} at {address}: {words}")
-}
-
-fn write_bound<W: fmt::Write>(
-    f: &mut fmt::Formatter<W>,
-    client: u64,
-    address: &str,
-    kind: &str,
-) -> fmt::Result {
-    write!(f, "client {client} at {address}: bound as {kind}")
-}
-
-fn write_refusal<W: fmt::Write, T: fmt::Display>(
-    f: &mut fmt::Formatter<W>,
-    address: &str,
-    reason: &T,
-) -> fmt::Result {
-    write!(f, "{address}: refused, {reason}")
+impl fmt::Display for Notice<'_> {
+    fn fmt<W: fmt::Write>(&self, f: &mut fmt::Formatter<W>) -> fmt::Result {
+        match *self {
+            Notice::Plain(words) => f.write_str(words),
+            Notice::Door(words, address) => write!(f, "{words} {address}"),
+            Notice::Lane(lane, address, name, words) => {
+                write!(f, "upstream {lane} {name} at {address}: {words}")
+            }
+            Notice::Client(client, address, "", words) => {
+                write!(f, "client {client} at {address}: {words}")
+            }
+            Notice::Client(client, address, name, words) => {
+                write!(f, "client {client} {name} at {address}: {words}")
+            }
+            Notice::Refused(address, words) => write!(f, "{address}: refused, {words}"),
+        }
+    }
 }

@@ -68,7 +68,7 @@ impl Gateway {
         let Ok(at) = Arc::try_clone(&self.at) else {
             return Err(EnterFault::NoMemory);
         };
-        let port = self.door.enter(&self.at, rt)?;
+        let port = self.door.enter(&self.at, rt).map_err(|(fault, _)| fault)?;
         Ok(Entrant { at, port })
     }
 }

@@ -6,6 +6,7 @@ use crate::notice::{Ended, Notice};
 use crate::remote::Remote;
 use crate::seats::{Drawer, Gateway};
 use crate::tables::Tables;
+use crate::teller::Teller;
 use crate::turning::{LISTENER, Loop, WAKER};
 use crate::upstreams::{drawers_of, lanes_of};
 use mio::net::TcpListener;
@@ -55,7 +56,10 @@ where
     match listen(rt, poll, address) {
         Some(listener) => Ok(listener),
         None => {
-            let _ = eprintln!(rt; "{}", Notice::NotListening(address));
+            let _ = eprintln!(rt;
+                "{}",
+                Notice::Door("no connections can be awaited at", address)
+            );
             Err(Ended::NotListening)
         }
     }
@@ -143,6 +147,7 @@ where
         gateway,
         places: config.places,
         short: false,
+        teller: Teller::new(),
     };
     let tables = Tables::new(alloc, config, ends)?;
     Ok(Loop::new(config, desk, poll, lanes, entrance, tables))
@@ -202,7 +207,7 @@ impl Server {
             return Err(Ended::NoEvents);
         };
         let mut turning = loop_of(rt, alloc, config, desk, poll)?;
-        let _ = eprintln!(rt; "{}", Notice::Listening(config.listen.as_str()));
+        let _ = eprintln!(rt; "{}", Notice::Door("listening on", config.listen.as_str()));
         remote.listen(port_of(&turning.entrance.listener));
         Ok(turning.run(rt, &remote, start))
     }

@@ -82,7 +82,7 @@ impl<'d> Loop<'d> {
 
     /// Lets the clients go, writes what waits, unbinds upstream, and ends.
     pub fn stop<R: Wait + Clock + Eprint>(&mut self, rt: &R, start: Instant) -> Ended {
-        let _ = eprintln!(rt; "{}", Notice::Stopping);
+        let _ = eprintln!(rt; "{}", Notice::Plain("stopping"));
         self.stopping = true;
         match self.end(rt, start) {
             Ok(()) => Ended::Stopped,

@@ -2,7 +2,7 @@
 
 use crate::entrance::Entrance;
 use crate::guests::{Guest, Guests};
-use crate::notice::{Ended, Notice};
+use crate::notice::{Ended, Notice, Words};
 use crate::remote::Remote;
 use crate::tables::{Queues, Tables};
 use crate::upstreams::Lane;
@@ -131,17 +131,23 @@ impl<'d> Loop<'d> {
         self.stalled.clear();
     }
 
-    fn say_of_lane<R: Eprint>(&self, rt: &R, lane: usize, bound: bool) {
+    fn say_of_lane<R: Eprint>(&self, rt: &R, lane: usize, words: Words) {
         let config = self.config;
         if let Some(upstream) = config.upstream.get(lane) {
             let address = upstream.address.as_str();
             let name = upstream.system_id.as_str();
-            let notice = match (bound, self.stopping) {
-                (true, _) => Notice::Bound(lane, address, name),
-                (false, true) => Notice::Unbound(lane, address, name),
-                (false, false) => Notice::Lost(lane, address, name),
-            };
-            let _ = eprintln!(rt; "{notice}");
+            let _ = eprintln!(rt; "{}", Notice::Lane(lane, address, name, words));
+        }
+    }
+
+    // What is said of a lane that has ended so.
+    fn farewell(&self, lane: usize, end: RunEnd) -> Words {
+        if self.stopping {
+            return Words::Said("unbound");
+        }
+        match self.lanes.get(lane) {
+            Some(place) => place.farewell(self.entrance.alloc, end),
+            None => Words::Said("ended"),
         }
     }
 
@@ -158,7 +164,7 @@ impl<'d> Loop<'d> {
         let mut guide = Guide::new(&mut self.routes, &self.roll);
         let turned = place.turn(rt, &mut bell, &mut guide, self.now, TURNS);
         if turned.newly_bound {
-            self.say_of_lane(rt, lane, true);
+            self.say_of_lane(rt, lane, Words::Said("bound"));
         }
         if turned.moved {
             self.unstall();
@@ -167,7 +173,7 @@ impl<'d> Loop<'d> {
         match turned.end {
             RunEnd::Idle | RunEnd::Turns => true,
             RunEnd::Left | RunEnd::Fault(_) => {
-                self.say_of_lane(rt, lane, false);
+                self.say_of_lane(rt, lane, self.farewell(lane, turned.end));
                 false
             }
         }
@@ -182,6 +188,8 @@ impl<'d> Loop<'d> {
         let mut bell = Bell::new(lanes, &mut self.ready, &self.roll);
         let mut guide = Guide::new(&mut self.routes, &self.roll);
         let (end, moved) = guest.turn(rt, &mut bell, &mut guide, TURNS);
+        let Entrance { alloc, teller, .. } = &self.entrance;
+        guest.say_bound(rt, *alloc, teller, self.now);
         self.was_turned(lanes.saturating_add(slot), end, moved);
         match end {
             RunEnd::Idle | RunEnd::Turns => {}
@@ -195,7 +203,7 @@ impl<'d> Loop<'d> {
 
     // Lets a client go; the lanes may have answers to its messages.
     pub fn let_go<R: Wait + Eprint>(&mut self, rt: &R, slot: usize, guest: Guest<'d>, end: RunEnd) {
-        guest.say_gone(rt, end);
+        guest.say_gone(rt, &self.entrance.teller, self.now, end);
         let Guest {
             client,
             member,
@@ -238,6 +246,7 @@ impl<'d> Loop<'d> {
                 &mut self.roll,
                 stream,
                 address,
+                self.now,
             );
             if let Some(slot) = came {
                 self.ready.add(lanes.saturating_add(slot));
@@ -300,6 +309,7 @@ impl<'d> Loop<'d> {
             self.ready.add(lane);
         }
         self.unstall();
+        self.entrance.teller.settle(rt, self.now);
         if self.guests.is_lingering() {
             for slot in 0..self.guests.slots.count() {
                 self.guests.settle(slot, self.now);

@@ -5,11 +5,14 @@ ghost use Rattle.smx_pdu.specs.Fields.{IsText};
 ghost use Rattle.smx_session.specs.declared.upstream_state.UpstreamState.{UpstreamState};
 
 use crate::entrance::link_of;
-use crate::notice::{Ended, Notice};
+use crate::guests::NACK;
+use crate::heard::bind_status;
+use crate::notice::{Ended, Notice, Words};
 use crate::seats::{Carrier, Drawer};
 use mio::event::Event;
 use mio::{Registry, Token};
 use smx_config::{Config, Upstream};
+use smx_pdu::status::ESME_ROK;
 use smx_session::UpstreamSession;
 use smx_shared::{Exchange, Tap};
 use smx_slots::LaneEnds;
@@ -61,6 +64,29 @@ impl Lane {
             moved: self.socket.traffic() != before,
             newly_bound: self.carrier.is_bound() && !was_bound,
         }
+    }
+
+    // Why it has ended, where it wasn't told to.
+    pub fn farewell(&self, alloc: Global, end: RunEnd) -> Words {
+        if let RunEnd::Fault(fault) = end {
+            return Words::Fault(fault);
+        }
+        if let Some(octets) = self.socket.head(alloc) {
+            match bind_status(octets.as_slice()) {
+                Some(status) if status != ESME_ROK => return Words::Status(status),
+                _ => {}
+            }
+        }
+        if self.socket.has_ended() {
+            return Words::Said("ended, it closed the connection");
+        }
+        if self.socket.tail() == NACK {
+            return Words::Said("ended, it sent a bad length");
+        }
+        if self.carrier.is_bound() {
+            return Words::Said("ended, it answered no enquire_link");
+        }
+        Words::Said("ended, it unbound")
     }
 }
 
@@ -184,6 +210,9 @@ where
     Ok(lanes)
 }
 
+/// What is said of an upstream that isn't connected.
+const UNREACHED: Words = Words::Said("can't be reached");
+
 // Keeps the next lane, and says whether it could be reached.
 fn keep_lane<R: Eprint>(
     rt: &R,
@@ -195,12 +224,13 @@ fn keep_lane<R: Eprint>(
     let address = upstream.address.as_str();
     let name = upstream.system_id.as_str();
     let Some(lane) = lane else {
-        let _ = eprintln!(rt; "{}", Notice::Unreached(at, address, name));
+        let _ = eprintln!(rt; "{}", Notice::Lane(at, address, name, UNREACHED));
         return Err(Ended::Unreached(at));
     };
     if lanes.push(lane).is_err() {
         return Err(Ended::NoMemory);
     }
-    let _ = eprintln!(rt; "{}", Notice::Connected(at, address, name));
+    let words = Words::Said("connected");
+    let _ = eprintln!(rt; "{}", Notice::Lane(at, address, name, words));
     Ok(())
 }

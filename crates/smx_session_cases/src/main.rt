@@ -6,10 +6,7 @@
 //! A PDU that is sent is printed by its three numbers and the length of its body.
 #![tactic(auto)]
 
-#[cfg(test)]
-mod tests;
-
-use anyhow::{Context, bail};
+use anyhow::bail;
 use smx_pdu::Pdu;
 use smx_session::{Act, ClientSession, ClientState, Kind, UpAct, UpstreamSession, UpstreamState};
 use std::alloc::{AllocError, Global};
@@ -70,14 +67,21 @@ fn client_in(alloc: Global, state: ClientState) -> ClientSession {
     }
 }
 
+fn client_act(alloc: Global, session: &mut ClientSession, pdu: &Pdu) -> Result<String, AllocError> {
+    match session.on_pdu(pdu, &[]) {
+        Ok(act) => client_act_text(alloc, &act),
+        Err(AllocError) => Err(AllocError),
+    }
+}
+
 fn client_cell(alloc: Global, state: ClientState, pdu: &Pdu) -> Result<String, AllocError> {
     let mut session = client_in(alloc, state);
-    let act = session.on_pdu(pdu, &[])?;
-    let mut text = client_act_text(alloc, &act)?;
-    if session.state() != state {
-        text.push_str(&format!(in alloc; ">{:?}", session.state())?)?;
+    let act = client_act(alloc, &mut session, pdu);
+    let after = session.state();
+    if after == state {
+        return act;
     }
-    Ok(text)
+    format!(in alloc; "{}>{after:?}", act?)
 }
 
 fn centre_act_text(alloc: Global, act: &UpAct) -> Result<String, AllocError> {
@@ -108,29 +112,37 @@ fn centre_in(alloc: Global, state: UpstreamState) -> UpstreamSession {
     session
 }
 
+fn centre_act(
+    alloc: Global,
+    session: &mut UpstreamSession,
+    pdu: &Pdu,
+) -> Result<String, AllocError> {
+    let act = session.on_pdu(pdu, 0);
+    centre_act_text(alloc, &act)
+}
+
 fn centre_cell(alloc: Global, state: UpstreamState, pdu: &Pdu) -> Result<String, AllocError> {
     let mut session = centre_in(alloc, state);
     let before = session.state();
-    let act = session.on_pdu(pdu, 0);
-    let mut text = centre_act_text(alloc, &act)?;
-    if session.state() != state || before != state {
-        text.push_str(&format!(in alloc; ">{:?}", session.state())?)?;
+    let act = centre_act(alloc, &mut session, pdu);
+    let after = session.state();
+    if after == state && before == state {
+        return act;
     }
-    Ok(text)
+    format!(in alloc; "{}>{after:?}", act?)
 }
 
 // A number in hexadecimal.
-fn number_in(word: Option<&str>) -> anyhow::Result<u32> {
-    let number = u32::from_str_radix(word.context("three numbers are wanted")?, 16)?;
-    Ok(number)
+fn number_in(word: Option<&str>) -> Option<u32> {
+    u32::from_str_radix(word?, 16).ok()
 }
 
 // The PDU without a body whose three numbers these are.
-fn pdu_in(alloc: Global, words: &mut SplitWhitespace<'_>) -> anyhow::Result<Pdu> {
+fn pdu_in(alloc: Global, words: &mut SplitWhitespace<'_>) -> Option<Pdu> {
     let command = number_in(words.next())?;
     let status = number_in(words.next())?;
     let number = number_in(words.next())?;
-    Ok(Pdu::header_only(alloc, command, status, number))
+    Some(Pdu::header_only(alloc, command, status, number))
 }
 
 fn client_cells(alloc: Global, pdu: &Pdu) -> Result<String, AllocError> {
@@ -151,23 +163,26 @@ fn centre_cells(alloc: Global, pdu: &Pdu) -> Result<String, AllocError> {
     Ok(text)
 }
 
-// The cells of a line, each behind a space.
-fn cells(alloc: Global, line: &str) -> anyhow::Result<String> {
+// The cells of a line, each behind a space; none where the line isn't as it should be.
+fn cells(alloc: Global, line: &str) -> Result<Option<String>, AllocError> {
     let mut words = line.split_whitespace();
     let session = words.next();
-    let pdu = pdu_in(alloc, &mut words)?;
-    let text = match session {
-        Some("client") => client_cells(alloc, &pdu)?,
-        Some("centre") => centre_cells(alloc, &pdu)?,
-        _ => bail!("a line begins with client or centre"),
+    let Some(pdu) = pdu_in(alloc, &mut words) else {
+        return Ok(None);
     };
-    Ok(text)
+    match session {
+        Some("client") => client_cells(alloc, &pdu).map(Some),
+        Some("centre") => centre_cells(alloc, &pdu).map(Some),
+        _ => Ok(None),
+    }
 }
 
 fn main(rt: HostRuntime) -> anyhow::Result<()> {
     for line in rt.lines(rt.alloc()) {
         let line = line?;
-        let cells = cells(rt.alloc(), &line)?;
+        let Some(cells) = cells(rt.alloc(), &line)? else {
+            bail!("a line is client or centre, and three numbers in hexadecimal");
+        };
         println!(rt; "{line}:{cells}")?;
     }
     Ok(())

@@ -1,5 +1,5 @@
 -- Clients that enter, and turn back.
-use Rattle.std.proofs.Common.{◌≡◌, ◌<◌, ◌≤◌, ◌+◌, ◌==◌, ◌&&◌, ◌||◌, ◌^◌, ℕ, true, false, List, [], ◌∷◌, ◌++◌, length, slice_get, get_or, Some, Ok, refl, sym, ◌∙◌, ap, arith, append_assoc, inr}
+use Rattle.std.proofs.Common.{◌≡◌, ◌<◌, ◌≤◌, ◌+◌, ◌==◌, ◌&&◌, ◌||◌, ◌^◌, ℕ, true, false, List, [], ◌∷◌, ◌++◌, length, slice_get, get_or, Option, Some, None, Ok, refl, sym, ◌∙◌, ap, arith, append_assoc, inr}
 use Rattle.std.proofs.lemmas.Bool.{eq-eqb}
 use Rattle.std.proofs.lemmas.Option.{slice_get-get_or, slice_get_within}
 use Rattle.smx_lock.specs.Fronts.{Front}
@@ -8,10 +8,10 @@ use Rattle.smx_history.specs.declared.note.Note.{Note}
 use Rattle.smx_history.specs.declared.note.Event.TheVariants as event
 use Rattle.smx_history.specs.History.{note, entries_of, requests}
 use Rattle.smx_history.specs.Entries.{is_admitted, is_retired}
-use Rattle.smx_shared.specs.Views.{DoorView, locks_of}
+use Rattle.smx_shared.specs.Views.{DoorView, DepartedView, locks_of}
 use Rattle.smx_shared.specs.Serving.{SplitServes, AdmitServes}
 use Rattle.smx_shared.specs.Ports.{IsMemberBy, IsPort, HasAccepted}
-use Rattle.smx_shared.specs.Entering.{Enters, Entered, StopsAt, TurnsBack, RefusesEntry}
+use Rattle.smx_shared.specs.Entering.{Enters, Entered, Barred, StopsAt, TurnsBack, RefusesEntry}
 use Rattle.smx_shared.specs.declared.fault.EnterFault.{EnterFault}
 use Rattle.smx_shared.specs.declared.fault.EnterFault.TheVariants.{Exhausted, Spent, HistoryFull, NoMemory, Known}
 use Rattle.smx_shared.proofs.Growing.{on_locks}
@@ -21,14 +21,14 @@ enters_of c f g s p h a = record {
   served = (s, h, a);
   begins =
       let t = h.hold.serves.begins in
-      let u = a.2.serves.begins in
+      let u = a.hold.serves.begins in
       let new = note s.number (event.Admit c) ∷ [] in
       let first : s.seen ≡ f.seen ++ t.0 = h.seen ∙ sym t.1 in (
         t.0 ++ (u.0 ++ new),
-        sym (append_assoc f.seen t.0 (u.0 ++ new)) ∙ ap (λ l. l ++ (u.0 ++ new)) (sym first) ∙ sym (append_assoc s.seen u.0 new) ∙ ap (λ l. l ++ new) u.1 ∙ sym a.2.serves.seen,
+        sym (append_assoc f.seen t.0 (u.0 ++ new)) ∙ ap (λ l. l ++ (u.0 ++ new)) (sym first) ∙ sym (append_assoc s.seen u.0 new) ∙ ap (λ l. l ++ new) u.1 ∙ ap (λ own. a.found ++ own) (sym a.told.1) ∙ sym a.hold.serves.seen,
       );
-  mine = a.2.serves.mine ∙ ap (λ l. l ++ note s.number (event.Admit c) ∷ []) h.mine ∙ ap (λ k. note k (event.Admit c) ∷ []) (sym a.2.serves.number);
-  lock = a.2.serves.lock ∙ h.lock;
+  mine = a.hold.serves.mine ∙ ap (λ own. s.mine ++ own) a.told.1 ∙ ap (λ l. l ++ note s.number (event.Admit c) ∷ []) h.mine ∙ ap (λ k. note k (event.Admit c) ∷ []) (sym a.hold.serves.number);
+  lock = a.hold.serves.lock ∙ h.lock;
 }
 
 -- who was admitted alone is a member
@@ -72,12 +72,16 @@ first_port c n fs lanes first admitted = record {
   accepts = ([], first_accepts c n fs admitted);
 }
 
-pub stops_locks : (lane c : ℕ) (fault : EnterFault) (old new made : List (Front Note Limits)) → StopsAt lane c fault old new made → locks_of new ≡ locks_of old
-stops_locks lane c fault old new made s = let on = s.3 in on_locks lane s.0 new on.0 on.1 on.2 on.3 on.4 ∙ s.2.locks
+pub stops_locks : (lane c : ℕ) (fault : EnterFault) (old new made : List (Front Note Limits)) (barred : Option (Front Note Limits)) → StopsAt lane c fault old new made barred → locks_of new ≡ locks_of old
+stops_locks lane c fault old new made barred s = let on = s.3 in on_locks lane s.0 new on.0 on.1 on.2 on.3 on.4 ∙ s.2.locks
 
-pub refused_entry : (v w : DoorView) (fault : EnterFault) → w ≡ record v { next = v.next + 1; fronts = w.fronts } → TurnsBack v.next fault v.fronts w.fronts → RefusesEntry v w fault
-refused_entry v w Exhausted is back = absurd back.3.3.5
-refused_entry v w NoMemory is back = (is, inr back)
-refused_entry v w Spent is back = (is, back)
-refused_entry v w HistoryFull is back = (is, back)
-refused_entry v w Known is back = (is, back)
+never : (c : ℕ) (barred : Option (Front Note Limits)) (f g : Front Note Limits) → Barred c Exhausted barred f g → ⊥
+never c None f g b = b
+never c (Some p) f g b = b.2
+
+pub refused_entry : (v w : DoorView) (fault : EnterFault) (d : DepartedView) → w ≡ record v { next = v.next + 1; fronts = w.fronts } → TurnsBack v.next fault v.fronts w.fronts d → RefusesEntry v w fault d
+refused_entry v w Exhausted d is back = absurd (let on = back.2.3 in never v.next d.barred on.0 on.1 on.5)
+refused_entry v w NoMemory d is back = (is, inr back)
+refused_entry v w Spent d is back = (is, back)
+refused_entry v w HistoryFull d is back = (is, back)
+refused_entry v w Known d is back = (is, back)

@@ -22,7 +22,9 @@ use Rattle.smx_shared.specs.Views.{PortView, locks_of}
 use Rattle.smx_shared.specs.Offers.{Accepted, requests_on, request_for}
 use Rattle.smx_shared.specs.Ports.{IsMemberBy, IsPort, HasAccepted}
 use Rattle.smx_shared.specs.Steps.{IsBelow}
-use Rattle.smx_shared.specs.Serving.{CollectServes, Waited, Tried}
+use Rattle.smx_lane.specs.declared.call.Call.{Call}
+use Rattle.smx_lane.specs.declared.call.Reply.{Reply}
+use Rattle.smx_shared.specs.Serving.{CallServes, CollectServes, Waited, Tried}
 use Rattle.smx_shared.specs.Submits.{Passed, WentBy, AcceptsOn, StopsOn, Refuses, request_of, start_of}
 use Rattle.smx_shared.specs.declared.offer.Offer.{Offer}
 use Rattle.smx_shared.specs.declared.fault.SubmitFault.{SubmitFault}
@@ -76,6 +78,10 @@ has_at : {X : Type 0} (xs : List X) (k : ℕ) → k < length xs → (x : X) × (
 has_at [] k h = absurd (omega arith)
 has_at (x ∷ xs) k h = (get_or (x ∷ xs) k x, slice_get-get_or (x ∷ xs) k x h)
 
+-- a call with no note leaves the seat's own as they were
+stays_mine : (f g : Front Note Limits) (c : Call) (r : Reply) → (h : CallServes f g c r) → h.own ≡ [] → g.mine ≡ f.mine
+stays_mine f g c r h none = h.hold.serves.mine ∙ ap (λ own. f.mine ++ own) none ∙ append-nil f.mine
+
 pub passed_same : (from to : ℕ) (r : Request) (old new : List (Front Note Limits)) → Passed from to r old new → SameNotes old new
 passed_same from to r old new p = record {
   count = p.count;
@@ -85,7 +91,7 @@ passed_same from to r old new p = record {
       | inl within ↦
           let was = has_at old k (omega (arith, slice_get_within new k g at, p.count)) in
           let full = p.full k was.0 g from_on within was.1 at in
-          (was.0, was.1, full.3.serves.number, full.3.serves.mine ∙ append-nil was.0.mine)
+          (was.0, was.1, full.1.hold.serves.number, stays_mine was.0 g _ _ full.1 full.1.told.3.0)
       | inr past ↦ (g, sym (p.above k past) ∙ at, refl, refl)
     ]
   ];
@@ -228,10 +234,10 @@ lane_same lane old new f g at is number mine = subst (SameNotes old) (sym is) re
 pub accepts_grows : (start c n : ℕ) (o : Offer) (old new : List (Front Note Limits)) (lane : ℕ) → AcceptsOn start (request_for c n o) old new lane → Grows c n (record { lane = lane; offer = o } ∷ []) old new
 accepts_grows start c n o old new lane a =
     let on = a.3 in
-    let one = on.5.2 in
+    let one = on.5 in
     let same = went_same (nat_le start lane) start (length old) lane (request_for c n o) old a.0 a.2 in
     same_then c n (record { lane = lane; offer = o } ∷ []) old a.0 new same
-    (lane_grows c n lane (record { lane = lane; offer = o } ∷ []) a.0 new on.0 on.1 (note on.0.number (event.Accept (request_for c n o)) ∷ []) on.2 on.3 one.serves.number one.serves.mine refl
+    (lane_grows c n lane (record { lane = lane; offer = o } ∷ []) a.0 new on.0 on.1 (note on.0.number (event.Accept (request_for c n o)) ∷ []) on.2 on.3 one.hold.serves.number (one.hold.serves.mine ∙ ap (λ own. on.0.mine ++ own) one.told.2) refl
     (ap (λ b. if b then request_for c n o ∷ [] else []) (sym (eq-eqb lane lane refl)))
     (λ k apart. ap (λ b. if b then request_for c n o ∷ [] else []) (ne_eqb lane k (λ e. apart (sym e))))
     (omega (arith, a.1, same.count), tt))
@@ -252,9 +258,9 @@ refuses v o new fault.Exhausted w = absurd w
 
 pub collect_grows : (c n lane : ℕ) (old new : List (Front Note Limits)) (f g : Front Note Limits) (res : Result (Option Pdu) spent.Spent) → slice_get old lane ≡ Some f → new ≡ set old lane g
     → Waited (CollectServes f g c) f g res → Grows c n [] old new
-collect_grows c n lane old new f g (Ok None) at is w = same_grows c n old new (lane_same lane old new f g at is w.2.serves.number (w.2.serves.mine ∙ append-nil f.mine))
+collect_grows c n lane old new f g (Ok None) at is w = same_grows c n old new (lane_same lane old new f g at is w.hold.serves.number (stays_mine f g _ _ w w.told.2.0))
 collect_grows c n lane old new f g (Ok (Some p)) at is w =
-    lane_grows c n lane [] old new f g (note f.number (event.Collect c w.2.ordinal) ∷ []) at is w.3.serves.number w.3.serves.mine refl refl (λ k apart. refl) tt
+    lane_grows c n lane [] old new f g (note f.number (event.Collect c w.told.1.ordinal) ∷ []) at is w.hold.serves.number (w.hold.serves.mine ∙ ap (λ own. f.mine ++ own) w.told.4) refl refl (λ k apart. refl) tt
 collect_grows c n lane old new f g (Err s) at is w =
     let same = spent_same f g w in same_grows c n old new (lane_same lane old new f g at is same.0 same.1)
 

@@ -1,5 +1,5 @@
 -- What the calls of a tap let its caller know.
-use Rattle.std.proofs.Common.{◌≡◌, ℕ, Option, Some, None, List, [], ◌∷◌, ◌++◌, Result, Ok, Err, sym, ◌∙◌, ap, inl, inr}
+use Rattle.std.proofs.Common.{◌≡◌, ℕ, Option, Some, None, List, [], ◌∷◌, ◌++◌, Result, Ok, Err, sym, ◌∙◌, ap, subst, inl, inr}
 use Rattle.std.proofs.lemmas.List.{append-nil}
 use Rattle.std.proofs.lemmas.List.Elements.{filter_map-append}
 use Rattle.smx_pdu.specs.declared.pdu.Pdu.{Pdu}
@@ -14,8 +14,14 @@ use Rattle.smx_shared.specs.declared.fault.TakeFault as take_fault
 use Rattle.smx_shared.specs.declared.fault.TakeFault.TheVariants as takes
 use Rattle.smx_shared.specs.declared.fault.TryTakeFault as try_fault
 use Rattle.smx_shared.specs.declared.fault.TryTakeFault.TheVariants as tries
-use Rattle.smx_shared.specs.Serving.{Takes, TriesTake, Brings, TurnServes}
-use Rattle.smx_shared.specs.Steps.{TurnsBy}
+use Rattle.smx_lane.specs.declared.call.Call.{Call}
+use Rattle.smx_lane.specs.declared.call.Call.TheVariants as call
+use Rattle.smx_lane.specs.declared.call.Reply.{Reply}
+use Rattle.smx_lane.specs.declared.call.Reply.TheVariants as reply
+use Rattle.std.specs.Global.{Vec}
+use Rattle.smx_shared.specs.declared.fault.TurnFault as turn_fault
+use Rattle.smx_shared.specs.declared.fault.TurnFault.TheVariants as turns
+use Rattle.smx_shared.specs.Serving.{OneHold, CallServes, Takes, TriesTake, Brings, Turns, TurnServes, StaysServes}
 use Rattle.std.specs.Option.{option_map}
 use Rattle.smx_history.specs.declared.entry.Entry.{Entry}
 use Rattle.smx_shared.specs.Taps.{Queued, known, known_of, known_by_take, known_by_answer}
@@ -32,22 +38,26 @@ spent_same f g s = elim s [
   | inr e ↦ same f g (ap (λ z. z.mine) e)
 ]
 
+-- what a call noted is known
+called : (f g : Front Note Limits) (c : Call) (r : Reply) (ns : List Note) → (h : CallServes f g c r) → h.own ≡ ns → known_of g.mine ≡ known_of f.mine ++ known_of ns
+called f g c r ns h is = more f g ns (h.hold.serves.mine ∙ ap (λ own. f.mine ++ own) is)
+
 pub takes_known : (f g : Front Note Limits) (r : Result Sent take_fault.TakeFault) → Takes f g r → known_of g.mine ≡ known_of f.mine ++ known_by_take r
-takes_known f g (Ok sent) h = more f g _ h.2.serves.mine
-takes_known f g (Err (takes.Refused e)) h = more f g [] h.2.serves.mine
+takes_known f g (Ok sent) h = called f g _ _ _ h h.told.2
+takes_known f g (Err (takes.Refused e)) h = called f g _ _ [] h h.told.1.0
 takes_known f g (Err takes.Spent) h = spent_same f g h
 
 pub tries_known : (f g : Front Note Limits) (r : Result Sent try_fault.TryTakeFault) → TriesTake f g r → known_of g.mine ≡ known_of f.mine ++ known_by_take r
-tries_known f g (Ok sent) h = more f g _ h.2.serves.mine
-tries_known f g (Err (tries.Refused e)) h = more f g [] h.2.serves.mine
+tries_known f g (Ok sent) h = called f g _ _ _ h h.told.2
+tries_known f g (Err (tries.Refused e)) h = called f g _ _ [] h h.told.1.0
 tries_known f g (Err tries.Spent) h = spent_same f g h
 tries_known f g (Err tries.Busy) h = same f g (ap (λ z. z.mine) h.0)
 
 pub answers_known : (f g : Front Note Limits) (p : Pdu) (r : Result Answered (Pdu × spent.Spent)) → Brings f g p r
     → known_of g.mine ≡ known_of f.mine ++ known_by_answer p r
-answers_known f g p (Ok (answered.Queued c)) h = more f g _ h.4.serves.mine ∙ ap (λ x. known_of f.mine ++ Queued x p ∷ []) h.6
-answers_known f g p (Ok answered.Late) h = more f g _ h.3.serves.mine
-answers_known f g p (Ok (answered.Unknown back)) h = more f g [] h.2.serves.mine
+answers_known f g p (Ok (answered.Queued c)) h = called f g _ _ _ h h.told.4 ∙ ap (λ x. known_of f.mine ++ Queued x p ∷ []) h.told.2
+answers_known f g p (Ok answered.Late) h = called f g _ _ _ h h.told.3
+answers_known f g p (Ok (answered.Unknown back)) h = called f g _ _ [] h h.told.2.0
 answers_known f g p (Err e) h = spent_same f g h.1
 
 -- a shift is no note of a request
@@ -55,9 +65,16 @@ turned_known : (f g : Front Note Limits) (least : ℕ) (list : Option (List Entr
 turned_known f g least (Some es) h = more f g _ h.2.serves.mine ∙ append-nil (known_of f.mine)
 turned_known f g least None h = more f g [] h.2.serves.mine ∙ append-nil (known_of f.mine)
 
-pub turns_known : {V E : Type 0} (entries : V → List Entry) (f g : Front Note Limits) (least : ℕ) (r : Result (Option V) E) → TurnsBy entries f g least r → known_of g.mine ≡ known_of f.mine
-turns_known entries f g least (Ok list) h = turned_known f g least (option_map entries list) h
-turns_known entries f g least (Err e) h = more f g [] h.2.serves.mine ∙ append-nil (known_of f.mine)
+pub turn_known : (f g : Front Note Limits) (least : ℕ) (r : Result (Option (Vec Entry)) turn_fault.TurnFault) → Turns (λ es. es.items) f g least r → known_of g.mine ≡ known_of f.mine
+turn_known f g least (Ok list) h = turned_known f g least (option_map (λ es. es.items) list) h
+turn_known f g least (Err turns.NoMemory) h = more f g [] h.2.serves.mine ∙ append-nil (known_of f.mine)
+turn_known f g least (Err turns.Spent) h = spent_same f g h ∙ append-nil (known_of f.mine)
 
-pub turn_spent_known : (f g : Front Note Limits) → IsSpent f g → known_of g.mine ≡ known_of f.mine
-turn_spent_known f g s = spent_same f g s ∙ append-nil (known_of f.mine)
+-- what a turn over of the lane says of what is stored
+pub turns_of : (f g : Front Note Limits) (least : ℕ) (list : Option (Vec Entry)) → CallServes f g (call.TurnOver f.number least) (reply.TurnedOver (Ok list))
+    → TurnServes f g least (option_map (λ es. es.items) list)
+turns_of f g least (Some es) h = (h.found, h.old, subst (λ own. OneHold f g h.found own h.old) h.told.1 h.hold, h.told.0.0, h.told.0.1 ∙ h.hold.agrees.after.entries)
+turns_of f g least None h = (h.found, h.old, subst (λ own. OneHold f g h.found own h.old) h.told.1 h.hold, h.told.0.0)
+
+pub stays_of : (f g : Front Note Limits) (least : ℕ) (e : _) → CallServes f g (call.TurnOver f.number least) (reply.TurnedOver (Err e)) → StaysServes f g
+stays_of f g least e h = (h.found, h.old, subst (λ own. OneHold f g h.found own h.old) h.told.0 h.hold)

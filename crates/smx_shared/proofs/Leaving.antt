@@ -1,12 +1,11 @@
 -- Lanes that were left, one after the other.
-use Rattle.std.proofs.Common.{◌≡◌, ◌<◌, ◌≤◌, ◌+◌, ℕ, List, length, set, get_or, slice_get, Some, Ok, Err, Result, refl, sym, ◌∙◌, ap, subst, arith, inl, inr}
-use Rattle.std.specs.Prelude.{MatchResult, Bool, true, false}
+use Rattle.std.proofs.Common.{◌≡◌, ◌<◌, ◌≤◌, ◌+◌, ℕ, List, length, set, get_or, slice_get, Some, refl, sym, ◌∙◌, ap, subst, arith, inl, inr}
+use Rattle.std.specs.Prelude.{Bool, true, false}
 use Rattle.std.proofs.lemmas.List.{length-set}
 use Rattle.std.proofs.lemmas.Bool.{cases_eq}
 use Rattle.std.proofs.lemmas.Option.{slice_get_read, slice_get_within, get_or_from_slice_get}
 use Rattle.std.proofs.Math.Seq.{map-set_same}
 use Rattle.smx_lock.specs.Fronts.{Front, IsSpent}
-use Rattle.smx_lock.specs.declared.faults.Spent as spent
 use Rattle.smx_history.specs.declared.limits.Limits.{Limits}
 use Rattle.smx_history.specs.declared.note.Note.{Note}
 use Rattle.smx_shared.specs.Serving.{RetireServes}
@@ -15,10 +14,6 @@ use Rattle.smx_shared.proofs.Passing.{got_same, got_other, some_same}
 
 pub left_none : (c : ℕ) (old : List (Front Note Limits)) → Left 0 c old old
 left_none c old = record { count = refl; left = λ k f g b. absurd (omega arith); above = λ k h. refl; locks = refl }
-
-pub leaves_of : (f g : Front Note Limits) (c : ℕ) (res : Result (Unit {0}) spent.Spent) → MatchResult res (λ _. RetireServes f g c) (λ _. IsSpent f g) → Leaves c f g
-leaves_of f g c (Ok r) w = inr w
-leaves_of f g c (Err s) w = inl w
 
 pub left_on : (i c : ℕ) (old cur : List (Front Note Limits)) (f g : Front Note Limits) → Left i c old cur
     → slice_get cur i ≡ Some f → Leaves c f g → g.lock ≡ f.lock → Left (i + 1) c old (set cur i g)

@@ -5,6 +5,7 @@ pub mod Passing
 pub mod Growing
 pub mod Leaving
 pub mod Rounds
+pub mod Calls
 pub mod Entering
 pub mod Making
 pub mod Knowing

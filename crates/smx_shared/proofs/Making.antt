@@ -1,5 +1,5 @@
 -- Exchanges that are made and ended.
-use Rattle.std.proofs.Common.{◌≡◌, ◌<◌, ◌+◌, ℕ, List, [], ◌∷◌, ◌++◌, length, map, get_or, slice_get, option_map, Some, refl, sym, ◌∙◌, ap, subst, arith, length-append}
+use Rattle.std.proofs.Common.{◌≡◌, ◌<◌, ◌+◌, ℕ, List, [], ◌∷◌, ◌++◌, length, map, get_or, slice_get, option_map, Option, Some, None, refl, sym, ◌∙◌, ap, subst, arith, length-append}
 use Rattle.std.specs.Prelude.{All}
 use Rattle.std.proofs.lemmas.List.{map-append, length-map}
 use Rattle.std.proofs.lemmas.Option.{slice_get-map, slice_get-get_or, get_or_from_slice_get}
@@ -7,8 +7,8 @@ use Rattle.smx_lock.specs.Fronts.{Front, LockId, first_front}
 use Rattle.smx_history.specs.declared.limits.Limits.{Limits}
 use Rattle.smx_history.specs.declared.note.Note.{Note}
 use Rattle.smx_shared.specs.Views.{TapView, locks_of}
-use Rattle.smx_shared.specs.Making.{AreLocks, Tapped, IsUnused}
-use Rattle.smx_shared.specs.Serving.{SplitServes}
+use Rattle.smx_shared.specs.Making.{AreLocks, Tapped, IsUnused, IsStuck}
+use Rattle.smx_shared.specs.Serving.{SplitServes, SplitFails}
 use Rattle.smx_shared.proofs.Lists.{All-both}
 
 pub locks_none : (limits : Limits) → AreLocks 0 limits []
@@ -80,3 +80,13 @@ pub taps_unused : (lanes : ℕ) (locks : List (LockId Limits)) (new : List (Fron
 taps_unused lanes locks new taps count tapped k d within =
     let m = made_at lanes k locks new taps count tapped (omega (arith, within, tapped.made_count)) in
     subst (λ (t : TapView). IsUnused t.front) (sym (get_or_from_slice_get taps k m.2 d m.4)) (tap_unused m.0 m.1 m.2.front m.5)
+
+first_at : (o : Option (LockId Limits)) (f : Front Note Limits) → option_map first_front o ≡ Some f → f ≡ first_front f.lock
+first_at (Some l) f e = let same : first_front l ≡ f = cc in sym same ∙ ap (λ (z : Front Note Limits). first_front z.lock) same
+first_at None f e = absurd (cc)
+
+-- of first seats one that made no other is its lock's first
+pub stuck_first : (locks : List (LockId Limits)) (fs : List (Front Note Limits)) (g : Front Note Limits) → fs ≡ map first_front locks → IsStuck fs g → SplitFails (first_front g.lock) g
+stuck_first locks fs g is s =
+    let first = first_at (slice_get locks s.0) s.1 (sym (slice_get-map first_front locks s.0) ∙ ap (λ xs. slice_get xs s.0) (sym is) ∙ s.2) in
+    subst (λ f. SplitFails f g) (first ∙ ap first_front (sym s.3)) s.4

@@ -28,6 +28,7 @@ use Rattle.smx_history.proofs.Taking.{any_none}
 use Rattle.smx_history.proofs.Finding.{absent}
 use Rattle.smx_history.specs.Finding.{is_present}
 use Rattle.smx_shared.proofs.Lists.{All-in_filter, All-at, any_weaken}
+use Rattle.smx_shared.specs.Serving.{OneHold}
 use Rattle.smx_shared.specs.Ports.{IsMemberBy}
 use Rattle.smx_shared.specs.Steps.{IsBelow}
 
@@ -237,20 +238,19 @@ present_in es c k admitted here =
     stays a is = and_from (not (is_retired a.client es)) (a.client == c) (ap (λ d. not (is_retired d es)) (eqb-true a.client c is) ∙ ap not here) is
 
 -- the client has a row
-pub row_there : (f : Front Note Limits) (h : Hold Content Note Limits) (c : ℕ) → Finds writer limits_of suits f h → IsMemberBy c f → member_with c h.value.members ≡ None → ⊥
-row_there f h c found member none =
-    let es = entries_of h.found in
-    let a : AgreesWith h.found h.value = found.agrees in
-    let mine : filter (λ e. e.by == h.number) es ≡ entries_of f.mine = own_entries h.number h.found ∙ ap entries_of (found.own ∙ found.mine) in
-    let admitted : is_admitted h.number c es ≡ true = any_in_filter (λ e. e.by == h.number) (λ e. is_admit e.kind && ((e.client == c) && (e.by == h.number))) es
-    (ap (is_admitted h.number c) mine ∙ ap (λ k. is_admitted k c (entries_of f.mine)) found.number ∙ member.admitted) in
-    let here : is_retired c es ≡ false = stays_own es c h.number a.legal.rules.membership a.legal.rules.standing admitted (ap (is_retired c) mine ∙ member.stays) in
-    both_ways (is_present c h.found) (absent h.found h.value c a none) (present_in es c h.number admitted here)
+pub row_there : (f g : Front Note Limits) (c : ℕ) (found own : List Note) (v : Content) → OneHold f g found own v → IsMemberBy c f → member_with c v.members ≡ None → ⊥
+row_there f g c found own v hold member none =
+    let es = entries_of found in
+    let mine : filter (λ e. e.by == f.number) es ≡ entries_of f.mine = own_entries f.number found ∙ ap entries_of hold.serves.own in
+    let admitted : is_admitted f.number c es ≡ true = any_in_filter (λ e. e.by == f.number) (λ e. is_admit e.kind && ((e.client == c) && (e.by == f.number))) es
+    (ap (is_admitted f.number c) mine ∙ member.admitted) in
+    let here : is_retired c es ≡ false = stays_own es c f.number hold.agrees.legal.rules.membership hold.agrees.legal.rules.standing admitted (ap (is_retired c) mine ∙ member.stays) in
+    both_ways (is_present c found) (absent found v c hold.agrees none) (present_in es c f.number admitted here)
 
 -- so a request of the client isn't refused for want of one
-pub has_row : (f : Front Note Limits) (h : Hold Content Note Limits) (c : ℕ) → Finds writer limits_of suits f h → IsMemberBy c f → accept_refusal h.value c ≡ Some NotAdmitted → ⊥
-has_row f h c found member refused = has_row_at (member_with c h.value.members) refl refused
+pub has_row : (f g : Front Note Limits) (c : ℕ) (found own : List Note) (v : Content) → OneHold f g found own v → IsMemberBy c f → accept_refusal v c ≡ Some NotAdmitted → ⊥
+has_row f g c found own v hold member refused = has_row_at (member_with c v.members) refl refused
   where
-    has_row_at : (o : Option Member) → member_with c h.value.members ≡ o → refusal_for h.value o ≡ Some NotAdmitted → ⊥
-    has_row_at (Some m) e r = not_admitted h.value m r
-    has_row_at None e r = row_there f h c found member e
+    has_row_at : (o : Option Member) → member_with c v.members ≡ o → refusal_for v o ≡ Some NotAdmitted → ⊥
+    has_row_at (Some m) e r = not_admitted v m r
+    has_row_at None e r = row_there f g c found own v hold member e

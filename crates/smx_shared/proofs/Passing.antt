@@ -12,7 +12,9 @@ use Rattle.smx_history.specs.declared.request.Request.{Request}
 use Rattle.smx_history.specs.declared.reply.Refusal.{Refusal}
 use Rattle.smx_shared.specs.Views.{locks_of}
 use Rattle.smx_shared.specs.Serving.{AcceptServes}
+use Rattle.smx_shared.specs.Ports.{IsMemberBy}
 use Rattle.smx_shared.specs.Submits.{Passed, FullServes}
+use Rattle.smx_shared.proofs.Own.{has_row}
 
 pub got_same : {X : Type 0} (xs : List X) (i : ℕ) (y : X) → i < length xs → slice_get (set xs i y) i ≡ Some y
 got_same xs i y h = slice_get-get_or (set xs i y) i y (omega (arith, length-set xs i y)) ∙ ap Some (get_or-set_same xs i y y h)
@@ -69,5 +71,7 @@ pub at_old : (from i to : ℕ) (r : Request) (old cur : List (Front Note Limits)
     → f ≡ get_or cur i f → slice_get old i ≡ Some f
 at_old from i to r old cur f p room within at = sym (p.above i (omega arith)) ∙ at_cur from i to r old cur f p room within at
 
-pub full_of : (f g : Front Note Limits) (r : Request) (e : Request × Refusal) → AcceptServes f g r (Err e) → FullServes r f g
-full_of f g r e s = (s.0, s.1, e.1, s.2, s.3, s.5)
+-- a member's request that was refused found the lane full
+pub full_of : (f g : Front Note Limits) (r : Request) (e : Request × Refusal) → IsMemberBy r.client f → AcceptServes f g r (Err e) → FullServes r f g
+full_of f g r e member s =
+    (e.1, subst (λ x. AcceptServes f g r (Err (x, e.1))) s.told.1 s, λ is. has_row f g r.client s.found s.own s.old s.hold member (s.told.2 ∙ ap Some is))

@@ -1,5 +1,5 @@
 -- How a client enters, lane by lane.
-use Rattle.std.specs.Prelude.{◌≡◌, ◌⊎◌, ◌+◌, ◌<◌, ◌≤◌, ◌^◌, ℕ, List, [], ◌∷◌, length, Ok, Err}
+use Rattle.std.specs.Prelude.{◌≡◌, ◌⊎◌, ◌+◌, ◌<◌, ◌≤◌, ◌^◌, ℕ, List, [], ◌∷◌, length, Ok, Err, Option, Some, None}
 use mathlib.Core.List.{IsPrefix}
 use Rattle.smx_lock.specs.Fronts.{Front, IsSpent}
 use Rattle.smx_history.specs.declared.limits.Limits.{Limits}
@@ -9,7 +9,7 @@ use Rattle.smx_history.specs.History.{note}
 use Rattle.smx_lane.specs.declared.fault.AdmitFault.TheVariants as admit
 use Rattle.smx_shared.specs.declared.fault.EnterFault.{EnterFault}
 use Rattle.smx_shared.specs.declared.fault.EnterFault.TheVariants.{Exhausted, Spent, HistoryFull, NoMemory, Known}
-use Rattle.smx_shared.specs.Views.{DoorView, PortView, locks_of}
+use Rattle.smx_shared.specs.Views.{DoorView, PortView, DepartedView, locks_of}
 use Rattle.smx_shared.specs.Serving.{SplitServes, SplitFails, AdmitServes}
 use Rattle.smx_shared.specs.Submits.{OnLane}
 use Rattle.smx_shared.specs.Leaving.{Left}
@@ -32,21 +32,35 @@ pub record Enters (c : ℕ) (f g p : Front Note Limits) : Type 0 where
 abbrev pub Entered : ℕ → ℕ → List (Front Note Limits) → List (Front Note Limits) → List (Front Note Limits) → Type 0
 Entered to c old new made = Makes (λ k f g p. Enters c f g p) to old new made
 
--- why the client did not enter a lane: the reply of the lane that the new seat's hold found, or no hold
-abbrev pub Barred : ℕ → EnterFault → Front Note Limits → Front Note Limits → Type 0
-Barred c Exhausted f g = ⊥
-Barred c Spent f g = SplitFails f g ⊎ ((s : Front Note Limits) × (p : Front Note Limits) × SplitServes f g s × IsSpent s p)
-Barred c HistoryFull f g = (s : Front Note Limits) × (p : Front Note Limits) × SplitServes f g s × AdmitServes s p c (Err admit.HistoryFull)
-Barred c NoMemory f g = (s : Front Note Limits) × (p : Front Note Limits) × SplitServes f g s × AdmitServes s p c (Err admit.NoMemory)
-Barred c Known f g = (s : Front Note Limits) × (p : Front Note Limits) × SplitServes f g s × AdmitServes s p c (Err admit.Known)
+-- why a lane refused the client: what the hold of the seat that was made found, or no hold
+abbrev pub IsRefusal : ℕ → EnterFault → Front Note Limits → Front Note Limits → Type 0
+IsRefusal c Exhausted s p = ⊥
+IsRefusal c Spent s p = IsSpent s p
+IsRefusal c HistoryFull s p = AdmitServes s p c (Err admit.HistoryFull)
+IsRefusal c NoMemory s p = AdmitServes s p c (Err admit.NoMemory)
+IsRefusal c Known s p = AdmitServes s p c (Err admit.Known)
+
+-- why no seat was made
+abbrev pub IsUnmade : EnterFault → Front Note Limits → Front Note Limits → Type 0
+IsUnmade Spent f g = SplitFails f g
+IsUnmade fault f g = ⊥
+
+-- why the client did not enter a lane: no seat was made, or one was, and the lane refused the client
+abbrev pub Barred : ℕ → EnterFault → Option (Front Note Limits) → Front Note Limits → Front Note Limits → Type 0
+Barred c fault None f g = IsUnmade fault f g
+Barred c fault (Some p) f g = (s : Front Note Limits) × SplitServes f g s × IsRefusal c fault s p
 
 -- the client entered the lanes before this one, and was barred here
-abbrev pub StopsAt : ℕ → ℕ → EnterFault → List (Front Note Limits) → List (Front Note Limits) → List (Front Note Limits) → Type 0
-StopsAt lane c fault old new made = (mid : List (Front Note Limits)) × (lane < length old) × Entered lane c old mid made × OnLane lane mid new (Barred c fault)
+abbrev pub StopsAt : ℕ → ℕ → EnterFault → List (Front Note Limits) → List (Front Note Limits) → List (Front Note Limits) → Option (Front Note Limits) → Type 0
+StopsAt lane c fault old new made barred = (mid : List (Front Note Limits)) × (lane < length old) × Entered lane c old mid made × OnLane lane mid new (Barred c fault barred)
 
--- the lanes that it entered were left again, save those that are spent
-abbrev pub TurnsBack : ℕ → EnterFault → List (Front Note Limits) → List (Front Note Limits) → Type 0
-TurnsBack c fault old new = (lane : ℕ) × (made : List (Front Note Limits)) × (last : List (Front Note Limits)) × StopsAt lane c fault old new made × Left lane c made last
+-- the lanes that it entered were left again, save those that are spent, and the seats are handed back
+abbrev pub TurnsBack : ℕ → EnterFault → List (Front Note Limits) → List (Front Note Limits) → DepartedView → Type 0
+TurnsBack c fault old new d = (lane : ℕ) × (made : List (Front Note Limits)) × StopsAt lane c fault old new made d.barred × Left lane c made d.fronts
+
+-- no seat was made
+abbrev pub HasNoSeat : DepartedView → Type 0
+HasNoSeat d = (d.fronts ≡ []) × (d.barred ≡ None)
 
 -- the client has its number and a seat on every lane
 pub record Admits (v w : DoorView) (p : PortView) : Type 0 where
@@ -57,7 +71,8 @@ pub record Admits (v w : DoorView) (p : PortView) : Type 0 where
   pub locks : locks_of p.fronts ≡ locks_of v.fronts
 
 -- all but the first refusal use the number up
-abbrev pub RefusesEntry : DoorView → DoorView → EnterFault → Type 0
-RefusesEntry v w Exhausted = (v.next ≡ 2 ^ 62 + 1) × (w ≡ v)
-RefusesEntry v w NoMemory = (w ≡ record v { next = v.next + 1; fronts = w.fronts }) × ((w.fronts ≡ v.fronts) ⊎ TurnsBack v.next NoMemory v.fronts w.fronts)
-RefusesEntry v w fault = (w ≡ record v { next = v.next + 1; fronts = w.fronts }) × TurnsBack v.next fault v.fronts w.fronts
+abbrev pub RefusesEntry : DoorView → DoorView → EnterFault → DepartedView → Type 0
+RefusesEntry v w Exhausted d = (v.next ≡ 2 ^ 62 + 1) × (w ≡ v) × HasNoSeat d
+RefusesEntry v w NoMemory d = (w ≡ record v { next = v.next + 1; fronts = w.fronts })
+    × (((w.fronts ≡ v.fronts) × HasNoSeat d) ⊎ TurnsBack v.next NoMemory v.fronts w.fronts d)
+RefusesEntry v w fault d = (w ≡ record v { next = v.next + 1; fronts = w.fronts }) × TurnsBack v.next fault v.fronts w.fronts d

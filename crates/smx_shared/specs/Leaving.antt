@@ -1,5 +1,5 @@
 -- What retiring a client leaves on each lane.
-use Rattle.std.specs.Prelude.{◌≡◌, ◌⊎◌, ℕ, ◌≤◌, ◌<◌, Bool, true, false, List, length, slice_get, Some}
+use Rattle.std.specs.Prelude.{◌≡◌, ◌⊎◌, ℕ, ◌≤◌, ◌<◌, Bool, true, false, List, length, slice_get, Some, None}
 use Rattle.smx_lock.specs.Fronts.{Front, IsSpent}
 use Rattle.smx_history.specs.declared.limits.Limits.{Limits}
 use Rattle.smx_history.specs.declared.note.Note.{Note}
@@ -25,5 +25,6 @@ Retired false to c old new = (k : ℕ) × (f : Front Note Limits) × (g : Front 
 -- every lane was left by the port's seats, and these are handed back
 pub record HasLeft (all : Bool) (v : PortView) (d : DepartedView) : Type 0 where
   pub client : d.client ≡ v.client
+  pub barred : d.barred ≡ None
   pub left : Left (length v.fronts) v.client v.fronts d.fronts
   pub retired : Retired all (length v.fronts) v.client v.fronts d.fronts

@@ -1,5 +1,5 @@
 -- How an exchange is made.
-use Rattle.std.specs.Prelude.{◌≡◌, ◌<◌, ◌≤◌, ◌^◌, ℕ, List, [], length, map}
+use Rattle.std.specs.Prelude.{◌≡◌, ◌<◌, ◌≤◌, ◌^◌, ℕ, List, [], length, map, slice_get, Option, Some, None}
 use Rattle.std.specs.List.{AllByRecursion}
 use Rattle.smx_lock.specs.Fronts.{Front, LockId, first_front}
 use Rattle.smx_history.specs.declared.limits.Limits.{Limits}
@@ -8,8 +8,8 @@ use Rattle.smx_history.specs.Room.{AreLimits}
 use Rattle.smx_shared.specs.declared.fault.MakeFault.{MakeFault}
 use Rattle.smx_shared.specs.declared.fault.MakeFault.TheVariants.{BadLanes, BadLimits, NoMemory, Spent}
 use Rattle.smx_shared.specs.declared.starts.Starts.{Starts}
-use Rattle.smx_shared.specs.Views.{DoorView, TapView, locks_of}
-use Rattle.smx_shared.specs.Serving.{SplitServes}
+use Rattle.smx_shared.specs.Views.{DoorView, TapView, UnmadeView, locks_of}
+use Rattle.smx_shared.specs.Serving.{SplitServes, SplitFails}
 use Rattle.smx_shared.specs.Rounds.{Makes}
 
 pub record AreStarts (s : Starts) : Type 0 where
@@ -24,12 +24,20 @@ first_starts = record { ticket = 0; client = 1; ordinal = 1 }
 abbrev pub AreLanes : ℕ → Type 0
 AreLanes lanes = (0 < lanes) × (lanes ≤ 16)
 
--- the first of the refusals that stands; memory and tickets are asked for where none does
-abbrev pub IsMakeFault : ℕ → Limits → MakeFault → Type 0
-IsMakeFault lanes limits BadLanes = ¬ (AreLanes lanes)
-IsMakeFault lanes limits BadLimits = AreLanes lanes × ¬ (AreLimits limits)
-IsMakeFault lanes limits NoMemory = AreLanes lanes × AreLimits limits
-IsMakeFault lanes limits Spent = AreLanes lanes × AreLimits limits
+-- the first of the refusals that stands; where none of the limits' does, memory was wanted, or a lane's first seat, which comes back, made no other
+abbrev pub IsMakeFault : ℕ → Limits → MakeFault → Option (Front Note Limits) → Type 0
+IsMakeFault lanes limits BadLanes None = ¬ (AreLanes lanes)
+IsMakeFault lanes limits BadLimits None = AreLanes lanes × ¬ (AreLimits limits)
+IsMakeFault lanes limits NoMemory None = AreLanes lanes × AreLimits limits
+IsMakeFault lanes limits Spent (Some f) = AreLanes lanes × AreLimits limits × SplitFails (first_front f.lock) f
+IsMakeFault lanes limits _ _ = ⊥
+
+abbrev pub IsUnmadeFor : ℕ → Limits → UnmadeView → Type 0
+IsUnmadeFor lanes limits u = IsMakeFault lanes limits u.fault u.seat
+
+-- some seat of these made no other, and came back
+abbrev pub IsStuck : List (Front Note Limits) → Front Note Limits → Type 0
+IsStuck fronts g = (k : ℕ) × (f : Front Note Limits) × (slice_get fronts k ≡ Some f) × (g.lock ≡ f.lock) × SplitFails f g
 
 -- so many locks, each of a lane under these limits
 pub record AreLocks (lanes : ℕ) (limits : Limits) (locks : List (LockId Limits)) : Type 0 where

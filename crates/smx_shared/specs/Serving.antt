@@ -34,8 +34,11 @@ use Rattle.smx_history.specs.declared.entry.Entry.{Entry}
 use Rattle.smx_lane.specs.Kept.{writer}
 use Rattle.smx_history.specs.Legal.{IsLegal}
 use Rattle.smx_history.specs.Contents.{Content, Member, AgreesWith}
-use Rattle.smx_history.specs.Replies.{admit_refusal, take_refusal, accept_refusal, answers_place, member_with}
-use Rattle.smx_history.specs.Answering.{oldest_in}
+use Rattle.smx_lane.specs.declared.call.Call.{Call}
+use Rattle.smx_lane.specs.declared.call.Call.TheVariants as call
+use Rattle.smx_lane.specs.declared.call.Reply.{Reply}
+use Rattle.smx_lane.specs.declared.call.Reply.TheVariants as reply
+use Rattle.smx_lane.specs.Calls.{IsReply}
 
 -- one hold found this history and left these notes, in a lane that held v, and what was left is legal
 pub record OneHold (f g : Front Note Limits) (found new : List Note) (v : Content) : Type 0 where
@@ -44,34 +47,34 @@ pub record OneHold (f g : Front Note Limits) (found new : List Note) (v : Conten
   pub limits : v.limits ≡ f.lock.fixed
   pub legal : IsLegal f.lock.fixed (marks_of g.seen)
 
--- the lane's own reply, said of a lane that agrees with the history found
+-- one hold of the lane's lock stood between the fronts: the lane that it found gave this reply to the call, and what was left agrees with what is seen now
+pub record CallServes (f g : Front Note Limits) (call : Call) (reply : Reply) : Type 0 where
+  pub found : List Note
+  pub own : List Note
+  pub old : Content
+  pub new : Content
+  pub hold : OneHold f g found own old
+  pub told : IsReply old call reply own new
+  pub left : AgreesWith g.seen new
+
 abbrev pub TakeServes : Front Note Limits → Front Note Limits → Result Sent TakeRefusal → Type 0
-TakeServes f g (Ok sent) = (found : List Note) × (v : Content)
-    × OneHold f g found (note f.number (event.Take sent.request.client sent.request.ordinal sent.upstream) ∷ []) v
-    × (take_refusal v ≡ None) × (slice_get v.queue 0 ≡ Some sent.request)
-TakeServes f g (Err e) = (found : List Note) × (v : Content) × OneHold f g found [] v × (take_refusal v ≡ Some e)
+TakeServes f g r = CallServes f g (call.Take f.number) (reply.Taken r)
 
 abbrev pub AnswerServes : Front Note Limits → Front Note Limits → Pdu → Answered → Type 0
-AnswerServes f g p (Queued c) = (found : List Note) × (v : Content) × (q : Place) × (m : Member)
-    × OneHold f g found (note f.number (event.Answer q.client q.ordinal p) ∷ []) v
-    × (find (answers_place p) v.window ≡ Some q) × (q.client ≡ c) × (member_with c v.members ≡ Some m)
-AnswerServes f g p Late = (found : List Note) × (v : Content) × (q : Place)
-    × OneHold f g found (note f.number (event.Late q.client q.ordinal p.number p.command) ∷ []) v
-    × (find (answers_place p) v.window ≡ Some q) × (member_with q.client v.members ≡ None)
-AnswerServes f g p (Unknown back) = (found : List Note) × (v : Content) × OneHold f g found [] v
-    × (find (answers_place p) v.window ≡ None) × (back ≡ p)
+AnswerServes f g p r = CallServes f g (call.Answer f.number p) (reply.Answered r)
 
 abbrev pub AcceptServes : Front Note Limits → Front Note Limits → Request → Result (Unit {0}) (Request × Refusal) → Type 0
-AcceptServes f g r (Ok _) = (found : List Note) × (v : Content)
-    × OneHold f g found (note f.number (event.Accept r) ∷ []) v × (accept_refusal v r.client ≡ None)
-AcceptServes f g r (Err e) = (found : List Note) × (v : Content) × OneHold f g found [] v × (accept_refusal v r.client ≡ Some e.1)
-    × (e.0 ≡ r) × (e.1 ≢ NotAdmitted)
+AcceptServes f g q r = CallServes f g (call.Accept f.number q) (reply.Accepted r)
 
 abbrev pub CollectServes : Front Note Limits → Front Note Limits → ℕ → Option Pdu → Type 0
-CollectServes f g c None = (found : List Note) × (v : Content) × OneHold f g found [] v × (oldest_in (member_with c v.members) ≡ None)
-CollectServes f g c (Some p) = (found : List Note) × (v : Content) × (r : Response)
-    × OneHold f g found (note f.number (event.Collect c r.ordinal) ∷ []) v
-    × (oldest_in (member_with c v.members) ≡ Some r) × (r.pdu ≡ p)
+CollectServes f g c r = CallServes f g (call.Collect f.number c) (reply.Collected r)
+
+abbrev pub AdmitServes : Front Note Limits → Front Note Limits → ℕ → Result (Unit {0}) AdmitFault → Type 0
+AdmitServes f g c r = CallServes f g (call.Admit f.number c) (reply.Admitted r)
+
+-- the client was retired
+abbrev pub RetireServes : Front Note Limits → Front Note Limits → ℕ → Type 0
+RetireServes f g c = CallServes f g (call.Retire f.number c) (reply.Retired (Ok tt))
 
 -- what bringing a response leaves: one hold, or the tickets are spent and it comes back
 abbrev pub Brings : Front Note Limits → Front Note Limits → Pdu → Result Answered (Pdu × Spent) → Type 0
@@ -99,13 +102,6 @@ TriesTake f g (Ok sent) = TakeServes f g (Ok sent)
 TriesTake f g (Err (tries.Refused e)) = TakeServes f g (Err e)
 TriesTake f g (Err tries.Spent) = IsSpent f g
 TriesTake f g (Err tries.Busy) = (g ≡ f) × (f.caller ≡ Idle)
-
-abbrev pub AdmitServes : Front Note Limits → Front Note Limits → ℕ → Result (Unit {0}) AdmitFault → Type 0
-AdmitServes f g c (Ok _) = (found : List Note) × (v : Content) × OneHold f g found (note f.number (event.Admit c) ∷ []) v × (admit_refusal v c ≡ None)
-AdmitServes f g c (Err e) = (found : List Note) × (v : Content) × OneHold f g found [] v × IsAdmitFault (admit_refusal v c) e
-
-abbrev pub RetireServes : Front Note Limits → Front Note Limits → ℕ → Type 0
-RetireServes f g c = (found : List Note) × (v : Content) × OneHold f g found (note f.number (event.Retire c) ∷ []) v
 
 -- one hold handed out what was stored since the last shift, or found fewer than the least and changed nothing
 abbrev pub TurnServes : Front Note Limits → Front Note Limits → ℕ → Option (List Entry) → Type 0

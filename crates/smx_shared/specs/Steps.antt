@@ -1,35 +1,72 @@
 -- What private functions ask and promise: the notes of one hold, a turn of one lane, and a round over
 -- some lanes in a row. No contract of a public function cites this file.
-use Rattle.std.specs.Prelude.{◌≡◌, ◌≤◌, ◌<◌, ℕ, List, [], ◌∷◌, Option, Some, Result, Ok, Err, slice_get}
+use Rattle.std.specs.Prelude.{◌≡◌, ◌≤◌, ◌<◌, ℕ, List, [], ◌∷◌, Option, Some, None, Result, Ok, Err, slice_get, All}
 use Rattle.std.specs.List.{AllByRecursion}
-use Rattle.std.specs.Option.{option_map}
-use Rattle.smx_lock.specs.Fronts.{Front, IsSpent}
-use Rattle.smx_history.specs.declared.entry.Entry.{Entry}
+use Rattle.smx_lock.specs.Fronts.{Front, Hold, Finds, IsSpent}
 use Rattle.smx_history.specs.declared.limits.Limits.{Limits}
 use Rattle.smx_history.specs.declared.note.Note.{Note}
 use Rattle.smx_history.specs.declared.note.Event.TheVariants as event
 use Rattle.smx_history.specs.declared.request.Request.{Request}
+use Rattle.smx_pdu.specs.declared.pdu.Pdu.{Pdu}
+use Rattle.std.specs.List.{find}
+use Rattle.smx_history.specs.declared.place.Place.{Place}
+use Rattle.smx_history.specs.declared.response.Response.{Response}
+use Rattle.smx_history.specs.declared.reply.Answered.TheVariants as answered
+use Rattle.smx_history.specs.Answering.{oldest_in}
+use Rattle.smx_history.specs.Replies.{answers_place, member_with}
+use Rattle.smx_lane.specs.declared.call.Call.TheVariants as call
+use Rattle.smx_lane.specs.declared.call.Reply.TheVariants as reply
 use Rattle.smx_history.specs.History.{note, shift, requests}
-use Rattle.smx_shared.specs.declared.did.Did.{Did}
-use Rattle.smx_shared.specs.declared.did.Did.TheVariants.{Admitting, Accepting, Taking, Answering, BeingLate, Collecting, Retiring, Turning, Nothing}
+use Rattle.smx_history.specs.Contents.{Content}
+use Rattle.smx_lane.specs.declared.call.Call.{Call}
+use Rattle.smx_lane.specs.declared.call.Reply.{Reply}
+use Rattle.smx_lane.specs.Calls.{IsReply, GoesOn, Keeps}
+use Rattle.smx_lane.specs.Kept.{writer, limits_of, suits}
 use Rattle.smx_shared.specs.declared.offer.Offer.{Offer}
 use Rattle.smx_shared.specs.declared.fault.SubmitFault.{SubmitFault}
 use Rattle.smx_shared.specs.declared.fault.SubmitFault.TheVariants as fault
-use Rattle.smx_shared.specs.Serving.{AcceptServes, TurnServes, StaysServes}
+use Rattle.smx_shared.specs.Serving.{CallServes, AcceptServes}
 use Rattle.smx_shared.specs.Ports.{IsMemberBy}
 use Rattle.smx_shared.specs.Submits.{OnLane, Passed}
 
--- the notes that the seat of the number k makes
-abbrev pub notes_told : Did → ℕ → List Note
-notes_told (Admitting c) k = note k (event.Admit c) ∷ []
-notes_told (Accepting r) k = note k (event.Accept r.value) ∷ []
-notes_told (Taking c n u) k = note k (event.Take c n u) ∷ []
-notes_told (Answering c n p) k = note k (event.Answer c n p.value) ∷ []
-notes_told (BeingLate c n p) k = note k (event.Late c n p.value.number p.value.command) ∷ []
-notes_told (Collecting c n) k = note k (event.Collect c n) ∷ []
-notes_told (Retiring c) k = note k (event.Retire c) ∷ []
-notes_told Turning k = shift k ∷ []
-notes_told Nothing k = []
+abbrev pub answer_notes : ℕ → Pdu → Option Place → List Note
+answer_notes by p (Some q) = note by (event.Answer q.client q.ordinal p) ∷ []
+answer_notes by p None = []
+
+abbrev pub late_notes : ℕ → Pdu → Option Place → List Note
+late_notes by p (Some q) = note by (event.Late q.client q.ordinal p.number p.command) ∷ []
+late_notes by p None = []
+
+abbrev pub collect_notes : ℕ → ℕ → Option Response → List Note
+collect_notes by c (Some r) = note by (event.Collect c r.ordinal) ∷ []
+collect_notes by c None = []
+
+-- the notes of a call that the lane gave this reply
+abbrev pub notes_for : Content → Call → Reply → List Note
+notes_for old (call.Admit by c) (reply.Admitted (Ok _)) = note by (event.Admit c) ∷ []
+notes_for old (call.Accept by r) (reply.Accepted (Ok _)) = note by (event.Accept r) ∷ []
+notes_for old (call.Take by) (reply.Taken (Ok s)) = note by (event.Take s.request.client s.request.ordinal s.upstream) ∷ []
+notes_for old (call.Answer by p) (reply.Answered (answered.Queued c)) = answer_notes by p (find (answers_place p) old.window)
+notes_for old (call.Answer by p) (reply.Answered answered.Late) = late_notes by p (find (answers_place p) old.window)
+notes_for old (call.Collect by c) (reply.Collected (Some p)) = collect_notes by c (oldest_in (member_with c old.members))
+notes_for old (call.Retire by c) (reply.Retired (Ok _)) = note by (event.Retire c) ∷ []
+notes_for old (call.TurnOver by least) (reply.TurnedOver (Ok (Some list))) = shift by ∷ []
+notes_for old _ _ = []
+
+-- the seat with this number made the call: the reply, its notes, and what the lane holds then
+pub record IsMade (by : ℕ) (old : Content) (call : Call) (reply : Reply) (new : Content) : Type 0 where
+  pub told : IsReply old call reply (notes_for old call reply) new
+  pub goes_on : GoesOn old (notes_for old call reply) new
+  pub writers : All (λ n. writer n ≡ by) (notes_for old call reply)
+  pub limits : new.limits ≡ old.limits
+
+-- whatever the seat finds in a hold, the call keeps to its condition there
+abbrev pub MayCall : Front Note Limits → (ℕ → Call) → Type 0
+MayCall f call = (h : Hold Content Note Limits) → Finds writer limits_of suits f h → Keeps h.value (call h.number)
+
+-- whatever front the hold belongs to, the call was served
+abbrev pub IsServed : Hold Content Note Limits → Front Note Limits → (ℕ → Call) → Reply → Type 0
+IsServed h g call reply = (f : Front Note Limits) → Finds writer limits_of suits f h → CallServes f g (call f.number) reply
 
 -- a request without its client and its ordinal
 abbrev pub offer_of : Request → Offer
@@ -48,11 +85,6 @@ MayAccept r fronts = (k : ℕ) (f : Front Note Limits) → slice_get fronts k �
 abbrev pub HaveAdmitted : ℕ → List (Front Note Limits) → Type 0
 HaveAdmitted c fronts = (k : ℕ) (f : Front Note Limits) → slice_get fronts k ≡ Some f
     → f.mine ≡ note f.number (event.Admit c) ∷ []
-
--- what a turn answers, of lists that show these entries
-abbrev pub TurnsBy : {V E : Type 0} → (V → List Entry) → Front Note Limits → Front Note Limits → ℕ → Result (Option V) E → Type 0
-TurnsBy entries f g least (Ok list) = TurnServes f g least (option_map entries list)
-TurnsBy entries f g least (Err _) = StaysServes f g
 
 -- what a round over some lanes in a row leaves
 abbrev pub Accepts : ℕ → ℕ → Request → List (Front Note Limits) → List (Front Note Limits) → ℕ → Type 0

@@ -1,19 +1,17 @@
 -- How a submit goes round the lanes.
-use Rattle.std.specs.Prelude.{◌≡◌, ◌≢◌, ℕ, ◌+◌, ◌-◌, ◌%◌, ◌≤◌, ◌<◌, ◌^◌, nat_le, List, [], length, slice_get, set, Some, Ok, Bool, true, false}
+use Rattle.std.specs.Prelude.{◌≡◌, ◌≢◌, ℕ, ◌+◌, ◌-◌, ◌%◌, ◌≤◌, ◌<◌, ◌^◌, nat_le, List, [], length, slice_get, set, Some, Ok, Err, Bool, true, false}
 use Rattle.smx_lock.specs.Fronts.{Front, IsSpent}
 use Rattle.smx_history.specs.declared.limits.Limits.{Limits}
 use Rattle.smx_history.specs.declared.note.Note.{Note}
 use Rattle.smx_history.specs.declared.request.Request.{Request}
 use Rattle.smx_history.specs.declared.reply.Refusal.{Refusal}
 use Rattle.smx_history.specs.declared.reply.Refusal.TheVariants.{NotAdmitted}
-use Rattle.smx_history.specs.Contents.{Content}
-use Rattle.smx_history.specs.Replies.{accept_refusal}
 use Rattle.smx_shared.specs.declared.offer.Offer.{Offer}
 use Rattle.smx_shared.specs.declared.fault.SubmitFault.{SubmitFault}
 use Rattle.smx_shared.specs.declared.fault.SubmitFault.TheVariants as fault
 use Rattle.smx_shared.specs.Views.{PortView, locks_of}
 use Rattle.smx_shared.specs.Offers.{request_for}
-use Rattle.smx_shared.specs.Serving.{OneHold, AcceptServes}
+use Rattle.smx_shared.specs.Serving.{AcceptServes}
 
 -- on one lane this became of the front, and the others are as they were
 abbrev pub OnLane : ℕ → List (Front Note Limits) → List (Front Note Limits) → (Front Note Limits → Front Note Limits → Type 0) → Type 0
@@ -21,7 +19,7 @@ OnLane lane old new P = (f : Front Note Limits) × (g : Front Note Limits) × (s
 
 -- one hold found the lane full for the client: of its requests, of requests, or of entries
 abbrev pub FullServes : Request → Front Note Limits → Front Note Limits → Type 0
-FullServes r f g = (found : List Note) × (v : Content) × (e : Refusal) × OneHold f g found [] v × (accept_refusal v r.client ≡ Some e) × (e ≢ NotAdmitted)
+FullServes r f g = (e : Refusal) × AcceptServes f g r (Err (r, e)) × (e ≢ NotAdmitted)
 
 -- each lane from `from` on and below `to` was found full, and the others are as they were
 pub record Passed (from to : ℕ) (r : Request) (old new : List (Front Note Limits)) : Type 0 where

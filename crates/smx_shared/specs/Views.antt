@@ -4,6 +4,7 @@ use Rattle.smx_ticket_core.specs.declared.callers.Caller.TheVariants.{Idle}
 use Rattle.smx_lock.specs.Fronts.{LockId, Front}
 use Rattle.smx_history.specs.declared.limits.Limits.{Limits}
 use Rattle.smx_history.specs.declared.note.Note.{Note}
+use Rattle.smx_shared.specs.declared.fault.MakeFault.{MakeFault}
 
 -- a tap: its lane, and the front of its seat there
 pub record TapView : Type 0 where
@@ -27,13 +28,19 @@ abbrev pub front_in : Option (Front Note Limits) → Front Note Limits
 front_in (Some f) = f
 front_in None = blank
 
--- what is left of a client that is gone: its number, and the fronts of its seats, one a lane
+-- what is left of a client that is gone: its number, the fronts of its seats on the lanes that it entered, from the first lane on, and that on the lane that barred it
 pub record DepartedView : Type 0 where
   pub client : ℕ
   pub fronts : List (Front Note Limits)
+  pub barred : Option (Front Note Limits)
 
 -- a door: the next client's number, the first ordinal of each, and the fronts of its seats, one a lane
 pub record DoorView : Type 0 where
   pub next : ℕ
   pub ordinal : ℕ
   pub fronts : List (Front Note Limits)
+
+-- an exchange that was not made: why, and the front of the seat that found its lane's tickets spent
+pub record UnmadeView : Type 0 where
+  pub fault : MakeFault
+  pub seat : Option (Front Note Limits)

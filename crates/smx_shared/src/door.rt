@@ -5,6 +5,7 @@ ghost use Rattle.smx_shared.specs.Ports.{HasAccepted};
 ghost use Rattle.smx_shared.specs.Entering.{Admits, RefusesEntry};
 
 use crate::admit::admit_all;
+use crate::departed::Departed;
 use crate::exchange::Exchange;
 use crate::fault::EnterFault;
 use crate::lane_seat::LaneSeat;
@@ -37,29 +38,37 @@ impl Door {
     /// Enters the next client: its port has a seat on every lane. It may wait at each lane, twice:
     /// the door's seat makes the new one, which admits the client. At a refusal after the first the
     /// client is retired again on the lanes that it entered, which may wait once more, but for those
-    /// whose tickets are spent.
-    pub fn enter<R: Wait>(&mut self, at: &Exchange, rt: &R) -> Result<Port, EnterFault>
+    /// whose tickets are spent, and its seats come back.
+    pub fn enter<R: Wait>(&mut self, at: &Exchange, rt: &R) -> Result<Port, (EnterFault, Departed)>
         requires { locks_of self.old.fronts ≡ at.now }
         ensures ok { IfOk result (Admits self.old self.new) }
         ensures listed { IfOk result (λ port. HasAccepted port []) }
-        ensures err { IfErr result (RefusesEntry self.old self.new) }
+        ensures err { IfErr result (λ e. RefusesEntry self.old self.new e.0 e.1) }
+        ensures client { IfErr result (λ e. e.1.client ≡ self.old.next) }
         ensures locks { locks_of self.new.fronts ≡ locks_of self.old.fronts }
     {
-        if self.next > MOST {
-            return Err(EnterFault::Exhausted);
-        }
         let client = self.next;
+        if client > MOST {
+            return Err((EnterFault::Exhausted, Departed::seatless(at.alloc, client)));
+        }
         self.next += 1;
         let Ok(mut seats) = Vec::with_capacity(at.alloc, self.seats.len()) else {
-            return Err(EnterFault::NoMemory);
+            return Err((EnterFault::NoMemory, Departed::seatless(at.alloc, client)));
         };
         let locks = at.locks.as_slice();
         match admit_all(rt, &mut self.seats, &mut seats, locks, client) {
             Ok(()) => Ok(Port::new(client, self.ordinal, seats)),
-            Err(fault) => {
+            Err((fault, barred)) => {
                 let entered = seats.len();
                 retire_all(rt, &mut seats, &locks[..entered], client);
-                Err(fault)
+                Err((
+                    fault,
+                    Departed {
+                        client,
+                        seats,
+                        barred,
+                    },
+                ))
             }
         }
     }

@@ -1,8 +1,8 @@
 //! The lanes, each under its lock.
 ghost use Rattle.std.specs.Prelude.{◌≡◌, ◌<◌, ◌≤◌, [], length, slice_get, vec_capacity, Some, All, IfOk, IfErr};
-ghost use Rattle.smx_shared.specs.Ending.{AreGiven, GivenBefore};
+ghost use Rattle.smx_shared.specs.Ending.{AreGiven, GivesBefore};
 ghost use Rattle.smx_shared.specs.Views.{locks_of};
-ghost use Rattle.smx_shared.specs.Making.{AreStarts, first_starts, Opens, IsUnused, IsMakeFault};
+ghost use Rattle.smx_shared.specs.Making.{AreStarts, first_starts, Opens, IsUnused, IsUnmadeFor};
 ghost use Rattle.smx_shared.specs.Tokens.{SawOneHistory};
 
 use crate::door::Door;
@@ -12,6 +12,7 @@ use crate::make::{make_locks, split_taps};
 use crate::starts::Starts;
 use crate::tap::Tap;
 use crate::token::{HasSeat, Token};
+use crate::unmade::Unmade;
 use smx_history::Limits;
 use smx_lane::Lane;
 use smx_lock::TicketLock;
@@ -43,17 +44,17 @@ impl Model for Exchange {
 
 impl Exchange {
     /// Empty lanes under the limits, with a door and, for each lane in order, a tap. It holds each
-    /// lane once, and may wait there.
+    /// lane once, and may wait there. The seat of a lane whose tickets are spent comes back.
     pub fn new<R: Wait>(
         rt: &R,
         alloc: Global,
         limits: Limits,
         lanes: usize,
-    ) -> Result<(Exchange, Door, Vec<Tap>), MakeFault>
+    ) -> Result<(Exchange, Door, Vec<Tap>), Unmade>
         ensures ok { IfOk result (λ made. Opens lanes limits first_starts made.0 made.1 made.2.items) }
         ensures taps { IfOk result (λ made. All (λ t. slice_get made.0 t.lane ≡ Some t.front.lock) made.2.items) }
         ensures empty { IfOk result (λ made. All IsUnused made.1.fronts × All (λ t. IsUnused t.front) made.2.items) }
-        ensures err { IfErr result (IsMakeFault lanes limits) }
+        ensures err { IfErr result (IsUnmadeFor lanes limits) }
     {
         Exchange::new_at(rt, alloc, limits, lanes, Starts::FIRST)
     }
@@ -65,24 +66,29 @@ impl Exchange {
         limits: Limits,
         lanes: usize,
         starts: Starts,
-    ) -> Result<(Exchange, Door, Vec<Tap>), MakeFault>
+    ) -> Result<(Exchange, Door, Vec<Tap>), Unmade>
         requires { AreStarts starts }
         ensures ok { IfOk result (λ made. Opens lanes limits starts made.0 made.1 made.2.items) }
         ensures taps { IfOk result (λ made. All (λ t. slice_get made.0 t.lane ≡ Some t.front.lock) made.2.items) }
         ensures empty { IfOk result (λ made. All IsUnused made.1.fronts × All (λ t. IsUnused t.front) made.2.items) }
-        ensures err { IfErr result (IsMakeFault lanes limits) }
+        ensures err { IfErr result (IsUnmadeFor lanes limits) }
     {
         if lanes == 0 || lanes > 16 {
-            return Err(MakeFault::BadLanes);
+            return Err(Unmade::because(MakeFault::BadLanes));
         }
-        let (locks, mut seats) = make_locks(alloc, limits, lanes, starts.ticket)?;
+        let (locks, mut seats) = match make_locks(alloc, limits, lanes, starts.ticket) {
+            Ok(made) => made,
+            Err(fault) => return Err(Unmade::because(fault)),
+        };
         let Ok(room) = Vec::with_capacity(alloc, lanes) else {
-            return Err(MakeFault::NoMemory);
+            return Err(Unmade::because(MakeFault::NoMemory));
         };
         let Ok(mut taps) = Vec::with_capacity(alloc, lanes) else {
-            return Err(MakeFault::NoMemory);
+            return Err(Unmade::because(MakeFault::NoMemory));
         };
-        split_taps(rt, &mut seats, &mut taps, locks.as_slice())?;
+        if let Err(seat) = split_taps(rt, &mut seats, &mut taps, locks.as_slice()) {
+            return Err(Unmade::spent(seat));
+        }
         let door = Door {
             next: starts.client,
             ordinal: starts.ordinal,
@@ -106,14 +112,15 @@ impl Exchange {
     }
 
     /// Ends the lanes' locks and gives the lanes, in order. Each agrees with a history that begins
-    /// with all that the door had seen there. `StateOut` names the first lane that was not in its
-    /// place.
-    // Of a lane that is named, `err` says that those before it were in their places. As of the lock's
-    // own `finish`, no clause says that this one was not: tests show both answers, and which lane.
-    pub fn finish(self, door: Door) -> Result<Vec<Lane>, StateOut>
+    /// with all that the door had seen there, in which the door's notes are those that it made
+    /// before. `StateOut` names the first lane that was not in its place; the lanes before it come
+    /// beside it, and those after it are lost.
+    // As of the lock's own `finish`, no clause says that the lane named was not in its place: tests
+    // show both answers, and which lane.
+    pub fn finish(self, door: Door) -> Result<Vec<Lane>, (StateOut, Vec<Lane>)>
         requires { locks_of door.fronts ≡ self }
         ensures ok { IfOk result (λ lanes. AreGiven door.fronts lanes.items) }
-        ensures err { IfErr result (λ e. (e.lane < length self) × GivenBefore e.lane door.fronts) }
+        ensures err { IfErr result (λ e. GivesBefore e.0.lane door.fronts e.1.items) }
     {
         let Exchange {
             locks,
@@ -130,12 +137,12 @@ fn finish_all(
     locks: Vec<TicketLock<Lane>>,
     seats: Vec<LaneSeat>,
     room: Vec<Lane>,
-) -> Result<Vec<Lane>, StateOut>
+) -> Result<Vec<Lane>, (StateOut, Vec<Lane>)>
     requires locks { locks_of seats.items ≡ locks.items }
     requires none { room.items ≡ [] }
     requires room { length locks.items ≤ vec_capacity room }
     ensures ok { IfOk result (λ lanes. AreGiven seats.items lanes.items) }
-    ensures err { IfErr result (λ e. (e.lane < length locks.items) × GivenBefore e.lane seats.items) }
+    ensures err { IfErr result (λ e. GivesBefore e.0.lane seats.items e.1.items) }
 {
     let mut lanes = room;
     let mut rest = locks.into_iter();
@@ -145,7 +152,7 @@ fn finish_all(
         };
         match lock.finish(seat.into_seat()) {
             Ok(lane) => lanes.push_reserved(lane),
-            Err(_) => return Err(StateOut { lane: lanes.len() }),
+            Err(_) => return Err((StateOut { lane: lanes.len() }, lanes)),
         }
     }
     Ok(lanes)

@@ -91,7 +91,7 @@ pub enum TryTakeFault {
     Refused(TakeRefusal),
 }
 
-/// A lane was not in its place at the end, as where a hold was never ended: the first such one. All lanes are lost.
+/// A lane was not in its place at the end, as where a hold was never ended: the first such one.
 #[derive(Clone, Copy, Debug, PartialEq, Eq, Error)]
 #[error("lane {lane} was not in its place")]
 pub struct StateOut {

@@ -1,20 +1,13 @@
-//! A seat on one lane. Each call is served by one hold of the lane's lock.
-ghost use Rattle.std.specs.Prelude.{◌≡◌, ◌<◌, ◌⊎◌, MatchResult};
+//! A seat on one lane. Each call of the lane is made in one hold of its lock.
+ghost use Rattle.std.specs.Prelude.{◌≡◌, ◌⊎◌, MatchResult};
 ghost use mathlib.Core.List.{IsPrefix};
-ghost use Rattle.smx_lock.specs.Fronts.{IsSpent};
-ghost use Rattle.smx_shared.specs.Serving.{TakeServes, Brings, AcceptServes, CollectServes, AdmitServes, RetireServes, SplitServes, SplitFails, Waited, Tried};
-ghost use Rattle.smx_shared.specs.Ports.{IsMemberBy};
-ghost use Rattle.smx_shared.specs.Steps.{IsBelow, TurnsBy};
+ghost use Rattle.smx_lock.specs.Fronts.{IsSpent, Refused};
+ghost use Rattle.smx_shared.specs.Serving.{CallServes, SplitServes, SplitFails};
+ghost use Rattle.smx_shared.specs.Steps.{MayCall};
 
-use crate::did::Did;
-use crate::held::{
-    accept_held, admit_held, answer_held, collect_held, retire_held, take_held, turn_held,
-};
-use smx_history::{Answered, Entry, Refusal, Request, TakeRefusal};
-use smx_lane::{AdmitFault, Lane, Sent};
+use crate::lane_call::{LaneCall, serve};
+use smx_lane::Lane;
 use smx_lock::{LockSeat, Spent, TicketLock, TryFault};
-use smx_pdu::Pdu;
-use std::alloc::AllocError;
 use std::marker::Model;
 use std::sync::Wait;
 
@@ -40,54 +33,61 @@ impl Model for LaneSeat {
 }
 
 impl LaneSeat {
-    pub(crate) fn admit<R: Wait>(
+    // Makes the call in one hold, for which it may wait.
+    pub(crate) fn hold<R: Wait, C: LaneCall>(
         &mut self,
         rt: &R,
         lock: &TicketLock<Lane>,
-        client: u64,
-    ) -> Result<Result<(), AdmitFault>, Spent>
+        made: C,
+    ) -> Result<C::Answer, (C, Spent)>
         requires lock { self.old.lock ≡ lock.now }
+        requires may { MayCall self.old (C.call made) }
         ensures lock { self.new.lock ≡ self.old.lock }
-        ensures served { Waited (AdmitServes self.old self.new client) self.old self.new result }
+        ensures served { MatchResult result
+            (λ answer. CallServes self.old self.new (C.call made self.old.number) (C.reply answer))
+            (λ e. (e.0 ≡ made) × IsSpent self.old self.new) }
     {
         let Some(seat) = self.seat.take() else {
             unreachable!()
         };
         match lock.acquire(rt, seat) {
             Ok(held) => {
-                let (seat, reply) = admit_held(lock, held, client);
+                let (seat, answer) = serve(lock, held, made);
                 self.seat = Some(seat);
-                Ok(reply)
+                Ok(answer)
             }
             Err((seat, spent)) => {
                 self.seat = Some(seat);
-                Err(spent)
+                Err((made, spent))
             }
         }
     }
 
-    pub(crate) fn retire<R: Wait>(
+    // The same without waiting.
+    pub(crate) fn try_hold<C: LaneCall>(
         &mut self,
-        rt: &R,
         lock: &TicketLock<Lane>,
-        client: u64,
-    ) -> Result<(), Spent>
+        made: C,
+    ) -> Result<C::Answer, (C, TryFault)>
         requires lock { self.old.lock ≡ lock.now }
-        requires member { IsMemberBy client self.old }
+        requires may { MayCall self.old (C.call made) }
         ensures lock { self.new.lock ≡ self.old.lock }
-        ensures served { MatchResult result (λ _. RetireServes self.old self.new client) (λ _. IsSpent self.old self.new) }
+        ensures served { MatchResult result
+            (λ answer. CallServes self.old self.new (C.call made self.old.number) (C.reply answer))
+            (λ e. (e.0 ≡ made) × Refused self.old self.new e.1) }
     {
         let Some(seat) = self.seat.take() else {
             unreachable!()
         };
-        match lock.acquire(rt, seat) {
+        match lock.try_acquire(seat) {
             Ok(held) => {
-                self.seat = Some(retire_held(lock, held, client));
-                Ok(())
-            }
-            Err((seat, spent)) => {
+                let (seat, answer) = serve(lock, held, made);
                 self.seat = Some(seat);
-                Err(spent)
+                Ok(answer)
+            }
+            Err((seat, fault)) => {
+                self.seat = Some(seat);
+                Err((made, fault))
             }
         }
     }
@@ -108,124 +108,17 @@ impl LaneSeat {
         match lock.acquire(rt, seat) {
             Ok(mut held) => match lock.split(&mut held) {
                 Ok(guest) => {
-                    self.seat = Some(lock.release_told(held, &Did::Nothing));
+                    self.seat = Some(lock.release(held));
                     Ok(LaneSeat::new(guest))
                 }
                 Err(spent) => {
-                    self.seat = Some(lock.release_told(held, &Did::Nothing));
+                    self.seat = Some(lock.release(held));
                     Err(spent)
                 }
             },
             Err((seat, spent)) => {
                 self.seat = Some(seat);
                 Err(spent)
-            }
-        }
-    }
-
-    pub(crate) fn answer<R: Wait>(
-        &mut self,
-        rt: &R,
-        lock: &TicketLock<Lane>,
-        response: Pdu,
-    ) -> Result<Answered, (Pdu, Spent)>
-        requires { self.old.lock ≡ lock.now }
-        ensures lock { self.new.lock ≡ self.old.lock }
-        ensures served { Brings self.old self.new response result }
-    {
-        let Some(seat) = self.seat.take() else {
-            unreachable!()
-        };
-        match lock.acquire(rt, seat) {
-            Ok(held) => {
-                let (seat, reply) = answer_held(lock, held, response);
-                self.seat = Some(seat);
-                Ok(reply)
-            }
-            Err((seat, spent)) => {
-                self.seat = Some(seat);
-                Err((response, spent))
-            }
-        }
-    }
-
-    pub(crate) fn accept<R: Wait>(
-        &mut self,
-        rt: &R,
-        lock: &TicketLock<Lane>,
-        request: Request,
-    ) -> Result<Result<(), (Request, Refusal)>, (Request, Spent)>
-        requires lock { self.old.lock ≡ lock.now }
-        requires member { IsMemberBy request.client self.old }
-        requires below { IsBelow request.ordinal self.old × (0 < request.ordinal) }
-        ensures lock { self.new.lock ≡ self.old.lock }
-        ensures served { MatchResult result (AcceptServes self.old self.new request) (λ e. (e.0 ≡ request) × IsSpent self.old self.new) }
-    {
-        let Some(seat) = self.seat.take() else {
-            unreachable!()
-        };
-        match lock.acquire(rt, seat) {
-            Ok(held) => {
-                let (seat, reply) = accept_held(lock, held, request);
-                self.seat = Some(seat);
-                Ok(reply)
-            }
-            Err((seat, spent)) => {
-                self.seat = Some(seat);
-                Err((request, spent))
-            }
-        }
-    }
-
-    pub(crate) fn collect<R: Wait>(
-        &mut self,
-        rt: &R,
-        lock: &TicketLock<Lane>,
-        client: u64,
-    ) -> Result<Option<Pdu>, Spent>
-        requires lock { self.old.lock ≡ lock.now }
-        requires member { IsMemberBy client self.old }
-        ensures lock { self.new.lock ≡ self.old.lock }
-        ensures served { Waited (CollectServes self.old self.new client) self.old self.new result }
-    {
-        let Some(seat) = self.seat.take() else {
-            unreachable!()
-        };
-        match lock.acquire(rt, seat) {
-            Ok(held) => {
-                let (seat, reply) = collect_held(lock, held, client);
-                self.seat = Some(seat);
-                Ok(reply)
-            }
-            Err((seat, spent)) => {
-                self.seat = Some(seat);
-                Err(spent)
-            }
-        }
-    }
-
-    pub(crate) fn try_collect(
-        &mut self,
-        lock: &TicketLock<Lane>,
-        client: u64,
-    ) -> Result<Option<Pdu>, TryFault>
-        requires lock { self.old.lock ≡ lock.now }
-        requires member { IsMemberBy client self.old }
-        ensures lock { self.new.lock ≡ self.old.lock }
-        ensures served { Tried (CollectServes self.old self.new client) self.old self.new result }
-    {
-        let Some(seat) = self.seat.take() else {
-            unreachable!()
-        };
-        match lock.try_acquire(seat) {
-            Ok(held) => {
-                let (seat, reply) = collect_held(lock, held, client);
-                self.seat = Some(seat);
-                Ok(reply)
-            }
-            Err((seat, fault)) => {
-                self.seat = Some(seat);
-                Err(fault)
             }
         }
     }
@@ -257,80 +150,5 @@ impl LaneSeat {
         let LaneSeat { seat } = self;
         let Some(seat) = seat else { unreachable!() };
         seat
-    }
-
-    pub(crate) fn take<R: Wait>(
-        &mut self,
-        rt: &R,
-        lock: &TicketLock<Lane>,
-    ) -> Result<Result<Sent, TakeRefusal>, Spent>
-        requires { self.old.lock ≡ lock.now }
-        ensures lock { self.new.lock ≡ self.old.lock }
-        ensures served { Waited (TakeServes self.old self.new) self.old self.new result }
-    {
-        let Some(seat) = self.seat.take() else {
-            unreachable!()
-        };
-        match lock.acquire(rt, seat) {
-            Ok(held) => {
-                let (seat, reply) = take_held(lock, held);
-                self.seat = Some(seat);
-                Ok(reply)
-            }
-            Err((seat, spent)) => {
-                self.seat = Some(seat);
-                Err(spent)
-            }
-        }
-    }
-
-    pub(crate) fn turn_over<R: Wait>(
-        &mut self,
-        rt: &R,
-        lock: &TicketLock<Lane>,
-        least: usize,
-    ) -> Result<Result<Option<Vec<Entry>>, AllocError>, Spent>
-        requires { self.old.lock ≡ lock.now }
-        ensures lock { self.new.lock ≡ self.old.lock }
-        ensures served { Waited (TurnsBy (λ es. es.items) self.old self.new least) self.old self.new result }
-    {
-        let Some(seat) = self.seat.take() else {
-            unreachable!()
-        };
-        match lock.acquire(rt, seat) {
-            Ok(held) => {
-                let (seat, reply) = turn_held(lock, held, least);
-                self.seat = Some(seat);
-                Ok(reply)
-            }
-            Err((seat, spent)) => {
-                self.seat = Some(seat);
-                Err(spent)
-            }
-        }
-    }
-
-    pub(crate) fn try_take(
-        &mut self,
-        lock: &TicketLock<Lane>,
-    ) -> Result<Result<Sent, TakeRefusal>, TryFault>
-        requires { self.old.lock ≡ lock.now }
-        ensures lock { self.new.lock ≡ self.old.lock }
-        ensures served { Tried (TakeServes self.old self.new) self.old self.new result }
-    {
-        let Some(seat) = self.seat.take() else {
-            unreachable!()
-        };
-        match lock.try_acquire(seat) {
-            Ok(held) => {
-                let (seat, reply) = take_held(lock, held);
-                self.seat = Some(seat);
-                Ok(reply)
-            }
-            Err((seat, fault)) => {
-                self.seat = Some(seat);
-                Err(fault)
-            }
-        }
     }
 }

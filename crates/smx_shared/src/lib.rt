@@ -9,11 +9,10 @@
 
 mod admit;
 mod departed;
-mod did;
 mod door;
 mod exchange;
 mod fault;
-mod held;
+mod lane_call;
 mod lane_seat;
 mod make;
 mod offer;
@@ -23,6 +22,7 @@ mod starts;
 mod submit;
 mod tap;
 mod token;
+mod unmade;
 
 pub use departed::Departed;
 pub use door::Door;
@@ -33,3 +33,4 @@ pub use port::Port;
 pub use starts::Starts;
 pub use tap::Tap;
 pub use token::{HasSeat, Token};
+pub use unmade::Unmade;

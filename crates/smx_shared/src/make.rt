@@ -1,10 +1,10 @@
 //! How the lanes of an exchange are made.
-ghost use Rattle.std.specs.Prelude.{◌≡◌, ◌≤◌, ◌^◌, [], length, map, vec_capacity, IfOk, IfErr, OnOk};
+ghost use Rattle.std.specs.Prelude.{◌≡◌, ◌≤◌, ◌^◌, [], length, map, vec_capacity, None, IfOk, IfErr, OnOk};
 ghost use Rattle.smx_lock.specs.Fronts.{first_front};
 ghost use Rattle.smx_history.specs.Room.{AreLimits};
 ghost use Rattle.smx_lane.specs.Faults.{IsLaneFault};
 ghost use Rattle.smx_shared.specs.Views.{locks_of};
-ghost use Rattle.smx_shared.specs.Making.{AreLanes, AreLocks, IsMakeFault, Tapped};
+ghost use Rattle.smx_shared.specs.Making.{AreLanes, AreLocks, IsMakeFault, IsStuck, Tapped};
 
 use crate::fault::MakeFault;
 use crate::lane_seat::LaneSeat;
@@ -46,7 +46,7 @@ pub(crate) fn make_locks(
     ensures limits { OnOk result (AreLimits limits) }
     ensures locks { IfOk result (λ made. AreLocks lanes limits made.0.items) }
     ensures seats { IfOk result (λ made. made.1.items ≡ map first_front made.0.items) }
-    ensures err { IfErr result (IsMakeFault lanes limits) }
+    ensures err { IfErr result (λ fault. IsMakeFault lanes limits fault None) }
 {
     let mut locks = Vec::new(alloc);
     let mut seats = Vec::new(alloc);
@@ -66,24 +66,25 @@ pub(crate) fn make_locks(
     Ok((locks, seats))
 }
 
-// One hold of each lane makes its tap's seat. `Spent` where one has no ticket or no seat left.
+// One hold of each lane makes its tap's seat. Where one has no ticket or no seat left its first seat
+// comes back.
 pub(crate) fn split_taps<R: Wait>(
     rt: &R,
     seats: &mut Vec<LaneSeat>,
     taps: &mut Vec<Tap>,
     locks: &[TicketLock<Lane>],
-) -> Result<(), MakeFault>
+) -> Result<(), LaneSeat>
     requires locks { locks_of seats.old.items ≡ locks.now }
     requires none { taps.old.items ≡ [] }
     requires room { length seats.old.items ≤ vec_capacity taps.old }
     ensures ok { OnOk result (Tapped (length seats.old.items) seats.old.items seats.new.items taps.new.items) }
-    ensures err { IfErr result (λ e. e ≡ MakeFault.Spent) }
+    ensures err { IfErr result (IsStuck seats.old.items) }
 {
     let count = seats.len();
     for lane in 0..count {
         match seats[lane].split(rt, &locks[lane]) {
             Ok(seat) => taps.push_reserved(Tap::new(lane, seat)),
-            Err(_) => return Err(MakeFault::Spent),
+            Err(_) => return Err(seats.swap_remove(lane)),
         }
     }
     Ok(())

@@ -11,6 +11,7 @@ ghost use Rattle.smx_shared.specs.Submits.{Submitted, Refuses};
 use crate::departed::Departed;
 use crate::exchange::Exchange;
 use crate::fault::SubmitFault;
+use crate::lane_call::Collecting;
 use crate::lane_seat::LaneSeat;
 use crate::offer::Offer;
 use crate::retire::retire_all;
@@ -130,7 +131,10 @@ impl Port {
         ensures locks { locks_of self.new.fronts ≡ locks_of self.old.fronts }
     {
         let client = self.client;
-        self.seats[lane].collect(rt, &at.locks[lane], client)
+        match self.seats[lane].hold(rt, &at.locks[lane], Collecting { client }) {
+            Ok(response) => Ok(response),
+            Err((_, spent)) => Err(spent),
+        }
     }
 
     /// The same without waiting: `Busy` where another caller has the lane.
@@ -143,7 +147,10 @@ impl Port {
         ensures locks { locks_of self.new.fronts ≡ locks_of self.old.fronts }
     {
         let client = self.client;
-        self.seats[lane].try_collect(&at.locks[lane], client)
+        match self.seats[lane].try_hold(&at.locks[lane], Collecting { client }) {
+            Ok(response) => Ok(response),
+            Err((_, fault)) => Err(fault),
+        }
     }
 
     /// Retires the client on each lane that isn't spent, and gives the seats back. `Spent` comes
@@ -160,7 +167,11 @@ impl Port {
             mut seats,
         } = self;
         let all = retire_all(rt, &mut seats, at.locks.as_slice(), client);
-        let departed = Departed { client, seats };
+        let departed = Departed {
+            client,
+            seats,
+            barred: None,
+        };
         if all {
             Ok(departed)
         } else {

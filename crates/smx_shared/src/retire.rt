@@ -7,6 +7,7 @@ ghost use Rattle.smx_shared.specs.Views.{locks_of};
 ghost use Rattle.smx_shared.specs.Ports.{IsMemberBy};
 ghost use Rattle.smx_shared.specs.Leaving.{Left, Retired};
 
+use crate::lane_call::Retiring;
 use crate::lane_seat::LaneSeat;
 use smx_lane::Lane;
 use smx_lock::TicketLock;
@@ -27,8 +28,9 @@ pub(crate) fn retire_all<R: Wait>(
     let count = seats.len();
     let mut all = true;
     for lane in 0..count {
-        match seats[lane].retire(rt, &locks[lane], client) {
-            Ok(()) => {}
+        match seats[lane].hold(rt, &locks[lane], Retiring { client }) {
+            Ok(Ok(())) => {}
+            Ok(Err(_)) => unreachable!(),
             Err(_) => all = false,
         }
     }

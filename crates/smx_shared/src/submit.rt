@@ -5,6 +5,7 @@ ghost use Rattle.smx_shared.specs.Submits.{AcceptsOn, StopsOn};
 ghost use Rattle.smx_shared.specs.Steps.{Accepts, Stops, MayAccept};
 
 use crate::fault::SubmitFault;
+use crate::lane_call::Accepting;
 use crate::lane_seat::LaneSeat;
 use smx_history::Request;
 use smx_lane::Lane;
@@ -29,10 +30,10 @@ fn try_lanes<R: Wait>(
 {
     let mut rest = request;
     for lane in from..to {
-        match seats[lane].accept(rt, &locks[lane], rest) {
+        match seats[lane].hold(rt, &locks[lane], Accepting { request: rest }) {
             Ok(Ok(())) => return Ok(lane),
             Ok(Err((back, _))) => rest = back,
-            Err((back, _)) => return Err((back, SubmitFault::Spent)),
+            Err((made, _)) => return Err((made.request, SubmitFault::Spent)),
         }
     }
     Err((rest, SubmitFault::AllFull))

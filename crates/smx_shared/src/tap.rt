@@ -5,6 +5,7 @@ ghost use Rattle.smx_shared.specs.Serving.{Turns, Takes, TriesTake, Brings};
 
 use crate::exchange::Exchange;
 use crate::fault::{TakeFault, TryTakeFault, TurnFault};
+use crate::lane_call::{Answering, Taking, TurningOver};
 use crate::lane_seat::LaneSeat;
 use smx_history::{Answered, Entry};
 use smx_lane::Sent;
@@ -51,7 +52,7 @@ impl Tap {
         ensures served { Takes self.old.front self.new.front result }
         ensures known { known_of self.new.front.mine ≡ known_of self.old.front.mine ++ known_by_take result }
     {
-        match self.seat.take(rt, &at.locks[self.lane]) {
+        match self.seat.hold(rt, &at.locks[self.lane], Taking) {
             Ok(Ok(sent)) => Ok(sent),
             Ok(Err(refusal)) => Err(TakeFault::Refused(refusal)),
             Err(_) => Err(TakeFault::Spent),
@@ -65,11 +66,11 @@ impl Tap {
         ensures served { TriesTake self.old.front self.new.front result }
         ensures known { known_of self.new.front.mine ≡ known_of self.old.front.mine ++ known_by_take result }
     {
-        match self.seat.try_take(&at.locks[self.lane]) {
+        match self.seat.try_hold(&at.locks[self.lane], Taking) {
             Ok(Ok(sent)) => Ok(sent),
             Ok(Err(refusal)) => Err(TryTakeFault::Refused(refusal)),
-            Err(TryFault::Spent) => Err(TryTakeFault::Spent),
-            Err(TryFault::Busy) => Err(TryTakeFault::Busy),
+            Err((_, TryFault::Spent)) => Err(TryTakeFault::Spent),
+            Err((_, TryFault::Busy)) => Err(TryTakeFault::Busy),
         }
     }
 
@@ -91,7 +92,10 @@ impl Tap {
         ensures served { Turns (λ es. es.items) self.old.front self.new.front least result }
         ensures known { known_of self.new.front.mine ≡ known_of self.old.front.mine }
     {
-        match self.seat.turn_over(rt, &at.locks[self.lane], least) {
+        match self
+            .seat
+            .hold(rt, &at.locks[self.lane], TurningOver { least })
+        {
             Ok(Ok(entries)) => Ok(entries),
             Ok(Err(AllocError)) => Err(TurnFault::NoMemory),
             Err(_) => Err(TurnFault::Spent),
@@ -110,6 +114,12 @@ impl Tap {
         ensures served { Brings self.old.front self.new.front response result }
         ensures known { known_of self.new.front.mine ≡ known_of self.old.front.mine ++ known_by_answer response result }
     {
-        self.seat.answer(rt, &at.locks[self.lane], response)
+        match self
+            .seat
+            .hold(rt, &at.locks[self.lane], Answering { response })
+        {
+            Ok(answered) => Ok(answered),
+            Err((made, spent)) => Err((made.response, spent)),
+        }
     }
 }

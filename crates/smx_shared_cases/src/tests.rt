@@ -2,6 +2,7 @@ ghost use Rattle.std.specs.Prelude.{◌≡◌, slice_get, Some, All, IfOk, IfSom
 ghost use Rattle.smx_shared.specs.Views.{locks_of};
 
 use smx_history::{Answered, Entry, Kind, Limits, TakeRefusal};
+use smx_lane::Lane;
 use smx_lock::{Spent, TryFault};
 use smx_pdu::command::{RESPONSE, SUBMIT_SM};
 use smx_pdu::{Body, Pdu};
@@ -11,9 +12,10 @@ use smx_shared::{
 };
 use std::alloc::Global;
 use std::sync::Wait;
-use std::test::Fail;
+use std::test::*;
 
 mod comparing;
+mod spreading;
 mod turning;
 
 const ROOMY: Limits = Limits {
@@ -60,12 +62,17 @@ impl Client<'_> {
         }
     }
 
-    // The number of the oldest response, or 0 where there is none.
+    // The number of the oldest response on lane 0, or 0 where there is none.
     fn collect<R: Wait>(&mut self, rt: &R) -> Result<u32, Spent> {
-        if self.port.lanes() == 0 {
+        self.collect_on(rt, 0)
+    }
+
+    // The same on another lane.
+    fn collect_on<R: Wait>(&mut self, rt: &R, lane: usize) -> Result<u32, Spent> {
+        if lane >= self.port.lanes() {
             return Ok(0);
         }
-        let response = self.port.collect(self.at, rt, 0)?;
+        let response = self.port.collect(self.at, rt, lane)?;
         Ok(response.map_or(0, |pdu| pdu.number))
     }
 
@@ -95,7 +102,7 @@ fn enter<'a, R: Wait>(
     requires { locks_of door.old.fronts ≡ at.now }
     ensures { locks_of door.new.fronts ≡ at.now }
 {
-    let port = door.enter(at, rt)?;
+    let port = door.enter(at, rt).map_err(|(fault, _)| fault)?;
     Ok(Client { alloc, at, port })
 }
 
@@ -161,6 +168,11 @@ fn are_of(entries: &[Entry], kinds: &[Kind]) -> bool {
         .eq(kinds.iter().copied())
 }
 
+// Whether the entries of each lane are.
+fn all_are_of(lanes: &[Lane], kinds: &[Kind]) -> bool {
+    lanes.iter().all(|lane| are_of(lane.entries(), kinds))
+}
+
 // How many entries are of the kind.
 fn count_of(entries: &[Entry], kind: Kind) -> usize {
     entries.iter().filter(|entry| entry.kind == kind).count()
@@ -204,7 +216,7 @@ fn ends_tickets<R: Wait>(
 
 // The last four tickets: the tap's seat, the client's seat, its admit and its request.
 #[test]
-fn tickets_end(rt: HostRuntime) -> Result<(), Fail> {
+fn tickets_end(rt: HostRuntime) {
     let starts = Starts {
         ticket: LAST - 4,
         ..Starts::FIRST
@@ -213,15 +225,10 @@ fn tickets_end(rt: HostRuntime) -> Result<(), Fail> {
         panic!(rt; "four tickets are left")
     };
     let ended = ends_tickets(&rt, rt.alloc(), &exchange, &mut door, taps);
-    assert_eq!(rt; ended, Some(true));
-    let Ok(lanes) = exchange.finish(door) else {
-        panic!(rt; "the lane is out")
-    };
-    assert_eq!(rt; lanes.len(), 1);
-    for lane in &lanes {
-        assert!(rt; are_of(lane.entries(), &[Kind::Admit, Kind::Accept]));
-    }
-    Ok(())
+    assert!(rt; ended == Some(true));
+    let lanes = exchange.finish(door).ok().expect(&rt, "the lane is out");
+    assert!(rt; lanes.len() == 1);
+    assert!(rt; all_are_of(&lanes, &[Kind::Admit, Kind::Accept]));
 }
 
 #[test]
@@ -231,7 +238,7 @@ fn tickets_have_ended(rt: HostRuntime) {
         ..Starts::FIRST
     };
     let made = Exchange::new_at(&rt, rt.alloc(), ROOMY, 1, spent);
-    assert!(rt; matches!(made, Err(MakeFault::Spent)));
+    assert!(rt; made.is_err_and(|unmade| unmade.fault == MakeFault::Spent));
 }
 
 // The last client, and its last request. Ordinal 2^62 tries lane (2^62 - 1) % 2 first.
@@ -247,7 +254,7 @@ fn ends_counts<R: Wait>(rt: &R, alloc: Global, at: &Exchange, door: &mut Door) -
 }
 
 #[test]
-fn counts_end(rt: HostRuntime) -> Result<(), Fail> {
+fn counts_end(rt: HostRuntime) {
     let late = Starts {
         client: LAST,
         ordinal: LAST,
@@ -257,8 +264,13 @@ fn counts_end(rt: HostRuntime) -> Result<(), Fail> {
         panic!(rt; "there is memory")
     };
     let ended = ends_counts(&rt, rt.alloc(), &exchange, &mut door);
-    assert_eq!(rt; ended, Some(true));
-    Ok(())
+    assert!(rt; ended == Some(true));
+}
+
+// Why no exchange of so many lanes under these limits is made.
+fn make_fault<R: Wait>(rt: &R, alloc: Global, limits: Limits, lanes: usize) -> Option<MakeFault> {
+    let unmade = Exchange::new(rt, alloc, limits, lanes).err()?;
+    Some(unmade.fault)
 }
 
 #[test]
@@ -273,8 +285,8 @@ fn lanes_and_limits_have_ranges(rt: HostRuntime) {
         (17, wide, MakeFault::BadLanes),
         (16, wide, MakeFault::BadLimits),
     ] {
-        let made = Exchange::new(&rt, rt.alloc(), limits, lanes);
-        assert_eq!(rt; made.err(), Some(want), "at {lanes} lanes");
+        let fault = make_fault(&rt, rt.alloc(), limits, lanes);
+        assert!(rt; fault == Some(want), "at {lanes} lanes");
     }
 }
 
@@ -332,23 +344,23 @@ const CALLS: [(u64, Kind, u64); 10] = [
     (3, Kind::Collect, 2),
 ];
 
+// Whether the lane's calls are these.
+fn has_calls(lane: &Lane) -> bool {
+    let calls = lane.entries().iter();
+    let calls = calls.map(|entry| (entry.by, entry.kind, entry.client));
+    calls.eq(CALLS.iter().copied())
+}
+
 // The lane that comes back has the calls of both.
 #[test]
-fn lane_has_all_calls(rt: HostRuntime) -> Result<(), Fail> {
+fn lane_has_all_calls(rt: HostRuntime) {
     let Ok((exchange, mut door, taps)) = Exchange::new(&rt, rt.alloc(), ROOMY, 1) else {
         panic!(rt; "there is memory")
     };
     let well = two_clients(&rt, rt.alloc(), &exchange, &mut door, taps);
-    assert_eq!(rt; well, Some(true));
-    let Ok(lanes) = exchange.finish(door) else {
-        panic!(rt; "the lane is out")
-    };
-    for lane in &lanes {
-        let calls = lane.entries().iter();
-        let calls = calls.map(|entry| (entry.by, entry.kind, entry.client));
-        assert!(rt; calls.eq(CALLS.iter().copied()));
-    }
-    Ok(())
+    assert!(rt; well == Some(true));
+    let lanes = exchange.finish(door).ok().expect(&rt, "the lane is out");
+    assert!(rt; lanes.iter().all(has_calls));
 }
 
 // An admit takes 2 of a lane's 1,000 entries and a request 4: 249 on lane 1 leave 2, 248 on lane 0
@@ -375,10 +387,18 @@ fn are_members(entries: &[Entry], wanted: &[(Kind, u64)]) -> bool {
         .eq(wanted.iter().copied())
 }
 
+// Whether the calls of the two lanes are these.
+fn have_members(lanes: &[Lane], first: &[(Kind, u64)], second: &[(Kind, u64)]) -> bool {
+    match lanes {
+        [zero, one] => { are_members(zero.entries(), first) && are_members(one.entries(), second) }
+        _ => false,
+    }
+}
+
 // Lane 1 has no room for a client more where lane 0 still has: the second client is admitted on lane
 // 0, refused on lane 1, and so retired on lane 0.
 #[test]
-fn refused_client_leaves_again(rt: HostRuntime) -> Result<(), Fail> {
+fn refused_client_leaves_again(rt: HostRuntime) {
     let limits = Limits {
         queue: 300,
         client: 256,
@@ -394,19 +414,10 @@ fn refused_client_leaves_again(rt: HostRuntime) -> Result<(), Fail> {
         panic!(rt; "there is memory")
     };
     let refused = fills(&rt, rt.alloc(), &exchange, &mut door);
-    assert_eq!(rt; refused, Some(EnterFault::HistoryFull));
-    let Ok(lanes) = exchange.finish(door) else {
-        panic!(rt; "a lane is out")
-    };
-    let members = [
-        [(Kind::Admit, 1), (Kind::Admit, 2), (Kind::Retire, 2)].as_slice(),
-        [(Kind::Admit, 1)].as_slice(),
-    ];
-    assert_eq!(rt; lanes.len(), 2);
-    for (lane, wanted) in lanes.iter().zip(members) {
-        assert!(rt; are_members(lane.entries(), wanted));
-    }
-    Ok(())
+    assert!(rt; refused == Some(EnterFault::HistoryFull));
+    let lanes = exchange.finish(door).ok().expect(&rt, "a lane is out");
+    let first = [(Kind::Admit, 1), (Kind::Admit, 2), (Kind::Retire, 2)];
+    assert!(rt; have_members(&lanes, &first, &[(Kind::Admit, 1)]));
 }
 
 // Whether a client enters under the number and leaves, or there is no memory for it.
@@ -429,22 +440,22 @@ fn comes_and_goes<R: Wait>(
     }
 }
 
+// Whether each client that the lane admitted has retired.
+fn has_nobody(lane: &Lane) -> bool {
+    count_of(lane.entries(), Kind::Admit) == count_of(lane.entries(), Kind::Retire)
+}
+
 // Want of memory is said by name: tools/refuse-memory refuses each allocation in turn. A client that
 // finds none has left again the lanes that it entered, and its number is used up.
 #[test]
 fn refused_memory(rt: HostRuntime) {
     let (exchange, mut door) = match Exchange::new(&rt, rt.alloc(), ROOMY, 2) {
         Ok((exchange, door, _)) => (exchange, door),
-        Err(fault) => return assert_eq!(rt; fault, MakeFault::NoMemory),
+        Err(unmade) => return assert!(rt; unmade.fault == MakeFault::NoMemory),
     };
     let first = comes_and_goes(&rt, rt.alloc(), &exchange, &mut door, 1);
     let second = comes_and_goes(&rt, rt.alloc(), &exchange, &mut door, 2);
     assert!(rt; first && second);
-    let Ok(lanes) = exchange.finish(door) else {
-        return assert!(rt; false, "a lane is out");
-    };
-    for lane in &lanes {
-        let admits = count_of(lane.entries(), Kind::Admit);
-        assert_eq!(rt; admits, count_of(lane.entries(), Kind::Retire));
-    }
+    let lanes = exchange.finish(door).ok().expect(&rt, "a lane is out");
+    assert!(rt; lanes.iter().all(has_nobody));
 }

@@ -3,6 +3,8 @@
 //! legal, also where the tap turns the lane over after each 100 takes.
 #![tactic(auto)]
 
+ghost use Rattle.std.specs.Prelude.{◌≡◌, slice_get, Some, All, IfSome};
+
 mod caller;
 mod sender;
 
@@ -11,7 +13,7 @@ use sender::{Done, Sender, Tally};
 use smx_centre::{Centre, Mode};
 use smx_lane::{Entry, Lane, Limits};
 use smx_legal::is_legal_shifts;
-use smx_shared::Exchange;
+use smx_shared::{Exchange, Tap};
 use std::alloc::AllocError;
 use std::sync::Wait;
 use std::sync::atomic::AtomicBool;
@@ -54,10 +56,10 @@ fn run<R: Print + Threads + Wait + AllocGlobal + Sync>(
     mode: Mode,
     turns: bool,
 ) -> anyhow::Result<()> {
-    let Ok((exchange, mut door, mut taps)) = Exchange::new(rt, rt.alloc(), LIMITS, 1) else {
+    let Ok((exchange, mut door, taps)) = Exchange::new(rt, rt.alloc(), LIMITS, 1) else {
         return Err(Difference::NoMemory.into());
     };
-    let Some(tap) = taps.pop() else {
+    let Some(tap) = first_tap(&exchange, taps) else {
         return Err(Difference::NoLane.into());
     };
     let alloc = rt.alloc();
@@ -108,6 +110,15 @@ fn run<R: Print + Threads + Wait + AllocGlobal + Sync>(
     let entries = check(lists, lanes.pop())?;
     println!(rt; "{name}: {handed} lists handed out, {entries} entries in all, legal")?;
     Ok(())
+}
+
+// The tap of the only lane.
+fn first_tap(at: &Exchange, taps: Vec<Tap>) -> Option<Tap>
+    requires { All (λ t. slice_get at.now t.lane ≡ Some t.front.lock) taps.items }
+    ensures { IfSome result (λ t. slice_get at.now t.lane ≡ Some t.front.lock) }
+{
+    let mut taps = taps;
+    taps.pop()
 }
 
 // How many entries the lists and the lane have together, which are legal.

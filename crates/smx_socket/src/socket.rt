@@ -26,7 +26,14 @@ pub struct Socket {
     // The octets that went through its link, both ways.
     traffic: Cell<u64>,
     out: RefCell<Outgoing>,
+    // The first octets that came.
+    head: RefCell<Vec<u8>>,
+    // The last eight that were taken to be written.
+    tail: Cell<u64>,
 }
+
+/// The most octets of the beginning that are kept.
+const HEAD: usize = 256;
 
 /// What a flush left.
 #[derive(Clone, Copy, Debug, PartialEq, Eq)]
@@ -52,6 +59,9 @@ impl Socket {
         let Ok(out) = Outgoing::new(alloc) else {
             return None;
         };
+        let Ok(head) = Vec::with_capacity(alloc, HEAD) else {
+            return None;
+        };
         let interest = Interest::READABLE | Interest::WRITABLE;
         if registry.register(&mut stream, token, interest).is_err() {
             return None;
@@ -65,6 +75,8 @@ impl Socket {
             failed: Cell::new(false),
             traffic: Cell::new(0),
             out: RefCell::new(out),
+            head: RefCell::new(head),
+            tail: Cell::new(0),
         })
     }
 
@@ -107,6 +119,37 @@ impl Socket {
         self.traffic.get()
     }
 
+    /// The first octets that its link gave, at most 256. None where there is no memory for them.
+    pub fn head(&self, alloc: Global) -> Option<Vec<u8>> {
+        match self.head.try_borrow() {
+            Ok(head) => match Vec::from_slice(alloc, head.as_slice()) {
+                Ok(octets) => Some(octets),
+                Err(_) => None,
+            },
+            Err(_) => None,
+        }
+    }
+
+    /// The last eight octets that its link took, as one number, the last octet in its lowest place.
+    pub fn tail(&self) -> u64 {
+        self.tail.get()
+    }
+
+    fn keep_head(&self, octets: &[u8]) {
+        if let Ok(mut head) = self.head.try_borrow_mut() {
+            let room = HEAD.saturating_sub(head.len());
+            let _ = head.extend_from_slice(&octets[..octets.len().min(room)]);
+        }
+    }
+
+    fn keep_tail(&self, octets: &[u8]) {
+        let mut tail = self.tail.get();
+        for octet in &octets[octets.len().saturating_sub(8)..] {
+            tail = (tail << 8) | u64::from(*octet);
+        }
+        self.tail.set(tail);
+    }
+
     fn count(&self, octets: usize) {
         self.traffic
             .set(self.traffic.get().wrapping_add(octets as u64));
@@ -137,6 +180,7 @@ impl Socket {
             }
             Ok(count) => {
                 self.count(count);
+                self.keep_head(&buffer[..count]);
                 // A short read has emptied the socket; what comes next makes an event.
                 if count < most && !self.read_closed.get() {
                     self.readable.set(false);
@@ -189,6 +233,7 @@ impl Socket {
             Ok(mut out) => {
                 let count = out.accept(octets);
                 self.count(count);
+                self.keep_tail(&octets[..count]);
                 count
             }
             Err(_) => 0,

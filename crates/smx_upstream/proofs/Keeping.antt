@@ -30,7 +30,7 @@ use Rattle.smx_shared.specs.declared.fault.TurnFault.{TurnFault}
 use Rattle.smx_shared.specs.declared.fault.TurnFault.TheVariants as turns
 use Rattle.smx_shared.specs.Serving.{Takes, AnswerServes}
 use Rattle.smx_shared.specs.Taps.{known_of}
-use Rattle.smx_shared.proofs.Knowing.{takes_known, answers_known, turns_known, turn_spent_known}
+use Rattle.smx_shared.proofs.Knowing.{takes_known, answers_known, turn_known}
 use Rattle.smx_turns.specs.declared.mo_item.MoItem.{MoItem}
 use Rattle.smx_turns.specs.Puts.{AtIndex, Puts, FindsFull, contents, contents_in}
 use Rattle.smx_turns.specs.Runs.{Runs}
@@ -62,9 +62,9 @@ fate_note p a (fate.BoxSpent place) t ss t' ss' b = nothing _ _ (ap (λ x. known
 
 shift_note : (f g : Front Note Limits) (least : ℕ) (r : Result (Option (Vec Entry Global)) TurnFault)
     → Shifts f g least r → known_of g.mine ≡ known_of f.mine
-shift_note f g least (Ok o) h = turns_known {E = TurnFault} (λ (es : Vec Entry Global). es.items) f g least (Ok o) h
-shift_note f g least (Err turns.Spent) h = turn_spent_known f g h
-shift_note f g least (Err turns.NoMemory) h = turns_known {E = TurnFault} (λ (es : Vec Entry Global). es.items) f g least (Err turns.NoMemory) h
+shift_note f g least (Ok o) h = turn_known f g least (Ok o) h
+shift_note f g least (Err turns.Spent) h = turn_known f g least (Err turns.Spent) h
+shift_note f g least (Err turns.NoMemory) h = turn_known f g least (Err turns.NoMemory) h
 
 note_step : (s t : Stand) (e : Event) → Does s e t → known_of t.tap.front.mine ≡ known_of s.tap.front.mine ++ known_by e
 note_step s t (event.Began p) d = nothing _ _ (ap (λ x. known_of x.tap.front.mine) d.1)
@@ -92,13 +92,11 @@ spent_seen : (f g : Front Note Limits) → IsSpent f g → IsPrefix f.seen g.see
 spent_seen f g h = self _ _ (⊎_elim (λ e. ap (λ x. x.seen) e) (λ e. ap (λ x. x.seen) e) h)
 
 answer_seen : (f g : Front Note Limits) (p : Pdu) (x : Answered) → AnswerServes f g p x → IsPrefix f.seen g.seen
-answer_seen f g p (answered.Queued c) h = served_seen f g _ _ h.4.serves
-answer_seen f g p answered.Late h = served_seen f g _ _ h.3.serves
-answer_seen f g p (answered.Unknown back) h = served_seen f g _ _ h.2.serves
+answer_seen f g p x h = served_seen f g h.found h.own h.hold.serves
 
 take_seen : (f g : Front Note Limits) (r : Result Sent TakeFault) → Takes f g r → IsPrefix f.seen g.seen
-take_seen f g (Ok sent) h = served_seen f g _ _ h.2.serves
-take_seen f g (Err (takes.Refused e)) h = served_seen f g _ _ h.2.serves
+take_seen f g (Ok sent) h = served_seen f g h.found h.own h.hold.serves
+take_seen f g (Err (takes.Refused e)) h = served_seen f g h.found h.own h.hold.serves
 take_seen f g (Err takes.Spent) h = spent_seen f g h
 
 shift_seen : (f g : Front Note Limits) (least : ℕ) (r : Result (Option (Vec Entry Global)) TurnFault)

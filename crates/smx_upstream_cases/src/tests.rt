@@ -370,7 +370,7 @@ fn enter<'a, R: Wait>(rt: &R, at: &'a Exchange, door: &mut Door) -> Result<Clien
     requires { locks_of door.old.fronts ≡ at.now }
     ensures { locks_of door.new.fronts ≡ at.now }
 {
-    let port = door.enter(at, rt)?;
+    let port = door.enter(at, rt).map_err(|(fault, _)| fault)?;
     Ok(Client { at, port })
 }
 

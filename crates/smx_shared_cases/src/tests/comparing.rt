@@ -49,15 +49,13 @@ fn compared<R: Wait>(
 
 // Tokens that were compared go on as before.
 #[test]
-fn tokens_are_compared(rt: HostRuntime) -> Result<(), Fail> {
+fn tokens_are_compared(rt: HostRuntime) {
     let Ok((exchange, mut door, taps)) = Exchange::new(&rt, rt.alloc(), ROOMY, 1) else {
         panic!(rt; "there is memory")
     };
     let well = compared(&rt, rt.alloc(), &exchange, &mut door, taps);
-    assert_eq!(rt; well, Some(true));
-    let Ok(lanes) = exchange.finish(door) else {
-        panic!(rt; "the lane is out")
-    };
+    assert!(rt; well == Some(true));
+    let lanes = exchange.finish(door).ok().expect(&rt, "the lane is out");
     let kinds = [
         Kind::Admit,
         Kind::Accept,
@@ -65,8 +63,5 @@ fn tokens_are_compared(rt: HostRuntime) -> Result<(), Fail> {
         Kind::Admit,
         Kind::Retire,
     ];
-    for lane in &lanes {
-        assert!(rt; are_of(lane.entries(), &kinds));
-    }
-    Ok(())
+    assert!(rt; all_are_of(&lanes, &kinds));
 }

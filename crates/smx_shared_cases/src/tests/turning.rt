@@ -64,20 +64,14 @@ fn shifts<R: Wait>(
 // 1,000 requests pass over a lane that stores 1,000 entries: the admit, four entries of each request,
 // and the retire.
 #[test]
-fn lane_goes_on_over_shifts(rt: HostRuntime) -> Result<(), Fail> {
+fn lane_goes_on_over_shifts(rt: HostRuntime) {
     let Ok((exchange, mut door, taps)) = Exchange::new(&rt, rt.alloc(), ROOMY, 1) else {
         panic!(rt; "there is memory")
     };
     let stored = shifts(&rt, rt.alloc(), &exchange, &mut door, taps);
-    assert_eq!(rt; stored, Some(3_999));
-    let Ok(lanes) = exchange.finish(door) else {
-        panic!(rt; "the lane is out")
-    };
-    let last = [Kind::Answer, Kind::Collect, Kind::Retire];
-    for lane in &lanes {
-        assert!(rt; are_of(lane.entries(), &last));
-    }
-    Ok(())
+    assert!(rt; stored == Some(3_999));
+    let lanes = exchange.finish(door).ok().expect(&rt, "the lane is out");
+    assert!(rt; all_are_of(&lanes, &[Kind::Answer, Kind::Collect, Kind::Retire]));
 }
 
 // A client enters, and the lane is turned over: how many entries were stored, and how many of them
@@ -102,23 +96,25 @@ fn hands_out_or_keeps<R: Wait>(
     }
 }
 
+// Whether of so many admits those that were not handed out are still in each lane.
+fn all_keep(lanes: &[Lane], handed: usize, admits: usize) -> bool {
+    for lane in lanes {
+        if count_of(lane.entries(), Kind::Admit).saturating_add(handed) != admits {
+            return false;
+        }
+    }
+    true
+}
+
 // Where the new list is refused, the lane keeps its entry.
 #[test]
-fn refused_turn_over(rt: HostRuntime) -> Result<(), Fail> {
+fn refused_turn_over(rt: HostRuntime) {
     let (exchange, mut door, taps) = match Exchange::new(&rt, rt.alloc(), ROOMY, 1) {
         Ok(made) => made,
-        Err(fault) => return Ok(assert_eq!(rt; fault, MakeFault::NoMemory)),
+        Err(unmade) => return assert!(rt; unmade.fault == MakeFault::NoMemory),
     };
     let made = hands_out_or_keeps(&rt, rt.alloc(), &exchange, &mut door, taps);
-    let Some((admits, handed)) = made else {
-        panic!(rt; "there is one lane, and tickets are left")
-    };
-    let Ok(lanes) = exchange.finish(door) else {
-        panic!(rt; "the lane is out")
-    };
-    for lane in &lanes {
-        let kept = count_of(lane.entries(), Kind::Admit);
-        assert_eq!(rt; handed.saturating_add(kept), admits);
-    }
-    Ok(())
+    let (admits, handed) = made.expect(&rt, "there is one lane, and tickets are left");
+    let lanes = exchange.finish(door).ok().expect(&rt, "the lane is out");
+    assert!(rt; all_keep(&lanes, handed, admits));
 }

@@ -41,7 +41,7 @@ returns-in-Err-clause-err g c =
     let p = c.loop-lane.invariant.entered in
     let client = c.args.client in
     let at = makes_cur (λ k f h q. Enters client f h q) c.loop-lane.lane c.len-count.result c.args.seats.now.items c.loop-lane.seats.items c.loop-lane.made.items c.index_mut.result.now p (omega (arith, c.len-count.ensures, c.args.seats.now.ok.0)) c.loop-lane-test.true c.index_mut.ensures.value in
-    subst (λ n. StopsAt n client c.in-Err.fault c.args.seats.now.items (set c.loop-lane.seats.items c.loop-lane.lane c.admit_on.new.seat) c.loop-lane.made.items) (sym p.made_count) (
+    subst (λ n. StopsAt n client c.in-Err.barred.0 c.args.seats.now.items (set c.loop-lane.seats.items c.loop-lane.lane c.admit_on.new.seat) c.loop-lane.made.items c.in-Err.barred.1) (sym p.made_count) (
       c.loop-lane.seats.items,
       omega (arith, c.len-count.ensures, c.args.seats.now.ok.0, c.loop-lane-test.true),
       p,

@@ -1,9 +1,11 @@
 use Rattle.std.proofs.Common.{◌≡◌, ◌+◌, ◌++◌, ◌∷◌, [], ℕ, length, set, sym, refl, ◌∙◌, ap, subst, arith}
+use Rattle.std.proofs.lemmas.List.{get_or-set_same}
+use Rattle.std.proofs.lemmas.Option.{slice_get_within}
 use Rattle.smx_lock.specs.Fronts.{Front}
 use Rattle.smx_history.specs.declared.limits.Limits.{Limits}
 use Rattle.smx_history.specs.declared.note.Note.{Note}
 use Rattle.smx_shared.specs.Views.{TapView}
-use Rattle.smx_shared.specs.Serving.{SplitServes}
+use Rattle.smx_shared.specs.Serving.{SplitServes, SplitFails}
 use Rattle.smx_shared.specs.Making.{Tapped}
 use Rattle.smx_shared.proofs.Passing.{lock_at}
 use Rattle.smx_shared.proofs.Rounds.{makes_none, makes_on, makes_cur}
@@ -48,3 +50,18 @@ pub returns-clause-ok : goal.returns-clause-ok
 returns-clause-ok g c =
     let same : c.loop-lane.lane ≡ length c.args.seats.now.items = omega (arith, c.loop-lane-test.false, c.loop-lane.auto.lane-end, c.len-count.ensures, c.args.seats.now.ok.0) in
     subst (λ n. Tapped n c.args.seats.now.items c.loop-lane.seats.items c.loop-lane.taps.items) same c.loop-lane.invariant.tapped
+
+-- the seat that was taken out is the one that found no ticket or no seat
+pub returns-in-Err-clause-err : goal.returns-in-Err-clause-err
+unfolding MadeTap
+returns-in-Err-clause-err g c =
+    let p = c.loop-lane.invariant.tapped in
+    let f = c.index_mut.result.now in
+    let at = makes_cur MadeTap c.loop-lane.lane c.len-count.result c.args.seats.now.items c.loop-lane.seats.items c.loop-lane.taps.items f p (omega (arith, c.len-count.ensures, c.args.seats.now.ok.0)) c.loop-lane-test.true c.index_mut.ensures.value in
+    let same = c.swap_remove.ensures.value ∙ get_or-set_same c.loop-lane.seats.items c.loop-lane.lane c.split.new.self c.swap_remove.result (slice_get_within c.loop-lane.seats.items c.loop-lane.lane f at) in (
+      c.loop-lane.lane,
+      f,
+      sym (p.above c.loop-lane.lane (omega arith)) ∙ at,
+      ap (λ s. s.lock) same ∙ c.split.ensures.lock,
+      subst (SplitFails f) (sym same) c.in-Err.ensures.served,
+    )

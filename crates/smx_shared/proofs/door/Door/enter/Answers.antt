@@ -19,13 +19,14 @@ returns-clause-err g c =
     let w : DoorView = (record { next = c.self.inside.next + 1; ordinal = c.self.inside.ordinal; fronts = c.admit_all.new.seats.items }) in
     elim c.match-admit_all.branch [
       | in-Ok-admit_all b ↦ rw b.result-is tt
-      | in-Err b ↦ rw (b.result-is, ← c.self.view_is) (refused_entry v w b.in-Err.fault refl
-          (length c.admit_all.new.made.items, c.admit_all.new.made.items, b.retire_all.new.seats.items, b.in-Err.ensures.err, b.retire_all.ensures.left))
+      | in-Err b ↦ rw (b.result-is, ← c.self.view_is) (refused_entry v w b.in-Err.fault
+          (record { client = c.self.inside.next; fronts = b.retire_all.new.seats.items; barred = b.in-Err.barred }) refl
+          (length c.admit_all.new.made.items, c.admit_all.new.made.items, b.in-Err.ensures.err, b.retire_all.ensures.left))
     ]
 
 pub returns-clause-locks : goal.returns-clause-locks
 returns-clause-locks g c =
     elim c.match-admit_all.branch [
       | in-Ok-admit_all b ↦ rw (← c.self.view_is) b.in-Ok-admit_all.ensures.ok.locks
-      | in-Err b ↦ rw (← c.self.view_is) (stops_locks (length c.admit_all.new.made.items) c.self.inside.next b.in-Err.fault c.self.inside.seats.items c.admit_all.new.seats.items c.admit_all.new.made.items b.in-Err.ensures.err)
+      | in-Err b ↦ rw (← c.self.view_is) (stops_locks (length c.admit_all.new.made.items) c.self.inside.next b.in-Err.fault c.self.inside.seats.items c.admit_all.new.seats.items c.admit_all.new.made.items b.in-Err.barred b.in-Err.ensures.err)
     ]

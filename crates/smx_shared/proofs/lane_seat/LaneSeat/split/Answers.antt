@@ -12,12 +12,12 @@ returns-in-Ok-split-clause-served g c =
     let is = ap front_in c.in-Some.ensures.value ∙ c.self.view_is in
     let h = c.in-Ok.held in
     let found = c.in-Ok.ensures.found in
-    let left = c.release_told.ensures ∙ ap (λ x. after_hold x []) c.in-Ok-split.ensures.host in
+    let left = c.release.ensures ∙ ap (λ x. after_hold x []) c.in-Ok-split.ensures.host in
     let guest = c.new.ensures ∙ c.in-Ok-split.ensures.guest in
-    subst (λ f. SplitServes f c.release_told.result c.new.result) is record {
+    subst (λ f. SplitServes f c.release.result c.new.result) is record {
       found = h.found;
       content = h.value;
-      hold = served_split c.in-Some.seat c.release_told.result h found left;
+      hold = served_split c.in-Some.seat c.release.result h found left;
       lock = ap (λ z. z.lock) guest ∙ found.lock;
       caller = ap (λ z. z.caller) guest;
       seen = ap (λ z. z.seen) guest;

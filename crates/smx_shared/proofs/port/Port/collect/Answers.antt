@@ -1,36 +1,58 @@
 use Rattle.std.proofs.Common.{refl, length, ◌<◌}
 use Rattle.std.proofs.lemmas.Option.{slice_get_read}
 use Rattle.smx_shared.specs.Views.{PortView}
+use Rattle.smx_shared.specs.Serving.{CollectServes, Waited}
+use Rattle.smx_shared.proofs.Own.{own_rows_by}
 use Rattle.smx_shared.proofs.Growing.{collect_grows, port_quiet, accepted_quiet, on_locks}
 use Rattle.smx_shared.proofs.port.Port.collect.Goals as goal
+use Rattle.smx_shared.proofs.port.Port.collect.Goals.{in-Ok, in-Err}
 
-pub collect-requires-clause-member : goal.collect-requires-clause-member
-collect-requires-clause-member g c =
+pub hold-requires-clause-may : goal.hold-requires-clause-may
+hold-requires-clause-may g c h found =
     let within : c.args.lane < length c.self.inside.seats.items = rw (← c.self.view_is) at (c.requires.lane) in
-    c.self.invariant.member c.args.lane c.index_mut.result.now (slice_get_read c.self.inside.seats.items (length c.self.inside.seats.items) c.args.lane c.index_mut.result.now refl within c.index_mut.ensures.value)
+    let at = slice_get_read c.self.inside.seats.items (length c.self.inside.seats.items) c.args.lane c.index_mut.result.now refl within c.index_mut.ensures.value in
+    own_rows_by c.index_mut.result.now h c.self.inside.client found (c.self.invariant.member c.args.lane c.index_mut.result.now at)
 
 pub invariant_of-self : goal.invariant_of-self
 invariant_of-self g c =
     let v : PortView = (record { client = c.self.inside.client; first = c.self.inside.first; next = c.self.inside.next; fronts = c.self.inside.seats.items }) in
     let within : c.args.lane < length c.self.inside.seats.items = rw (← c.self.view_is) at (c.requires.lane) in
     let at = slice_get_read c.self.inside.seats.items (length c.self.inside.seats.items) c.args.lane c.index_mut.result.now refl within c.index_mut.ensures.value in
-    port_quiet v _ c.self.invariant (collect_grows v.client v.next c.args.lane v.fronts _ c.index_mut.result.now c.collect.new.self c.collect.result at refl c.collect.ensures.served)
+    let f = c.index_mut.result.now in
+    let h = c.hold.new.self in
+    let served : Waited (CollectServes f h c.self.inside.client) f h c.match-hold.result = elim c.match-hold.branch [
+      | in-Ok w ↦ rw w.result-is w.in-Ok.ensures.served
+      | in-Err w ↦ rw w.result-is w.in-Err.ensures.served.1
+    ] in
+    port_quiet v _ c.self.invariant (collect_grows v.client v.next c.args.lane v.fronts _ f h c.match-hold.result at refl served)
 
 pub returns-clause-served : goal.returns-clause-served
 returns-clause-served g c =
     let within : c.args.lane < length c.self.inside.seats.items = rw (← c.self.view_is) at (c.requires.lane) in
     let at = slice_get_read c.self.inside.seats.items (length c.self.inside.seats.items) c.args.lane c.index_mut.result.now refl within c.index_mut.ensures.value in
-    rw (← c.self.view_is) (c.index_mut.result.now, c.collect.new.self, at, refl, c.collect.ensures.lock, c.collect.ensures.served)
+    let f = c.index_mut.result.now in
+    let h = c.hold.new.self in
+    let served : Waited (CollectServes f h c.self.inside.client) f h c.match-hold.result = elim c.match-hold.branch [
+      | in-Ok w ↦ rw w.result-is w.in-Ok.ensures.served
+      | in-Err w ↦ rw w.result-is w.in-Err.ensures.served.1
+    ] in
+    rw (← c.self.view_is) (f, h, at, refl, c.hold.ensures.lock, served)
 
 pub returns-clause-listed : goal.returns-clause-listed
 returns-clause-listed g c =
     let v : PortView = (record { client = c.self.inside.client; first = c.self.inside.first; next = c.self.inside.next; fronts = c.self.inside.seats.items }) in
     let within : c.args.lane < length c.self.inside.seats.items = rw (← c.self.view_is) at (c.requires.lane) in
     let at = slice_get_read c.self.inside.seats.items (length c.self.inside.seats.items) c.args.lane c.index_mut.result.now refl within c.index_mut.ensures.value in
-    rw (← c.self.view_is) (λ all has. accepted_quiet v all _ has (collect_grows v.client v.next c.args.lane v.fronts _ c.index_mut.result.now c.collect.new.self c.collect.result at refl c.collect.ensures.served))
+    let f = c.index_mut.result.now in
+    let h = c.hold.new.self in
+    let served : Waited (CollectServes f h c.self.inside.client) f h c.match-hold.result = elim c.match-hold.branch [
+      | in-Ok w ↦ rw w.result-is w.in-Ok.ensures.served
+      | in-Err w ↦ rw w.result-is w.in-Err.ensures.served.1
+    ] in
+    rw (← c.self.view_is) (λ all has. accepted_quiet v all _ has (collect_grows v.client v.next c.args.lane v.fronts _ f h c.match-hold.result at refl served))
 
 pub returns-clause-locks : goal.returns-clause-locks
 returns-clause-locks g c =
     let within : c.args.lane < length c.self.inside.seats.items = rw (← c.self.view_is) at (c.requires.lane) in
     let at = slice_get_read c.self.inside.seats.items (length c.self.inside.seats.items) c.args.lane c.index_mut.result.now refl within c.index_mut.ensures.value in
-    rw (← c.self.view_is) (on_locks c.args.lane c.self.inside.seats.items _ c.index_mut.result.now c.collect.new.self at refl c.collect.ensures.lock)
+    rw (← c.self.view_is) (on_locks c.args.lane c.self.inside.seats.items _ c.index_mut.result.now c.hold.new.self at refl c.hold.ensures.lock)

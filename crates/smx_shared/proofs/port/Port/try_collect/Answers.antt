@@ -1,36 +1,58 @@
 use Rattle.std.proofs.Common.{refl, length, ◌<◌}
 use Rattle.std.proofs.lemmas.Option.{slice_get_read}
 use Rattle.smx_shared.specs.Views.{PortView}
+use Rattle.smx_shared.specs.Serving.{CollectServes, Tried}
+use Rattle.smx_shared.proofs.Own.{own_rows_by}
 use Rattle.smx_shared.proofs.Growing.{try_collect_grows, port_quiet, accepted_quiet, on_locks}
 use Rattle.smx_shared.proofs.port.Port.try_collect.Goals as goal
+use Rattle.smx_shared.proofs.port.Port.try_collect.Goals.{in-Ok, in-Err}
 
-pub try_collect-requires-clause-member : goal.try_collect-requires-clause-member
-try_collect-requires-clause-member c =
+pub try_hold-requires-clause-may : goal.try_hold-requires-clause-may
+try_hold-requires-clause-may c h found =
     let within : c.args.lane < length c.self.inside.seats.items = rw (← c.self.view_is) at (c.requires.lane) in
-    c.self.invariant.member c.args.lane c.index_mut.result.now (slice_get_read c.self.inside.seats.items (length c.self.inside.seats.items) c.args.lane c.index_mut.result.now refl within c.index_mut.ensures.value)
+    let at = slice_get_read c.self.inside.seats.items (length c.self.inside.seats.items) c.args.lane c.index_mut.result.now refl within c.index_mut.ensures.value in
+    own_rows_by c.index_mut.result.now h c.self.inside.client found (c.self.invariant.member c.args.lane c.index_mut.result.now at)
 
 pub invariant_of-self : goal.invariant_of-self
 invariant_of-self c =
     let v : PortView = (record { client = c.self.inside.client; first = c.self.inside.first; next = c.self.inside.next; fronts = c.self.inside.seats.items }) in
     let within : c.args.lane < length c.self.inside.seats.items = rw (← c.self.view_is) at (c.requires.lane) in
     let at = slice_get_read c.self.inside.seats.items (length c.self.inside.seats.items) c.args.lane c.index_mut.result.now refl within c.index_mut.ensures.value in
-    port_quiet v _ c.self.invariant (try_collect_grows v.client v.next c.args.lane v.fronts _ c.index_mut.result.now c.try_collect.new.self c.try_collect.result at refl c.try_collect.ensures.served)
+    let f = c.index_mut.result.now in
+    let h = c.try_hold.new.self in
+    let served : Tried (CollectServes f h c.self.inside.client) f h c.match-try_hold.result = elim c.match-try_hold.branch [
+      | in-Ok w ↦ rw w.result-is w.in-Ok.ensures.served
+      | in-Err w ↦ rw w.result-is w.in-Err.ensures.served.1
+    ] in
+    port_quiet v _ c.self.invariant (try_collect_grows v.client v.next c.args.lane v.fronts _ f h c.match-try_hold.result at refl served)
 
 pub returns-clause-served : goal.returns-clause-served
 returns-clause-served c =
     let within : c.args.lane < length c.self.inside.seats.items = rw (← c.self.view_is) at (c.requires.lane) in
     let at = slice_get_read c.self.inside.seats.items (length c.self.inside.seats.items) c.args.lane c.index_mut.result.now refl within c.index_mut.ensures.value in
-    rw (← c.self.view_is) (c.index_mut.result.now, c.try_collect.new.self, at, refl, c.try_collect.ensures.lock, c.try_collect.ensures.served)
+    let f = c.index_mut.result.now in
+    let h = c.try_hold.new.self in
+    let served : Tried (CollectServes f h c.self.inside.client) f h c.match-try_hold.result = elim c.match-try_hold.branch [
+      | in-Ok w ↦ rw w.result-is w.in-Ok.ensures.served
+      | in-Err w ↦ rw w.result-is w.in-Err.ensures.served.1
+    ] in
+    rw (← c.self.view_is) (f, h, at, refl, c.try_hold.ensures.lock, served)
 
 pub returns-clause-listed : goal.returns-clause-listed
 returns-clause-listed c =
     let v : PortView = (record { client = c.self.inside.client; first = c.self.inside.first; next = c.self.inside.next; fronts = c.self.inside.seats.items }) in
     let within : c.args.lane < length c.self.inside.seats.items = rw (← c.self.view_is) at (c.requires.lane) in
     let at = slice_get_read c.self.inside.seats.items (length c.self.inside.seats.items) c.args.lane c.index_mut.result.now refl within c.index_mut.ensures.value in
-    rw (← c.self.view_is) (λ all has. accepted_quiet v all _ has (try_collect_grows v.client v.next c.args.lane v.fronts _ c.index_mut.result.now c.try_collect.new.self c.try_collect.result at refl c.try_collect.ensures.served))
+    let f = c.index_mut.result.now in
+    let h = c.try_hold.new.self in
+    let served : Tried (CollectServes f h c.self.inside.client) f h c.match-try_hold.result = elim c.match-try_hold.branch [
+      | in-Ok w ↦ rw w.result-is w.in-Ok.ensures.served
+      | in-Err w ↦ rw w.result-is w.in-Err.ensures.served.1
+    ] in
+    rw (← c.self.view_is) (λ all has. accepted_quiet v all _ has (try_collect_grows v.client v.next c.args.lane v.fronts _ f h c.match-try_hold.result at refl served))
 
 pub returns-clause-locks : goal.returns-clause-locks
 returns-clause-locks c =
     let within : c.args.lane < length c.self.inside.seats.items = rw (← c.self.view_is) at (c.requires.lane) in
     let at = slice_get_read c.self.inside.seats.items (length c.self.inside.seats.items) c.args.lane c.index_mut.result.now refl within c.index_mut.ensures.value in
-    rw (← c.self.view_is) (on_locks c.args.lane c.self.inside.seats.items _ c.index_mut.result.now c.try_collect.new.self at refl c.try_collect.ensures.lock)
+    rw (← c.self.view_is) (on_locks c.args.lane c.self.inside.seats.items _ c.index_mut.result.now c.try_hold.new.self at refl c.try_hold.ensures.lock)

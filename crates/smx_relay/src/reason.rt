@@ -1,0 +1,35 @@
+//! Why a line is bad, for a person.
+
+use crate::clients::last_of;
+use crate::state::State;
+use smx_script::{Reason, Subject, Wrong, subject_of};
+use std::alloc::Global;
+
+// Why a prefix isn't added for a client.
+fn prefix_reason(state: &State, client: u64) -> Reason {
+    if last_of(&state.clients, client).is_none() {
+        return Reason::Client(client);
+    }
+    let hears = match state.links.get(client as usize) {
+        Some(link) => link.may_receive(),
+        None => false,
+    };
+    if hears {
+        Reason::Plain(Wrong::Known)
+    } else {
+        Reason::Plain(Wrong::Deaf)
+    }
+}
+
+/// Why a line is bad that gave no text in this state. Of the reason no clause says anything.
+pub(crate) fn reason(alloc: Global, state: &State, line: &[u8]) -> Reason {
+    match subject_of(alloc, line) {
+        Err(reason) => reason,
+        Ok(Subject::Setting) if state.started => Reason::Plain(Wrong::Late),
+        Ok(Subject::Setting) => Reason::Plain(Wrong::Accounts),
+        Ok(Subject::Client(client)) => Reason::Client(client),
+        Ok(Subject::Receiver(client)) => prefix_reason(state, client),
+        Ok(Subject::Lane(lane)) => Reason::Lane(lane, state.lanes.len()),
+        Ok(Subject::Nothing) => Reason::Plain(Wrong::Unsaid),
+    }
+}
