@@ -1,7 +1,6 @@
 //! Figures with two places after the point, and times in nanoseconds.
 ghost use Rattle.std.specs.Prelude.{◌≡◌, ◌*◌, ◌/◌, ◌^◌, ◌<◌};
 
-use std::process::Abort;
 use std::rt::Clock;
 use std::time::Instant;
 use std::{fmt, io};
@@ -35,16 +34,3 @@ pub fn nanos_since<R: Clock>(rt: &R, start: Instant) -> io::Result<u64> {
     let took = start.elapsed(rt)?;
     Ok(u64::try_from(took.as_nanos()).unwrap_or(u64::MAX))
 }
-
-/// The moment.
-pub fn now<R: Clock + Abort>(rt: &R) -> Instant {
-    Instant::now(rt).ok().expect(rt, NO_CLOCK)
-}
-
-/// Nanoseconds since `start`, at most `u64::MAX`.
-pub fn nanos_from<R: Clock + Abort>(rt: &R, start: Instant) -> u64 {
-    nanos_since(rt, start).ok().expect(rt, NO_CLOCK)
-}
-
-/// What is said where there is no moment.
-const NO_CLOCK: &str = "the clock can't be read";

@@ -1,10 +1,9 @@
 //! PDUs from a stream that comes in pieces.
 
-use crate::figures::{Hundredths, nanos_from, now};
+use crate::figures::{Hundredths, nanos_since};
 use smx_frame::{FrameFault, Framer};
-use std::alloc::Global;
-use std::process::Abort;
 use std::rt::Clock;
+use std::time::Instant;
 
 /// The stream's PDUs, each a submit_sm of 100 octets.
 const PDUS: u64 = 1_000_000;
@@ -18,14 +17,14 @@ const SIZES: [usize; 4] = [1, 7, 1_460, 65_536];
 
 /// Frames a stream of 100 MB in pieces of each size, and prints the time in nanoseconds for each
 /// octet. A PDU's body is copied out and freed.
-pub(crate) fn run<R: Print + Clock + Abort + AllocGlobal>(rt: &R) -> anyhow::Result<()> {
+pub(crate) fn run<R: Print + Clock + AllocGlobal>(rt: &R) -> anyhow::Result<()> {
     let mut stream = Vec::new(rt.alloc());
     for _ in 0..PDUS {
         stream.extend_from_slice(&HEADER)?;
         stream.extend_from_slice(&BODY)?;
     }
     for size in SIZES {
-        let nanos = frame_in_pieces(rt, rt.alloc(), &stream, size);
+        let nanos = frame_in_pieces(rt, &stream, size)?;
         println!(rt;
             "pieces of {size}: {} ns an octet",
             Hundredths::quotient(u128::from(nanos), u128::from(PDUS * 100))
@@ -35,15 +34,17 @@ pub(crate) fn run<R: Print + Clock + Abort + AllocGlobal>(rt: &R) -> anyhow::Res
 }
 
 // The nanoseconds that the stream takes in pieces of this size.
-fn frame_in_pieces<R: Clock + Abort>(rt: &R, alloc: Global, stream: &[u8], size: usize) -> u64 {
-    let mut framer = Framer::new(alloc, 65_536);
-    let start = now(rt);
-    let found = count_in_pieces(&mut framer, stream, size);
-    let nanos = nanos_from(rt, start);
-    if found != Ok(PDUS) {
-        panic!(rt; "the framer found other PDUs")
-    }
-    nanos
+fn frame_in_pieces<R: Clock + AllocGlobal>(
+    rt: &R,
+    stream: &[u8],
+    size: usize,
+) -> anyhow::Result<u64> {
+    let mut framer = Framer::new(rt.alloc(), 65_536);
+    let start = Instant::now(rt)?;
+    let found = count_in_pieces(&mut framer, stream, size)?;
+    let nanos = nanos_since(rt, start)?;
+    anyhow::ensure!(found == PDUS, "{found} PDUs");
+    Ok(nanos)
 }
 
 // How many PDUs the framer finds in a stream that it is fed in pieces of this size.

@@ -1,12 +1,12 @@
 //! Rounds of accept, take, answer and collect on one lane.
 ghost use Rattle.std.specs.Prelude.{◌≡◌};
 
-use crate::figures::{nanos_from, now};
+use crate::figures::nanos_since;
 use smx_lane::{AdmitFault, Answered, Lane, Limits, Request};
 use smx_pdu::{Body, Pdu};
 use std::alloc::Global;
-use std::process::Abort;
 use std::rt::Clock;
+use std::time::Instant;
 
 const LIMITS: Limits = Limits {
     queue: 16,
@@ -31,16 +31,13 @@ const CELL_ROUNDS: u64 = 4_000;
 const FILLERS: u64 = 4;
 
 /// A step of a round was refused.
-#[derive(Clone, Copy, Debug)]
+#[derive(Clone, Copy, Debug, thiserror::Error)]
+#[error("a round was refused")]
 struct Refused;
-
-const REFUSED: &str = "a round was refused";
-
-const NOT_MADE: &str = "a lane or its clients couldn't be made";
 
 /// Prints the nanoseconds of a round with 1 and with 256 clients, from 1,000 and from 900,000 stored entries on, and
 /// then a table of them beside a window that is full but for one place.
-pub(crate) fn run<R: Print + Clock + Abort + AllocGlobal>(rt: &R) -> anyhow::Result<()> {
+pub(crate) fn run<R: Print + Clock + AllocGlobal>(rt: &R) -> anyhow::Result<()> {
     for (clients, stored) in [(1, 1_000), (1, 900_000), (256, 1_000), (256, 900_000)] {
         measure(rt, clients, stored)?;
     }
@@ -53,51 +50,52 @@ pub(crate) fn run<R: Print + Clock + Abort + AllocGlobal>(rt: &R) -> anyhow::Res
     Ok(())
 }
 
-fn print_full<R: Print + Clock + Abort + AllocGlobal>(
+fn print_full<R: Print + Clock + AllocGlobal>(
     rt: &R,
     window: u32,
     clients: u64,
 ) -> anyhow::Result<()> {
-    let nanos = measure_full(rt, rt.alloc(), window, clients);
+    let nanos = measure_full(rt, window, clients)?;
     println!(rt; "window {window}, {clients} clients: {nanos} ns a round")?;
     Ok(())
 }
 
 /// Prints the nanoseconds of a round with so many clients, from so many stored entries on.
-pub(crate) fn measure<R: Print + Clock + Abort + AllocGlobal>(
+pub(crate) fn measure<R: Print + Clock + AllocGlobal>(
     rt: &R,
     clients: u64,
     stored: usize,
 ) -> anyhow::Result<()> {
-    let nanos = measure_filled(rt, rt.alloc(), clients, stored);
+    let nanos = measure_filled(rt, clients, stored)?;
     println!(rt; "{clients} clients, {stored} entries: {nanos} ns a round")?;
     Ok(())
 }
 
 // The nanoseconds of a round with so many clients, from so many stored entries on.
-fn measure_filled<R: Clock + Abort>(rt: &R, alloc: Global, clients: u64, stored: usize) -> u64 {
-    let mut lane = lane_with(rt, alloc, LIMITS, clients);
-    let done = fill(alloc, &mut lane, clients, stored);
-    let done = done.ok().expect(rt, REFUSED);
-    time_rounds(rt, alloc, &mut lane, 0, clients, done, ROUNDS)
+fn measure_filled<R: Clock + AllocGlobal>(
+    rt: &R,
+    clients: u64,
+    stored: usize,
+) -> anyhow::Result<u64> {
+    let mut lane = lane_with(rt.alloc(), LIMITS, clients)?;
+    let done = fill(rt.alloc(), &mut lane, clients, stored)?;
+    time_rounds(rt, &mut lane, 0, clients, done, ROUNDS)
 }
 
 // A lane with these limits and so many clients.
-fn lane_with<R: Abort>(rt: &R, alloc: Global, limits: Limits, clients: u64) -> Lane {
-    let mut lane = Lane::new(alloc, limits).ok().expect(rt, NOT_MADE);
-    admit_all(&mut lane, 0, clients).ok().expect(rt, NOT_MADE);
-    lane
+fn lane_with(alloc: Global, limits: Limits, clients: u64) -> anyhow::Result<Lane> {
+    let mut lane = Lane::new(alloc, limits)?;
+    admit_all(&mut lane, 0, clients)?;
+    Ok(lane)
 }
 
 // The nanoseconds of a round on a lane whose window has one free place: the least of some measurements.
-fn measure_full<R: Clock + Abort>(rt: &R, alloc: Global, window: u32, clients: u64) -> u64 {
+fn measure_full<R: Clock + AllocGlobal>(rt: &R, window: u32, clients: u64) -> anyhow::Result<u64> {
     let limits = Limits { window, ..LIMITS };
-    let mut lane = lane_with(rt, alloc, limits, FILLERS);
-    let filled = take_all_but_one(alloc, &mut lane, window);
-    filled.ok().expect(rt, REFUSED);
-    let admitted = admit_all(&mut lane, FILLERS, clients);
-    admitted.ok().expect(rt, NOT_MADE);
-    least_nanos(rt, alloc, &mut lane, clients)
+    let mut lane = lane_with(rt.alloc(), limits, FILLERS)?;
+    take_all_but_one(rt.alloc(), &mut lane, window)?;
+    admit_all(&mut lane, FILLERS, clients)?;
+    least_nanos(rt, &mut lane, clients)
 }
 
 // Fills the window but for one place.
@@ -120,15 +118,19 @@ fn take_one(alloc: Global, lane: &mut Lane, ordinal: u64) -> Result<(), Refused>
     Ok(())
 }
 
-fn least_nanos<R: Clock + Abort>(rt: &R, alloc: Global, lane: &mut Lane, clients: u64) -> u64 {
+fn least_nanos<R: Clock + AllocGlobal>(
+    rt: &R,
+    lane: &mut Lane,
+    clients: u64,
+) -> anyhow::Result<u64> {
     let mut least = u64::MAX;
     let mut done = 0;
     for _ in 0..REPEATS {
-        let nanos = time_rounds(rt, alloc, lane, FILLERS, clients, done, CELL_ROUNDS);
+        let nanos = time_rounds(rt, lane, FILLERS, clients, done, CELL_ROUNDS)?;
         least = least.min(nanos);
         done = done.saturating_add(CELL_ROUNDS);
     }
-    least
+    Ok(least)
 }
 
 // Admits so many clients, whose numbers begin after `first`.
@@ -156,23 +158,21 @@ fn fill(alloc: Global, lane: &mut Lane, clients: u64, stored: usize) -> Result<u
 }
 
 // The nanoseconds of one of so many rounds, of clients whose numbers begin after `first`.
-fn time_rounds<R: Clock + Abort>(
+fn time_rounds<R: Clock + AllocGlobal>(
     rt: &R,
-    alloc: Global,
     lane: &mut Lane,
     first: u64,
     clients: u64,
     done: u64,
     rounds: u64,
-) -> u64 {
-    let start = now(rt);
+) -> anyhow::Result<u64> {
+    let start = Instant::now(rt)?;
     for next in 0..rounds {
         let number = done.saturating_add(next);
         let client = client_of(number, clients).saturating_add(first);
-        let passed = round(alloc, lane, client, number.saturating_add(1));
-        passed.ok().expect(rt, REFUSED);
+        round(rt.alloc(), lane, client, number.saturating_add(1))?;
     }
-    nanos_from(rt, start).checked_div(rounds).unwrap_or(0)
+    Ok(nanos_since(rt, start)?.checked_div(rounds).unwrap_or(0))
 }
 
 // The clients take turns.

@@ -1,14 +1,14 @@
 //! The ticket lock beside the toolchain's `Mutex`, each round a counter.
 ghost use Rattle.std.specs.Prelude.{◌≡◌, IfOk};
 
-use crate::figures::{Hundredths, nanos_from, now};
+use crate::figures::{Hundredths, nanos_since};
 use smx_lock::{LockSeat, Spent, TicketLock};
 use smx_lock_counter::{Adder, Counter, Deed};
-use std::process::Abort;
 use std::rt::Clock;
 use std::sync::{Mutex, Wait};
 use std::thread;
 use std::thread::Threads;
+use std::time::Instant;
 
 const ALONE: u64 = 2_000_000;
 
@@ -16,7 +16,7 @@ const TOGETHER: u64 = 400_000;
 
 /// Prints the time of an uncontended hold in nanoseconds; then, for 2, 4 and 8 threads that add to
 /// a counter, holds in millions a second under each lock, and the Mutex's by the ticket lock's.
-pub(crate) fn run<R: Threads + Wait + Sync + Print + Clock + Abort + AllocGlobal>(
+pub(crate) fn run<R: Threads + Wait + Sync + Print + Clock + AllocGlobal>(
     rt: &R,
 ) -> anyhow::Result<()> {
     print_alone(rt)?;
@@ -26,9 +26,9 @@ pub(crate) fn run<R: Threads + Wait + Sync + Print + Clock + Abort + AllocGlobal
     Ok(())
 }
 
-fn print_alone<R: Wait + Print + Clock + Abort + AllocGlobal>(rt: &R) -> anyhow::Result<()> {
-    let ticket = alone_under_ticket_lock(rt);
-    let mutex = alone_under_mutex(rt);
+fn print_alone<R: Wait + Print + Clock + AllocGlobal>(rt: &R) -> anyhow::Result<()> {
+    let ticket = alone_under_ticket_lock(rt)?;
+    let mutex = alone_under_mutex(rt)?;
     println!(rt;
         "uncontended acquire and release: ticket lock {} ns, std Mutex {} ns",
         Hundredths::quotient(u128::from(ticket), u128::from(ALONE)),
@@ -37,13 +37,13 @@ fn print_alone<R: Wait + Print + Clock + Abort + AllocGlobal>(rt: &R) -> anyhow:
     Ok(())
 }
 
-fn print_together<R: Threads + Wait + Sync + Print + Clock + Abort + AllocGlobal>(
+fn print_together<R: Threads + Wait + Sync + Print + Clock + AllocGlobal>(
     rt: &R,
     threads: u64,
 ) -> anyhow::Result<()> {
     let times = TOGETHER / threads.max(1);
-    let ticket = together_under_ticket_lock(rt, threads, times);
-    let mutex = together_under_mutex(rt, threads, times);
+    let ticket = together_under_ticket_lock(rt, threads, times)?;
+    let mutex = together_under_mutex(rt, threads, times)?;
     println!(rt;
         "{threads} threads, million holds a second: ticket lock {}, std Mutex {} ({} to 1)",
         millions_a_second(TOGETHER, ticket),
@@ -57,27 +57,22 @@ fn millions_a_second(calls: u64, nanos: u64) -> Hundredths {
     Hundredths::quotient(u128::from(calls) * 1000, u128::from(nanos))
 }
 
-/// What is said where a lock, a seat or a thread is missing.
-const NOT_MADE: &str = "a lock, a seat or a thread couldn't be made";
-
-/// What is said where the tickets end.
-const SPENT: &str = "every ticket was drawn";
-
 // Each of these measures, and answers in nanoseconds.
-fn alone_under_ticket_lock<R: Wait + Clock + Abort + AllocGlobal>(rt: &R) -> u64 {
-    let made = TicketLock::new(rt.alloc(), Counter::new(ALONE));
-    let (lock, seat) = made.ok().expect(rt, NOT_MADE);
-    let start = now(rt);
-    let added = add_many(rt, &lock, Adder::new(seat), ALONE);
-    added.ok().expect(rt, SPENT);
-    nanos_from(rt, start)
+fn alone_under_ticket_lock<R: Wait + Clock + AllocGlobal>(rt: &R) -> anyhow::Result<u64> {
+    let (lock, seat) = match TicketLock::new(rt.alloc(), Counter::new(ALONE)) {
+        Ok(made) => made,
+        Err((_, refused)) => return Err(refused.into()),
+    };
+    let start = Instant::now(rt)?;
+    add_many(rt, &lock, Adder::new(seat), ALONE)?;
+    Ok(nanos_since(rt, start)?)
 }
 
-fn alone_under_mutex<R: Wait + Clock + Abort>(rt: &R) -> u64 {
+fn alone_under_mutex<R: Wait + Clock>(rt: &R) -> anyhow::Result<u64> {
     let mutex = Mutex::new(Counter::new(ALONE));
-    let start = now(rt);
+    let start = Instant::now(rt)?;
     add_many_under_mutex(rt, &mutex, ALONE);
-    nanos_from(rt, start)
+    Ok(nanos_since(rt, start)?)
 }
 
 /// What one thread does: it adds 1 so often.
@@ -89,80 +84,83 @@ struct Work<'a> {
     ghost fits: { adder.lock ≡ lock.now },
 }
 
-fn together_under_ticket_lock<R: Threads + Wait + Sync + Clock + Abort + AllocGlobal>(
+fn together_under_ticket_lock<R: Threads + Wait + Sync + Clock + AllocGlobal>(
     rt: &R,
     threads: u64,
     times: u64,
-) -> u64 {
-    let made = TicketLock::new(rt.alloc(), Counter::new(u64::MAX));
-    let (lock, seat) = made.ok().expect(rt, NOT_MADE);
-    let (works, seat) = works_on(rt, &lock, seat, threads, times);
-    let took = nanos_of_works(rt, works);
-    let counter = lock.finish(seat).ok().expect(rt, "the counter is out");
-    if counter.count / threads.max(1) != times {
-        panic!(rt; "{} additions", counter.count)
-    }
-    took
+) -> anyhow::Result<u64> {
+    let (lock, seat) = match TicketLock::new(rt.alloc(), Counter::new(u64::MAX)) {
+        Ok(made) => made,
+        Err((_, refused)) => return Err(refused.into()),
+    };
+    let (works, seat) = works_on(rt, &lock, seat, threads, times)?;
+    let took = nanos_of_works(rt, works)?;
+    let counter = lock.finish(seat)?;
+    ensure_times(counter.count / threads.max(1) == times, counter.count)?;
+    Ok(took)
+}
+
+fn ensure_times(well: bool, count: u64) -> anyhow::Result<()> {
+    anyhow::ensure!(well, "{count} additions");
+    Ok(())
 }
 
 // The nanoseconds that the works take, each in a thread of its own.
-fn nanos_of_works<R: Threads + Wait + Sync + Clock + Abort>(rt: &R, works: Vec<Work>) -> u64 {
-    let start = now(rt);
-    let done = thread::map_vec(
+fn nanos_of_works<R: Threads + Wait + Sync + Clock>(
+    rt: &R,
+    works: Vec<Work>,
+) -> anyhow::Result<u64> {
+    let start = Instant::now(rt)?;
+    thread::map_vec(
         rt,
         works,
         &|work: Work| { add_many(rt, work.lock, work.adder, work.times) },
-    );
-    let nanos = nanos_from(rt, start);
-    done.ok().expect(rt, NOT_MADE);
-    nanos
+    )?;
+    Ok(nanos_since(rt, start)?)
 }
 
 // The work of so many threads, and a seat that takes no part.
-fn works_on<'a, R: Wait + Abort + AllocGlobal>(
+fn works_on<'a, R: Wait + AllocGlobal>(
     rt: &R,
     lock: &'a TicketLock<Counter>,
     first: LockSeat<Counter>,
     threads: u64,
     times: u64,
-) -> (Vec<Work<'a>>, LockSeat<Counter>)
+) -> anyhow::Result<(Vec<Work<'a>>, LockSeat<Counter>)>
     requires { first.lock ≡ lock.now }
-    ensures { result.1.lock ≡ lock.now }
+    ensures { IfOk result (λ r. r.1.lock ≡ lock.now) }
 {
     let mut seat = first;
     let mut works = Vec::new(rt.alloc());
     for _ in 0..threads {
-        let (host, guest) = twin(rt, lock, seat).ok().expect(rt, SPENT);
+        let (host, guest) = twin(rt, lock, seat)?;
         seat = host;
-        let work = Work {
+        works.push(Work {
             lock,
             adder: Adder::new(guest),
             times,
-        };
-        works.push(work).ok().expect(rt, NOT_MADE);
+        })?;
     }
-    (works, seat)
+    Ok((works, seat))
 }
 
-fn together_under_mutex<R: Threads + Wait + Sync + Clock + Abort + AllocGlobal>(
+fn together_under_mutex<R: Threads + Wait + Sync + Clock + AllocGlobal>(
     rt: &R,
     threads: u64,
     times: u64,
-) -> u64 {
+) -> anyhow::Result<u64> {
     let mutex = Mutex::new(Counter::new(u64::MAX));
     let mut works = Vec::new(rt.alloc());
     for _ in 0..threads {
-        works.push(times).ok().expect(rt, NOT_MADE);
+        works.push(times)?;
     }
-    let start = now(rt);
-    let done = thread::map_vec(
+    let start = Instant::now(rt)?;
+    thread::map_vec(
         rt,
         works,
         &|times: u64| add_many_under_mutex(rt, &mutex, times),
-    );
-    let nanos = nanos_from(rt, start);
-    done.ok().expect(rt, NOT_MADE);
-    nanos
+    )?;
+    Ok(nanos_since(rt, start)?)
 }
 
 // Two seats for one.

@@ -4,7 +4,7 @@ ghost use Rattle.std.specs.Prelude.{◌≡◌, slice_get, Some, All};
 ghost use Rattle.std.specs.Arc.{arc_value};
 ghost use Rattle.smx_shared.specs.Views.{locks_of};
 
-use crate::figures::{Hundredths, nanos_from, now};
+use crate::figures::{Hundredths, nanos_since};
 use crate::shifts;
 use smx_lane::{Answered, Limits};
 use smx_lock::Spent;
@@ -12,12 +12,12 @@ use smx_pdu::command::{RESPONSE, SUBMIT_SM};
 use smx_pdu::{Body, Pdu};
 use smx_shared::{Door, Exchange, Offer, Port, TakeFault, Tap};
 use std::alloc::{AllocError, Global};
-use std::process::Abort;
 use std::rt::Clock;
 use std::sync::atomic::{AtomicU64, Ordering};
 use std::sync::{Arc, Wait};
 use std::thread;
 use std::thread::Threads;
+use std::time::Instant;
 
 const LIMITS: Limits = Limits {
     queue: 64,
@@ -38,12 +38,12 @@ const LOOKS: usize = 1_000_000_000;
 /// Prints the requests in thousands a second, from the submit to the collected response, of 1, 2 and
 /// 4 ports on one lane and on four. The starts and ends of the threads are in the time. Then of one
 /// port on one lane that is turned over all the while.
-pub(crate) fn run<R: Threads + Wait + Sync + Print + Clock + Abort + AllocGlobal>(
+pub(crate) fn run<R: Threads + Wait + Sync + Print + Clock + AllocGlobal>(
     rt: &R,
 ) -> anyhow::Result<()> {
     for lanes in [1, 4] {
         for ports in [1, 2, 4] {
-            let nanos = measure(rt, ports, lanes);
+            let nanos = measure(rt, ports, lanes)?;
             println!(rt;
                 "ports {ports}, lanes {lanes}: {} thousand requests a second",
                 Hundredths::quotient(u128::from(REQUESTS) * 1_000_000, u128::from(nanos))
@@ -53,65 +53,46 @@ pub(crate) fn run<R: Threads + Wait + Sync + Print + Clock + Abort + AllocGlobal
     shifts::run(rt)
 }
 
-/// What is said where a part of a case is missing.
-const NOT_MADE: &str = "a client or an upstream couldn't be made";
-
 // The nanoseconds of a case.
-fn measure<R: Threads + Wait + Sync + Clock + Abort + AllocGlobal>(
+fn measure<R: Threads + Wait + Sync + Clock + AllocGlobal>(
     rt: &R,
     ports: u64,
     lanes: usize,
-) -> u64 {
+) -> anyhow::Result<u64> {
     let alloc = rt.alloc();
-    let made = Exchange::new(rt, alloc, LIMITS, lanes);
-    let (exchange, door, taps) = made.ok().expect(rt, NOT_MADE);
-    let at = Arc::new(alloc, exchange).ok().expect(rt, NOT_MADE);
+    let (exchange, door, taps) = Exchange::new(rt, alloc, LIMITS, lanes).map_err(
+        |unmade| unmade.fault,
+    )?;
+    let at = Arc::new(alloc, exchange)?;
     let active = AtomicU64::new(ports);
-    let upstreams = upstreams_of(alloc, &at, taps, &active);
-    let upstreams = upstreams.ok().expect(rt, NOT_MADE);
+    let upstreams = upstreams_of(alloc, &at, taps, &active)?;
     let mut entrance = Entrance { alloc, at, door };
-    let clients = clients_of(rt, &mut entrance, ports, &active);
+    let mut clients = Vec::new(alloc);
+    for _ in 0..ports {
+        clients.push(entrance.enter(rt, REQUESTS / ports.max(1), &active)?)?;
+    }
     nanos_together(rt, clients, upstreams)
 }
 
-// So many clients, who together submit the requests of a case.
-fn clients_of<'a, R: Wait + Abort>(
-    rt: &R,
-    entrance: &mut Entrance,
-    ports: u64,
-    active: &'a AtomicU64,
-) -> Vec<Client<'a>> {
-    let mut clients = Vec::new(entrance.alloc);
-    for _ in 0..ports {
-        let client = entrance.enter(rt, REQUESTS / ports.max(1), active);
-        clients
-            .push(client.expect(rt, NOT_MADE))
-            .ok()
-            .expect(rt, NOT_MADE);
-    }
-    clients
-}
-
 // The nanoseconds that they take, each in a thread of its own.
-fn nanos_together<R: Threads + Wait + Sync + Clock + Abort>(
+fn nanos_together<R: Threads + Wait + Sync + Clock>(
     rt: &R,
     clients: Vec<Client>,
     upstreams: Vec<Upstream>,
-) -> u64 {
-    let start = now(rt);
+) -> anyhow::Result<u64> {
+    let start = Instant::now(rt)?;
     let (collected, queued) = thread::join(
         rt,
         || thread::map_vec(rt, clients, &|client: Client| submit_all(rt, client)),
         || thread::map_vec(rt, upstreams, &|upstream: Upstream| serve_all(rt, upstream)),
     );
-    let nanos = nanos_from(rt, start);
-    let collected = collected.ok().expect(rt, "a thread couldn't be made");
-    let queued = queued.ok().expect(rt, "a thread couldn't be made");
-    let (collected, queued) = (sum_of(&collected), sum_of(&queued));
-    if collected != REQUESTS || queued != REQUESTS {
-        panic!(rt; "{collected} responses collected, {queued} queued")
-    }
-    nanos
+    let nanos = nanos_since(rt, start)?;
+    let (collected, queued) = (sum_of(&collected?), sum_of(&queued?));
+    anyhow::ensure!(
+        collected == REQUESTS && queued == REQUESTS,
+        "{collected} responses collected, {queued} queued"
+    );
+    Ok(nanos)
 }
 
 fn sum_of(counts: &[u64]) -> u64 {
@@ -135,10 +116,10 @@ impl Entrance {
         rt: &R,
         requests: u64,
         active: &'a AtomicU64,
-    ) -> Option<Client<'a>> {
-        let at = Arc::try_clone(&self.at).ok()?;
-        let port = self.door.enter(&self.at, rt).ok()?;
-        Some(Client {
+    ) -> anyhow::Result<Client<'a>> {
+        let at = Arc::try_clone(&self.at)?;
+        let port = self.door.enter(&self.at, rt).map_err(|refused| refused.0)?;
+        Ok(Client {
             alloc: self.alloc,
             at,
             port,

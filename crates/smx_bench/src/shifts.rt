@@ -3,15 +3,15 @@
 ghost use Rattle.std.specs.Prelude.{◌≡◌, slice_get, Some, All};
 ghost use Rattle.smx_shared.specs.Views.{locks_of};
 
-use crate::figures::{Hundredths, nanos_from, now};
+use crate::figures::{Hundredths, nanos_since};
 use smx_lane::{Answered, Limits};
 use smx_pdu::command::{RESPONSE, SUBMIT_SM};
 use smx_pdu::{Body, Pdu};
 use smx_shared::{Door, Exchange, Offer, Port, Tap};
 use std::alloc::Global;
-use std::process::Abort;
 use std::rt::Clock;
 use std::sync::Wait;
+use std::time::Instant;
 
 const LIMITS: Limits = Limits {
     queue: 64,
@@ -33,32 +33,13 @@ const SHIFT: usize = 12_500;
 
 /// Prints the requests in thousands a second, from the submit to the collected response: those of
 /// the first 25,000, and of all 10,000,000.
-pub(crate) fn run<R: Wait + Print + Clock + Abort + AllocGlobal>(rt: &R) -> anyhow::Result<()> {
-    let (first, whole, shifts) = measure(rt, rt.alloc());
-    println!(rt;
-        "one lane, {shifts} shifts: the first {FIRST} requests {}, all {REQUESTS} {} thousand a second",
-        thousands_a_second(FIRST, first),
-        thousands_a_second(REQUESTS, whole)
+pub(crate) fn run<R: Wait + Print + Clock + AllocGlobal>(rt: &R) -> anyhow::Result<()> {
+    let (exchange, door, taps) = Exchange::new(rt, rt.alloc(), LIMITS, 1).map_err(
+        |unmade| unmade.fault,
     )?;
-    Ok(())
+    let mut pair = pair_of(rt, rt.alloc(), &exchange, door, taps)?;
+    print_rates(rt, &mut pair)
 }
-
-// The nanoseconds of the first requests and of all, and how often the lane was turned over.
-fn measure<R: Wait + Clock + Abort>(rt: &R, alloc: Global) -> (u64, u64, u64) {
-    let made = Exchange::new(rt, alloc, LIMITS, 1);
-    let (exchange, door, taps) = made.ok().expect(rt, NOT_MADE);
-    let mut pair = pair_of(rt, alloc, &exchange, door, taps).expect(rt, NOT_MADE);
-    let start = now(rt);
-    pair.serve(rt, FIRST).ok().expect(rt, STOPPED);
-    let first = nanos_from(rt, start);
-    pair.serve(rt, REQUESTS - FIRST).ok().expect(rt, STOPPED);
-    (first, nanos_from(rt, start), pair.shifts)
-}
-
-/// What is said where a part is missing, and where the requests stopped.
-const NOT_MADE: &str = "a port or a tap couldn't be made";
-
-const STOPPED: &str = "a call was refused, or a response did not come";
 
 // A port and the tap of the only lane.
 fn pair_of<'a, R: Wait>(
@@ -67,14 +48,14 @@ fn pair_of<'a, R: Wait>(
     at: &'a Exchange,
     door: Door,
     taps: Vec<Tap>,
-) -> Option<Pair<'a>>
+) -> anyhow::Result<Pair<'a>>
     requires door { locks_of door.fronts ≡ at.now }
     requires taps { All (λ t. slice_get at.now t.lane ≡ Some t.front.lock) taps.items }
 {
     let (mut door, mut taps) = (door, taps);
-    let tap = taps.pop()?;
-    let port = door.enter(at, rt).ok()?;
-    Some(Pair {
+    let tap = taps.pop().ok_or(Stopped::NoTap)?;
+    let port = door.enter(at, rt).map_err(|refused| refused.0)?;
+    Ok(Pair {
         alloc,
         at,
         port,
@@ -84,13 +65,35 @@ fn pair_of<'a, R: Wait>(
     })
 }
 
+fn print_rates<R: Wait + Print + Clock>(rt: &R, pair: &mut Pair) -> anyhow::Result<()> {
+    let start = Instant::now(rt)?;
+    pair.serve(rt, FIRST)?;
+    let first = nanos_since(rt, start)?;
+    pair.serve(rt, REQUESTS - FIRST)?;
+    let whole = nanos_since(rt, start)?;
+    println!(rt;
+        "one lane, {} shifts: the first {FIRST} requests {}, all {REQUESTS} {} thousand a second",
+        pair.shifts,
+        thousands_a_second(FIRST, first),
+        thousands_a_second(REQUESTS, whole)
+    )?;
+    Ok(())
+}
+
 fn thousands_a_second(requests: u64, nanos: u64) -> Hundredths {
     Hundredths::quotient(u128::from(requests) * 1_000_000, u128::from(nanos))
 }
 
-/// The requests stopped: a call was refused, or a response did not come.
-#[derive(Clone, Copy, Debug)]
-struct Stopped;
+/// Why the requests stopped.
+#[derive(Clone, Copy, Debug, thiserror::Error)]
+enum Stopped {
+    #[error("there is no tap")]
+    NoTap,
+    #[error("a call was refused")]
+    Refused,
+    #[error("a response did not come")]
+    NoResponse,
+}
 
 /// A port and a tap of one lane.
 #[derive(Drop)]
@@ -155,7 +158,7 @@ impl Pair<'_> {
         };
         match self.port.submit(self.at, rt, offer) {
             Ok(_) => Ok(()),
-            Err(_) => Err(Stopped),
+            Err(_) => Err(Stopped::Refused),
         }
     }
 
@@ -163,7 +166,7 @@ impl Pair<'_> {
     fn bring<R: Wait>(&mut self, rt: &R) -> Result<(), Stopped> {
         let sent = match self.tap.take(self.at, rt) {
             Ok(sent) => sent,
-            Err(_) => return Err(Stopped),
+            Err(_) => return Err(Stopped::Refused),
         };
         let response = Pdu {
             command: RESPONSE | SUBMIT_SM,
@@ -174,18 +177,18 @@ impl Pair<'_> {
         self.notes = self.notes.saturating_add(2);
         match self.tap.answer(self.at, rt, response) {
             Ok(Answered::Queued { .. }) => Ok(()),
-            Ok(_) | Err(_) => Err(Stopped),
+            Ok(_) | Err(_) => Err(Stopped::Refused),
         }
     }
 
     fn collect<R: Wait>(&mut self, rt: &R) -> Result<(), Stopped> {
         if self.port.lanes() == 0 {
-            return Err(Stopped);
+            return Err(Stopped::NoResponse);
         }
         match self.port.collect(self.at, rt, 0) {
             Ok(Some(_)) => Ok(()),
-            Ok(None) => Err(Stopped),
-            Err(_) => Err(Stopped),
+            Ok(None) => Err(Stopped::NoResponse),
+            Err(_) => Err(Stopped::Refused),
         }
     }
 
@@ -196,7 +199,7 @@ impl Pair<'_> {
                 self.shifts = self.shifts.saturating_add(1);
                 Ok(())
             }
-            Ok(None) | Err(_) => Err(Stopped),
+            Ok(None) | Err(_) => Err(Stopped::Refused),
         }
     }
 }

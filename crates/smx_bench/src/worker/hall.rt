@@ -1,19 +1,30 @@
 //! The workers of all clients and the one towards the centre, turned one after another.
-use crate::figures::{Hundredths, nanos_from, now};
+use crate::figures::{Hundredths, nanos_since};
 use crate::worker::carrier::Carrier;
 use crate::worker::member::Member;
 use smx_memory::{FlagGate, Nobody};
 use smx_turns::RunEnd;
-use std::process::Abort;
 use std::rt::Clock;
 use std::sync::Wait;
 use std::sync::atomic::{AtomicU64, Ordering};
+use std::time::Instant;
 
 /// How many turns a worker makes at most before the next one is turned.
 const TURNS: u64 = 64;
 
 /// How many turns that do nothing are measured.
 const IDLE_TURNS: u64 = 100_000;
+
+/// Why a measurement stopped.
+#[derive(Clone, Copy, Debug, thiserror::Error)]
+pub(crate) enum Stopped {
+    #[error("there is no client")]
+    NoClient,
+    #[error("a worker ended before all was answered")]
+    Ended,
+    #[error("a worker had something to do")]
+    Busy,
+}
 
 /// The workers, and how many requests were answered over all clients.
 #[derive(Drop)]
@@ -41,27 +52,24 @@ fn goes_on(end: RunEnd) -> bool {
 }
 
 // The nanoseconds of a turn that does nothing, once the worker has done what is left.
-fn nanos_of_idle_turn<W: Worker, R: Wait + Clock + Abort>(
+fn nanos_of_idle_turn<W: Worker, R: Wait + Clock>(
     worker: &mut W,
     rt: &R,
     gate: &mut FlagGate,
     nobody: &mut Nobody,
-) -> Hundredths {
+) -> anyhow::Result<Hundredths> {
     if worker.run(rt, gate, nobody, TURNS) != RunEnd::Idle {
-        panic!(rt; "{BUSY}")
+        return Err(Stopped::Busy.into());
     }
-    let start = now(rt);
+    let start = Instant::now(rt)?;
     for _ in 0..IDLE_TURNS {
         if worker.run(rt, gate, nobody, 1) != RunEnd::Idle {
-            panic!(rt; "{BUSY}")
+            return Err(Stopped::Busy.into());
         }
     }
-    let nanos = nanos_from(rt, start);
-    Hundredths::quotient(u128::from(nanos), u128::from(IDLE_TURNS))
+    let nanos = nanos_since(rt, start)?;
+    Ok(Hundredths::quotient(u128::from(nanos), u128::from(IDLE_TURNS)))
 }
-
-/// What is said where a turn that was to do nothing did something.
-const BUSY: &str = "a worker had something to do";
 
 impl<'a> Hall<'a> {
     pub(crate) fn new(
@@ -87,42 +95,44 @@ impl<'a> Hall<'a> {
     }
 
     /// Turns all until so many requests are answered over all clients.
-    pub(crate) fn serve<R: Wait + Abort>(
+    pub(crate) fn serve<R: Wait>(
         &mut self,
         rt: &R,
         gate: &mut FlagGate,
         nobody: &mut Nobody,
         requests: u64,
-    ) {
+    ) -> Result<(), Stopped> {
         for _ in 0..requests {
             if self.answered.load(Ordering::SeqCst) >= requests {
-                return;
+                return Ok(());
             }
             if !self.turn_all(rt, gate, nobody) {
                 break;
             }
         }
-        panic!(rt; "a worker ended before all was answered")
+        Err(Stopped::Ended)
     }
 
     /// The nanoseconds of a turn that does nothing, of the first client's worker.
-    pub(crate) fn client_idles<R: Wait + Clock + Abort>(
+    pub(crate) fn client_idles<R: Wait + Clock>(
         &mut self,
         rt: &R,
         gate: &mut FlagGate,
         nobody: &mut Nobody,
-    ) -> Hundredths {
-        let member = self.members.first_mut().expect(rt, "there is no client");
-        nanos_of_idle_turn(member, rt, gate, nobody)
+    ) -> anyhow::Result<Hundredths> {
+        match self.members.first_mut() {
+            Some(member) => nanos_of_idle_turn(member, rt, gate, nobody),
+            None => Err(Stopped::NoClient.into()),
+        }
     }
 
     /// The same of the worker towards the centre.
-    pub(crate) fn centre_idles<R: Wait + Clock + Abort>(
+    pub(crate) fn centre_idles<R: Wait + Clock>(
         &mut self,
         rt: &R,
         gate: &mut FlagGate,
         nobody: &mut Nobody,
-    ) -> Hundredths {
+    ) -> anyhow::Result<Hundredths> {
         nanos_of_idle_turn(&mut self.carrier, rt, gate, nobody)
     }
 }
