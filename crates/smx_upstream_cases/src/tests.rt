@@ -9,13 +9,14 @@ use smx_pdu::command::SUBMIT_SM;
 use smx_pdu::{Bind, Body, Pdu, decode};
 use smx_routes::RouteFault;
 use smx_session::{UpstreamSession, UpstreamState};
-use smx_shared::{Door, EnterFault, Exchange, Offer, Port, Tap};
+use smx_shared::{Door, Exchange, Offer, Port, Tap};
 use smx_trace::Trace;
 use smx_turns::{Directory, Fault, Gate, MoItem, Party, Place, Point, Query, Question, RunEnd};
 use smx_upstream::{Parts, UpstreamWorker, run_upstream};
-use std::alloc::{AllocError, Global};
+use std::alloc::Global;
+use std::process::Abort;
 use std::sync::Wait;
-use std::test::Fail;
+use std::test::*;
 
 mod passing;
 mod rows;
@@ -202,8 +203,8 @@ fn is_made_of(octets: &[u8], parts: &[&[u8]]) -> bool {
 }
 
 // The session of `proxy` with the password `pw` at the moment 0. It enquires after a second.
-fn session(alloc: Global) -> Option<UpstreamSession>
-    ensures { IfSome result (λ s. s.state ≡ UpstreamState.Binding) }
+fn session(rt: &impl Abort, alloc: Global) -> UpstreamSession
+    ensures { result.state ≡ UpstreamState.Binding }
 {
     let bind = Bind {
         system_id: b"proxy",
@@ -214,12 +215,10 @@ fn session(alloc: Global) -> Option<UpstreamSession>
         addr_npi: 0,
         address_range: b"",
     };
-    if !bind.fits() {
-        return None;
-    }
-    let system_id = Vec::from_slice(alloc, bind.system_id).ok()?;
-    let password = Vec::from_slice(alloc, bind.password).ok()?;
-    Some(UpstreamSession::new(alloc, system_id, password, 1_000, 0))
+    assert!(rt; bind.fits());
+    let system_id = Vec::from_slice(alloc, bind.system_id).expect(rt, "out of memory");
+    let password = Vec::from_slice(alloc, bind.password).expect(rt, "out of memory");
+    UpstreamSession::new(alloc, system_id, password, 1_000, 0)
 }
 
 fn first_tap(at: &Exchange, taps: Vec<Tap>) -> Option<Tap>
@@ -241,14 +240,15 @@ struct Hall {
 }
 
 impl Hall {
-    fn new<R: Wait>(rt: &R, alloc: Global) -> Option<Hall> {
-        let (exchange, door, taps) = Exchange::new(rt, alloc, ROOMY, 1).ok()?;
-        let tap = first_tap(&exchange, taps)?;
-        Some(Hall {
+    fn new<R: Wait + Abort>(rt: &R, alloc: Global) -> Hall {
+        let made = Exchange::new(rt, alloc, ROOMY, 1).ok();
+        let (exchange, door, taps) = made.expect(rt, "out of memory");
+        let tap = first_tap(&exchange, taps).expect(rt, "there is one lane");
+        Hall {
             exchange,
             door,
             tap,
-        })
+        }
     }
 }
 
@@ -261,81 +261,80 @@ struct Boxes {
 }
 
 impl Boxes {
-    fn new<R: Wait>(rt: &R, alloc: Global, answer: Option<Pdu>) -> Option<Boxes> {
-        let answers = return_box(rt, alloc, answer)?;
-        let (inbox, senders) = Boxed::new(rt, alloc, 1, 1).ok()?;
-        Some(Boxes {
+    fn new<R: Wait + Abort>(rt: &R, alloc: Global, answer: Option<Pdu>) -> Boxes {
+        let answers = return_box(rt, alloc, answer);
+        let made = Boxed::new(rt, alloc, 1, 1).ok();
+        let (inbox, senders) = made.expect(rt, "out of memory");
+        Boxes {
             answers,
             senders,
             inbox,
-        })
+        }
     }
 }
 
 // A client's answer may be in the return box before the first turn.
-fn return_box<R: Wait>(rt: &R, alloc: Global, answer: Option<Pdu>) -> Option<Receiver<Pdu>> {
-    let (answers, clients) = Boxed::new(rt, alloc, 1, 1).ok()?;
-    match answer {
-        Some(answer) => put_last(rt, clients, answer).then_some(answers),
-        None => Some(answers),
+fn return_box<R: Wait + Abort>(rt: &R, alloc: Global, answer: Option<Pdu>) -> Receiver<Pdu> {
+    let made = Boxed::new(rt, alloc, 1, 1).ok();
+    let (answers, clients) = made.expect(rt, "out of memory");
+    if let Some(answer) = answer {
+        put_last(rt, clients, answer);
     }
+    answers
 }
 
-fn put_last<R: Wait>(rt: &R, clients: Vec<Sender<Pdu>>, answer: Pdu) -> bool {
+fn put_last<R: Wait + Abort>(rt: &R, clients: Vec<Sender<Pdu>>, answer: Pdu) {
     let mut clients = clients;
-    match clients.last_mut() {
-        Some(client) => client.put(rt, answer).is_ok(),
-        None => false,
-    }
+    let client = clients.last_mut().expect(rt, "the box has a sender");
+    assert!(rt; client.put(rt, answer).is_ok());
 }
 
 fn line_at<'a>(
+    rt: &impl Abort,
     alloc: Global,
     at: &'a Exchange,
     tap: Tap,
     script: Script,
     boxes: Boxes,
     history: usize,
-) -> Option<Line<'a>>
+) -> Line<'a>
     requires { slice_get at.now tap.lane ≡ Some tap.front.lock }
 {
-    let session = session(alloc)?;
     let Boxes {
         answers,
         senders,
         inbox,
     } = boxes;
-    let link = MemoryLink::new(script);
     let parts = Parts {
-        link,
+        link: MemoryLink::new(script),
         tap,
-        session,
+        session: session(rt, alloc),
         answers,
         senders,
     };
-    let worker = UpstreamWorker::new(alloc, parts, history).ok()?;
-    Some(Line {
+    let worker = UpstreamWorker::new(alloc, parts, history).ok();
+    Line {
         at,
-        worker,
+        worker: worker.expect(rt, "out of memory"),
         inbox,
         gate: Open::new(),
         book: Book::new(),
         faulty: false,
-    })
+    }
 }
 
 // The same with no answer.
-fn plain_line<'a, R: Wait>(
+fn plain_line<'a, R: Wait + Abort>(
     rt: &R,
     alloc: Global,
     at: &'a Exchange,
     tap: Tap,
     script: Script,
-) -> Option<Line<'a>>
+) -> Line<'a>
     requires { slice_get at.now tap.lane ≡ Some tap.front.lock }
 {
-    let boxes = Boxes::new(rt, alloc, None)?;
-    line_at(alloc, at, tap, script, boxes, 1_000)
+    let boxes = Boxes::new(rt, alloc, None);
+    line_at(rt, alloc, at, tap, script, boxes, 1_000)
 }
 
 // A port with its exchange.
@@ -348,14 +347,13 @@ struct Client<'a> {
 
 impl Client<'_> {
     // Submits the request to the address `1` under the number 7.
-    fn submit<R: Wait>(&mut self, rt: &R, alloc: Global) -> Option<usize> {
-        let body = body_of(alloc, &SUBMIT)?;
+    fn submit<R: Wait + Abort>(&mut self, rt: &R, alloc: Global) -> bool {
         let offer = Offer {
             own: 7,
             command: SUBMIT_SM,
-            body,
+            body: submit_body(rt, alloc),
         };
-        self.port.submit(self.at, rt, offer).ok()
+        self.port.submit(self.at, rt, offer).is_ok()
     }
 
     fn collect<R: Wait>(&mut self, rt: &R) -> Option<Pdu> {
@@ -366,15 +364,17 @@ impl Client<'_> {
     }
 }
 
-fn enter<'a, R: Wait>(rt: &R, at: &'a Exchange, door: &mut Door) -> Result<Client<'a>, EnterFault>
+fn enter<'a, R: Wait + Abort>(rt: &R, at: &'a Exchange, door: &mut Door) -> Client<'a>
     requires { locks_of door.old.fronts ≡ at.now }
     ensures { locks_of door.new.fronts ≡ at.now }
 {
-    let port = door.enter(at, rt).map_err(|(fault, _)| fault)?;
-    Ok(Client { at, port })
+    let port = door.enter(at, rt).ok().expect(rt, "out of memory");
+    Client { at, port }
 }
 
-fn body_of(alloc: Global, octets: &[u8]) -> Option<Body> {
-    let body = Vec::from_slice(alloc, octets.get(16..)?).ok()?;
-    Body::new(body).ok()
+fn submit_body(rt: &impl Abort, alloc: Global) -> Body {
+    let octets = Vec::from_slice(alloc, &SUBMIT[16..]).expect(rt, "out of memory");
+    Body::new(octets)
+        .ok()
+        .expect(rt, "the body is short enough")
 }

@@ -50,90 +50,91 @@ fn centre(alloc: Global) -> Script {
 }
 
 // A client's answer is in the return box before the first turn.
-fn answered_line<'a, R: Wait>(
+fn answered_line<'a, R: Wait + Abort>(
     rt: &R,
     alloc: Global,
     at: &'a Exchange,
     tap: Tap,
     history: usize,
-) -> Option<Line<'a>>
+) -> Line<'a>
     requires { slice_get at.now tap.lane ≡ Some tap.front.lock }
 {
-    let answer = decode(alloc, &ANSWER).ok()?;
-    let boxes = Boxes::new(rt, alloc, Some(answer))?;
-    line_at(alloc, at, tap, centre(alloc), boxes, history)
+    let answer = decode(alloc, &ANSWER).expect(rt, "a PDU");
+    let boxes = Boxes::new(rt, alloc, Some(answer));
+    line_at(rt, alloc, at, tap, centre(alloc), boxes, history)
 }
 
-fn passes<R: Wait>(
+fn passes<R: Wait + Abort>(
     rt: &R,
     alloc: Global,
     at: &Exchange,
     tap: Tap,
     client: &mut Client,
     history: usize,
-) -> Option<bool>
+) -> bool
     requires { slice_get at.now tap.lane ≡ Some tap.front.lock }
 {
-    let line = answered_line(rt, alloc, at, tap, history)?;
-    let submitted = client.submit(rt, alloc).is_some();
+    let line = answered_line(rt, alloc, at, tap, history);
+    let submitted = client.submit(rt, alloc);
     let through = runs_through(rt, line);
     let response = is_response(client.collect(rt));
-    Some(submitted && through && response)
+    submitted && through && response
 }
 
 // A client that enters for this.
-fn visited<R: Wait>(
+fn visited<R: Wait + Abort>(
     rt: &R,
     alloc: Global,
     at: &Exchange,
     door: &mut Door,
     tap: Tap,
     history: usize,
-) -> Option<bool>
+) -> bool
     requires door { locks_of door.old.fronts ≡ at.now }
     requires tap { slice_get at.now tap.lane ≡ Some tap.front.lock }
     ensures { locks_of door.new.fronts ≡ at.now }
 {
-    let mut client = enter(rt, at, door).ok()?;
+    let mut client = enter(rt, at, door);
     passes(rt, alloc, at, tap, &mut client, history)
 }
 
-fn entries_of(exchange: Exchange, door: Door) -> Option<usize>
+fn entries_of(rt: &impl Abort, exchange: Exchange, door: Door) -> usize
     requires { locks_of door.fronts ≡ exchange }
 {
-    let lanes = exchange.finish(door).ok()?;
-    Some(lanes.first()?.entries().len())
+    let lanes = exchange.finish(door).ok().expect(rt, "the lane is out");
+    let lane = lanes.first().expect(rt, "there is one lane");
+    lane.entries().len()
 }
 
-// How many entries the lane has at the end.
-fn entries_left<R: Wait>(rt: &R, alloc: Global, history: usize) -> Option<usize> {
+// How many entries the lane has at the end, where all passed.
+fn entries_left<R: Wait + Abort>(rt: &R, alloc: Global, history: usize) -> usize {
     let Hall {
         exchange,
         mut door,
         tap,
-    } = Hall::new(rt, alloc)?;
-    let passed = visited(rt, alloc, &exchange, &mut door, tap, history);
-    let entries = entries_of(exchange, door)?;
-    passed?.then_some(entries)
+    } = Hall::new(rt, alloc);
+    assert!(rt; visited(rt, alloc, &exchange, &mut door, tap, history));
+    entries_of(rt, exchange, door)
 }
 
 // A request and its response, a message and a client's answer. A lane whose history is said to have
 // 8 entries is turned over at each note, which leaves the collect alone.
 #[test]
 fn one_of_each(rt: HostRuntime) {
-    assert_eq!(rt; entries_left(&rt, rt.alloc(), 1_000), Some(5));
-    assert_eq!(rt; entries_left(&rt, rt.alloc(), 8), Some(1));
+    assert_eq!(rt; entries_left(&rt, rt.alloc(), 1_000), 5);
+    assert_eq!(rt; entries_left(&rt, rt.alloc(), 8), 1);
 }
 
 // An answer with the greatest body.
-fn greatest(alloc: Global) -> Option<Pdu> {
-    let body = Body::new(vec![in alloc; 0; 65_520].ok()?).ok()?;
-    Some(Pdu {
+fn greatest(rt: &impl Abort, alloc: Global) -> Pdu {
+    let octets = vec![in alloc; 0; 65_520].expect(rt, "out of memory");
+    let body = Body::new(octets).ok();
+    Pdu {
         command: 0x8000_0005,
         status: 0,
         number: 3,
-        body,
-    })
+        body: body.expect(rt, "the body is short enough"),
+    }
 }
 
 // How a run of so many turns ends, and how many questions the gate was asked by then.
@@ -149,19 +150,18 @@ fn three_runs<R: Wait>(rt: &R, line: &mut Line) -> [(RunEnd, u64); 3] {
 }
 
 // A worker whose return box has that answer.
-fn filled_line<'a, R: Wait>(rt: &R, alloc: Global, at: &'a Exchange, tap: Tap) -> Option<Line<'a>>
+fn filled_line<'a, R: Wait + Abort>(rt: &R, alloc: Global, at: &'a Exchange, tap: Tap) -> Line<'a>
     requires { slice_get at.now tap.lane ≡ Some tap.front.lock }
 {
-    let answer = greatest(alloc)?;
-    let boxes = Boxes::new(rt, alloc, Some(answer))?;
+    let boxes = Boxes::new(rt, alloc, Some(greatest(rt, alloc)));
     let script = Script::new(alloc, 65_536);
-    line_at(alloc, at, tap, script, boxes, 1_000)
+    line_at(rt, alloc, at, tap, script, boxes, 1_000)
 }
 
-fn filled<R: Wait>(rt: &R, alloc: Global) -> Option<[(RunEnd, u64); 3]> {
-    let Hall { exchange, tap, .. } = Hall::new(rt, alloc)?;
-    let mut line = filled_line(rt, alloc, &exchange, tap)?;
-    Some(three_runs(rt, &mut line))
+fn filled<R: Wait + Abort>(rt: &R, alloc: Global) -> [(RunEnd, u64); 3] {
+    let Hall { exchange, tap, .. } = Hall::new(rt, alloc);
+    let mut line = filled_line(rt, alloc, &exchange, tap);
+    three_runs(rt, &mut line)
 }
 
 // With 65,536 octets waiting a turn asks its gate nothing. The last turn is one in which nothing
@@ -169,5 +169,5 @@ fn filled<R: Wait>(rt: &R, alloc: Global) -> Option<[(RunEnd, u64); 3]> {
 #[test]
 fn waiting_octets_stop_a_turn(rt: HostRuntime) {
     let wanted = [(RunEnd::Turns, 0), (RunEnd::Turns, 2), (RunEnd::Idle, 4)];
-    assert_eq!(rt; filled(&rt, rt.alloc()), Some(wanted));
+    assert_eq!(rt; filled(&rt, rt.alloc()), wanted);
 }

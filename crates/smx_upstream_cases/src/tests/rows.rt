@@ -28,21 +28,21 @@ fn run_at<R: Wait>(rt: &R, line: &mut Line, moments: &[u64]) -> RunEnd {
 }
 
 // The same, and whether the link took the bind and then just this.
-fn runs<R: Wait>(
+fn runs<R: Wait + Abort>(
     rt: &R,
     alloc: Global,
     script: Script,
     moments: &[u64],
     takes: &[u8],
-) -> Option<(RunEnd, bool)> {
-    let Hall { exchange, tap, .. } = Hall::new(rt, alloc)?;
-    let mut line = plain_line(rt, alloc, &exchange, tap, script)?;
+) -> (RunEnd, bool) {
+    let Hall { exchange, tap, .. } = Hall::new(rt, alloc);
+    let mut line = plain_line(rt, alloc, &exchange, tap, script);
     let end = run_at(rt, &mut line, moments);
-    Some((end, line.took(rt, &[&BIND, takes])))
+    (end, line.took(rt, &[&BIND, takes]))
 }
 
 // Whether the last run ends so, and the link took the bind and then just this.
-fn comes_to<R: Wait>(
+fn comes_to<R: Wait + Abort>(
     rt: &R,
     alloc: Global,
     script: Script,
@@ -50,12 +50,12 @@ fn comes_to<R: Wait>(
     takes: &[u8],
     end: RunEnd,
 ) -> bool {
-    runs(rt, alloc, script, moments, takes) == Some((end, true))
+    runs(rt, alloc, script, moments, takes) == (end, true)
 }
 
 // The same over a link that takes all at once, and over one that takes an octet a write, where the
 // centre gives this once it has the bind.
-fn ends_so<R: Wait>(
+fn ends_so<R: Wait + Abort>(
     rt: &R,
     alloc: Global,
     gives: &[u8],
@@ -121,22 +121,22 @@ fn messages(alloc: Global) -> Script {
 }
 
 // It is told that nobody gets the last four.
-fn refusals(alloc: Global) -> Result<Vec<u8>, AllocError> {
+fn refusals(rt: &impl Abort, alloc: Global) -> Vec<u8> {
     let mut octets = Vec::new(alloc);
     for (status, number) in [(0x14, 4), (0x64, 5), (0x64, 6), (2, 7)] {
-        octets.extend_from_slice(&refusal(status, number))?;
+        let told = octets.extend_from_slice(&refusal(status, number));
+        told.expect(rt, "out of memory");
     }
-    Ok(octets)
+    octets
 }
 
 // The box has one place; nobody has the address 5; no sender stands where 6 is; a message without a
 // body names no address.
 #[test]
-fn refused_messages(rt: HostRuntime) -> Result<(), Fail> {
+fn refused_messages(rt: HostRuntime) {
     let alloc = rt.alloc();
-    let takes = refusals(alloc)?;
+    let takes = refusals(&rt, alloc);
     assert!(rt; comes_to(&rt, alloc, messages(alloc), &[0], &takes, RunEnd::Idle));
-    Ok(())
 }
 
 // A link that ends, and one whose first read fails.

@@ -27,13 +27,18 @@ fn stops(line: &mut Line, wanted: &[bool], state: UpstreamState) -> bool {
 // Before it is bound a stop says nothing. Once it is, the first says the unbind and the second
 // nothing more. The request that came before the stop has its response, the one that came after it
 // isn't taken.
-fn runs_out<R: Wait>(rt: &R, alloc: Global, line: Line, client: &mut Client) -> (RunEnd, bool) {
+fn runs_out<R: Wait + Abort>(
+    rt: &R,
+    alloc: Global,
+    line: Line,
+    client: &mut Client,
+) -> (RunEnd, bool) {
     let mut line = line;
     let early = stops(&mut line, &[false], UpstreamState::Binding);
-    let before = client.submit(rt, alloc).is_some();
+    let before = client.submit(rt, alloc);
     let first = line.run(rt, 0, 1_000);
     let stopped = stops(&mut line, &[true, false], UpstreamState::Unbinding);
-    let behind = client.submit(rt, alloc).is_some();
+    let behind = client.submit(rt, alloc);
     let last = line.run(rt, 0, 1_000);
     let taken = line.took(rt, &[&BIND, &SUBMIT, &UNBIND, &REFUSAL]);
     let idle = first == RunEnd::Idle;
@@ -56,28 +61,28 @@ fn has_one<R: Wait>(rt: &R, client: &mut Client) -> bool {
     client.collect(rt).is_some() && client.collect(rt).is_none()
 }
 
-fn ends_beside<R: Wait>(
+fn ends_beside<R: Wait + Abort>(
     rt: &R,
     alloc: Global,
     at: &Exchange,
     tap: Tap,
     client: &mut Client,
     most: usize,
-) -> Option<(RunEnd, bool)>
+) -> (RunEnd, bool)
     requires { slice_get at.now tap.lane ≡ Some tap.front.lock }
 {
-    let line = plain_line(rt, alloc, at, tap, centre(alloc, most))?;
+    let line = plain_line(rt, alloc, at, tap, centre(alloc, most));
     let (last, well) = runs_out(rt, alloc, line, client);
-    Some((last, well && has_one(rt, client)))
+    (last, well && has_one(rt, client))
 }
 
-fn ends_in_order<R: Wait>(rt: &R, alloc: Global, most: usize) -> Option<(RunEnd, bool)> {
+fn ends_in_order<R: Wait + Abort>(rt: &R, alloc: Global, most: usize) -> (RunEnd, bool) {
     let Hall {
         exchange,
         mut door,
         tap,
-    } = Hall::new(rt, alloc)?;
-    let mut client = enter(rt, &exchange, &mut door).ok()?;
+    } = Hall::new(rt, alloc);
+    let mut client = enter(rt, &exchange, &mut door);
     ends_beside(rt, alloc, &exchange, tap, &mut client, most)
 }
 
@@ -85,9 +90,6 @@ fn ends_in_order<R: Wait>(rt: &R, alloc: Global, most: usize) -> Option<(RunEnd,
 #[test]
 fn stopped_in_order(rt: HostRuntime) {
     for most in [65_536, 1] {
-        assert_eq!(rt;
-            ends_in_order(&rt, rt.alloc(), most),
-            Some((RunEnd::Left, true))
-        );
+        assert_eq!(rt; ends_in_order(&rt, rt.alloc(), most), (RunEnd::Left, true));
     }
 }
