@@ -21,13 +21,13 @@ use Rattle.smx_history.proofs.Refusals.{IsAllowed}
 use Rattle.smx_history.proofs.Reading.{entries_of-push, marks_of-push, shown-kept, places-kept, length-requests, responses-other}
 use Rattle.smx_history.proofs.Sizes.{length-queue, takes-le-accepts, size_agrees, found_admit, present_served}
 use Rattle.smx_history.proofs.Growing.{AtEachPrefix-whole, last_or-push}
-use Rattle.smx_history.proofs.Frames.{collects_of-other, admits-other, takes-other, unanswered-other, present-other, waiting-other}
+use Rattle.smx_history.proofs.Frames.{collects_of-other, admits-other, takes-other, unanswered-other, present-other, waiting-other, is_up-other}
 
 -- what is owed grows by three for a request that is queued
 owed-accepted : (es : List Entry) (by : ℕ) (r : Request) → length (takes es) ≤ length (accepts es) → owed (es ++ entry_by by (Accept r) ∷ []) ≡ owed es + 3
 owed-accepted es by r le =
     let e = entry_by by (Accept r) in
-    rw (unanswered-other es e refl refl, waiting-other es e refl refl refl refl, present-other es e refl refl, accepted_push es e refl, takes-other es e refl)
+    rw (unanswered-other es e refl refl, waiting-other es e refl refl refl refl, present-other es e refl refl, accepted_push es e refl, takes-other es e refl, is_up-other es e refl)
     (omega (arith, length-append es (e ∷ []), length-append (accepts es) (e ∷ [])))
 
 pub zip-with_row : {X : Type 0} (R S : X → Member → Type 0) (c : ℕ) (f : Member → Member) → ((a : X) (m : Member) → m.client ≡ c → R a m → S a (f m)) → ((a : X) (m : Member) → (m.client ≡ c → ⊥) → R a m → S a m) → (xs : List X) (ms : List Member) → AllZip R xs ms → AllZip S xs (with_row c f ms)
@@ -78,6 +78,7 @@ may_accept_at h v by r m admit a is admitted here of ok above own =
     record {
       forwarded = r.forwarded;
       served = (sym (ap (λ b. is_admitted b admit.client es) (sym is.by ∙ own) ∙ ap (λ c. is_admitted by c es) of) ∙ admitted, ap (λ c. is_retired c es) (sym of) ∙ here);
+      up = sym a.after.up ∙ ok.up;
       rises = rw (← of) (omega (arith, above, is.last));
       queue = omega (arith, length-queue h v a.after, takes-le-accepts es fifo, ok.queue);
       client = rw (← of) (omega (arith, is.pending, ok.client));
@@ -107,6 +108,7 @@ AgreesWith-accepted h v by r m a found ok above own =
             (zip-with_row (IsMemberAfter h) (IsMemberAfter (h ++ n ∷ [])) r.client (λ x. record x { last = r.ordinal; pending = x.pending + 1 })
             (λ x y same is. member-accepted h by r x y a.legal.rules.pairing same is) (λ x y apart is. member-accepted_other h by r x y a.legal.rules.pairing apart is) (present es) v.members a.after.members);
         greatest = rw (push, admits-other es e refl) a.after.greatest;
+        up = rw (push, is_up-other es e refl) a.after.up;
         entries = rw (marks_of-push h n e refl, stored-push (marks_of h) e) (ap (λ xs. xs ++ e ∷ []) a.after.entries);
       };
     }

@@ -21,7 +21,7 @@ use Rattle.smx_history.specs.Replies.{admit_refusal, has_room}
 use Rattle.smx_history.proofs.Updates.{admitted, new_row}
 use Rattle.smx_history.proofs.Reading.{marks_of-push, entries_of-push, length-responses, responses-other, places-kept, All-each}
 use Rattle.smx_history.proofs.Growing.{filter_push, AtEachPrefix-whole, RiseAbove-push, last_or-push, All-push}
-use Rattle.smx_history.proofs.Frames.{takes-other, accepts_of-other, collects_of-other, unanswered-other}
+use Rattle.smx_history.proofs.Frames.{takes-other, accepts_of-other, collects_of-other, unanswered-other, is_up-other}
 use Rattle.smx_history.proofs.TakeAgrees.{IsMemberAfter-other, zip-each, requests-other}
 use Rattle.smx_history.proofs.Unseen.{none_admitted, unseen, IsUnseen}
 
@@ -80,7 +80,7 @@ zip-push R [] (b ∷ ys) x y z new = absurd z
 zip-push R (a ∷ xs) [] x y z new = absurd z
 zip-push R (a ∷ xs) (b ∷ ys) x y z new = (z.0, zip-push R xs ys x y z.1 new)
 
-empty_of : {X : Type 0} (xs : List X) → length xs ≡ 0 → xs ≡ []
+pub empty_of : {X : Type 0} (xs : List X) → length xs ≡ 0 → xs ≡ []
 empty_of [] h = refl
 empty_of (x ∷ xs) h = absurd (omega (arith, h))
 
@@ -115,6 +115,7 @@ IsAfter-admitted h v by c a none =
           (zip-each (IsMemberAfter h) (IsMemberAfter (h ++ n ∷ [])) (λ x m is. IsMemberAfter-other h n e x m refl refl refl refl a.legal.rules.pairing is) (present es) v.members a.after.members)
           (member-admitted h by c none));
       greatest = rw (push, filter_push (λ x. is_admit x.kind) es e refl, map-append (λ x. x.client) (admits es) (e ∷ []), last_or-push 0 (map (λ x. x.client) (admits es)) c) refl;
+      up = rw (push, is_up-other es e refl) a.after.up;
       entries = rw (marks_of-push h n e refl, stored-push (marks_of h) e) (ap (λ xs. xs ++ e ∷ []) a.after.entries);
     }
 

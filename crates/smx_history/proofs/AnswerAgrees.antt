@@ -7,39 +7,38 @@ use Rattle.std.proofs.lemmas.Bool.{eq-eqb, ne_eqb}
 use Rattle.smx_pdu.specs.declared.pdu.Pdu.{Pdu}
 use Rattle.smx_history.specs.declared.note.Event.TheVariants.{Answer}
 use Rattle.smx_history.specs.declared.entry.Entry.{Entry}
+use Rattle.smx_history.specs.declared.entry.Kind.TheVariants as kind
 use Rattle.smx_history.specs.declared.place.Place.{Place}
 use Rattle.smx_history.specs.declared.response.Response.{Response}
 use Rattle.smx_history.specs.declared.note.Note.{Note}
 use Rattle.smx_pdu.specs.Command.{is_response_to}
 use Rattle.smx_history.specs.Prefixes.{AtEach}
-use Rattle.smx_history.specs.Entries.{is_admitted, answers_of, collects_of, is_retired, own_of, present}
+use Rattle.smx_history.specs.Entries.{is_admitted, is_accept, is_collect, is_link, answers_of, collects_of, is_retired, own_of, present}
 use Rattle.smx_history.specs.Legal.{IsFifo, IsPaired}
-use Rattle.smx_history.specs.History.{entry_by, note, entries_of, responses, response_in, marks_of}
+use Rattle.smx_history.specs.History.{entry_by, entry_in, note, entries_of, responses, response_in, request_in, marks_of}
 use Rattle.smx_history.specs.Contents.{AgreesWith, IsAfter, IsMemberAfter, Content, Member, shown}
 use Rattle.smx_history.proofs.Room.{KeepsRoom}
 use Rattle.smx_history.specs.Replies.{member_with}
-use Rattle.smx_history.proofs.Updates.{answered, response_for}
+use Rattle.smx_history.proofs.Updates.{settled, answered, response_for}
 use Rattle.smx_history.proofs.Growing.{AtEachPrefix-whole, StartsWith-length}
-use Rattle.smx_history.proofs.Frames.{takes-other, accepts_of-other, collects_of-other, admits-other, present-other}
+use Rattle.smx_history.proofs.Frames.{takes-other, accepts_of-other, collects_of-other, admits-other, present-other, is_up-other}
 use Rattle.smx_history.proofs.Reading.{marks_of-push, entries_of-push, shown-kept, own_of-kept, length-responses}
 use Rattle.smx_history.proofs.Sizes.{found_admit, present_served}
 use Rattle.smx_history.proofs.AcceptAgrees.{zip-with_row}
 use Rattle.smx_history.proofs.TakeAgrees.{IsMemberAfter-other, requests-other}
-use Rattle.smx_history.proofs.FitsSettle.{settles_answer, answer_fit}
+use Rattle.smx_history.proofs.FitsSettle.{Settles, settles_answer, answer_fit}
 use Rattle.smx_history.proofs.Shifting.{IsLegal-next, stored-push}
 use Rattle.smx_history.proofs.SettleAgrees.{IsTaken, place_taken, place_answers, window-settled, within-after}
 
-responses-push : (c : ℕ) (h : List Note) (by n : ℕ) (p : Pdu) → responses c (h ++ note by (Answer c n p) ∷ []) ≡ responses c h ++ record { ordinal = n; pdu = p } ∷ []
-responses-push c h by n p =
-    filter_map-append (λ x. response_in c x.event) h (note by (Answer c n p) ∷ [])
-    ∙ ap (λ b. responses c h ++ cons_option (cond b (Some (record { ordinal = n; pdu = p })) None) []) (eq-eqb c c refl)
+responses-push : (c : ℕ) (h : List Note) (n : Note) (r : Response) → response_in c n.event ≡ Some r → responses c (h ++ n ∷ []) ≡ responses c h ++ r ∷ []
+responses-push c h n r brings = filter_map-append (λ x. response_in c x.event) h (n ∷ []) ∙ ap (λ o. responses c h ++ cons_option o []) brings
 
 -- the client of the place has one more response that waits
-member-answered : (h : List Note) (by : ℕ) (p : Pdu) (q : Place) (a : Entry) (m : Member) → IsFifo (entries_of h) → AtEach (λ before e. IsPaired e.kind before e) (entries_of h) → IsTaken (entries_of h) q → m.client ≡ q.client → IsMemberAfter h a m → IsMemberAfter (h ++ note by (Answer q.client q.ordinal p) ∷ []) a (record m { waiting = m.waiting ++ response_for q p ∷ [] })
-member-answered h by p q a m fifo paired place same is =
+member-settled : (h : List Note) (n : Note) (e : Entry) (p : Pdu) (q : Place) (a : Entry) (m : Member) → entry_in n ≡ Some e → is_accept e.kind ≡ false → is_collect e.kind ≡ false → response_in q.client n.event ≡ Some (record { ordinal = q.ordinal; pdu = p })
+    → IsFifo (entries_of h) → AtEach (λ before e. IsPaired e.kind before e) (entries_of h) → IsTaken (entries_of h) q → m.client ≡ q.client → IsMemberAfter h a m → IsMemberAfter (h ++ n ∷ []) a (record m { waiting = m.waiting ++ response_for q p ∷ [] })
+member-settled h n e p q a m entry accept collect brings fifo paired place same is =
     let es = entries_of h in
-    let e = entry_by by (Answer q.client q.ordinal p) in
-    let push = entries_of-push h (note by (Answer q.client q.ordinal p)) e refl in
+    let push = entries_of-push h n e entry in
     let of : q.client ≡ a.client = sym same ∙ is.client in
     let k = length (collects_of a.client es) in
     let le : k ≤ length (answers_of a.client es) =
@@ -47,11 +46,11 @@ member-answered h by p q a m fifo paired place same is =
     omega (arith, l, length-map (answers_of a.client es) (λ x. x.ordinal), length-map (collects_of a.client es) (λ x. x.ordinal)) in
     let old = map (shown es a.client) (responses a.client h) in
     let long : length old ≡ length (answers_of a.client es) = length-map (responses a.client h) (shown es a.client) ∙ length-responses a.client h in
-    let came : responses a.client (h ++ note by (Answer q.client q.ordinal p) ∷ []) ≡ responses a.client h ++ record { ordinal = q.ordinal; pdu = p } ∷ [] =
-    ap (λ c. responses c (h ++ note by (Answer q.client q.ordinal p) ∷ [])) (sym of) ∙ responses-push q.client h by q.ordinal p ∙ ap (λ c. responses c h ++ record { ordinal = q.ordinal; pdu = p } ∷ []) of in
+    let came : responses a.client (h ++ n ∷ []) ≡ responses a.client h ++ record { ordinal = q.ordinal; pdu = p } ∷ [] =
+    ap (λ c. responses c (h ++ n ∷ [])) (sym of) ∙ responses-push q.client h n (record { ordinal = q.ordinal; pdu = p }) brings ∙ ap (λ c. responses c h ++ record { ordinal = q.ordinal; pdu = p } ∷ []) of in
     let own : own_of a.client q.ordinal (es ++ e ∷ []) ≡ q.own =
     ap (λ c. own_of c q.ordinal (es ++ e ∷ [])) (sym of) ∙ own_of-kept q.client q.ordinal es (e ∷ []) place.accepted ∙ place.own in
-    let see : ℕ → Response = λ n. record { ordinal = q.ordinal; pdu = record { command = p.command; status = p.status; number = n; body = p.body } } in
+    let see : ℕ → Response = λ k. record { ordinal = q.ordinal; pdu = record { command = p.command; status = p.status; number = k; body = p.body } } in
     let last : shown (es ++ e ∷ []) a.client (record { ordinal = q.ordinal; pdu = p }) ≡ response_for q p = ap see own in
     let all : map (shown (es ++ e ∷ []) a.client) (responses a.client h ++ record { ordinal = q.ordinal; pdu = p } ∷ []) ≡ old ++ response_for q p ∷ [] =
     map-append (shown (es ++ e ∷ []) a.client) (responses a.client h) (record { ordinal = q.ordinal; pdu = p } ∷ [])
@@ -60,31 +59,61 @@ member-answered h by p q a m fifo paired place same is =
     record {
       client = is.client;
       by = is.by;
-      last = rw (push, accepts_of-other a.client es e refl) is.last;
-      pending = rw (push, accepts_of-other a.client es e refl, collects_of-other a.client es e refl) is.pending;
-      waiting = rw (push, collects_of-other a.client es e refl, came, all, drop-append-le k old (response_for q p ∷ []) (omega (arith, le, long))) (ap (λ xs. xs ++ response_for q p ∷ []) is.waiting);
+      last = rw (push, accepts_of-other a.client es e accept) is.last;
+      pending = rw (push, accepts_of-other a.client es e accept, collects_of-other a.client es e collect) is.pending;
+      waiting = rw (push, collects_of-other a.client es e collect, came, all, drop-append-le k old (response_for q p ∷ []) (omega (arith, le, long))) (ap (λ xs. xs ++ response_for q p ∷ []) is.waiting);
     }
 
+-- a note that settles a place, and brings no other client a response
+pub record SettlesPlace (n : Note) (e : Entry) (q : Place) : Type 0 where
+  pub entry : entry_in n ≡ Some e
+  pub settles : Settles e.kind
+  pub link : is_link e.kind ≡ false
+  pub client : q.client ≡ e.client
+  pub ordinal : q.ordinal ≡ e.ordinal
+  pub request : request_in n.event ≡ None
+  pub others : (c : ℕ) → (q.client ≡ c → ⊥) → response_in c n.event ≡ None
+
+-- and brings its client that response
+pub record Brings (n : Note) (e : Entry) (p : Pdu) (q : Place) : Type 0 where
+  pub place : SettlesPlace n e q
+  pub response : response_in q.client n.event ≡ Some (record { ordinal = q.ordinal; pdu = p })
+
 -- what the lane holds is what the longer history leaves
-pub IsAfter-answered : (h : List Note) (v : Content) (by : ℕ) (p : Pdu) (q : Place) (i : ℕ) → AgreesWith h v → i < length v.window → q ≡ get_or v.window i q → IsAfter (h ++ note by (Answer q.client q.ordinal p) ∷ []) (answered v by p q i)
-IsAfter-answered h v by p q i a within is =
+pub IsAfter-settled : (h : List Note) (v : Content) (n : Note) (e : Entry) (p : Pdu) (q : Place) (i : ℕ) → Brings n e p q → AgreesWith h v → i < length v.window → q ≡ get_or v.window i q → IsAfter (h ++ n ∷ []) (settled v e p q i)
+IsAfter-settled h v n e p q i brings a within is =
+    let b = brings.place in
     let es = entries_of h in
-    let e = entry_by by (Answer q.client q.ordinal p) in
-    let n = note by (Answer q.client q.ordinal p) in
     let fifo = AtEachPrefix-whole IsFifo es a.legal.rules.fifo in
-    let push = entries_of-push h n e refl in
+    let push = entries_of-push h n e b.entry in
     let place = place_taken h v i q a within is in
+    let s = b.settles in
     record {
-      queue = rw (push, takes-other es e refl, requests-other h n refl) a.after.queue;
-      window = rw push (window-settled h v e q i a (settles_answer e.kind refl) refl refl within is);
-      members = rw (push, present-other es e refl refl)
+      queue = rw (push, takes-other es e s.take, requests-other h n b.request) a.after.queue;
+      window = rw push (window-settled h v e q i a s b.client b.ordinal within is);
+      members = rw (push, present-other es e s.admit s.retire)
           (zip-with_row (IsMemberAfter h) (IsMemberAfter (h ++ n ∷ [])) q.client (λ m. record m { waiting = m.waiting ++ response_for q p ∷ [] })
-          (λ x m same is. member-answered h by p q x m fifo a.legal.rules.pairing place same is)
-          (λ x m apart is. IsMemberAfter-other h n e x m refl refl refl (ap (λ b. cond b (Some (record { ordinal = q.ordinal; pdu = p })) None) (ne_eqb q.client x.client (λ of. apart (is.client ∙ sym of)))) a.legal.rules.pairing is)
+          (λ x m same is. member-settled h n e p q x m b.entry s.accept s.collect brings.response fifo a.legal.rules.pairing place same is)
+          (λ x m apart is. IsMemberAfter-other h n e x m b.entry s.accept s.collect (b.others x.client (λ of. apart (is.client ∙ sym of))) a.legal.rules.pairing is)
           (present es) v.members a.after.members);
-      greatest = rw (push, admits-other es e refl) a.after.greatest;
-      entries = rw (marks_of-push h n e refl, stored-push (marks_of h) e) (ap (λ xs. xs ++ e ∷ []) a.after.entries);
+      greatest = rw (push, admits-other es e s.admit) a.after.greatest;
+      up = rw (push, is_up-other es e b.link) a.after.up;
+      entries = rw (marks_of-push h n e b.entry, stored-push (marks_of h) e) (ap (λ xs. xs ++ e ∷ []) a.after.entries);
     }
+
+answer_brings : (by : ℕ) (p : Pdu) (q : Place) → Brings (note by (Answer q.client q.ordinal p)) (entry_by by (Answer q.client q.ordinal p)) p q
+answer_brings by p q = record {
+  place = record {
+    entry = refl;
+    settles = settles_answer kind.Answer refl;
+    link = refl;
+    client = refl;
+    ordinal = refl;
+    request = refl;
+    others = λ c apart. ap (λ b. cond b (Some (record { ordinal = q.ordinal; pdu = p })) None) (ne_eqb q.client c apart);
+  };
+  response = ap (λ b. cond b (Some (record { ordinal = q.ordinal; pdu = p })) None) (eq-eqb q.client q.client refl);
+}
 
 -- an answer to a place whose client is present
 pub AgreesWith-answered : (h : List Note) (v : Content) (by : ℕ) (p : Pdu) (q : Place) (i : ℕ) (m : Member) → AgreesWith h v → i < length v.window → q ≡ get_or v.window i q → q.upstream ≡ p.number → is_response_to q.command p.command ≡ true → member_with q.client v.members ≡ Some m → KeepsRoom (answered v by p q i) → AgreesWith (h ++ note by (Answer q.client q.ordinal p) ∷ []) (answered v by p q i)
@@ -92,7 +121,7 @@ AgreesWith-answered h v by p q i m a within is number command found room =
     let es = entries_of h in
     let e = entry_by by (Answer q.client q.ordinal p) in
     let n = note by (Answer q.client q.ordinal p) in
-    let after = IsAfter-answered h v by p q i a within is in
+    let after = IsAfter-settled h v n e p q i (answer_brings by p q) a within is in
     let w = found_admit (λ x. (is_admitted x.by x.client es ≡ true) × (is_retired x.client es ≡ false)) h q.client m (present es) v.members a.after.members (present_served es) found in
     let here : is_retired q.client es ≡ false = ap (λ c. is_retired c es) (sym w.3) ∙ w.2.1 in
     let p' = place_answers es q e (place_taken h v i q a within is) refl refl number command in

@@ -1,6 +1,7 @@
 -- A new lane agrees with the empty history.
-use Rattle.std.proofs.Common.{List, [], refl, arith, zero, suc}
+use Rattle.std.proofs.Common.{◌≤◌, List, [], ◌∷◌, refl, arith, zero, suc, Option}
 use Rattle.std.specs.List.{IsDistinct}
+use Rattle.smx_history.specs.declared.entry.Entry.{Entry}
 use Rattle.smx_history.specs.declared.limits.Limits.{Limits}
 use Rattle.smx_history.specs.Prefixes.{AtEachPrefix, AtEach}
 use Rattle.smx_history.specs.Legal.{IsLegal, KeepsRules, IsFifo, AreApart, IsBounded, IsWithin, HasForm, StandsWell, IsPaired}
@@ -33,13 +34,19 @@ KeepsRules-empty limits = record {
   bounds = AtEachPrefix-empty (IsBounded limits) (record { queue = omega arith; window = omega arith; client = λ c gone. omega arith });
 }
 
-pub IsLegal-empty : (limits : Limits) → IsLegal limits []
-IsLegal-empty limits = record { rules = KeepsRules-empty limits; size = AtEachPrefix-empty (IsWithin limits) (omega arith) }
+-- a lane that is up owes its down
+pub IsLegal-empty : (limits : Limits) → 1 ≤ limits.history → IsLegal limits []
+IsLegal-empty limits some = record { rules = KeepsRules-empty limits; size = AtEachPrefix-empty (IsWithin limits) (omega (arith, some)) }
 
-pub AgreesWith-new : (limits : Limits) → AgreesWith [] (empty limits)
-AgreesWith-new limits = record {
-  legal = IsLegal-empty limits;
-  after = record { queue = refl; window = λ test. refl; members = tt; greatest = refl; entries = refl };
+-- so there is room for one entry in each legal history
+pub IsLegal-some : (limits : Limits) (marks : List (Option Entry)) → IsLegal limits marks → 1 ≤ limits.history
+IsLegal-some limits [] h = omega (arith, h.size 0)
+IsLegal-some limits (mark ∷ marks) h = omega (arith, h.size 0)
+
+pub AgreesWith-new : (limits : Limits) → AreLimits limits → AgreesWith [] (empty limits)
+AgreesWith-new limits are = record {
+  legal = IsLegal-empty limits (omega (arith, are.history.0));
+  after = record { queue = refl; window = λ test. refl; members = tt; greatest = refl; up = refl; entries = refl };
 }
 
 pub KeepsRoom-new : (limits : Limits) → AreLimits limits → KeepsRoom (empty limits)

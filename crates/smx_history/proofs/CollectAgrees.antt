@@ -18,7 +18,7 @@ use Rattle.smx_history.proofs.Room.{KeepsRoom}
 use Rattle.smx_history.specs.Replies.{member_with}
 use Rattle.smx_history.proofs.Updates.{collected, with_row}
 use Rattle.smx_history.proofs.Growing.{filter_push, AtEachPrefix-whole}
-use Rattle.smx_history.proofs.Frames.{takes-other, accepts_of-other, admits-other, present-other, unanswered-other}
+use Rattle.smx_history.proofs.Frames.{takes-other, accepts_of-other, admits-other, present-other, unanswered-other, is_up-other}
 use Rattle.smx_history.proofs.Reading.{marks_of-push, entries_of-push, shown-kept, responses_are_answers, responses-other, places-kept}
 use Rattle.smx_history.proofs.Sizes.{found_admit, present_served}
 use Rattle.smx_history.proofs.Keeping.{one_row}
@@ -103,6 +103,7 @@ IsAfter-collected h v by c r m a rise found some =
           (λ x y same only is. member-collected h by c r.ordinal x y a.legal.rules.pairing same (let y' = only same in omega (arith, ap (λ (z : Member). z.pending) y', some)) is)
           (λ x y apart is. member-collected_other h by c r.ordinal x y a.legal.rules.pairing apart is) (present es) v.members (one_row v.members c 0 m rise found) a.after.members);
       greatest = rw (push, admits-other es e refl) a.after.greatest;
+      up = rw (push, is_up-other es e refl) a.after.up;
       entries = rw (marks_of-push h n e refl, stored-push (marks_of h) e) (ap (λ xs. xs ++ e ∷ []) a.after.entries);
     }
 

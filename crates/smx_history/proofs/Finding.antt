@@ -76,7 +76,7 @@ refusal_same h v c a =
       | None ↦ λ found. rw (absent h v c a found) refl
       | Some m ↦ λ found.
           let row = row_found h v c m a found in
-          rw (row.present, row.pending, room_same h v a, a.after.queue) refl
+          rw (row.present, row.pending, room_same h v a, a.after.queue, a.after.up) refl
     ]) refl
 
 pub admit_refusal_same : (h : List Note) (v : Content) (c : ℕ) → AgreesWith h v → admit_refusal v c ≡ admit_refusal_after v.limits h c
@@ -85,7 +85,7 @@ admit_refusal_same h v c a = rw (a.after.greatest, room_same h v a) refl
 
 pub take_refusal_same : (h : List Note) (v : Content) → AgreesWith h v → take_refusal v ≡ take_refusal_after v.limits h
 unfolding take_refusal_after
-take_refusal_same h v a = rw (a.after.queue, length-same (window_after h) v.window a.after.window) refl
+take_refusal_same h v a = rw (a.after.queue, length-same (window_after h) v.window a.after.window, a.after.up) refl
 
 -- the oldest response of a client
 pub oldest_same : (h : List Note) (v : Content) (c : ℕ) → AgreesWith h v → oldest_in (member_with c v.members) ≡ slice_get (waiting_after h c) 0

@@ -7,7 +7,7 @@ use Rattle.smx_history.specs.declared.entry.Entry.{Entry}
 use Rattle.smx_history.specs.declared.entry.Kind.TheVariants as kind
 use Rattle.smx_history.specs.declared.limits.Limits.{Limits}
 use Rattle.smx_history.specs.Prefixes.{last_or}
-use Rattle.smx_history.specs.Entries.{is_admit, is_accept, is_take, is_answer, is_collect, is_retire, is_settling, name_of, accepts, takes, accepts_of, collects_of}
+use Rattle.smx_history.specs.Entries.{is_admit, is_accept, is_take, is_answer, is_collect, is_retire, is_settling, name_of, accepts, takes, accepts_of, collects_of, is_up}
 use Rattle.smx_history.specs.Legal.{KeepsRules, IsFifo, AreApart, IsBounded, IsServed}
 use Rattle.smx_history.proofs.Fitting.{Fits}
 use Rattle.smx_history.proofs.Growing.{filter_push, filter_other, AtEachPrefix-whole, RiseAbove-push, StartsWith-more}
@@ -30,6 +30,7 @@ ordinals_accepted c es e k same = ap (map (λ (x : Entry). x.ordinal)) (accepted
 pub record MayAccept (limits : Limits) (es : List Entry) (e : Entry) : Type 0 where
   pub forwarded : is_forwarded e.command ≡ true
   pub served : IsServed es e
+  pub up : is_up es ≡ true
   pub rises : last_or 0 (map (λ x. x.ordinal) (accepts_of e.client es)) < e.ordinal
   pub queue : length (accepts es) < length (takes es) + limits.queue
   pub client : length (accepts_of e.client es) < length (collects_of e.client es) + limits.client
@@ -53,7 +54,7 @@ accept_fit limits es e legal k p =
         settlings = settlings_kept es e (ap is_settling k) legal.once;
       };
       membership = membership_kept es e (ap is_admit k) (ap is_retire k) legal.membership;
-      standing = StandsWell-by es e kind.Accept k p.served;
+      standing = StandsWell-by es e kind.Accept k (p.served, p.up);
       pairing = IsPaired-by es e kind.Accept k tt;
       apart = apart_kept es e (ap is_take k) (ap is_settling k) (AtEachPrefix-whole AreApart es legal.apart);
       bounds = record {

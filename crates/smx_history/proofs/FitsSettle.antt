@@ -8,7 +8,8 @@ use Rattle.smx_history.specs.declared.entry.Entry.{Entry}
 use Rattle.smx_history.specs.declared.entry.Kind.{Kind}
 use Rattle.smx_history.specs.declared.entry.Kind.TheVariants as kind
 use Rattle.smx_history.specs.declared.limits.Limits.{Limits}
-use Rattle.smx_history.specs.Entries.{is_admit, is_accept, is_take, is_answer, is_collect, is_retire, is_settling, has_name, takes, answers_of, collects_of, is_retired, is_settled, unanswered}
+use Rattle.smx_history.specs.Entries.{is_admit, is_accept, is_take, is_answer, is_collect, is_retire, is_settling, has_name, takes, answers_of, collects_of, is_retired, is_settled, unanswered, command_of}
+use Rattle.smx_history.specs.Failures.{failure_command}
 use Rattle.smx_history.specs.Legal.{KeepsRules, IsFifo, IsOnce, AreApart, IsBounded, Answers}
 use Rattle.smx_history.proofs.Fitting.{Fits}
 use Rattle.smx_history.proofs.Growing.{AtEachPrefix-whole, StartsWith-more}
@@ -32,6 +33,9 @@ settles_answer k is = record { settling = ap is_settling is; admit = ap is_admit
 
 pub settles_late : (k : Kind) → k ≡ kind.Late → Settles k
 settles_late k is = record { settling = ap is_settling is; admit = ap is_admit is; accept = ap is_accept is; take = ap is_take is; collect = ap is_collect is; retire = ap is_retire is }
+
+pub settles_fail : (k : Kind) → k ≡ kind.Fail → Settles k
+settles_fail k is = record { settling = ap is_settling is; admit = ap is_admit is; accept = ap is_accept is; take = ap is_take is; collect = ap is_collect is; retire = ap is_retire is }
 
 -- the takes without an answer are those that were, without that of the name
 pub unanswered_settled : (es : List Entry) (e : Entry) → Settles e.kind → unanswered (es ++ e ∷ []) ≡ filter (λ t. not (has_name e.client e.ordinal t)) (unanswered es)
@@ -67,7 +71,7 @@ settles_once es e s none h c n =
           omega (arith, count_other (λ x. is_settling x.kind && has_name c n x) es e (and_right (is_settling e.kind) (has_name c n e) apart), h.settlings c n)
     ]
 
--- what is the same for an answer in time and for one that is late
+-- what is the same for an answer in time, for one that is late and for a failure
 record FitsBut (limits : Limits) (es : List Entry) (e : Entry) : Type 0 where
   fifo : IsFifo (es ++ e ∷ [])
   once : IsOnce (es ++ e ∷ [])
@@ -124,6 +128,21 @@ late_fit limits es e legal k p gone =
       membership = membership_kept es e s.admit s.retire legal.membership;
       standing = StandsWell-by es e kind.Late k gone;
       pairing = IsPaired-by es e kind.Late k p;
+      apart = but.apart;
+      bounds = but.bounds;
+    }
+
+pub fail_fit : (limits : Limits) (es : List Entry) (e : Entry) → KeepsRules limits es → e.kind ≡ kind.Fail → Answers es e → e.command ≡ failure_command (command_of e.client e.ordinal es) → Fits limits es e
+fail_fit limits es e legal k p command =
+    let s = settles_fail e.kind k in
+    let but = settle_but limits es e legal s p in
+    record {
+      form = HasForm-by e kind.Fail k tt;
+      fifo = but.fifo;
+      once = but.once;
+      membership = membership_kept es e s.admit s.retire legal.membership;
+      standing = StandsWell-by es e kind.Fail k tt;
+      pairing = IsPaired-by es e kind.Fail k (p, command);
       apart = but.apart;
       bounds = but.bounds;
     }

@@ -8,7 +8,7 @@ use Rattle.smx_history.specs.declared.entry.Entry.{Entry}
 use Rattle.smx_history.specs.declared.entry.Kind.TheVariants as kind
 use Rattle.smx_history.specs.declared.limits.Limits.{Limits}
 use Rattle.smx_history.specs.Prefixes.{AtEach}
-use Rattle.smx_history.specs.Entries.{is_admit, is_accept, is_take, is_answer, is_collect, is_retire, is_settling, name_of, has_name, accepts, takes, is_settled, unanswered}
+use Rattle.smx_history.specs.Entries.{is_admit, is_accept, is_take, is_answer, is_collect, is_retire, is_settling, name_of, has_name, accepts, takes, is_settled, unanswered, is_up}
 use Rattle.smx_history.specs.Legal.{KeepsRules, IsFifo, AreApart, IsBounded, IsPaired}
 use Rattle.smx_history.proofs.Fitting.{Fits, is_taken}
 use Rattle.smx_history.proofs.Growing.{filter_push, AtEachPrefix-whole}
@@ -51,6 +51,7 @@ pub record MayTake (limits : Limits) (es : List Entry) (e : Entry) : Type 0 wher
   pub first : is_taken e.client e.ordinal es ≡ false
   pub free : count_by (λ x. x.number == e.number) (unanswered es) ≡ 0
   pub window : length (unanswered es) < limits.window
+  pub up : is_up es ≡ true
 
 takes_once : (es : List Entry) (e : Entry) → e.kind ≡ kind.Take → is_taken e.client e.ordinal es ≡ false → ((c n : ℕ) → count_by (λ x. is_take x.kind && has_name c n x) es ≤ 1) → (c n : ℕ) → count_by (λ x. is_take x.kind && has_name c n x) (es ++ e ∷ []) ≤ 1
 takes_once es e k none few c n =
@@ -82,7 +83,7 @@ take_fit limits es e legal k p =
         settlings = settlings_kept es e (ap is_settling k) legal.once;
       };
       membership = membership_kept es e (ap is_admit k) (ap is_retire k) legal.membership;
-      standing = StandsWell-by es e kind.Take k tt;
+      standing = StandsWell-by es e kind.Take k p.up;
       pairing = IsPaired-by es e kind.Take k (p.positive, p.within);
       apart = rw (push, map-append (λ x. x.number) (unanswered es) (e ∷ []))
           (IsDistinct-push (map (λ x. x.number) (unanswered es)) e.number (AtEachPrefix-whole AreApart es legal.apart) (none_numbered e.number (unanswered es) p.free));

@@ -1,10 +1,12 @@
 -- What an entry of another kind leaves as it is.
 use Rattle.std.proofs.lemmas.Bool.{false_from_ne_true, both_ways, and_left}
-use Rattle.smx_history.proofs.Growing.{any_kept, filter_other, any_other}
-use Rattle.std.proofs.Common.{◌≡◌, ◌-◌, ◌==◌, ℕ, false, not, ◌&&◌, List, [], ◌∷◌, ◌++◌, length, ◌∙◌, ap, filter, sum_by}
+use Rattle.smx_history.proofs.Growing.{any_kept, filter_other, filter_push, any_other, last_or-push}
+use Rattle.std.proofs.lemmas.List.{map-append}
+use Rattle.std.proofs.Common.{true, map, ◌≡◌, ◌-◌, ◌==◌, ℕ, false, not, ◌&&◌, List, [], ◌∷◌, ◌++◌, length, ◌∙◌, ap, filter, sum_by}
 use Rattle.std.proofs.lemmas.List.Elements.{filter_agree}
 use Rattle.smx_history.specs.declared.entry.Entry.{Entry}
-use Rattle.smx_history.specs.Entries.{is_admit, is_accept, is_take, is_answer, is_collect, is_retire, is_settling, has_name, admits, accepts, takes, accepts_of, answers_of, collects_of, is_retired, unanswered, is_settled, present}
+use Rattle.smx_history.specs.Entries.{is_admit, is_accept, is_take, is_answer, is_collect, is_retire, is_settling, has_name, admits, accepts, takes, accepts_of, answers_of, collects_of, is_retired, unanswered, is_settled, present, is_link, is_rise, is_up}
+use Rattle.smx_history.specs.Prefixes.{last_or}
 use Rattle.smx_history.specs.Legal.{waiting}
 
 pub accepts_of-other : (c : ℕ) (es : List Entry) (e : Entry) → is_accept e.kind ≡ false → accepts_of c (es ++ e ∷ []) ≡ accepts_of c es
@@ -40,6 +42,15 @@ pub present-other : (es : List Entry) (e : Entry) → is_admit e.kind ≡ false 
 present-other es e a r =
     ap (filter (λ x. not (is_retired x.client (es ++ e ∷ [])))) (admits-other es e a)
     ∙ filter_agree (λ x. not (is_retired x.client (es ++ e ∷ []))) (λ x. not (is_retired x.client es)) (λ x. ap not (is_retired-other x.client es e r)) (admits es)
+
+pub is_up-other : (es : List Entry) (e : Entry) → is_link e.kind ≡ false → is_up (es ++ e ∷ []) ≡ is_up es
+is_up-other es e h = ap (λ xs. last_or true (map (λ (x : Entry). is_rise x.kind) xs)) (filter_other (λ x. is_link x.kind) es e h)
+
+pub is_up-push : (es : List Entry) (e : Entry) → is_link e.kind ≡ true → is_up (es ++ e ∷ []) ≡ is_rise e.kind
+is_up-push es e h =
+    ap (λ xs. last_or true (map (λ (x : Entry). is_rise x.kind) xs)) (filter_push (λ x. is_link x.kind) es e h)
+    ∙ ap (last_or true) (map-append (λ x. is_rise x.kind) (filter (λ x. is_link x.kind) es) (e ∷ []))
+    ∙ last_or-push true (map (λ x. is_rise x.kind) (filter (λ x. is_link x.kind) es)) (is_rise e.kind)
 
 pub sum_by-agree : {X : Type 0} (f g : X → ℕ) → ((x : X) → f x ≡ g x) → (xs : List X) → sum_by f xs ≡ sum_by g xs
 sum_by-agree f g h xs = ap (λ k. sum_by k xs) (λ i x. h x i)

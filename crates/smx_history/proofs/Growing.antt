@@ -78,7 +78,7 @@ pub RiseAbove-push : (low : ℕ) (xs : List ℕ) (x : ℕ) → RiseAbove low xs 
 RiseAbove-push low [] x rise above = (above, tt)
 RiseAbove-push low (y ∷ xs) x rise above = (rise.0, RiseAbove-push y xs x rise.1 above)
 
-pub last_or-push : (low : ℕ) (xs : List ℕ) (x : ℕ) → last_or low (xs ++ x ∷ []) ≡ x
+pub last_or-push : {X : Type 0} (low : X) (xs : List X) (x : X) → last_or low (xs ++ x ∷ []) ≡ x
 last_or-push low [] x = refl
 last_or-push low (y ∷ xs) x = last_or-push y xs x
 

@@ -1,10 +1,11 @@
 -- A late answer takes a lane that agrees with a history to one that agrees with the longer history.
 use Rattle.std.proofs.Common.{◌≡◌, ◌<◌, ◌==◌, ℕ, Bool, true, false, cond, List, [], ◌∷◌, ◌++◌, length, get_or, refl, sym, ◌∙◌, ap, arith, inl, inr, Some, None}
 use Rattle.std.specs.List.{AllByRecursion, AllZip}
-use Rattle.std.proofs.lemmas.Bool.{cases_Bool}
+use Rattle.std.proofs.lemmas.Bool.{cases_Bool, eqb-false}
 use Rattle.smx_pdu.specs.declared.pdu.Pdu.{Pdu}
 use Rattle.smx_history.specs.declared.note.Event.TheVariants.{Late}
 use Rattle.smx_history.specs.declared.entry.Entry.{Entry}
+use Rattle.smx_history.specs.declared.entry.Kind.TheVariants as kind
 use Rattle.smx_history.specs.declared.place.Place.{Place}
 use Rattle.smx_history.specs.declared.note.Note.{Note}
 use Rattle.smx_pdu.specs.Command.{is_response_to}
@@ -13,16 +14,17 @@ use Rattle.smx_history.specs.History.{entry_by, note, entries_of, marks_of}
 use Rattle.smx_history.specs.Contents.{AgreesWith, IsAfter, IsMemberAfter, Content, Member}
 use Rattle.smx_history.proofs.Room.{KeepsRoom}
 use Rattle.smx_history.specs.Replies.{member_with}
-use Rattle.smx_history.proofs.Updates.{late}
+use Rattle.smx_history.proofs.Updates.{settled_late, late}
 use Rattle.smx_history.proofs.Counts.{none_count}
-use Rattle.smx_history.proofs.Frames.{takes-other, admits-other, present-other}
+use Rattle.smx_history.proofs.Frames.{takes-other, admits-other, present-other, is_up-other}
 use Rattle.smx_history.proofs.Reading.{marks_of-push, entries_of-push}
 use Rattle.smx_history.proofs.Taking.{any_none}
 use Rattle.smx_history.proofs.SettleAgrees.{place_taken, place_answers, window-settled, within-after}
 use Rattle.smx_history.proofs.FitsSettle.{settles_late, late_fit}
 use Rattle.smx_history.proofs.Shifting.{IsLegal-next, stored-push}
 use Rattle.smx_history.proofs.Presence.{present_once, accepted_admitted}
-use Rattle.smx_history.proofs.TakeAgrees.{IsMemberAfter-other, requests-other, zip-each}
+use Rattle.smx_history.proofs.TakeAgrees.{IsMemberAfter-other, requests-other}
+use Rattle.smx_history.proofs.AnswerAgrees.{SettlesPlace}
 
 -- with no row of the client, no admit of it is present
 no_present : (h : List Note) (c : ℕ) (us : List Entry) (ms : List Member) → AllZip (IsMemberAfter h) us ms → member_with c ms ≡ None → AllByRecursion (λ a. (a.client == c) ≡ false) us
@@ -47,28 +49,44 @@ retired_if_gone h v c n a accepted none =
           absurd (omega (arith, once, none_count (λ (x : Entry). x.client == c) (present es) nobody))
     ]
 
--- what the lane holds after a late answer
-pub IsAfter-late : (h : List Note) (v : Content) (by : ℕ) (p : Pdu) (q : Place) (i : ℕ) → AgreesWith h v → i < length v.window → q ≡ get_or v.window i q → IsAfter (h ++ note by (Late q.client q.ordinal p.number p.command) ∷ []) (late v by p q i)
-IsAfter-late h v by p q i a within is =
+-- rows of which none is the client's
+zip-apart : {X : Type 0} (R S : X → Member → Type 0) (c : ℕ) → ((x : X) (m : Member) → (m.client ≡ c → ⊥) → R x m → S x m) → (xs : List X) (ms : List Member) → AllZip R xs ms → member_with c ms ≡ None → AllZip S xs ms
+zip-apart R S c f [] [] z none = z
+zip-apart R S c f [] (m ∷ ms) z none = z
+zip-apart R S c f (x ∷ xs) [] z none = z
+zip-apart R S c f (x ∷ xs) (m ∷ ms) z none = zip-apart_at (m.client == c) refl none (zip-apart R S c f xs ms z.1)
+  where
+    zip-apart_at : (b : Bool) → (m.client == c) ≡ b → cond b (Some m) (member_with c ms) ≡ None → (member_with c ms ≡ None → AllZip S xs ms) → AllZip S (x ∷ xs) (m ∷ ms)
+    zip-apart_at true e none' later = cc
+    zip-apart_at false e none' later = (f x m (eqb-false m.client c e) z.0, later none')
+
+-- what the lane holds after a note that settles a place whose client has retired
+pub IsAfter-settled_late : (h : List Note) (v : Content) (n : Note) (e : Entry) (q : Place) (i : ℕ) → SettlesPlace n e q → AgreesWith h v → i < length v.window → q ≡ get_or v.window i q → member_with q.client v.members ≡ None → IsAfter (h ++ n ∷ []) (settled_late v e i)
+IsAfter-settled_late h v n e q i b a within is gone =
     let es = entries_of h in
-    let e = entry_by by (Late q.client q.ordinal p.number p.command) in
-    let n = note by (Late q.client q.ordinal p.number p.command) in
-    let push = entries_of-push h n e refl in
+    let push = entries_of-push h n e b.entry in
+    let s = b.settles in
     record {
-      queue = rw (push, takes-other es e refl, requests-other h n refl) a.after.queue;
-      window = rw push (window-settled h v e q i a (settles_late e.kind refl) refl refl within is);
-      members = rw (push, present-other es e refl refl)
-          (zip-each (IsMemberAfter h) (IsMemberAfter (h ++ n ∷ [])) (λ x m is. IsMemberAfter-other h n e x m refl refl refl refl a.legal.rules.pairing is) (present es) v.members a.after.members);
-      greatest = rw (push, admits-other es e refl) a.after.greatest;
-      entries = rw (marks_of-push h n e refl, stored-push (marks_of h) e) (ap (λ xs. xs ++ e ∷ []) a.after.entries);
+      queue = rw (push, takes-other es e s.take, requests-other h n b.request) a.after.queue;
+      window = rw push (window-settled h v e q i a s b.client b.ordinal within is);
+      members = rw (push, present-other es e s.admit s.retire)
+          (zip-apart (IsMemberAfter h) (IsMemberAfter (h ++ n ∷ [])) q.client
+          (λ x m apart was. IsMemberAfter-other h n e x m b.entry s.accept s.collect (b.others x.client (λ of. apart (was.client ∙ sym of))) a.legal.rules.pairing was)
+          (present es) v.members a.after.members gone);
+      greatest = rw (push, admits-other es e s.admit) a.after.greatest;
+      up = rw (push, is_up-other es e b.link) a.after.up;
+      entries = rw (marks_of-push h n e b.entry, stored-push (marks_of h) e) (ap (λ xs. xs ++ e ∷ []) a.after.entries);
     }
+
+late_settles : (by : ℕ) (p : Pdu) (q : Place) → SettlesPlace (note by (Late q.client q.ordinal p.number p.command)) (entry_by by (Late q.client q.ordinal p.number p.command)) q
+late_settles by p q = record { entry = refl; settles = settles_late kind.Late refl; link = refl; client = refl; ordinal = refl; request = refl; others = λ c apart. refl }
 
 pub AgreesWith-late : (h : List Note) (v : Content) (by : ℕ) (p : Pdu) (q : Place) (i : ℕ) → AgreesWith h v → i < length v.window → q ≡ get_or v.window i q → q.upstream ≡ p.number → is_response_to q.command p.command ≡ true → member_with q.client v.members ≡ None → KeepsRoom (late v by p q i) → AgreesWith (h ++ note by (Late q.client q.ordinal p.number p.command) ∷ []) (late v by p q i)
 AgreesWith-late h v by p q i a within is number command gone room =
     let es = entries_of h in
     let e = entry_by by (Late q.client q.ordinal p.number p.command) in
     let n = note by (Late q.client q.ordinal p.number p.command) in
-    let after = IsAfter-late h v by p q i a within is in
+    let after = IsAfter-settled_late h v n e q i (late_settles by p q) a within is gone in
     let place = place_taken h v i q a within is in
     let p' = place_answers es q e place refl refl number command in
     record {

@@ -17,6 +17,7 @@ pub mod TakeAgrees
 pub mod SettleAgrees
 pub mod AnswerAgrees
 pub mod LateAgrees
+pub mod FailAgrees
 pub mod CollectAgrees
 pub mod Unseen
 pub mod AdmitAgrees
@@ -37,3 +38,4 @@ pub mod Shifting
 pub mod ShiftAgrees
 pub mod Joining
 pub mod Unchanged
+pub mod LinkAgrees

@@ -9,7 +9,7 @@ use Rattle.std.proofs.lemmas.Option.{slice_get_within, get_or_from_slice_get}
 use Rattle.smx_history.specs.declared.entry.Kind.{Kind}
 use Rattle.smx_history.specs.declared.entry.Kind.TheVariants as kind
 use Rattle.smx_history.specs.declared.note.Event.{Event}
-use Rattle.smx_history.specs.declared.note.Event.TheVariants.{Admit, Accept, Take, Answer, Late, Collect, Retire}
+use Rattle.smx_history.specs.declared.note.Event.TheVariants.{Admit, Accept, Take, Answer, Late, Collect, Retire, Fail, Down, Up}
 use Rattle.smx_history.specs.declared.entry.Entry.{Entry}
 use Rattle.smx_history.specs.declared.note.Note.{Note}
 use Rattle.smx_history.specs.declared.response.Response.{Response}
@@ -20,6 +20,7 @@ use Rattle.smx_history.specs.History.{entry_by, entry_in, marks_of, entries_of, 
 use Rattle.smx_history.specs.Contents.{place_of, shown}
 use Rattle.smx_history.proofs.Growing.{any_kept}
 use Rattle.smx_history.specs.Shifts.{noted}
+use Rattle.smx_history.specs.Failures.{failure}
 use Rattle.smx_history.proofs.Shifting.{noted-push}
 use Rattle.std.specs.Option.{option_map}
 
@@ -36,6 +37,9 @@ requests-cons by (Some (Answer c n p)) h same = same
 requests-cons by (Some (Late c n u k)) h same = same
 requests-cons by (Some (Collect c n)) h same = same
 requests-cons by (Some (Retire c)) h same = same
+requests-cons by (Some (Fail c n u k)) h same = same
+requests-cons by (Some Down) h same = same
+requests-cons by (Some Up) h same = same
 
 -- the requests are those of the accepts
 pub requests_are_accepts : (h : List Note) → map (λ r. entry_by 0 (Accept r)) (requests h) ≡ map unsigned (accepts (entries_of h))
@@ -59,6 +63,13 @@ responses-cons c by (Some (Answer d n p)) h same =
 responses-cons c by (Some (Late d n u k)) h same = same
 responses-cons c by (Some (Collect d n)) h same = same
 responses-cons c by (Some (Retire d)) h same = same
+responses-cons c by (Some (Fail d n u k)) h same =
+    elim (d == c) as (λ b. map (λ r. r.ordinal) (cons_option (cond b (Some (record { ordinal = n; pdu = failure k u })) None) (responses c h)) ≡ map (λ e. e.ordinal) (cond b (entry_by by (Fail d n u k) ∷ answers_of c (entries_of h)) (answers_of c (entries_of h)))) [
+      | true ↦ ap (λ ns. n ∷ ns) same
+      | false ↦ same
+    ]
+responses-cons c by (Some Down) h same = same
+responses-cons c by (Some Up) h same = same
 
 -- the responses of a client are those of its answers
 pub responses_are_answers : (c : ℕ) (h : List Note) → map (λ r. r.ordinal) (responses c h) ≡ map (λ e. e.ordinal) (answers_of c (entries_of h))
@@ -118,6 +129,9 @@ takes_accepted es fifo =
 
 pub answer_accepted : (kind : Kind) (es : List Entry) (e : Entry) → IsPaired kind es e → is_answer kind ≡ true → is_accepted e.client e.ordinal es ≡ true
 answer_accepted kind.Answer es e paired passes = paired.accepted
+answer_accepted kind.Fail es e paired passes = paired.0.accepted
+answer_accepted kind.Down es e paired passes = cc
+answer_accepted kind.Up es e paired passes = cc
 answer_accepted kind.Admit es e paired passes = cc
 answer_accepted kind.Accept es e paired passes = cc
 answer_accepted kind.Take es e paired passes = cc

@@ -1,7 +1,7 @@
 -- Which refusal `accept_refusal` is, from what the code tests.
 use Rattle.std.proofs.Common.{◌≡◌, ◌<◌, ◌≤◌, ◌+◌, Bool, true, false, length, refl, sym, ◌∙◌, Some, None, inl, inr}
-use Rattle.std.proofs.lemmas.Bool.{le-leb, lt-leb, leb-true, cases_lt}
-use Rattle.smx_history.specs.declared.reply.Refusal.TheVariants.{ClientFull, QueueFull, HistoryFull}
+use Rattle.std.proofs.lemmas.Bool.{le-leb, lt-leb, leb-true, cases_lt, cases_Bool}
+use Rattle.smx_history.specs.declared.reply.Refusal.TheVariants.{ClientFull, QueueFull, HistoryFull, Down}
 use Rattle.smx_history.specs.Contents.{Content, Member, size_of}
 use Rattle.smx_history.specs.Replies.{has_room, refusal_for}
 
@@ -14,17 +14,25 @@ refused_queue v m p h = rw (lt-leb v.limits.client m.pending p, le-leb v.limits.
 pub refused_history : (v : Content) (m : Member) → m.pending < v.limits.client → length v.queue < v.limits.queue → has_room v ≡ false → refusal_for v (Some m) ≡ Some HistoryFull
 refused_history v m p q h = rw (lt-leb v.limits.client m.pending p, lt-leb v.limits.queue (length v.queue) q, h) refl
 
-pub not_refused : (v : Content) (m : Member) → m.pending < v.limits.client → length v.queue < v.limits.queue → has_room v ≡ true → refusal_for v (Some m) ≡ None
-not_refused v m p q h = rw (lt-leb v.limits.client m.pending p, lt-leb v.limits.queue (length v.queue) q, h) refl
+pub not_refused : (v : Content) (m : Member) → m.pending < v.limits.client → length v.queue < v.limits.queue → has_room v ≡ true → v.up ≡ true → refusal_for v (Some m) ≡ None
+not_refused v m p q h up = rw (lt-leb v.limits.client m.pending p, lt-leb v.limits.queue (length v.queue) q, h, up) refl
+
+pub refused_down : (v : Content) (m : Member) → m.pending < v.limits.client → length v.queue < v.limits.queue → has_room v ≡ true → v.up ≡ false → refusal_for v (Some m) ≡ Some Down
+refused_down v m p q h down = rw (lt-leb v.limits.client m.pending p, lt-leb v.limits.queue (length v.queue) q, h, down) refl
 
 -- what a request that is not refused meets
 pub record IsAllowed (v : Content) (m : Member) : Type 0 where
   pub client : m.pending < v.limits.client
   pub queue : length v.queue < v.limits.queue
   pub history : size_of v + 4 ≤ v.limits.history
+  pub up : v.up ≡ true
 
 allowed_history : (v : Content) (m : Member) (b : Bool) → has_room v ≡ b → m.pending < v.limits.client → length v.queue < v.limits.queue → refusal_for v (Some m) ≡ None → IsAllowed v m
-allowed_history v m true e p q h = record { client = p; queue = q; history = leb-true _ _ e }
+allowed_history v m true e p q h =
+    elim (cases_Bool v.up) [
+      | inl up ↦ record { client = p; queue = q; history = leb-true _ _ e; up = up }
+      | inr down ↦ absurd (let x : Some Down ≡ None = sym (refused_down v m p q e down) ∙ h in cc)
+    ]
 allowed_history v m false e p q h = absurd (let x : Some HistoryFull ≡ None = sym (refused_history v m p q e) ∙ h in cc)
 
 pub allowed : (v : Content) (m : Member) → refusal_for v (Some m) ≡ None → IsAllowed v m

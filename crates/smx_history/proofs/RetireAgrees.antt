@@ -21,7 +21,7 @@ use Rattle.smx_history.proofs.Updates.{retired, without}
 use Rattle.smx_history.proofs.Reading.{marks_of-push, entries_of-push, places-kept, All-kept}
 use Rattle.smx_history.proofs.Sizes.{found_admit, present_served}
 use Rattle.smx_history.proofs.Growing.{AtEachPrefix-whole}
-use Rattle.smx_history.proofs.Frames.{takes-other, admits-other, unanswered-other}
+use Rattle.smx_history.proofs.Frames.{takes-other, admits-other, unanswered-other, is_up-other}
 use Rattle.smx_history.proofs.TakeAgrees.{IsMemberAfter-other, zip-each, requests-other}
 
 -- part of what rises rises
@@ -100,6 +100,7 @@ IsAfter-retired h v by c a =
           (zip-each (IsMemberAfter h) (IsMemberAfter (h ++ n ∷ [])) (λ x y is. IsMemberAfter-other h n e x y refl refl refl refl a.legal.rules.pairing is)
           (filter (λ x. not (x.client == c)) (present es)) (without c v.members) (zip-without h c (present es) v.members a.after.members));
       greatest = rw (push, admits-other es e refl) a.after.greatest;
+      up = rw (push, is_up-other es e refl) a.after.up;
       entries = rw (marks_of-push h n e refl, stored-push (marks_of h) e) (ap (λ xs. xs ++ e ∷ []) a.after.entries);
     }
 

@@ -1,20 +1,19 @@
--- An answer keeps the room.
+-- What settles a place keeps the room.
 use Rattle.std.proofs.Common.{◌≡◌, ◌<◌, ◌≤◌, ◌+◌, ◌-◌, ◌==◌, ℕ, true, false, cond, List, [], ◌∷◌, ◌++◌, length, map, drop, get_or, refl, sym, ap, arith, sum_by, length-append, length-drop, Some, suc, subst, inl, inr}
-use Rattle.std.specs.List.{remove}
 use Rattle.std.proofs.lemmas.List.Sums.{sum_by-cons}
 use Rattle.std.proofs.lemmas.List.Edits.{length-remove}
 use Rattle.std.proofs.lemmas.Bool.{eq-eqb, ne_eqb, cases_eq}
 use Rattle.smx_pdu.specs.declared.pdu.Pdu.{Pdu}
 use Rattle.smx_history.specs.declared.place.Place.{Place}
 use Rattle.smx_history.specs.declared.entry.Entry.{Entry}
-use Rattle.smx_history.specs.declared.note.Event.TheVariants.{Answer, Collect}
+use Rattle.smx_history.specs.declared.note.Event.TheVariants.{Collect}
 use Rattle.smx_history.specs.declared.response.Response.{Response}
 use Rattle.smx_history.specs.Prefixes.{RiseAbove}
 use Rattle.smx_history.specs.History.{entry_by}
 use Rattle.smx_history.specs.Contents.{Content, Member}
 use Rattle.smx_history.proofs.Room.{KeepsRoom, FitsBox}
 use Rattle.smx_history.specs.Replies.{member_with}
-use Rattle.smx_history.proofs.Updates.{answered, collected, response_for, with_row}
+use Rattle.smx_history.proofs.Updates.{settled, settled_late, collected, response_for, with_row}
 use Rattle.smx_history.proofs.Members.{with_row-above}
 use Rattle.smx_history.proofs.Counts.{count_by-remove}
 use Rattle.smx_history.proofs.Keeping.{All-with_row, All-each, map-with_row, length-with_row, found_meets, one_row, All-both}
@@ -43,11 +42,11 @@ box_has_room v q i m k within is found =
     let one : cond (q.client == m.client) 1 0 ≡ suc 0 = ap {B = ℕ} (λ b. cond b 1 0) (eq-eqb q.client m.client (sym both.1)) in
     omega (arith, r, one, both.0.0, both.0.1)
 
-pub KeepsRoom-answered : (v : Content) (by : ℕ) (p : Pdu) (q : Place) (i : ℕ) (m : Member) → KeepsRoom v → i < length v.window → q ≡ get_or v.window i q → member_with q.client v.members ≡ Some m → KeepsRoom (answered v by p q i)
-KeepsRoom-answered v by p q i m k within is found =
+pub KeepsRoom-settled : (v : Content) (e : Entry) (p : Pdu) (q : Place) (i : ℕ) (m : Member) → KeepsRoom v → i < length v.window → q ≡ get_or v.window i q → member_with q.client v.members ≡ Some m → KeepsRoom (settled v e p q i)
+KeepsRoom-settled v e p q i m k within is found =
     let f : Member → Member = λ x. record x { waiting = x.waiting ++ response_for q p ∷ [] } in
     let w = length-remove v.window i within in
-    let e : length (v.entries ++ entry_by by (Answer q.client q.ordinal p) ∷ []) ≡ length v.entries + 1 = length-append v.entries (entry_by by (Answer q.client q.ordinal p) ∷ []) in
+    let n = length-append v.entries (e ∷ []) in
     let s : sum_by (λ x. length x.waiting) (with_row q.client f v.members) ≡ sum_by (λ x. length x.waiting) v.members + 1 =
     sum_one (λ x. length x.waiting) f q.client 0 m v.members (λ x. length-append x.waiting (response_for q p ∷ [])) k.clients found in
     let l : length (with_row q.client f v.members) ≡ length v.members = length-with_row f q.client v.members in
@@ -55,8 +54,8 @@ KeepsRoom-answered v by p q i m k within is found =
       limits = k.limits;
       queue = k.queue;
       window = omega (arith, w, k.window);
-      size = omega (arith, w, e, s, l, k.size);
-      boxes = All-with_row (FitsBox v) (FitsBox (answered v by p q i)) f q.client
+      size = omega (arith, w, n, s, l, k.size);
+      boxes = All-with_row (FitsBox v) (FitsBox (settled v e p q i)) f q.client
           (λ x same fits.
           let r = count_by-remove (λ y. y.client == x.client) v.window i q within is in
           let one : cond (q.client == x.client) 1 0 ≡ suc 0 = ap {B = ℕ} (λ b. cond b 1 0) (eq-eqb q.client x.client (sym same)) in
@@ -70,9 +69,9 @@ KeepsRoom-answered v by p q i m k within is found =
       clients = let P : List ℕ → Type 0 = λ cs. RiseAbove 0 cs in subst P (sym (map-with_row (λ x. x.client) f q.client (λ _. refl) v.members)) k.clients;
     }
 
--- a late answer keeps the room: a place goes, and an entry comes
-pub KeepsRoom-late : (v : Content) (e : Entry) (q : Place) (i : ℕ) → KeepsRoom v → i < length v.window → q ≡ get_or v.window i q → KeepsRoom (record v { window = remove v.window i; entries = v.entries ++ e ∷ [] })
-KeepsRoom-late v e q i k within is =
+-- where the client has retired, a place goes and an entry comes
+pub KeepsRoom-settled_late : (v : Content) (e : Entry) (q : Place) (i : ℕ) → KeepsRoom v → i < length v.window → q ≡ get_or v.window i q → KeepsRoom (settled_late v e i)
+KeepsRoom-settled_late v e q i k within is =
     let w = length-remove v.window i within in
     let n = length-append v.entries (e ∷ []) in
     record {
@@ -80,7 +79,7 @@ KeepsRoom-late v e q i k within is =
       queue = k.queue;
       window = omega (arith, w, k.window);
       size = omega (arith, w, n, k.size);
-      boxes = All-each (FitsBox v) (FitsBox (record v { window = remove v.window i; entries = v.entries ++ e ∷ [] }))
+      boxes = All-each (FitsBox v) (FitsBox (settled_late v e i))
           (λ x fits. let r = count_by-remove (λ y. y.client == x.client) v.window i q within is in (omega (arith, r, fits.0), fits.1)) v.members k.boxes;
       queue_known = k.queue_known;
       window_known = λ c above. let r = count_by-remove (λ y. y.client == c) v.window i q within is in omega (arith, r, k.window_known c above);

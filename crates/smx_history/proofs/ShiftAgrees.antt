@@ -42,6 +42,7 @@ AgreesWith-turned h v by a = record {
     window = rw (entries_of-shift h by) a.after.window;
     members = rw (entries_of-shift h by) (zip-each (IsMemberAfter h) (IsMemberAfter (h ++ shift by ∷ [])) (λ x m is. member-shifted h by x m is) (present (entries_of h)) v.members a.after.members);
     greatest = rw (entries_of-shift h by) a.after.greatest;
+    up = rw (entries_of-shift h by) a.after.up;
     entries = rw (marks_of-shift h by, stored-shift (marks_of h)) refl;
   };
 }

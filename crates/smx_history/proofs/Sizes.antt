@@ -54,7 +54,7 @@ waiting-zip h (a ∷ us) (m ∷ ms) z =
 pub size_agrees : (h : List Note) (v : Content) → IsAfter h v → size (marks_of h) ≡ size_of v
 size_agrees h v a =
     let w = waiting-zip h (present (entries_of h)) v.members a.members in
-    rw (← length-queue h v a, ← length-window h v a, ← length-members h v a, ← ap length a.entries, ← w) (omega arith)
+    rw (← length-queue h v a, ← length-window h v a, ← length-members h v a, ← ap length a.entries, ← w, ← a.up) (omega arith)
 
 -- the admit of a row that was found
 pub found_admit : (P : Entry → Type 0) (h : List Note) (c : ℕ) (m : Member) (us : List Entry) (ms : List Member) → AllZip (IsMemberAfter h) us ms → AllByRecursion P us → member_with c ms ≡ Some m → (a : Entry) × IsMemberAfter h a m × P a × (a.client ≡ c)

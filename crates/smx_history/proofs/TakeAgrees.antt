@@ -23,7 +23,7 @@ use Rattle.smx_history.specs.History.{entry_by, entry_in, note, marks_of, entrie
 use Rattle.smx_history.specs.Contents.{AgreesWith, IsMemberAfter, Content, Member, place_of, window_after}
 use Rattle.smx_history.proofs.Updates.{taken, place_for}
 use Rattle.smx_history.proofs.Growing.{filter_other, AtEachPrefix-whole}
-use Rattle.smx_history.proofs.Frames.{accepts-other, accepts_of-other, collects_of-other, admits-other, present-other, waiting-other}
+use Rattle.smx_history.proofs.Frames.{accepts-other, accepts_of-other, collects_of-other, admits-other, present-other, waiting-other, is_up-other}
 use Rattle.smx_history.proofs.Reading.{requests_are_accepts, unsigned, entries_of-push, marks_of-push, places-kept, shown-kept, responses-other, All-to_map, All-of_map}
 use Rattle.smx_history.proofs.Sizes.{length-window}
 
@@ -95,7 +95,7 @@ next_name es r y zs next =
 owed-taken : (es : List Entry) (by : ℕ) (r : Request) (u : ℕ) → is_settled r.client r.ordinal es ≡ false → length (takes es) < length (accepts es) → owed (es ++ entry_by by (Take r.client r.ordinal u) ∷ []) + 1 ≡ owed es
 owed-taken es by r u none lt =
     let e = entry_by by (Take r.client r.ordinal u) in
-    rw (unanswered_taken es e refl none, waiting-other es e refl refl refl refl, present-other es e refl refl, accepts-other es e refl, takes_push es e refl)
+    rw (unanswered_taken es e refl none, waiting-other es e refl refl refl refl, present-other es e refl refl, accepts-other es e refl, takes_push es e refl, is_up-other es e refl)
     (omega (arith, length-append es (e ∷ []), length-append (takes es) (e ∷ []), length-append (unanswered es) (e ∷ [])))
 
 -- the accept with the name of the next request is the next one
@@ -151,8 +151,8 @@ queue_taken k ts e queue all r rest n front q =
     let count : length (ts ++ e ∷ []) ≡ k + 1 = omega (arith, length-append ts (e ∷ []), n) in
     ap (drop 1) front ∙ sym (drop-next k all r rest (sym q ∙ front)) ∙ ap (λ j. drop j all) (sym count)
 
-AgreesWith-taken_at : (h : List Note) (v : Content) (by : ℕ) (r : Request) (rest : List Request) (u : ℕ) (y : Entry) (zs : List Entry) → IsNext (entries_of h) r y zs → AgreesWith h v → v.queue ≡ r ∷ rest → length v.window < v.limits.window → 0 < u → u ≤ 2147483644 → list_any (λ (p : Place). p.upstream == u) v.window ≡ false → AgreesWith (h ++ note by (Take r.client r.ordinal u) ∷ []) (taken v by r u)
-AgreesWith-taken_at h v by r rest u y zs next a front room positive within free =
+AgreesWith-taken_at : (h : List Note) (v : Content) (by : ℕ) (r : Request) (rest : List Request) (u : ℕ) (y : Entry) (zs : List Entry) → IsNext (entries_of h) r y zs → AgreesWith h v → v.queue ≡ r ∷ rest → length v.window < v.limits.window → v.up ≡ true → 0 < u → u ≤ 2147483644 → list_any (λ (p : Place). p.upstream == u) v.window ≡ false → AgreesWith (h ++ note by (Take r.client r.ordinal u) ∷ []) (taken v by r u)
+AgreesWith-taken_at h v by r rest u y zs next a front room up positive within free =
     let es = entries_of h in
     let e = entry_by by (Take r.client r.ordinal u) in
     let n = note by (Take r.client r.ordinal u) in
@@ -177,6 +177,7 @@ AgreesWith-taken_at h v by r rest u y zs next a front room positive within free 
       first = any-and es r.client r.ordinal none;
       free = count_numbered u (unanswered es) (free_numbers u (map (λ x. x.number) (unanswered es)) numbers);
       window = omega (arith, length-window h v a.after, room);
+      up = sym a.after.up ∙ up;
     } in
     let window : map (place_of (es ++ e ∷ [])) (unanswered es ++ e ∷ []) ≡ window_after h ++ place_for r u ∷ [] =
     map-append (place_of (es ++ e ∷ [])) (unanswered es) (e ∷ []) ∙ ap (λ xs. xs ++ place_of (es ++ e ∷ []) e ∷ []) (places-kept es (e ∷ []) fifo) ∙ ap (λ x. window_after h ++ x ∷ []) place in
@@ -188,12 +189,13 @@ AgreesWith-taken_at h v by r rest u y zs next a front room positive within free 
         members = rw (push, present-other es e refl refl)
             (zip-each (IsMemberAfter h) (IsMemberAfter (h ++ n ∷ [])) (λ x m is. IsMemberAfter-other h n e x m refl refl refl refl a.legal.rules.pairing is) (present es) v.members a.after.members);
         greatest = rw (push, admits-other es e refl) a.after.greatest;
+        up = rw (push, is_up-other es e refl) a.after.up;
         entries = rw (marks_of-push h n e refl, stored-push (marks_of h) e) (ap (λ xs. xs ++ e ∷ []) a.after.entries);
       };
     }
 
 -- a take takes a lane that agrees with a history to one that agrees with the longer one
-pub AgreesWith-taken : (h : List Note) (v : Content) (by : ℕ) (r : Request) (rest : List Request) (u : ℕ) → AgreesWith h v → v.queue ≡ r ∷ rest → length v.window < v.limits.window → 0 < u → u ≤ 2147483644 → list_any (λ (p : Place). p.upstream == u) v.window ≡ false → AgreesWith (h ++ note by (Take r.client r.ordinal u) ∷ []) (taken v by r u)
-AgreesWith-taken h v by r rest u a front room positive within free =
+pub AgreesWith-taken : (h : List Note) (v : Content) (by : ℕ) (r : Request) (rest : List Request) (u : ℕ) → AgreesWith h v → v.queue ≡ r ∷ rest → length v.window < v.limits.window → v.up ≡ true → 0 < u → u ≤ 2147483644 → list_any (λ (p : Place). p.upstream == u) v.window ≡ false → AgreesWith (h ++ note by (Take r.client r.ordinal u) ∷ []) (taken v by r u)
+AgreesWith-taken h v by r rest u a front room up positive within free =
     let w = next_accept h r rest (sym front ∙ a.after.queue) in
-    AgreesWith-taken_at h v by r rest u w.0 w.1 w.2 a front room positive within free
+    AgreesWith-taken_at h v by r rest u w.0 w.1 w.2 a front room up positive within free

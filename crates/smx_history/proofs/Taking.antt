@@ -71,6 +71,9 @@ filter_none p (x ∷ xs) h = rw (h.0, filter_none p xs h.1) refl
 settling_taken : (kind : Kind) (es : List Entry) (e : Entry) → IsPaired kind es e → is_settling kind ≡ true → list_any (λ t. is_take t.kind && (has_name e.client e.ordinal t && (t.number == e.number))) es ≡ true
 settling_taken kind.Answer es e paired h = paired.taken
 settling_taken kind.Late es e paired h = paired.taken
+settling_taken kind.Fail es e paired h = paired.0.taken
+settling_taken kind.Down es e paired h = cc
+settling_taken kind.Up es e paired h = cc
 settling_taken kind.Admit es e paired h = cc
 settling_taken kind.Accept es e paired h = cc
 settling_taken kind.Take es e paired h = cc

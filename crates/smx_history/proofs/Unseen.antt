@@ -41,13 +41,16 @@ is_own _ = false
 
 own_served : (k : Kind) (before : List Entry) (e : Entry) → StandsWell k before e → is_own k ≡ true → IsServed before e
 unfolding is_own
-own_served kind.Accept before e h own = h
+own_served kind.Accept before e h own = h.0
 own_served kind.Collect before e h own = h
 own_served kind.Retire before e h own = h
 own_served kind.Admit before e h own = cc
 own_served kind.Take before e h own = cc
 own_served kind.Answer before e h own = cc
 own_served kind.Late before e h own = cc
+own_served kind.Fail before e h own = cc
+own_served kind.Down before e h own = cc
+own_served kind.Up before e h own = cc
 
 none_own : (c : ℕ) (es : List Entry) → AtEach (λ before e. StandsWell e.kind before e) es → list_any (λ e. is_admit e.kind && (e.client == c)) es ≡ false → AllByRecursion (λ e. (is_own e.kind && (e.client == c)) ≡ false) es
 none_own c es standing none =
@@ -80,6 +83,9 @@ own_kind kind.Admit b h = (refl, refl, refl)
 own_kind kind.Take b h = (refl, refl, refl)
 own_kind kind.Answer b h = (refl, refl, refl)
 own_kind kind.Late b h = (refl, refl, refl)
+own_kind kind.Fail b h = (refl, refl, refl)
+own_kind kind.Down b h = (refl, refl, refl)
+own_kind kind.Up b h = (refl, refl, refl)
 
 pub unseen : (c : ℕ) (es : List Entry) → AtEach (λ before e. StandsWell e.kind before e) es → AtEach (λ before e. IsPaired e.kind before e) es → list_any (λ e. is_admit e.kind && (e.client == c)) es ≡ false → IsUnseen c es
 unseen c es standing paired none =

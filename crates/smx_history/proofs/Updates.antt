@@ -1,9 +1,11 @@
 -- What each call leaves, said of what the lane holds: what the code does, shown to agree with the history in the files named for each call.
-use Rattle.std.specs.Prelude.{◌+◌, ◌-◌, ◌==◌, ℕ, not, List, [], ◌∷◌, ◌++◌, map, drop, filter, if◌then◌else◌}
+use Rattle.std.specs.Prelude.{true, false, ◌+◌, ◌-◌, ◌==◌, ℕ, not, List, [], ◌∷◌, ◌++◌, map, drop, filter, if◌then◌else◌}
 use Rattle.std.specs.List.{remove}
 use Rattle.smx_history.specs.declared.limits.Limits.{Limits}
 use Rattle.smx_history.specs.declared.request.Request.{Request}
-use Rattle.smx_history.specs.declared.note.Event.TheVariants.{Admit, Accept, Take, Answer, Late, Collect, Retire}
+use Rattle.smx_history.specs.declared.note.Event.TheVariants.{Admit, Accept, Take, Answer, Late, Collect, Retire, Fail, Down, Up}
+use Rattle.smx_history.specs.declared.entry.Entry.{Entry}
+use Rattle.smx_history.specs.Failures.{failure_command, failure}
 use Rattle.smx_pdu.specs.declared.pdu.Pdu.{Pdu}
 use Rattle.smx_history.specs.declared.response.Response.{Response}
 use Rattle.smx_history.specs.declared.place.Place.{Place}
@@ -12,7 +14,7 @@ use Rattle.smx_history.specs.Contents.{Content, Member}
 
 -- what a new lane holds
 abbrev pub empty : Limits → Content
-empty limits = record { limits = limits; queue = []; window = []; members = []; greatest = 0; entries = [] }
+empty limits = record { limits = limits; queue = []; window = []; members = []; greatest = 0; up = true; entries = [] }
 
 -- the row of a client that was just admitted
 abbrev pub new_row : ℕ → ℕ → Member
@@ -65,20 +67,44 @@ taken v by r u = record v {
 abbrev pub response_for : Place → Pdu → Response
 response_for q p = record { ordinal = q.ordinal; pdu = record { command = p.command; status = p.status; number = q.own; body = p.body } }
 
--- what an answer to the place at that index leaves, where its client is present
-abbrev pub answered : Content → ℕ → Pdu → Place → ℕ → Content
-answered v by p q i = record v {
+-- what an entry that settles the place at that index leaves, where its client is present: it brings that response
+abbrev pub settled : Content → Entry → Pdu → Place → ℕ → Content
+settled v e p q i = record v {
   window = remove v.window i;
   members = with_row q.client (λ m. record m { waiting = m.waiting ++ response_for q p ∷ [] }) v.members;
-  entries = v.entries ++ entry_by by (Answer q.client q.ordinal p) ∷ [];
+  entries = v.entries ++ e ∷ [];
 }
 
--- what an answer to the place at that index leaves, where its client has retired
-abbrev pub late : Content → ℕ → Pdu → Place → ℕ → Content
-late v by p q i = record v {
+-- and where its client has retired
+abbrev pub settled_late : Content → Entry → ℕ → Content
+settled_late v e i = record v {
   window = remove v.window i;
-  entries = v.entries ++ entry_by by (Late q.client q.ordinal p.number p.command) ∷ [];
+  entries = v.entries ++ e ∷ [];
 }
+
+-- what an answer to the place at that index leaves, in time and late
+abbrev pub answered : Content → ℕ → Pdu → Place → ℕ → Content
+answered v by p q i = settled v (entry_by by (Answer q.client q.ordinal p)) p q i
+
+abbrev pub late : Content → ℕ → Pdu → Place → ℕ → Content
+late v by p q i = settled_late v (entry_by by (Late q.client q.ordinal p.number p.command)) i
+
+-- what the failure of the place at that index leaves, where its client is present and where it has retired
+abbrev pub failing_entry : ℕ → Place → Entry
+failing_entry by q = entry_by by (Fail q.client q.ordinal q.upstream (failure_command q.command))
+
+abbrev pub failed : Content → ℕ → Place → ℕ → Content
+failed v by q i = settled v (failing_entry by q) (failure (failure_command q.command) q.upstream) q i
+
+abbrev pub failed_late : Content → ℕ → Place → ℕ → Content
+failed_late v by q i = settled_late v (failing_entry by q) i
+
+-- what a lost link leaves, and what a new one does
+abbrev pub lowered : Content → ℕ → Content
+lowered v by = record v { up = false; entries = v.entries ++ entry_by by Down ∷ [] }
+
+abbrev pub raised : Content → ℕ → Content
+raised v by = record v { up = true; entries = v.entries ++ entry_by by Up ∷ [] }
 
 -- what a collect of the client's oldest response leaves
 abbrev pub collected : Content → ℕ → ℕ → Response → Content

@@ -1,5 +1,5 @@
--- What becomes of a response.
-use Rattle.std.specs.Prelude.{◌≡◌, ◌++◌, ◌∷◌, [], ℕ, List, Option, Some, None, slice_get}
+-- What becomes of a response, and of a request that fails.
+use Rattle.std.specs.Prelude.{◌≡◌, ◌++◌, ◌∷◌, [], ℕ, List, Option, Some, None, IsSome, slice_get}
 use Rattle.std.specs.List.{find}
 use Rattle.smx_pdu.specs.declared.pdu.Pdu.{Pdu}
 use Rattle.smx_history.specs.declared.place.Place.{Place}
@@ -10,6 +10,9 @@ use Rattle.smx_history.specs.declared.reply.Answered.{Answered}
 use Rattle.smx_history.specs.declared.reply.Answered.TheVariants.{Queued, Late, Unknown}
 use Rattle.smx_history.specs.History.{note}
 use Rattle.smx_history.specs.Contents.{Content, Member, AgreesWith}
+use Rattle.smx_history.specs.declared.reply.Failed.{Failed}
+use Rattle.smx_history.specs.declared.reply.Failed.TheVariants as failed
+use Rattle.smx_history.specs.Failures.{failure_command}
 use Rattle.smx_history.specs.Replies.{answers_place, member_with}
 
 -- queued where the client of the place is present, late where it has retired, unknown where no place is answered
@@ -33,3 +36,16 @@ IsCollected old by c None new = (oldest_in (member_with c old.members) ≡ None)
 IsCollected old by c (Some p) new =
     (r : Response) × (oldest_in (member_with c old.members) ≡ Some r) × (r.pdu ≡ p)
     × ((h : List Note) → AgreesWith h old → AgreesWith (h ++ note by (event.Collect c r.ordinal) ∷ []) new)
+
+-- the note that the request of a place failed
+abbrev pub failing : ℕ → Place → Note
+failing by q = note by (event.Fail q.client q.ordinal q.upstream (failure_command q.command))
+
+-- the request of the window's first place failed (a window stands in any order): what tells its client waits for it where it is present
+abbrev pub IsFailed : Content → ℕ → Failed → Content → Type 0
+IsFailed old by (failed.Queued c) new =
+    (q : Place) × (slice_get old.window 0 ≡ Some q) × (q.client ≡ c) × IsSome (member_with c old.members)
+    × ((h : List Note) → AgreesWith h old → AgreesWith (h ++ failing by q ∷ []) new)
+IsFailed old by failed.Late new =
+    (q : Place) × (slice_get old.window 0 ≡ Some q) × (member_with q.client old.members ≡ None)
+    × ((h : List Note) → AgreesWith h old → AgreesWith (h ++ failing by q ∷ []) new)

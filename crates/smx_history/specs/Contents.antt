@@ -1,12 +1,12 @@
 -- What a lane holds, and what it holds after a history.
-use Rattle.std.specs.Prelude.{◌≡◌, ◌+◌, ◌*◌, ℕ, List, map, drop, length, sum_by}
+use Rattle.std.specs.Prelude.{◌≡◌, ◌+◌, ◌*◌, ℕ, List, map, drop, length, sum_by, Bool, if◌then◌else◌}
 use Rattle.std.specs.List.{AllZip}
 use Rattle.smx_history.specs.declared.entry.Entry.{Entry}
 use Rattle.smx_history.specs.declared.limits.Limits.{Limits}
 use Rattle.smx_history.specs.declared.request.Request.{Request}
 use Rattle.smx_history.specs.declared.note.Note.{Note}
 use Rattle.smx_history.specs.Prefixes.{last_or, SameCounts}
-use Rattle.smx_history.specs.Entries.{admits, takes, accepts_of, collects_of, unanswered, own_of, command_of, present}
+use Rattle.smx_history.specs.Entries.{admits, takes, accepts_of, collects_of, unanswered, own_of, command_of, present, is_up}
 use Rattle.smx_history.specs.Legal.{IsLegal}
 use Rattle.smx_history.specs.declared.place.Place.{Place}
 use Rattle.smx_history.specs.declared.response.Response.{Response}
@@ -32,6 +32,8 @@ pub record Content : Type 0 where
   -- by their clients' numbers
   pub members : List Member
   pub greatest : ℕ
+  -- whether there is a link upstream
+  pub up : Bool
   pub entries : List Entry
 
 -- as a client sees a response: with its own number (SMPP 3.4, section 5.1.4)
@@ -68,6 +70,7 @@ pub record IsAfter (h : List Note) (content : Content) : Type 0 where
   pub window : SameCounts (window_after h) content.window
   pub members : AllZip (IsMemberAfter h) (present (entries_of h)) content.members
   pub greatest : content.greatest ≡ greatest_after h
+  pub up : content.up ≡ is_up (entries_of h)
   pub entries : content.entries ≡ stored_of h
 
 -- the history is legal, and the content is what it leaves
@@ -77,4 +80,4 @@ pub record AgreesWith (h : List Note) (content : Content) : Type 0 where
 
 -- entries, and what may still follow from what is there
 abbrev pub size_of : Content → ℕ
-size_of v = length v.entries + 3 * length v.queue + 2 * length v.window + sum_by (λ m. length m.waiting) v.members + length v.members
+size_of v = length v.entries + 3 * length v.queue + 2 * length v.window + sum_by (λ m. length m.waiting) v.members + length v.members + (if v.up then 1 else 0)

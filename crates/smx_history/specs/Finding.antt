@@ -9,10 +9,10 @@ use Rattle.smx_history.specs.declared.response.Response.{Response}
 use Rattle.smx_history.specs.declared.reply.AdmitRefusal.{AdmitRefusal}
 use Rattle.smx_history.specs.declared.reply.AdmitRefusal.TheVariants.{Known, HistoryFull as NoRoom}
 use Rattle.smx_history.specs.declared.reply.Refusal.{Refusal}
-use Rattle.smx_history.specs.declared.reply.Refusal.TheVariants.{NotAdmitted, ClientFull, QueueFull, HistoryFull}
+use Rattle.smx_history.specs.declared.reply.Refusal.TheVariants.{NotAdmitted, ClientFull, QueueFull, HistoryFull, Down}
 use Rattle.smx_history.specs.declared.reply.TakeRefusal.{TakeRefusal}
-use Rattle.smx_history.specs.declared.reply.TakeRefusal.TheVariants.{QueueEmpty, WindowFull}
-use Rattle.smx_history.specs.Entries.{accepts_of, collects_of, present}
+use Rattle.smx_history.specs.declared.reply.TakeRefusal.TheVariants.{QueueEmpty, WindowFull, Down as TakeDown}
+use Rattle.smx_history.specs.Entries.{accepts_of, collects_of, present, is_up}
 use Rattle.smx_history.specs.Legal.{size}
 use Rattle.smx_history.specs.History.{marks_of, entries_of, responses}
 use Rattle.smx_history.specs.Contents.{shown, queue_after, window_after, greatest_after}
@@ -44,6 +44,7 @@ refusal_after limits h c =
     else if nat_le limits.client (pending_after h c) then Some ClientFull
     else if nat_le limits.queue (length (queue_after h)) then Some QueueFull
     else if not (has_room_after limits h) then Some HistoryFull
+    else if not (is_up (entries_of h)) then Some Down
     else None
 
 -- the first reason to take no request
@@ -51,6 +52,7 @@ unfoldable pub take_refusal_after : Limits → List Note → Option TakeRefusal
 take_refusal_after limits h =
     if length (queue_after h) == 0 then Some QueueEmpty
     else if nat_le limits.window (length (window_after h)) then Some WindowFull
+    else if not (is_up (entries_of h)) then Some TakeDown
     else None
 
 -- the request that a response answers

@@ -2,13 +2,14 @@
 use Rattle.std.specs.Prelude.{◌==◌, ℕ, List, map, filter_map, Option, Some, None, if◌then◌else◌}
 use Rattle.smx_history.specs.declared.entry.Kind.TheVariants as kind
 use Rattle.smx_history.specs.declared.note.Event.{Event}
-use Rattle.smx_history.specs.declared.note.Event.TheVariants.{Admit, Accept, Take, Answer, Late, Collect, Retire}
+use Rattle.smx_history.specs.declared.note.Event.TheVariants.{Admit, Accept, Take, Answer, Late, Collect, Retire, Fail, Down, Up}
 use Rattle.smx_history.specs.declared.entry.Entry.{Entry}
 use Rattle.smx_history.specs.declared.request.Request.{Request}
 use Rattle.smx_history.specs.declared.note.Note.{Note}
 use Rattle.smx_history.specs.declared.response.Response.{Response}
 use Rattle.std.specs.Option.{option_map}
 use Rattle.smx_history.specs.Shifts.{noted, stored}
+use Rattle.smx_history.specs.Failures.{failure}
 
 -- the entry of an event
 abbrev pub entry_by : ℕ → Event → Entry
@@ -19,6 +20,9 @@ entry_by by (Answer c n p) = record { kind = kind.Answer; by = by; client = c; o
 entry_by by (Late c n u k) = record { kind = kind.Late; by = by; client = c; ordinal = n; number = u; command = k }
 entry_by by (Collect c n) = record { kind = kind.Collect; by = by; client = c; ordinal = n; number = 0; command = 0 }
 entry_by by (Retire c) = record { kind = kind.Retire; by = by; client = c; ordinal = 0; number = 0; command = 0 }
+entry_by by (Fail c n u k) = record { kind = kind.Fail; by = by; client = c; ordinal = n; number = u; command = k }
+entry_by by Down = record { kind = kind.Down; by = by; client = 0; ordinal = 0; number = 0; command = 0 }
+entry_by by Up = record { kind = kind.Up; by = by; client = 0; ordinal = 0; number = 0; command = 0 }
 
 -- a note without bodies and statuses; a shift has no entry
 abbrev pub entry_in : Note → Option Entry
@@ -45,9 +49,10 @@ request_in _ = None
 abbrev pub requests : List Note → List Request
 requests h = filter_map (λ note. request_in note.event) h
 
--- the response to a request of the client that an event brings in time
+-- the response to a request of the client that an event brings in time, or what tells it that the request failed
 abbrev pub response_in : ℕ → Option Event → Option Response
 response_in c (Some (Answer d n p)) = if d == c then Some (record { ordinal = n; pdu = p }) else None
+response_in c (Some (Fail d n u k)) = if d == c then Some (record { ordinal = n; pdu = failure k u }) else None
 response_in c _ = None
 
 -- the responses that came for a client in time, as they came

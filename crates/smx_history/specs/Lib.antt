@@ -8,3 +8,4 @@ pub mod Room
 pub mod Answering
 pub mod Finding
 pub mod Shifts
+pub mod Failures

@@ -4,12 +4,16 @@ use Rattle.std.specs.List.{find}
 use Rattle.smx_history.specs.declared.reply.AdmitRefusal.{AdmitRefusal}
 use Rattle.smx_history.specs.declared.reply.AdmitRefusal.TheVariants.{Known, HistoryFull as AdmitHistoryFull}
 use Rattle.smx_history.specs.declared.reply.Refusal.{Refusal}
-use Rattle.smx_history.specs.declared.reply.Refusal.TheVariants.{NotAdmitted, ClientFull, QueueFull, HistoryFull}
+use Rattle.smx_history.specs.declared.reply.Refusal.TheVariants.{NotAdmitted, ClientFull, QueueFull, HistoryFull, Down}
 use Rattle.smx_pdu.specs.declared.pdu.Pdu.{Pdu}
 use Rattle.smx_pdu.specs.Command.{is_response_to}
 use Rattle.smx_history.specs.declared.place.Place.{Place}
 use Rattle.smx_history.specs.declared.reply.TakeRefusal.{TakeRefusal}
-use Rattle.smx_history.specs.declared.reply.TakeRefusal.TheVariants.{QueueEmpty, WindowFull}
+use Rattle.smx_history.specs.declared.reply.TakeRefusal.TheVariants.{QueueEmpty, WindowFull, Down as TakeDown}
+use Rattle.smx_history.specs.declared.reply.FailRefusal.{FailRefusal}
+use Rattle.smx_history.specs.declared.reply.FailRefusal.TheVariants.{Up, WindowEmpty}
+use Rattle.smx_history.specs.declared.reply.UpRefusal.{UpRefusal}
+use Rattle.smx_history.specs.declared.reply.UpRefusal.TheVariants.{AlreadyUp, WindowNotEmpty, HistoryFull as UpHistoryFull}
 use Rattle.smx_history.specs.Contents.{Content, Member, size_of}
 
 -- the client's row
@@ -34,6 +38,7 @@ refusal_for v (Some m) =
     if nat_le v.limits.client m.pending then Some ClientFull
     else if nat_le v.limits.queue (length v.queue) then Some QueueFull
     else if not (has_room v) then Some HistoryFull
+    else if not v.up then Some Down
     else None
 
 -- the first reason to refuse a request of that client
@@ -45,6 +50,22 @@ abbrev pub take_refusal : Content → Option TakeRefusal
 take_refusal v =
     if length v.queue == 0 then Some QueueEmpty
     else if nat_le v.limits.window (length v.window) then Some WindowFull
+    else if not v.up then Some TakeDown
+    else None
+
+-- the first reason why no request fails
+abbrev pub fail_refusal : Content → Option FailRefusal
+fail_refusal v =
+    if v.up then Some Up
+    else if length v.window == 0 then Some WindowEmpty
+    else None
+
+-- the first reason why the lane does not come up
+abbrev pub up_refusal : Content → Option UpRefusal
+up_refusal v =
+    if v.up then Some AlreadyUp
+    else if not (length v.window == 0) then Some WindowNotEmpty
+    else if not (has_room v) then Some UpHistoryFull
     else None
 
 -- the place that a response answers: it has its number, and its command answers the request's (SMPP 3.4, section 5.1.4)

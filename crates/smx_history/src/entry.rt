@@ -17,6 +17,12 @@ pub enum Kind {
     Collect,
     /// A client retired.
     Retire,
+    /// A taken request was given up, and its client is told so where it has not retired.
+    Fail,
+    /// The link upstream was lost.
+    Down,
+    /// There is a link upstream again.
+    Up,
 }
 
 /// A note without bodies and statuses.
@@ -25,11 +31,13 @@ pub struct Entry {
     pub kind: Kind,
     /// The number of the caller.
     pub by: u64,
+    /// The number of the client, or 0 for `Down` and `Up`.
     pub client: u64,
-    /// The request's ordinal among its client's, or 0 for `Admit` and `Retire`.
+    /// The request's ordinal among its client's, or 0 for `Admit`, `Retire`, `Down` and `Up`.
     pub ordinal: u64,
-    /// The client's own number for `Accept`, the number upstream for `Take`, `Answer` and `Late`, else 0.
+    /// The client's own number for `Accept`, the number upstream for `Take`, `Answer`, `Late` and `Fail`, else 0.
     pub number: u32,
-    /// The request's command for `Accept`, the response's for `Answer` and `Late`, else 0.
+    /// The request's command for `Accept`, the response's for `Answer` and `Late`, and for `Fail` that
+    /// of the response which tells the client, else 0.
     pub command: u32,
 }

@@ -8,11 +8,15 @@ mod place;
 mod reply;
 mod request;
 mod response;
+mod telling;
 
 pub use entry::{Entry, Kind};
 pub use limits::Limits;
 pub use note::{Event, Note};
 pub use place::Place;
-pub use reply::{AdmitRefusal, Answered, Refusal, TakeRefusal};
+pub use reply::{
+    AdmitRefusal, AlreadyDown, Answered, FailRefusal, Failed, Refusal, TakeRefusal, UpRefusal,
+};
 pub use request::Request;
 pub use response::Response;
+pub use telling::{failure, failure_command};

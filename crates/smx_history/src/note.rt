@@ -36,6 +36,15 @@ pub enum Event {
     Retire {
         client: u64,
     },
+    /// The command tells the client that its request failed.
+    Fail {
+        client: u64,
+        ordinal: u64,
+        upstream: u32,
+        command: u32,
+    },
+    Down,
+    Up,
 }
 
 /// An event, and the number of the caller whose it is. A note without an event is a shift: the entries stored so far

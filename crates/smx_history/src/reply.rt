@@ -29,6 +29,9 @@ pub enum Refusal {
     /// There is no room for what may follow of one more request.
     #[error("the history has no room for one more request")]
     HistoryFull,
+    /// The link upstream is lost.
+    #[error("the lane is down")]
+    Down,
 }
 
 /// Why nothing is taken: the first of these that stands.
@@ -40,6 +43,48 @@ pub enum TakeRefusal {
     /// As many requests as the window holds are taken and not answered.
     #[error("the window is full")]
     WindowFull,
+    /// The link upstream is lost.
+    #[error("the lane is down")]
+    Down,
+}
+
+/// The lane is down already.
+#[derive(Clone, Copy, Debug, PartialEq, Eq, Error)]
+#[error("the lane is down already")]
+pub struct AlreadyDown;
+
+/// Why a lane does not come up: the first of these that stands.
+#[derive(Clone, Copy, Debug, PartialEq, Eq, Error)]
+pub enum UpRefusal {
+    /// The lane is up.
+    #[error("the lane is up already")]
+    AlreadyUp,
+    /// Some request that was taken before the link was lost has neither been answered nor failed.
+    #[error("a taken request is neither answered nor failed")]
+    WindowNotEmpty,
+    /// There is no room for what may follow.
+    #[error("the history has no room for the lane to come up")]
+    HistoryFull,
+}
+
+/// Why no request fails: the first of these that stands.
+#[derive(Clone, Copy, Debug, PartialEq, Eq, Error)]
+pub enum FailRefusal {
+    /// The lane is up, and the requests that were taken may still be answered.
+    #[error("the lane is up")]
+    Up,
+    /// No request is taken and not answered.
+    #[error("the window is empty")]
+    WindowEmpty,
+}
+
+/// What became of a request that failed.
+#[derive(Clone, Copy, Debug, PartialEq, Eq)]
+pub enum Failed {
+    /// What tells its client so waits for the client.
+    Queued { client: u64 },
+    /// Its client has retired.
+    Late,
 }
 
 /// What became of a response.

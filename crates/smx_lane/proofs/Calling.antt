@@ -1,5 +1,5 @@
 -- What each call says of its reply, and what a list of calls leaves.
-use Rattle.std.proofs.Common.{◌≡◌, ◌++◌, ◌∷◌, [], ℕ, List, Option, Some, None, Result, Ok, Err, IsSome, is_some, IfOk, OnOk, OnErr, MatchResult, refl, sym, ap, ◌∙◌, subst, append_assoc, slice_get}
+use Rattle.std.proofs.Common.{◌≡◌, ◌++◌, ◌∷◌, [], ℕ, true, false, List, Option, Some, None, Result, Ok, Err, IsSome, is_some, IfOk, OnOk, OnErr, MatchResult, refl, sym, ap, ◌∙◌, subst, append_assoc, slice_get}
 use Rattle.std.proofs.lemmas.List.{append-nil}
 use Rattle.smx_pdu.specs.declared.pdu.Pdu.{Pdu}
 use Rattle.smx_history.specs.declared.note.Note.{Note}
@@ -9,10 +9,18 @@ use Rattle.smx_history.specs.declared.reply.Answered.{Answered}
 use Rattle.smx_history.specs.declared.reply.Answered.TheVariants as answered
 use Rattle.smx_history.specs.declared.reply.Refusal.{Refusal}
 use Rattle.smx_history.specs.declared.reply.TakeRefusal.{TakeRefusal}
+use Rattle.smx_history.specs.declared.reply.AlreadyDown.{AlreadyDown}
+use Rattle.smx_history.specs.declared.reply.UpRefusal.{UpRefusal}
+use Rattle.smx_history.specs.declared.reply.FailRefusal.{FailRefusal}
+use Rattle.smx_history.specs.declared.reply.Failed.{Failed}
+use Rattle.smx_history.specs.declared.reply.Failed.TheVariants as failed
+use Rattle.smx_history.specs.declared.note.Event.{Event}
+use Rattle.smx_history.specs.declared.place.Place.{Place}
+use Rattle.smx_history.specs.Failures.{failure_command}
 use Rattle.smx_history.specs.History.{note, shift}
 use Rattle.smx_history.specs.Contents.{Content, AgreesWith}
-use Rattle.smx_history.specs.Replies.{admit_refusal, accept_refusal, take_refusal, member_with}
-use Rattle.smx_history.specs.Answering.{IsAnswered, IsCollected}
+use Rattle.smx_history.specs.Replies.{admit_refusal, accept_refusal, take_refusal, fail_refusal, up_refusal, member_with}
+use Rattle.smx_history.specs.Answering.{IsAnswered, IsCollected, IsFailed, failing}
 use Rattle.smx_lane.specs.declared.fault.AdmitFault.{AdmitFault}
 use Rattle.smx_lane.specs.declared.fault.NotAdmitted.{NotAdmitted}
 use Rattle.smx_lane.specs.declared.sent.Sent.{Sent}
@@ -69,6 +77,22 @@ pub turn_made : (old new : Content) (by least : ℕ) (r : Result (Option (Vec En
 turn_made old new by least (Ok (Some list)) told same = (shift by ∷ [], (told, refl), told.3, λ h was. hands_list old new by list.items told.1 (ap (λ (v : Content). v.entries) told.2))
 turn_made old new by least (Ok None) told same = ([], (told, refl), stays old new told.1, λ h was. hands_nothing old new told.1)
 turn_made old new by least (Err e) told same = ([], (refl, same), stays old new same, λ h was. hands_nothing old new same)
+
+pub down_made : (old new : Content) (by : ℕ) (r : Result (Unit {0}) AlreadyDown) → MatchResult r (λ _. old.up ≡ true) (λ _. old.up ≡ false) → OnOk r (GoesOn old (note by event.Down ∷ []) new) → OnErr r (new ≡ old) → IsMade old (call.Down by) (reply.WentDown r) new
+down_made old new by (Ok x) told goes same = (note by event.Down ∷ [], (told, refl), goes, hands_event old new by event.Down goes)
+down_made old new by (Err e) told goes same = ([], (told, (refl, same)), stays old new same, λ h was. hands_nothing old new same)
+
+pub up_made : (old new : Content) (by : ℕ) (r : Result (Unit {0}) UpRefusal) → MatchResult r (λ _. up_refusal old ≡ None) (λ e. up_refusal old ≡ Some e) → OnOk r (GoesOn old (note by event.Up ∷ []) new) → OnErr r (new ≡ old) → IsMade old (call.Up by) (reply.CameUp r) new
+up_made old new by (Ok x) told goes same = (note by event.Up ∷ [], (told, refl), goes, hands_event old new by event.Up goes)
+up_made old new by (Err e) told goes same = ([], (told, (refl, same)), stays old new same, λ h was. hands_nothing old new same)
+
+abbrev failed_event : Place → Event
+failed_event q = event.Fail q.client q.ordinal q.upstream (failure_command q.command)
+
+pub fail_made : (old new : Content) (by : ℕ) (r : Result Failed FailRefusal) → MatchResult r (λ _. fail_refusal old ≡ None) (λ e. fail_refusal old ≡ Some e) → IfOk r (λ f. IsFailed old by f new) → OnErr r (new ≡ old) → IsMade old (call.Fail by) (reply.Failed r) new
+fail_made old new by (Ok (failed.Queued c)) told is same = (failing by is.0 ∷ [], (told, is.0, is.1, is.2, is.3, refl), is.4, hands_event old new by (failed_event is.0) is.4)
+fail_made old new by (Ok failed.Late) told is same = (failing by is.0 ∷ [], (told, is.0, is.1, is.2, refl), is.3, hands_event old new by (failed_event is.0) is.3)
+fail_made old new by (Err e) told is same = ([], (told, (refl, same)), stays old new same, λ h was. hands_nothing old new same)
 
 -- nothing was called
 pub ran_none : (old : Content) → Ran old [] [] [] old

@@ -235,3 +235,16 @@ pub place_at_number : (rows : List (Option Place)) (number : ℕ) (q : Place) �
 place_at_number rows number q numbered above at =
     let r = cleared rows (number - 1) q at in
     record { index = r.0; there = r.1; number_is = omega (arith, numbered (number - 1) q at, above) }
+
+-- no row has a request
+pub none_held : (rows : List (Option Place)) → ((k : ℕ) → k < length rows → slice_get rows k ≡ Some None) → slice_get (held rows) 0 ≡ None
+none_held [] empty = refl
+none_held (None ∷ rows) empty = none_held rows (λ k within. empty (suc k) (omega (arith, within)))
+none_held (Some q ∷ rows) empty = let clash : Some (Some q) ≡ Some None = empty 0 (omega arith) in cc
+
+-- the first row that has one has the first
+pub first_held : (rows : List (Option Place)) (k : ℕ) (q : Place) → ((j : ℕ) → j < k → slice_get rows j ≡ Some None) → slice_get rows k ≡ Some (Some q) → slice_get (held rows) 0 ≡ Some q
+first_held [] k q empty at = cc
+first_held (row ∷ rows) zero q empty at = let same : row ≡ Some q = cc in ap (λ r. slice_get (held (r ∷ rows)) 0) same
+first_held (None ∷ rows) (suc k) q empty at = first_held rows k q (λ j below. empty (suc j) (omega (arith, below))) at
+first_held (Some p ∷ rows) (suc k) q empty at = let clash : Some (Some p) ≡ Some None = empty 0 (omega arith) in cc

@@ -31,6 +31,7 @@ AgreesWith-reordered h v window same a = record {
     window = λ test. same test ∙ a.after.window test;
     members = a.after.members;
     greatest = a.after.greatest;
+    up = a.after.up;
     entries = a.after.entries;
   };
 }

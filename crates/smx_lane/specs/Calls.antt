@@ -1,5 +1,5 @@
 -- What a list of calls leaves, and what the calls answer.
-use Rattle.std.specs.Prelude.{◌≡◌, ◌++◌, ◌∷◌, [], List, Option, Some, None, Ok, Err, IsSome, slice_get, map, filter_map}
+use Rattle.std.specs.Prelude.{◌≡◌, ◌++◌, ◌∷◌, [], List, true, false, Option, Some, None, Ok, Err, IsSome, slice_get, map, filter_map}
 use Rattle.std.specs.List.{find, flat_map}
 use Rattle.smx_history.specs.declared.entry.Entry.{Entry}
 use Rattle.smx_history.specs.declared.note.Note.{Note}
@@ -7,12 +7,13 @@ use Rattle.smx_history.specs.declared.place.Place.{Place}
 use Rattle.smx_history.specs.declared.response.Response.{Response}
 use Rattle.smx_history.specs.declared.note.Event.TheVariants as event
 use Rattle.smx_history.specs.declared.reply.Answered.TheVariants as answered
+use Rattle.smx_history.specs.declared.reply.Failed.TheVariants as failed
 use Rattle.smx_history.specs.History.{note, shift, marks_of, entries_of}
 use Rattle.smx_history.specs.Shifts.{marks_in}
 use Rattle.smx_history.specs.Legal.{IsLegal}
 use Rattle.smx_history.specs.Contents.{Content, AgreesWith}
-use Rattle.smx_history.specs.Replies.{admit_refusal, accept_refusal, take_refusal, answers_place, member_with}
-use Rattle.smx_history.specs.Answering.{oldest_in}
+use Rattle.smx_history.specs.Replies.{admit_refusal, accept_refusal, take_refusal, fail_refusal, up_refusal, answers_place, member_with}
+use Rattle.smx_history.specs.Answering.{oldest_in, failing}
 use Rattle.smx_lane.specs.Conditions.{IsOwn, IsNext}
 use Rattle.smx_lane.specs.Faults.{IsAdmitFault}
 use Rattle.smx_lane.specs.Turning.{IsTurned}
@@ -54,6 +55,13 @@ IsReply old (call.Retire by c) (reply.Retired (Err _)) own new = IsOwn old by c 
 IsReply old (call.TurnOver by least) (reply.TurnedOver (Ok (Some list))) own new = IsTurned old by least (Some list.items) new × (own ≡ shift by ∷ [])
 IsReply old (call.TurnOver by least) (reply.TurnedOver (Ok None)) own new = IsTurned old by least None new × (own ≡ [])
 IsReply old (call.TurnOver by least) (reply.TurnedOver (Err _)) own new = Stays old own new
+IsReply old (call.Down by) (reply.WentDown (Ok _)) own new = (old.up ≡ true) × (own ≡ note by event.Down ∷ [])
+IsReply old (call.Down by) (reply.WentDown (Err _)) own new = (old.up ≡ false) × Stays old own new
+IsReply old (call.Fail by) (reply.Failed (Ok (failed.Queued c))) own new = (fail_refusal old ≡ None) × (q : Place) × (slice_get old.window 0 ≡ Some q) × (q.client ≡ c) × IsSome (member_with c old.members) × (own ≡ failing by q ∷ [])
+IsReply old (call.Fail by) (reply.Failed (Ok failed.Late)) own new = (fail_refusal old ≡ None) × (q : Place) × (slice_get old.window 0 ≡ Some q) × (member_with q.client old.members ≡ None) × (own ≡ failing by q ∷ [])
+IsReply old (call.Fail by) (reply.Failed (Err e)) own new = (fail_refusal old ≡ Some e) × Stays old own new
+IsReply old (call.Up by) (reply.CameUp (Ok _)) own new = (up_refusal old ≡ None) × (own ≡ note by event.Up ∷ [])
+IsReply old (call.Up by) (reply.CameUp (Err e)) own new = (up_refusal old ≡ Some e) × Stays old own new
 IsReply old made reply.Unkept own new = ¬ (Keeps old made) × Stays old own new
 IsReply old _ _ own new = ⊥
 

@@ -11,6 +11,7 @@ content_of a = record {
   window = a.window.taken;
   members = a.roster.members;
   greatest = a.greatest;
+  up = a.up;
   entries = a.entries.items;
 }
 

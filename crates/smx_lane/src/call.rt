@@ -6,7 +6,9 @@ ghost use Rattle.smx_lane.specs.Calls.{IsReply, GoesOn, Ran, HandsOut, HandsOutL
 use crate::fault::{AdmitFault, NotAdmitted};
 use crate::lane::Lane;
 use crate::sent::Sent;
-use smx_history::{Answered, Entry, Refusal, Request, TakeRefusal};
+use smx_history::{
+    AlreadyDown, Answered, Entry, FailRefusal, Failed, Refusal, Request, TakeRefusal, UpRefusal,
+};
 use smx_pdu::Pdu;
 use std::alloc::{AllocError, Global};
 
@@ -20,6 +22,9 @@ pub enum Call {
     Collect { by: u64, client: u64 },
     Retire { by: u64, client: u64 },
     TurnOver { by: u64, least: usize },
+    Down { by: u64 },
+    Fail { by: u64 },
+    Up { by: u64 },
 }
 
 /// What came of a call.
@@ -32,6 +37,9 @@ pub enum Reply {
     Collected(Option<Pdu>),
     Retired(Result<(), NotAdmitted>),
     TurnedOver(Result<Option<Vec<Entry>>, AllocError>),
+    WentDown(Result<(), AlreadyDown>),
+    Failed(Result<Failed, FailRefusal>),
+    CameUp(Result<(), UpRefusal>),
     /// The call did not keep to its condition, and was not made.
     Unkept,
 }
@@ -65,6 +73,9 @@ pub fn run(lane: &mut Lane, call: Call) -> Reply
             Reply::Retired(lane.retire(by, client))
         }
         Call::TurnOver { by, least } => Reply::TurnedOver(lane.turn_over(by, least)),
+        Call::Down { by } => Reply::WentDown(lane.down(by)),
+        Call::Fail { by } => Reply::Failed(lane.fail(by)),
+        Call::Up { by } => Reply::CameUp(lane.up(by)),
     }
 }
 

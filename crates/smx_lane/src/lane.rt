@@ -6,6 +6,7 @@ ghost use Rattle.smx_history.specs.Replies.{has_room};
 ghost use Rattle.smx_lane.specs.Faults.{IsLaneFault};
 
 mod clients;
+mod links;
 mod requests;
 mod responses;
 mod shifts;
@@ -27,6 +28,8 @@ pub struct Lane {
     roster: Roster,
     // The greatest number of a client that was admitted, or 0.
     greatest: u64,
+    // Whether there is a link upstream.
+    up: bool,
     entries: Vec<Entry>,
 }
 
@@ -78,6 +81,7 @@ impl Lane {
             window: Window::new(alloc, limits.window)?,
             roster: Roster::new(alloc, limits.client),
             greatest: 0,
+            up: true,
             entries: Vec::with_capacity(alloc, limits.history as usize)?,
         })
     }
@@ -111,7 +115,8 @@ impl Lane {
             + 3 * self.queue.len()
             + 2 * self.window.len()
             + self.roster.waiting()
-            + self.roster.len();
+            + self.roster.len()
+            + usize::from(self.up);
         used + 4 <= self.limits.history as usize
     }
 }

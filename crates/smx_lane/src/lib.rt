@@ -15,6 +15,6 @@ pub use fault::{AdmitFault, LaneFault, NotAdmitted};
 pub use lane::Lane;
 pub use sent::Sent;
 pub use smx_history::{
-    AdmitRefusal, Answered, Entry, Event, Kind, Limits, Note, Place, Refusal, Request, Response,
-    TakeRefusal,
+    AdmitRefusal, AlreadyDown, Answered, Entry, Event, FailRefusal, Failed, Kind, Limits, Note,
+    Place, Refusal, Request, Response, TakeRefusal, UpRefusal,
 };

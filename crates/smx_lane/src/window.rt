@@ -105,6 +105,18 @@ impl Window {
         }
     }
 
+    // The first request, where there is one.
+    pub(crate) fn first(&self) -> Option<Place>
+        ensures { result ≡ slice_get self.now.taken 0 }
+    {
+        for at in 0..self.rows.len() {
+            if let Some(place) = self.rows.get(at) {
+                return Some(place);
+            }
+        }
+        None
+    }
+
     // Empties the row of the request with the number.
     pub(crate) fn remove(&mut self, number: u32)
         requires { (q : Place) × IsPlaceOf self.old.taken number q }

@@ -8,13 +8,13 @@ use Rattle.smx_history.specs.declared.entry.Kind.TheVariants as kind
 use Rattle.smx_history.specs.declared.limits.Limits.{Limits}
 use Rattle.smx_legal.specs.declared.totals.Totals.{Totals}
 use Rattle.smx_history.specs.Prefixes.{RiseAbove}
-use Rattle.smx_history.specs.Entries.{is_admit, is_accept, is_take, is_answer, is_collect, is_retire, is_settling, admits, accepts, takes, answers_of, collects_of, unanswered, present}
+use Rattle.smx_history.specs.Entries.{is_link, is_admit, is_accept, is_take, is_answer, is_collect, is_retire, is_settling, admits, accepts, takes, answers_of, collects_of, unanswered, present}
 use Rattle.smx_history.specs.Legal.{KeepsRules, IsFifo, StandsWell, waiting}
 use Rattle.smx_history.proofs.Fitting.{Fits}
 use Rattle.smx_legal.specs.Checks.{Counted, takes_as}
 use Rattle.smx_history.proofs.Growing.{last_or-push, AtEachPrefix-whole}
 use Rattle.smx_history.proofs.Counts.{count_by-push}
-use Rattle.smx_history.proofs.Frames.{accepts-other, takes-other, admits-other, answers_of-other, collects_of-other, unanswered-other, present-other, waiting-other, sum_by-agree}
+use Rattle.smx_history.proofs.Frames.{accepts-other, takes-other, admits-other, answers_of-other, collects_of-other, unanswered-other, present-other, waiting-other, sum_by-agree, is_up-other}
 use Rattle.smx_history.proofs.Sizes.{takes-le-accepts}
 use Rattle.smx_history.proofs.Unseen.{none_admitted, unseen}
 use Rattle.smx_history.proofs.Parts.{RiseAbove-end}
@@ -50,6 +50,7 @@ counted_admit limits t es e legal counted fits k =
       unanswered = rw (unanswered-other es e (ap is_take k) (ap is_settling k)) counted.unanswered;
       waiting = omega (arith, wait, counted.waiting);
       present = rw push (omega (arith, length-append (present es) (e ∷ []), counted.present));
+      up = rw (is_up-other es e (ap is_link k)) counted.up;
     }
 
 pub counted_accept : (limits : Limits) (t : Totals) (es : List Entry) (e : Entry) → KeepsRules limits es → Counted es t → e.kind ≡ kind.Accept → Counted (es ++ e ∷ []) (record t { queued = t.queued + 1 })
@@ -63,6 +64,7 @@ counted_accept limits t es e legal counted k =
       unanswered = rw (unanswered-other es e (ap is_take k) (ap is_settling k)) counted.unanswered;
       waiting = rw (waiting-other es e (ap is_admit k) (ap is_retire k) (ap is_answer k) (ap is_collect k)) counted.waiting;
       present = rw (present-other es e (ap is_admit k) (ap is_retire k)) counted.present;
+      up = rw (is_up-other es e (ap is_link k)) counted.up;
     }
 
 -- a take that fits takes a request that is queued
@@ -89,6 +91,7 @@ counted_take limits t es e legal counted fits k =
       unanswered = rw push (omega (arith, length-append (unanswered es) (e ∷ []), counted.unanswered));
       waiting = rw (waiting-other es e (ap is_admit k) (ap is_retire k) (ap is_answer k) (ap is_collect k)) counted.waiting;
       present = rw (present-other es e (ap is_admit k) (ap is_retire k)) counted.present;
+      up = rw (is_up-other es e (ap is_link k)) counted.up;
     }
 
 -- a collect takes one response of a client that is present
@@ -129,6 +132,7 @@ counted_collect limits t es e legal counted fits k =
       unanswered = rw (unanswered-other es e (ap is_take k) (ap is_settling k)) counted.unanswered;
       waiting = let less = collect_waiting limits es e legal fits k in omega (arith, less, counted.waiting);
       present = rw (present-other es e (ap is_admit k) (ap is_retire k)) counted.present;
+      up = rw (is_up-other es e (ap is_link k)) counted.up;
     }
 
 -- the client that retires, and what waits for it
@@ -162,4 +166,5 @@ counted_retire limits t es e n legal counted fits k is =
       unanswered = rw (unanswered-other es e (ap is_take k) (ap is_settling k)) counted.unanswered;
       waiting = omega (arith, gone.waiting, counted.waiting, is);
       present = omega (arith, gone.present, counted.present);
+      up = rw (is_up-other es e (ap is_link k)) counted.up;
     }

@@ -1,21 +1,21 @@
 -- The totals after an answer, in time or late.
 use Rattle.std.proofs.Common.{◌≡◌, ◌+◌, ◌-◌, ◌==◌, ℕ, Bool, true, false, not, ◌&&◌, cond, List, [], ◌∷◌, ◌++◌, length, refl, sym, ◌∙◌, ap, subst, arith, length-append, inl, inr, count_by, sum_by}
 use Rattle.std.proofs.lemmas.List.Sums.{length-filter}
-use Rattle.std.proofs.lemmas.Bool.{and_from, and_parts, eqb-true, eq-eqb, ne_eqb, cases_eq}
+use Rattle.std.proofs.lemmas.Bool.{and_from, and_parts, eqb-true, eq-eqb, ne_eqb, cases_eq, cases_Bool}
 use Rattle.smx_history.specs.declared.entry.Entry.{Entry}
 use Rattle.smx_history.specs.declared.entry.Kind.{Kind}
 use Rattle.smx_history.specs.declared.entry.Kind.TheVariants as kind
 use Rattle.smx_history.specs.declared.limits.Limits.{Limits}
 use Rattle.smx_legal.specs.declared.totals.Totals.{Totals}
-use Rattle.smx_history.specs.Entries.{is_admit, is_accept, is_take, is_answer, is_collect, is_retire, is_settling, has_name, takes, answers_of, collects_of, is_retired, is_settled, unanswered, present}
+use Rattle.smx_history.specs.Entries.{is_link, is_admit, is_accept, is_take, is_answer, is_collect, is_retire, is_settling, has_name, takes, admits, answers_of, collects_of, is_retired, is_settled, unanswered, present}
 use Rattle.smx_history.specs.Legal.{KeepsRules, IsFifo, StandsWell, IsPaired, Answers, waiting}
 use Rattle.smx_history.proofs.Fitting.{Fits}
 use Rattle.smx_legal.specs.Checks.{Counted, takes_as, settlings_as}
 use Rattle.smx_history.proofs.Growing.{filter_push, filter_other, AtEachPrefix-whole}
 use Rattle.smx_history.proofs.Counts.{count_by-filter, count_split, count_by-push, any_count}
-use Rattle.smx_history.proofs.Frames.{accepts-other, takes-other, admits-other, collects_of-other, present-other, waiting-other}
+use Rattle.smx_history.proofs.Frames.{accepts-other, takes-other, admits-other, collects_of-other, present-other, waiting-other, is_up-other}
 use Rattle.smx_history.proofs.Taking.{any_weaker}
-use Rattle.smx_history.proofs.FitsSettle.{Settles, settles_answer, settles_late, unanswered_settled}
+use Rattle.smx_history.proofs.FitsSettle.{Settles, settles_answer, settles_late, settles_fail, unanswered_settled}
 use Rattle.smx_legal.proofs.Counting.{count_agree, count_implies, sum_more, length_without, collected_le, takes_as-other}
 use Rattle.smx_history.proofs.Presence.{present_once, accepted_admitted}
 
@@ -107,30 +107,51 @@ closes limits es e legal s p =
     }
 
 -- an answer in time adds one response of a client that is present
-answer_waits : (es : List Entry) (e x : Entry) → e.kind ≡ kind.Answer → IsFifo es → length (answers_of x.client (es ++ e ∷ [])) - length (collects_of x.client (es ++ e ∷ [])) ≡ (length (answers_of x.client es) - length (collects_of x.client es)) + cond (x.client == e.client) 1 0
-answer_waits es e x k fifo =
-    let c = ap length (collects_of-other x.client es e (ap is_collect k)) in
+answer_waits : (es : List Entry) (e x : Entry) → is_answer e.kind ≡ true → is_collect e.kind ≡ false → IsFifo es → length (answers_of x.client (es ++ e ∷ [])) - length (collects_of x.client (es ++ e ∷ [])) ≡ (length (answers_of x.client es) - length (collects_of x.client es)) + cond (x.client == e.client) 1 0
+answer_waits es e x answer collect fifo =
+    let c = ap length (collects_of-other x.client es e collect) in
     elim (cases_eq e.client x.client) [
       | inl same ↦
           let le = collected_le es x.client fifo in
-          let n = ap length (filter_push (λ y. is_answer y.kind && (y.client == x.client)) es e (and_from _ _ (ap is_answer k) (eq-eqb e.client x.client same))) in
+          let n = ap length (filter_push (λ y. is_answer y.kind && (y.client == x.client)) es e (and_from _ _ answer (eq-eqb e.client x.client same))) in
           let l = length-append (answers_of x.client es) (e ∷ []) in
           let one : cond (x.client == e.client) 1 0 ≡ 0 + 1 = ap {B = ℕ} (λ b. cond b 1 0) (eq-eqb x.client e.client (sym same)) in
           omega (arith, le, n, c, l, one)
       | inr apart ↦
-          let n = ap length (filter_other (λ y. is_answer y.kind && (y.client == x.client)) es e (ap (λ b. b && (e.client == x.client)) (ap is_answer k) ∙ ne_eqb e.client x.client apart)) in
+          let n = ap length (filter_other (λ y. is_answer y.kind && (y.client == x.client)) es e (ap (λ b. b && (e.client == x.client)) answer ∙ ne_eqb e.client x.client apart)) in
           let none : ◌≡◌ {A = ℕ} (cond (x.client == e.client) 1 0) 0 = ap {B = ℕ} (λ b. cond b 1 0) (ne_eqb x.client e.client (λ same. apart (sym same))) in
           omega (arith, n, c, none)
     ]
 
-answer_waiting : (limits : Limits) (es : List Entry) (e : Entry) → KeepsRules limits es → Answers es e → is_retired e.client es ≡ false → e.kind ≡ kind.Answer → waiting (es ++ e ∷ []) ≡ waiting es + 1
-answer_waiting limits es e legal p here k =
-    let once = present_once es e.client legal.membership (accepted_admitted limits es e.client e.ordinal legal p.accepted) here in
+response_waiting : (limits : Limits) (es : List Entry) (e : Entry) → KeepsRules limits es → is_answer e.kind ≡ true → Settles e.kind → waiting (es ++ e ∷ []) ≡ waiting es + count_by (λ x. x.client == e.client) (present es)
+response_waiting limits es e legal answer s =
     let f : Entry → ℕ = λ x. length (answers_of x.client (es ++ e ∷ [])) - length (collects_of x.client (es ++ e ∷ [])) in
     let g : Entry → ℕ = λ x. length (answers_of x.client es) - length (collects_of x.client es) in
-    ap (sum_by f) (present-other es e (ap is_admit k) (ap is_retire k))
-    ∙ sum_more f g (λ x. x.client == e.client) (λ x. answer_waits es e x k (AtEachPrefix-whole IsFifo es legal.fifo)) (present es)
-    ∙ ap (λ n. sum_by g (present es) + n) once
+    ap (sum_by f) (present-other es e s.admit s.retire)
+    ∙ sum_more f g (λ x. x.client == e.client) (λ x. answer_waits es e x answer s.collect (AtEachPrefix-whole IsFifo es legal.fifo)) (present es)
+
+answer_waiting : (limits : Limits) (es : List Entry) (e : Entry) → KeepsRules limits es → Answers es e → is_retired e.client es ≡ false → is_answer e.kind ≡ true → Settles e.kind → waiting (es ++ e ∷ []) ≡ waiting es + 1
+answer_waiting limits es e legal p here answer s =
+    let once = present_once es e.client legal.membership (accepted_admitted limits es e.client e.ordinal legal p.accepted) here in
+    omega (arith, response_waiting limits es e legal answer s, once)
+
+none_counted : {X : Type 0} (xs : List X) → count_by (λ (x : X). false) xs ≡ 0
+none_counted [] = refl
+none_counted (x ∷ xs) = none_counted xs
+
+-- a client that has retired is not present
+absent : (es : List Entry) (c : ℕ) → is_retired c es ≡ true → count_by (λ x. x.client == c) (present es) ≡ 0
+absent es c gone =
+    count_by-filter (λ (a : Entry). a.client == c) (λ a. not (is_retired a.client es)) (admits es)
+    ∙ count_agree (λ (a : Entry). (a.client == c) && not (is_retired a.client es)) (λ a. false) (λ a. elim (cases_eq a.client c) [
+      | inl same ↦ rw (same, gone, eq-eqb c c refl) refl
+      | inr apart ↦ rw (ne_eqb a.client c apart) refl
+    ]) (admits es)
+    ∙ none_counted (admits es)
+
+-- the failure of a request of a client that has retired tells nobody
+dropped_waiting : (limits : Limits) (es : List Entry) (e : Entry) → KeepsRules limits es → is_retired e.client es ≡ true → is_answer e.kind ≡ true → Settles e.kind → waiting (es ++ e ∷ []) ≡ waiting es
+dropped_waiting limits es e legal gone answer s = omega (arith, response_waiting limits es e legal answer s, absent es e.client gone)
 
 pub answers_by : (limits : Limits) (es : List Entry) (e : Entry) → Fits limits es e → (e.kind ≡ kind.Answer → Answers es e) × (e.kind ≡ kind.Late → Answers es e)
 answers_by limits es e fits = (λ k. subst (λ (x : Kind). IsPaired x es e) k fits.pairing, λ k. subst (λ (x : Kind). IsPaired x es e) k fits.pairing)
@@ -140,7 +161,7 @@ counted_answer limits t es e legal counted fits k =
     let p = (answers_by limits es e fits).0 k in
     let closed = closes limits es e legal (settles_answer e.kind k) p in
     let here : StandsWell kind.Answer es e = rw k at fits.standing in
-    let wait = answer_waiting limits es e legal p here k in
+    let wait = answer_waiting limits es e legal p here (ap is_answer k) (settles_answer e.kind k) in
     record {
       numbers = λ u. closed.numbers u (counted.numbers u);
       greatest = rw (admits-other es e (ap is_admit k)) counted.greatest;
@@ -149,6 +170,7 @@ counted_answer limits t es e legal counted fits k =
       unanswered = omega (arith, closed.fewer, counted.unanswered);
       waiting = omega (arith, wait, counted.waiting);
       present = rw (present-other es e (ap is_admit k) (ap is_retire k)) counted.present;
+      up = rw (is_up-other es e (ap is_link k)) counted.up;
     }
 
 pub counted_late : (limits : Limits) (t : Totals) (es : List Entry) (e : Entry) → KeepsRules limits es → Counted es t → Fits limits es e → e.kind ≡ kind.Late → Counted (es ++ e ∷ []) (record t { unanswered = t.unanswered - 1 })
@@ -163,4 +185,27 @@ counted_late limits t es e legal counted fits k =
       unanswered = omega (arith, closed.fewer, counted.unanswered);
       waiting = rw (waiting-other es e (ap is_admit k) (ap is_retire k) (ap is_answer k) (ap is_collect k)) counted.waiting;
       present = rw (present-other es e (ap is_admit k) (ap is_retire k)) counted.present;
+      up = rw (is_up-other es e (ap is_link k)) counted.up;
+    }
+
+pub fails_by : (limits : Limits) (es : List Entry) (e : Entry) → Fits limits es e → e.kind ≡ kind.Fail → Answers es e
+fails_by limits es e fits k = let paired : IsPaired kind.Fail es e = subst (λ (x : Kind). IsPaired x es e) k fits.pairing in paired.0
+
+pub counted_fail : (limits : Limits) (t : Totals) (es : List Entry) (e : Entry) (told : Bool) → KeepsRules limits es → Counted es t → Fits limits es e → e.kind ≡ kind.Fail → told ≡ not (is_retired e.client es) → Counted (es ++ e ∷ []) (record t { unanswered = t.unanswered - 1; waiting = t.waiting + cond told 1 0 })
+counted_fail limits t es e told legal counted fits k is =
+    let p = fails_by limits es e fits k in
+    let s = settles_fail e.kind k in
+    let closed = closes limits es e legal s p in
+    record {
+      numbers = λ u. closed.numbers u (counted.numbers u);
+      greatest = rw (admits-other es e s.admit) counted.greatest;
+      taken = rw (takes-other es e s.take) counted.taken;
+      queued = rw (accepts-other es e s.accept, takes-other es e s.take) counted.queued;
+      unanswered = omega (arith, closed.fewer, counted.unanswered);
+      waiting = rw is (elim (cases_Bool (is_retired e.client es)) [
+        | inl gone ↦ rw gone (omega (arith, dropped_waiting limits es e legal gone (ap is_answer k) s, counted.waiting))
+        | inr here ↦ rw here (omega (arith, answer_waiting limits es e legal p here (ap is_answer k) s, counted.waiting))
+      ]);
+      present = rw (present-other es e s.admit s.retire) counted.present;
+      up = rw (is_up-other es e (ap is_link k)) counted.up;
     }

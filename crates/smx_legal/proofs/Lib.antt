@@ -3,6 +3,8 @@ pub mod AdmitFits
 pub mod AcceptFits
 pub mod TakeFits
 pub mod SettleFits
+pub mod LinkFits
+pub mod CountedLink
 pub mod CollectFits
 pub mod Counting
 pub mod CountedEntries

@@ -1,4 +1,5 @@
 -- The marks of the earlier shifts and of the list that grows, and the totals that are counted of them.
+use Rattle.std.specs.Prelude.{if◌then◌else◌}
 use Rattle.std.proofs.Common.{◌≡◌, ◌≤◌, ◌<◌, ◌+◌, ◌*◌, ℕ, List, [], ◌∷◌, ◌++◌, length, map, take, drop, get_or, refl, sym, ◌∙◌, ap, subst, arith, append_assoc, Option, Some, None, add-one, drop-cons}
 use Rattle.std.proofs.Math.Seq.{take-suc}
 use Rattle.std.specs.Global.{Vec}
@@ -78,10 +79,10 @@ pub lists-start : (limits : Limits) (xs ys : List (List Entry)) → IsLegal limi
 lists-start limits xs ys h = IsLegal-start limits (marks_in xs) (marks_in ys) (subst (λ (zs : List (Option Entry)). IsLegal limits zs) (marks_in-append xs ys) h)
 
 -- what the totals add up to is the size
-pub size_within : (limits : Limits) (marks : List (Option Entry)) (before : List Entry) → noted marks ≡ before → (es : List Entry) (t : Totals) → IsLegal limits (so_far marks es) → Counted (before ++ es) t → length es + 3 * t.queued + 2 * t.unanswered + t.waiting + t.present ≤ limits.history
+pub size_within : (limits : Limits) (marks : List (Option Entry)) (before : List Entry) → noted marks ≡ before → (es : List Entry) (t : Totals) → IsLegal limits (so_far marks es) → Counted (before ++ es) t → length es + 3 * t.queued + 2 * t.unanswered + t.waiting + t.present + (if t.up then 1 else 0) ≤ limits.history
 size_within limits marks before is es t legal counted =
     let within = so_far-within limits marks before is es legal in
-    omega (arith, within, counted.queued, counted.unanswered, counted.waiting, counted.present)
+    omega (arith, within, counted.queued, counted.unanswered, counted.waiting, counted.present, ap {B = ℕ} (λ b. if b then 1 else 0) counted.up)
 
 -- the entries of the lists are those of their marks
 pub noted-earlier : (lists : List (Vec Entry)) → noted (marks_in (lists_of lists)) ≡ entries_in lists

@@ -1,4 +1,5 @@
 -- One step of the check: from the entries before one to those up to it.
+use Rattle.std.specs.Prelude.{if◌then◌else◌}
 use Rattle.std.proofs.Common.{◌≡◌, ℕ, List, [], ◌∷◌, ◌++◌, sym, ◌∙◌, ap, subst, arith, append_assoc, ◌<◌, ◌≤◌, ◌+◌, ◌*◌, length, take, drop, get_or, add-one, length-take, Option}
 use Rattle.std.proofs.lemmas.List.{take-append-drop}
 use Rattle.smx_history.specs.declared.entry.Entry.{Entry}
@@ -32,10 +33,10 @@ long : (es : List Entry) (i : ℕ) → i < length es → length (take i es) ≡ 
 long es i within = omega (arith, length-take i es)
 
 -- the entry at an index fits and the size keeps to the limit
-pub legal_step : (limits : Limits) (marks : List (Option Entry)) (before : List Entry) → noted marks ≡ before → (es : List Entry) (i n : ℕ) (d : Entry) (t : Totals) → i < length es → IsLegal limits (so_far marks (take i es)) → Fits limits (before ++ take i es) (get_or es i d) → Counted ((before ++ take i es) ++ get_or es i d ∷ []) t → n ≡ i + 1 + 3 * t.queued + 2 * t.unanswered + t.waiting + t.present → n ≤ limits.history → IsLegal limits (so_far marks (take (i + 1) es))
+pub legal_step : (limits : Limits) (marks : List (Option Entry)) (before : List Entry) → noted marks ≡ before → (es : List Entry) (i n : ℕ) (d : Entry) (t : Totals) → i < length es → IsLegal limits (so_far marks (take i es)) → Fits limits (before ++ take i es) (get_or es i d) → Counted ((before ++ take i es) ++ get_or es i d ∷ []) t → n ≡ i + 1 + 3 * t.queued + 2 * t.unanswered + t.waiting + t.present + (if t.up then 1 else 0) → n ≤ limits.history → IsLegal limits (so_far marks (take (i + 1) es))
 legal_step limits marks before noted_is es i n d t within legal fits counted is le =
     let size : length (take i es) + 1 + owed ((before ++ take i es) ++ get_or es i d ∷ []) ≤ limits.history =
-    omega (arith, long es i within, counted.queued, counted.unanswered, counted.waiting, counted.present, is, le) in
+    omega (arith, long es i within, counted.queued, counted.unanswered, counted.waiting, counted.present, ap {B = ℕ} (λ b. if b then 1 else 0) counted.up, is, le) in
     subst (λ (xs : List Entry). IsLegal limits (so_far marks xs)) (sym (up_to es i d within)) (so_far-next limits marks before noted_is (take i es) (get_or es i d) legal fits size)
 
 pub counted_step : (before es : List Entry) (i : ℕ) (d : Entry) (t : Totals) → i < length es → Counted ((before ++ take i es) ++ get_or es i d ∷ []) t → Counted (before ++ take (i + 1) es) t
@@ -66,7 +67,7 @@ counted_end before es i t past within counted =
     subst (λ (xs : List Entry). Counted (before ++ xs) t) (ap (λ k. take k es) all ∙ take-length es) counted
 
 -- the size with one entry more is that of a legal prefix
-pub within_counted : (limits : Limits) (marks : List (Option Entry)) (before : List Entry) → noted marks ≡ before → (es : List Entry) (i n : ℕ) (d : Entry) (t : Totals) → i < length es → Counted ((before ++ take i es) ++ get_or es i d ∷ []) t → n ≡ i + 1 + 3 * t.queued + 2 * t.unanswered + t.waiting + t.present → IsLegal limits (so_far marks (take i es ++ get_or es i d ∷ [])) → n ≤ limits.history
+pub within_counted : (limits : Limits) (marks : List (Option Entry)) (before : List Entry) → noted marks ≡ before → (es : List Entry) (i n : ℕ) (d : Entry) (t : Totals) → i < length es → Counted ((before ++ take i es) ++ get_or es i d ∷ []) t → n ≡ i + 1 + 3 * t.queued + 2 * t.unanswered + t.waiting + t.present + (if t.up then 1 else 0) → IsLegal limits (so_far marks (take i es ++ get_or es i d ∷ [])) → n ≤ limits.history
 within_counted limits marks before noted_is es i n d t within counted is legal =
     let up = up_to es i d within in
     let there : Counted (before ++ (take i es ++ get_or es i d ∷ [])) t = subst (λ (xs : List Entry). Counted xs t) (append_assoc before (take i es) (get_or es i d ∷ [])) counted in
@@ -74,7 +75,7 @@ within_counted limits marks before noted_is es i n d t within counted is legal =
     omega (arith, le, is, ap length up, length-take (i + 1) es, within)
 
 -- the totals so far are small
-pub totals_small : (limits : Limits) (marks : List (Option Entry)) (before : List Entry) → noted marks ≡ before → (es : List Entry) (i : ℕ) (t : Totals) → i < length es → IsLegal limits (so_far marks (take i es)) → Counted (before ++ take i es) t → i + 3 * t.queued + 2 * t.unanswered + t.waiting + t.present ≤ limits.history
+pub totals_small : (limits : Limits) (marks : List (Option Entry)) (before : List Entry) → noted marks ≡ before → (es : List Entry) (i : ℕ) (t : Totals) → i < length es → IsLegal limits (so_far marks (take i es)) → Counted (before ++ take i es) t → i + 3 * t.queued + 2 * t.unanswered + t.waiting + t.present + (if t.up then 1 else 0) ≤ limits.history
 totals_small limits marks before noted_is es i t within legal counted =
     let small = size_within limits marks before noted_is (take i es) t legal counted in
     omega (arith, small, long es i within)

@@ -12,7 +12,7 @@ use Rattle.smx_history.specs.declared.limits.Limits.{Limits}
 use Rattle.smx_legal.specs.declared.totals.Totals.{Totals}
 use Rattle.smx_history.specs.Prefixes.{StartsWith}
 use Rattle.smx_history.specs.Entries.{is_accept, is_take, name_of, has_name, accepts, takes, unanswered}
-use Rattle.smx_history.specs.Legal.{KeepsRules, HasForm, IsPaired}
+use Rattle.smx_history.specs.Legal.{KeepsRules, HasForm, IsPaired, StandsWell}
 use Rattle.smx_history.proofs.Fitting.{Fits, is_taken}
 use Rattle.smx_legal.specs.Checks.{Counted, take_fits, takes_as, settlings_as}
 use Rattle.smx_history.proofs.Counts.{count_none_any}
@@ -32,9 +32,11 @@ passes_from limits t es e counted test =
     let d = and_parts _ _ c.0 in
     let f = and_parts _ _ d.0 in
     let g = and_parts _ _ f.0 in
+    let u = and_parts _ _ g.0 in
     let same : settlings_as e.number es ≡ takes_as e.number es = eqb-true _ _ b.1 in
     record {
-      command = eqb-true _ _ g.0;
+      up = sym counted.up ∙ u.0;
+      command = eqb-true _ _ u.1;
       positive = ltb-true _ _ g.1;
       within = leb-true _ _ f.1;
       next = sym (next_is t es e counted) ∙ named_some (slice_get (accepts es) t.taken) e.client e.ordinal d.1;
@@ -46,7 +48,7 @@ passes_from limits t es e counted test =
 passes_to : (limits : Limits) (t : Totals) (es : List Entry) (e : Entry) → Counted es t → MayTake limits es e → take_fits limits t es e ≡ true
 passes_to limits t es e counted p =
     let same : settlings_as e.number es ≡ takes_as e.number es = omega (arith, p.free, counted.numbers e.number) in
-    and_from _ _ (and_from _ _ (and_from _ _ (and_from _ _ (and_from _ _ (and_from _ _ (eq-eqb _ _ p.command) (lt-ltb _ _ p.positive)) (le-leb _ _ p.within))
+    and_from _ _ (and_from _ _ (and_from _ _ (and_from _ _ (and_from _ _ (and_from _ _ (and_from _ _ (counted.up ∙ p.up) (eq-eqb _ _ p.command)) (lt-ltb _ _ p.positive)) (le-leb _ _ p.within))
     (some_named (slice_get (accepts es) t.taken) e.client e.ordinal (next_is t es e counted ∙ p.next))) (ap not p.first)) (eq-eqb _ _ same)) (lt-ltb _ _ (omega (arith, p.window, counted.unanswered)))
 
 -- the first take of that name
@@ -60,6 +62,7 @@ take_from : (limits : Limits) (es : List Entry) (e : Entry) → KeepsRules limit
 take_from limits es e legal k fits =
     let form : HasForm kind.Take e = rw k at fits.form in
     let paired : IsPaired kind.Take es e = rw k at fits.pairing in
+    let standing : StandsWell kind.Take es e = rw k at fits.standing in
     let first = taken_first limits es e fits k in
     let push = unanswered_taken es e k (untaken_unsettled es e.client e.ordinal legal.pairing first) in
     let starts : StartsWith (map name_of (accepts es)) (map name_of (takes es) ++ name_of e ∷ []) =
@@ -68,6 +71,7 @@ take_from limits es e legal k fits =
     subst (λ (xs : List ℕ). IsDistinct nat_eq xs) (ap (map (λ (x : Entry). x.number)) push ∙ map-append (λ x. x.number) (unanswered es) (e ∷ [])) fits.apart in
     let window : length (unanswered es ++ e ∷ []) ≤ limits.window = rw push at fits.bounds.window in
     record {
+      up = standing;
       command = form;
       positive = paired.0;
       within = paired.1;

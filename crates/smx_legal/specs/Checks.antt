@@ -10,7 +10,8 @@ use Rattle.smx_legal.specs.declared.part.Part.TheVariants as part
 use Rattle.smx_legal.specs.declared.past.Past.{Past}
 use Rattle.smx_pdu.specs.Command.{is_forwarded, is_response_to}
 use Rattle.smx_history.specs.Prefixes.{last_or}
-use Rattle.smx_history.specs.Entries.{is_admit, is_accept, is_take, is_answer, is_collect, is_retire, is_settling, has_name, admits, accepts, takes, accepts_of, answers_of, collects_of, is_retired, is_admitted, is_settled, unanswered, present}
+use Rattle.smx_history.specs.Entries.{is_admit, is_accept, is_take, is_answer, is_collect, is_retire, is_settling, has_name, admits, accepts, takes, accepts_of, answers_of, collects_of, is_retired, is_admitted, is_settled, unanswered, present, is_up}
+use Rattle.smx_history.specs.Failures.{failure_command}
 use Rattle.smx_history.specs.Shifts.{marks_in}
 use Rattle.smx_history.specs.Legal.{IsLegal, queued, waiting}
 use Rattle.smx_history.proofs.Fitting.{is_taken}
@@ -60,6 +61,7 @@ pub record Counted (es : List Entry) (t : Totals) : Type 0 where
   pub unanswered : t.unanswered ≡ length (unanswered es)
   pub waiting : t.waiting ≡ waiting es
   pub present : t.present ≡ length (present es)
+  pub up : t.up ≡ is_up es
 
 abbrev pub is_served : List Entry → Entry → Bool
 is_served es e = is_admitted e.by e.client es && not (is_retired e.client es)
@@ -100,12 +102,12 @@ admit_fits t e = (e.ordinal == 0) && is_bare e && nat_lt t.greatest e.client
 
 abbrev pub accept_fits : ℕ → ℕ → Totals → List Entry → Entry → Bool
 accept_fits queue client t es e =
-    is_forwarded e.command && is_served es e && nat_lt 0 e.ordinal && not (has_reached e.client e.ordinal es)
+    is_forwarded e.command && is_served es e && t.up && nat_lt 0 e.ordinal && not (has_reached e.client e.ordinal es)
     && nat_lt t.queued queue && nat_lt (length (accepts_of e.client es)) (length (collects_of e.client es) + client)
 
 abbrev pub take_fits : Limits → Totals → List Entry → Entry → Bool
 take_fits l t es e =
-    (e.command == 0) && nat_lt 0 e.number && nat_le e.number 2147483644
+    t.up && (e.command == 0) && nat_lt 0 e.number && nat_le e.number 2147483644
     && is_next t es e && not (is_taken e.client e.ordinal es)
     && (settlings_as e.number es == takes_as e.number es) && nat_lt t.unanswered l.window
 
@@ -119,6 +121,22 @@ answer_fits es e = settle_fits es e && not (is_retired e.client es)
 
 abbrev pub late_fits : List Entry → Entry → Bool
 late_fits es e = settle_fits es e && is_retired e.client es
+
+-- the entry's command is that of the failure of the request of that name
+abbrev pub is_failure : List Entry → Entry → Bool
+is_failure es e = passes (λ x. e.command == failure_command x.command) (accept_of e.client e.ordinal es)
+
+abbrev pub fail_fits : List Entry → Entry → Bool
+fail_fits es e = settle_fits es e && is_failure es e
+
+abbrev pub link_fits : Entry → Bool
+link_fits e = (e.client == 0) && (e.ordinal == 0) && is_bare e
+
+abbrev pub up_fits : Totals → Entry → Bool
+up_fits t e = link_fits e && not t.up && (t.unanswered == 0)
+
+abbrev pub down_fits : Totals → Entry → Bool
+down_fits t e = link_fits e && t.up
 
 abbrev pub collect_fits : List Entry → Entry → Bool
 collect_fits es e =

@@ -1,15 +1,15 @@
 //! Whether a finished history is legal.
-ghost use Rattle.std.specs.Prelude.{◌≡◌, ◌≤◌, ◌+◌, ◌-◌, ◌*◌, ◌<◌, ◌^◌, ◌↔◌, [], ◌∷◌, ◌++◌, IsTrue, Some, None, MatchOption, map, length};
+ghost use Rattle.std.specs.Prelude.{◌≡◌, ◌≤◌, ◌+◌, ◌-◌, ◌*◌, ◌<◌, ◌^◌, ◌↔◌, [], ◌∷◌, ◌++◌, IsTrue, Some, None, MatchOption, map, length, if◌then◌else◌};
 ghost use Rattle.smx_history.specs.Entries.{is_retired, answers_of, collects_of};
 ghost use Rattle.smx_history.specs.Shifts.{marks_in};
 ghost use Rattle.smx_history.specs.Legal.{IsFifo, IsLegal, KeepsRules};
 ghost use Rattle.smx_history.proofs.Fitting.{Fits};
-ghost use Rattle.smx_legal.specs.Checks.{Counted, Follows, entries_before, entries_in, lists_of, is_bare, is_served, is_next, is_response, is_oldest, admit_fits, accept_fits, take_fits, settle_fits, answer_fits, late_fits, collect_fits, retire_fits};
+ghost use Rattle.smx_legal.specs.Checks.{Counted, Follows, entries_before, entries_in, lists_of, is_bare, is_served, is_next, is_response, is_oldest, admit_fits, accept_fits, take_fits, settle_fits, answer_fits, late_fits, collect_fits, retire_fits, fail_fits, is_failure, link_fits, up_fits, down_fits};
 
 use crate::part::Part;
 use crate::past::Past;
 use crate::totals::Totals;
-use smx_history::{Entry, Kind, Limits};
+use smx_history::{Entry, Kind, Limits, failure_command};
 use smx_pdu::{is_forwarded, is_response_to};
 
 fn is_bare(entry: Entry) -> bool
@@ -44,6 +44,7 @@ fn accept_fits(queue: u32, client: u32, totals: Totals, past: Past<'_>, entry: E
 {
     is_forwarded(entry.command)
         && is_served(past, entry)
+        && totals.up
         && 0 < entry.ordinal
         && !past.any(Part::AcceptFrom {
             client: entry.client,
@@ -76,7 +77,8 @@ fn take_fits(limits: Limits, totals: Totals, past: Past<'_>, entry: Entry) -> bo
         number,
         ..
     } = entry;
-    entry.command == 0
+    totals.up
+        && entry.command == 0
         && 0 < number
         && number <= 0x7FFF_FFFC
         && is_next(totals, past, entry)
@@ -131,6 +133,47 @@ fn late_fits(past: Past<'_>, entry: Entry) -> bool
     settle_fits(past, entry) && is_retired(past, entry.client)
 }
 
+// Whether the entry's command is that of the failure of the request of that name.
+fn is_failure(past: Past<'_>, entry: Entry) -> bool
+    ensures { result ≡ is_failure (entries_before past.entry) entry }
+{
+    let accept = past.nth(
+        Part::Accept {
+            client: entry.client,
+            ordinal: entry.ordinal,
+        },
+        0,
+    );
+    match accept {
+        Some(accept) => entry.command == failure_command(accept.command),
+        None => false,
+    }
+}
+
+fn fail_fits(past: Past<'_>, entry: Entry) -> bool
+    ensures { result ≡ fail_fits (entries_before past.entry) entry }
+{
+    settle_fits(past, entry) && is_failure(past, entry)
+}
+
+fn link_fits(entry: Entry) -> bool
+    ensures { result ≡ link_fits entry }
+{
+    entry.client == 0 && entry.ordinal == 0 && is_bare(entry)
+}
+
+fn up_fits(totals: Totals, entry: Entry) -> bool
+    ensures { result ≡ up_fits totals entry }
+{
+    link_fits(entry) && !totals.up && totals.unanswered == 0
+}
+
+fn down_fits(totals: Totals, entry: Entry) -> bool
+    ensures { result ≡ down_fits totals entry }
+{
+    link_fits(entry) && totals.up
+}
+
 // Whether the client's next response is that to the request of that ordinal.
 fn is_oldest(past: Past<'_>, entry: Entry) -> bool
     ensures { result ≡ is_oldest (entries_before past.entry) entry }
@@ -169,6 +212,9 @@ fn fits(limits: Limits, totals: Totals, past: Past<'_>, entry: Entry) -> bool
         Kind::Late => late_fits(past, entry),
         Kind::Collect => collect_fits(past, entry),
         Kind::Retire => retire_fits(past, entry),
+        Kind::Fail => fail_fits(past, entry),
+        Kind::Down => down_fits(totals, entry),
+        Kind::Up => up_fits(totals, entry),
     }
 }
 
@@ -226,15 +272,34 @@ fn after(limits: Limits, totals: Totals, past: Past<'_>, entry: Entry) -> Totals
             present: totals.present - 1,
             ..totals
         },
+        Kind::Fail => {
+            let told = !is_retired(past, entry.client);
+            Totals {
+                unanswered: totals.unanswered - 1,
+                waiting: totals.waiting + u128::from(told),
+                ..totals
+            }
+        }
+        Kind::Down => Totals {
+            up: false,
+            ..totals
+        },
+        Kind::Up => Totals { up: true, ..totals },
     }
 }
 
 // The size with so many entries stored and these totals.
 fn size(stored: usize, totals: Totals) -> u128
     requires { totals.queued + totals.unanswered + totals.waiting + totals.present < 2 ^ 33 }
-    ensures { result ≡ stored + 3 * totals.queued + 2 * totals.unanswered + totals.waiting + totals.present }
+    ensures { result ≡ stored + 3 * totals.queued + 2 * totals.unanswered + totals.waiting + totals.present
+        + (if totals.up then 1 else 0) }
 {
-    stored as u128 + 3 * totals.queued + 2 * totals.unanswered + totals.waiting + totals.present
+    stored as u128
+        + 3 * totals.queued
+        + 2 * totals.unanswered
+        + totals.waiting
+        + totals.present
+        + u128::from(totals.up)
 }
 
 // The greatest size.
@@ -285,6 +350,9 @@ fn after_shift(
 pub fn is_legal_shifts(lists: &[Vec<Entry>], limits: Limits) -> bool
     ensures { IsTrue result ↔ IsLegal limits (marks_in (map (λ es. es.items) lists.now)) }
 {
+    if limits.history == 0 {
+        return false;
+    }
     let mut totals = Totals::none();
     for at in 0..lists.len() {
         match after_shift(limits, totals, &lists[..at], lists[at].as_slice()) {
@@ -301,6 +369,9 @@ pub fn is_legal_shifts(lists: &[Vec<Entry>], limits: Limits) -> bool
 pub fn is_legal(entries: &[Entry], limits: Limits) -> bool
     ensures { IsTrue result ↔ IsLegal limits (map Some entries.now) }
 {
+    if limits.history == 0 {
+        return false;
+    }
     match after_shift(limits, Totals::none(), &[], entries) {
         Some(_) => true,
         None => false,

@@ -37,7 +37,7 @@ pub enum Part {
         ordinal: u64,
         number: u32,
     },
-    /// The answer, in time or late, to the request of that name.
+    /// The answer, in time or late, to the request of that name, or its failure.
     Settling {
         client: u64,
         ordinal: u64,
@@ -48,7 +48,7 @@ pub enum Part {
     AcceptsOf {
         client: u64,
     },
-    /// The answers in time to the client.
+    /// The answers in time to the client, and the failures of its requests.
     AnswersOf {
         client: u64,
     },
@@ -60,7 +60,7 @@ pub enum Part {
     TakesAs {
         number: u32,
     },
-    /// The answers, in time or late, under this number.
+    /// The answers, in time or late, and the failures under this number.
     SettlingsAs {
         number: u32,
     },
@@ -104,7 +104,7 @@ impl Part {
                     && entry.number == number
             }
             Part::Settling { client, ordinal } => {
-                matches!(entry.kind, Kind::Answer | Kind::Late)
+                matches!(entry.kind, Kind::Answer | Kind::Late | Kind::Fail)
                     && entry.client == client
                     && entry.ordinal == ordinal
             }
@@ -113,7 +113,7 @@ impl Part {
                 matches!(entry.kind, Kind::Accept) && entry.client == client
             }
             Part::AnswersOf { client } => {
-                matches!(entry.kind, Kind::Answer) && entry.client == client
+                matches!(entry.kind, Kind::Answer | Kind::Fail) && entry.client == client
             }
             Part::CollectsOf { client } => {
                 matches!(entry.kind, Kind::Collect) && entry.client == client
@@ -122,7 +122,8 @@ impl Part {
                 matches!(entry.kind, Kind::Take) && entry.number == number
             }
             Part::SettlingsAs { number } => {
-                matches!(entry.kind, Kind::Answer | Kind::Late) && entry.number == number
+                matches!(entry.kind, Kind::Answer | Kind::Late | Kind::Fail)
+                    && entry.number == number
             }
         }
     }

@@ -17,6 +17,8 @@ pub struct Totals {
     pub waiting: u128,
     /// Clients that were admitted and have not retired.
     pub present: u128,
+    /// Whether the lane is up.
+    pub up: bool,
 }
 
 impl Totals {
@@ -32,6 +34,7 @@ impl Totals {
             unanswered: 0,
             waiting: 0,
             present: 0,
+            up: true,
         }
     }
 }

@@ -1,55 +1,54 @@
 -- The turns of one lane, from what its calls say.
-use Rattle.std.proofs.Common.{◌≡◌, ◌≢◌, ◌<◌, ◌≤◌, ◌==◌, ℕ, true, false, List, [], ◌∷◌, ◌++◌, length, refl, sym, ◌∙◌, ap, subst, arith, Option, Some, None, nat_le, nat_lt, slice_get, codes, if◌then◌else◌, inl, inr}
+use Rattle.std.proofs.Common.{◌≡◌, ◌≢◌, ◌<◌, ◌≤◌, ◌==◌, ℕ, Bool, true, false, not, List, [], ◌∷◌, ◌++◌, length, refl, sym, ◌∙◌, ap, subst, arith, Option, Some, None, nat_le, nat_lt, slice_get, codes, if◌then◌else◌, inl, inr}
 use Rattle.std.specs.Fmt.{decimal}
-use Rattle.std.proofs.lemmas.Bool.{cases_lt, ne_eqb, le-leb, lt-leb, lt-ltb, le-ltb}
+use Rattle.std.proofs.lemmas.Bool.{cases_lt, eqb-true, eqb-false, leb-true, le-leb, lt-ltb, le-ltb}
+use Rattle.smx_history.specs.Entries.{is_up}
+use Rattle.smx_history.proofs.AdmitAgrees.{empty_of}
 use Rattle.smx_pdu.specs.declared.pdu.Pdu.{Pdu}
 use Rattle.smx_history.specs.declared.request.Request.{Request}
 use Rattle.smx_history.specs.declared.note.Note.{Note}
 use Rattle.smx_history.specs.declared.note.Event.TheVariants as event
 use Rattle.smx_history.specs.declared.reply.Answered.TheVariants.{Queued, Late, Unknown}
 use Rattle.smx_history.specs.declared.reply.TakeRefusal.{TakeRefusal}
-use Rattle.smx_history.specs.declared.reply.TakeRefusal.TheVariants.{QueueEmpty, WindowFull}
+use Rattle.smx_history.specs.declared.reply.TakeRefusal.TheVariants.{QueueEmpty, WindowFull, Down}
 use Rattle.smx_history.specs.Legal.{IsLegal}
-use Rattle.smx_history.specs.History.{marks_of, note}
+use Rattle.smx_history.specs.History.{marks_of, entries_of, note}
 use Rattle.smx_history.specs.Contents.{AgreesWith, Content, queue_after, window_after}
 use Rattle.smx_history.specs.Replies.{take_refusal}
 use Rattle.smx_history.specs.Answering.{IsAnswered}
 use Rattle.smx_history.specs.Finding.{IsFree, is_present, place_answered}
 use Rattle.smx_history.proofs.Counts.{length-same}
 use Rattle.smx_history.proofs.Finding.{some_free, taken_free, place_same, absent, row_found}
-use Rattle.smx_relay.specs.Texts.{text_line, pdu_line, up_lane, upstream_of}
+use Rattle.smx_relay.specs.Texts.{text_line, pdu_line, up_lane, upstream_of, down_line}
 use Rattle.smx_relay.specs.Relay.{take_with, take_on, back_on}
 use Rattle.smx_relay.specs.Private.OnLane.{TurnsLane}
 
 window_length : (h : List Note) (v : Content) → AgreesWith h v → length v.window ≡ length (window_after h)
 window_length h v a = length-same (window_after h) v.window a.after.window
 
--- what a refusal to take says of queue and window
+not_le : (a b : ℕ) → nat_le a b ≡ false → b < a
+not_le a b h = elim (cases_lt b a) [
+  | inl below ↦ below
+  | inr above ↦ absurd (let x : false ≡ true = sym h ∙ le-leb a b above in cc)
+]
+
+-- what a refusal to take says of queue, window and link
 record IsTakable (v : Content) (o : Option TakeRefusal) : Type 0 where
-  pub takes : o ≡ None → length v.window < v.limits.window
+  pub takes : o ≡ None → (length v.window < v.limits.window) × (v.up ≡ true)
   pub empty : o ≡ Some QueueEmpty → v.queue ≡ []
-  pub full : o ≡ Some WindowFull → v.limits.window ≤ length v.window
+  pub full : o ≡ Some WindowFull → (v.limits.window ≤ length v.window) × (length v.queue ≢ 0)
+  pub down : o ≡ Some Down → (length v.window < v.limits.window) × (v.up ≡ false) × (length v.queue ≢ 0)
 
-refusal_of_queue : Content → List Request → Option TakeRefusal
-refusal_of_queue v queue = if length queue == 0 then Some QueueEmpty else if nat_le v.limits.window (length v.window) then Some WindowFull else None
-
-is_taken : (v : Content) (r : Request) (rs : List Request) → v.queue ≡ r ∷ rs → length v.window < v.limits.window → take_refusal v ≡ None
-is_taken v r rs e lt = rw (e, ne_eqb (length (r ∷ rs)) 0 (λ z. omega arith), lt-leb v.limits.window (length v.window) lt) refl
-
-is_full : (v : Content) (r : Request) (rs : List Request) → v.queue ≡ r ∷ rs → v.limits.window ≤ length v.window → take_refusal v ≡ Some WindowFull
-is_full v r rs e le = rw (e, ne_eqb (length (r ∷ rs)) 0 (λ z. omega arith), le-leb v.limits.window (length v.window) le) refl
-
-takable_at : (v : Content) (queue : List Request) → v.queue ≡ queue → IsTakable v (take_refusal v)
-unfolding refusal_of_queue
-takable_at v [] e = subst (λ (q : List Request). IsTakable v (refusal_of_queue v q)) (sym e) (record { takes = λ x. cc; empty = λ x. e; full = λ x. cc })
-takable_at v (r ∷ rs) e =
-    elim (cases_lt (length v.window) v.limits.window) [
-      | inl lt ↦ subst (IsTakable v) (sym (is_taken v r rs e lt)) (record { takes = λ x. lt; empty = λ x. cc; full = λ x. cc })
-      | inr le ↦ subst (IsTakable v) (sym (is_full v r rs e le)) (record { takes = λ x. cc; empty = λ x. cc; full = λ x. le })
-    ]
+-- by its three tests
+takable_by : (v : Content) (e w u : Bool) → (length v.queue == 0) ≡ e → nat_le v.limits.window (length v.window) ≡ w → v.up ≡ u
+    → IsTakable v (if e then Some QueueEmpty else if w then Some WindowFull else if not u then Some Down else None)
+takable_by v true w u e l s = record { takes = λ x. cc; empty = λ x. empty_of v.queue (eqb-true (length v.queue) 0 e); full = λ x. cc; down = λ x. cc }
+takable_by v false true u e l s = record { takes = λ x. cc; empty = λ x. cc; full = λ x. (leb-true _ _ l, eqb-false (length v.queue) 0 e); down = λ x. cc }
+takable_by v false false true e l s = record { takes = λ x. (not_le v.limits.window (length v.window) l, s); empty = λ x. cc; full = λ x. cc; down = λ x. cc }
+takable_by v false false false e l s = record { takes = λ x. cc; empty = λ x. cc; full = λ x. cc; down = λ x. (not_le v.limits.window (length v.window) l, s, eqb-false (length v.queue) 0 e) }
 
 takable : (v : Content) → IsTakable v (take_refusal v)
-takable v = takable_at v v.queue refl
+takable v = takable_by v (length v.queue == 0) (nat_le v.limits.window (length v.window)) v.up refl refl refl
 
 first_of_queue : (queue : List Request) (r : Request) → slice_get queue 0 ≡ Some r → (rest : List Request) × (queue ≡ r ∷ rest)
 first_of_queue [] r e = absurd (let x : None ≡ Some r = e in cc)
@@ -64,8 +63,9 @@ took h old new at u r text a taken front goes limits e =
     let free = taken_free h new 0 r.client r.ordinal u (subst (λ l. IsLegal l (marks_of h)) (sym limits) a.legal) longer in
     let there = first_of_queue old.queue r front in
     let queue : queue_after h ≡ r ∷ there.0 = sym a.after.queue ∙ there.1 in
-    let room : nat_lt (length (window_after h)) old.limits.window ≡ true = lt-ltb (length (window_after h)) old.limits.window (omega (arith, window_length h old a, (takable old).takes taken)) in
-    (u, free, rw (queue, room) (record { text = e; agrees = longer; limits_are = limits }))
+    let room : nat_lt (length (window_after h)) old.limits.window ≡ true = lt-ltb (length (window_after h)) old.limits.window (omega (arith, window_length h old a, ((takable old).takes taken).0)) in
+    let up : is_up (entries_of h) ≡ true = sym a.after.up ∙ ((takable old).takes taken).1 in
+    (u, free, rw (queue, room, up) (record { text = e; agrees = longer; limits_are = limits }))
 
 pub took_none : (h : List Note) (old new : Content) (at : ℕ) (text : List ℕ) → AgreesWith h old → take_refusal old ≡ Some QueueEmpty → new ≡ old
     → text ≡ text_line (codes "take " ++ (decimal at ++ codes " empty")) → (n : ℕ) × IsFree h n × TurnsLane (take_on old.limits n at h) old new text
@@ -75,21 +75,34 @@ took_none h old new at text a refused same e =
     let queue : queue_after h ≡ [] = sym a.after.queue ∙ (takable old).empty refused in
     (free.0, free.1, rw queue (record { text = e; agrees = rw same a; limits_are = ap (λ (v : Content). v.limits) same }))
 
-take_with_full : (u at : ℕ) (h : List Note) (queue : List Request) → length queue ≢ 0 → take_with u at h queue false ≡ (text_line (codes "take " ++ (decimal at ++ codes " full")), h)
-take_with_full u at h [] some = absurd (some refl)
-take_with_full u at h (r ∷ rs) some = refl
+take_with_full : (u at : ℕ) (h : List Note) (queue : List Request) (up : Bool) → length queue ≢ 0 → take_with u at h queue false up ≡ (text_line (codes "take " ++ (decimal at ++ codes " full")), h)
+take_with_full u at h [] up some = absurd (some refl)
+take_with_full u at h (r ∷ rs) up some = refl
 
-not_empty : (v : Content) → take_refusal v ≡ Some WindowFull → length v.queue ≡ 0 → ⊥
-not_empty v refused zero = let x : Some QueueEmpty ≡ Some WindowFull = sym (rw zero refl) ∙ refused in cc
+take_with_down : (u at : ℕ) (h : List Note) (queue : List Request) → length queue ≢ 0 → take_with u at h queue true false ≡ (down_line at, h)
+take_with_down u at h [] some = absurd (some refl)
+take_with_down u at h (r ∷ rs) some = refl
 
 pub took_full : (h : List Note) (old new : Content) (at : ℕ) (text : List ℕ) → AgreesWith h old → take_refusal old ≡ Some WindowFull → new ≡ old
     → text ≡ text_line (codes "take " ++ (decimal at ++ codes " full")) → (n : ℕ) × IsFree h n × TurnsLane (take_on old.limits n at h) old new text
 unfolding take_on
 took_full h old new at text a refused same e =
     let free = some_free h in
-    let none : nat_lt (length (window_after h)) old.limits.window ≡ false = le-ltb (length (window_after h)) old.limits.window (omega (arith, window_length h old a, (takable old).full refused)) in
-    let some : length (queue_after h) ≢ 0 = λ zero. not_empty old refused (ap length a.after.queue ∙ zero) in
-    (free.0, free.1, rw (none, take_with_full free.0 at h (queue_after h) some) (record { text = e; agrees = rw same a; limits_are = ap (λ (v : Content). v.limits) same }))
+    let full = (takable old).full refused in
+    let none : nat_lt (length (window_after h)) old.limits.window ≡ false = le-ltb (length (window_after h)) old.limits.window (omega (arith, window_length h old a, full.0)) in
+    let some : length (queue_after h) ≢ 0 = λ zero. full.1 (ap length a.after.queue ∙ zero) in
+    (free.0, free.1, rw (none, take_with_full free.0 at h (queue_after h) (is_up (entries_of h)) some) (record { text = e; agrees = rw same a; limits_are = ap (λ (v : Content). v.limits) same }))
+
+pub took_down : (h : List Note) (old new : Content) (at : ℕ) (text : List ℕ) → AgreesWith h old → take_refusal old ≡ Some Down → new ≡ old
+    → text ≡ down_line at → (n : ℕ) × IsFree h n × TurnsLane (take_on old.limits n at h) old new text
+unfolding take_on
+took_down h old new at text a refused same e =
+    let free = some_free h in
+    let is = (takable old).down refused in
+    let room : nat_lt (length (window_after h)) old.limits.window ≡ true = lt-ltb (length (window_after h)) old.limits.window (omega (arith, window_length h old a, is.0)) in
+    let down : is_up (entries_of h) ≡ false = sym a.after.up ∙ is.1 in
+    let some : length (queue_after h) ≢ 0 = λ zero. is.2 (ap length a.after.queue ∙ zero) in
+    (free.0, free.1, rw (room, down, take_with_down free.0 at h (queue_after h) some) (record { text = e; agrees = rw same a; limits_are = ap (λ (v : Content). v.limits) same }))
 
 pub answered_queued : (h : List Note) (old new : Content) (p : Pdu) (c : ℕ) (text : List ℕ) → AgreesWith h old → IsAnswered old 0 p (Queued c) new → new.limits ≡ old.limits
     → text ≡ text_line (codes "queued " ++ decimal c) → TurnsLane (back_on p h) old new text

@@ -30,14 +30,15 @@ own_push clients h n e entry own is = subst (AllByRecursion (IsOwn clients)) (sy
 own_other : (clients : List (Option ℕ)) (e : Entry) → e.by ≡ 0 → is_accept e.kind ≡ false → IsOwn clients e
 own_other clients e by other = record { by = by; known = λ accept. absurd (let z : true ≡ false = sym accept ∙ other in cc) }
 
-own_take_with : (clients : List (Option ℕ)) (u i : ℕ) (h : List Note) (queue : List Request) (room : Bool) → AreOwn clients h → AreOwn clients (take_with u i h queue room).1
-own_take_with clients u i h [] room own = own
-own_take_with clients u i h (r ∷ rs) true own = own_push clients h _ _ refl own (own_other clients _ refl refl)
-own_take_with clients u i h (r ∷ rs) false own = own
+own_take_with : (clients : List (Option ℕ)) (u i : ℕ) (h : List Note) (queue : List Request) (room up : Bool) → AreOwn clients h → AreOwn clients (take_with u i h queue room up).1
+own_take_with clients u i h [] room up own = own
+own_take_with clients u i h (r ∷ rs) true false own = own
+own_take_with clients u i h (r ∷ rs) true true own = own_push clients h _ _ refl own (own_other clients _ refl refl)
+own_take_with clients u i h (r ∷ rs) false up own = own
 
 pub own_take : (clients : List (Option ℕ)) (limits : Limits) (u i : ℕ) (h : List Note) → AreOwn clients h → AreOwn clients (take_on limits u i h).1
 unfolding take_on
-own_take clients limits u i h own = own_take_with clients u i h (queue_after h) _ own
+own_take clients limits u i h own = own_take_with clients u i h (queue_after h) _ _ own
 
 own_back_to : (clients : List (Option ℕ)) (p : Pdu) (h : List Note) (o : Option Place) → AreOwn clients h → AreOwn clients (back_to p h o).1
 own_back_to clients p h None own = own

@@ -10,7 +10,8 @@ use Rattle.smx_history.specs.declared.request.Request.{Request}
 use Rattle.smx_history.specs.declared.place.Place.{Place}
 use Rattle.smx_history.specs.declared.note.Note.{Note}
 use Rattle.smx_history.specs.declared.note.Event.TheVariants as event
-use Rattle.smx_history.specs.History.{note, shift, stored_of}
+use Rattle.smx_history.specs.History.{note, shift, stored_of, entries_of}
+use Rattle.smx_history.specs.Entries.{is_up}
 use Rattle.smx_history.specs.Contents.{queue_after, window_after}
 use Rattle.smx_history.specs.Finding.{is_present, admit_refusal_after, refusal_after, place_answered, waiting_after}
 use Rattle.smx_routes.specs.Routing.{Route}
@@ -18,7 +19,7 @@ use Rattle.smx_relay.specs.declared.offer.Offer.{Offer}
 use Rattle.smx_script.specs.declared.command.Setting.{Setting}
 use Rattle.smx_script.specs.declared.command.Setting.TheVariants.{Sizes, Lanes, Places, Account}
 use Rattle.smx_relay.specs.Links.{ClientLink, CentreLink, new_link, bound_centre}
-use Rattle.smx_relay.specs.Texts.{text_line, pdu_line, to_client, up_lane, refusal_of, upstream_of, entry_line, turned_line}
+use Rattle.smx_relay.specs.Texts.{text_line, pdu_line, to_client, up_lane, refusal_of, upstream_of, entry_line, turned_line, down_line}
 
 pub record Relay : Type 0 where
   -- the sizes of each lane, and how many lanes there are to be
@@ -140,14 +141,15 @@ in_turn_at s c last o None = (pdu_line (to_client c) (refusal_of o), s)
 in_turn_at s c last o (Some i) =
     (text_line (codes "accepted " ++ (decimal c ++ (codes " " ++ decimal i))), accepted s c last o i (slice_get s.histories i))
 
-abbrev pub take_with : ℕ → ℕ → List Note → List Request → Bool → List ℕ × List Note
-take_with u i h [] room = (text_line (codes "take " ++ (decimal i ++ codes " empty")), h)
-take_with u i h (r ∷ rs) true = (pdu_line (up_lane i) (upstream_of r u), h ++ note 0 (event.Take r.client r.ordinal u) ∷ [])
-take_with u i h (r ∷ rs) false = (text_line (codes "take " ++ (decimal i ++ codes " full")), h)
+abbrev pub take_with : ℕ → ℕ → List Note → List Request → Bool → Bool → List ℕ × List Note
+take_with u i h [] room up = (text_line (codes "take " ++ (decimal i ++ codes " empty")), h)
+take_with u i h (r ∷ rs) false up = (text_line (codes "take " ++ (decimal i ++ codes " full")), h)
+take_with u i h (r ∷ rs) true false = (down_line i, h)
+take_with u i h (r ∷ rs) true true = (pdu_line (up_lane i) (upstream_of r u), h ++ note 0 (event.Take r.client r.ordinal u) ∷ [])
 
 -- the oldest request goes upstream as u
 unfoldable pub take_on : Limits → ℕ → ℕ → List Note → List ℕ × List Note
-take_on limits u i h = take_with u i h (queue_after h) (nat_lt (length (window_after h)) limits.window)
+take_on limits u i h = take_with u i h (queue_after h) (nat_lt (length (window_after h)) limits.window) (is_up (entries_of h))
 
 abbrev pub back_to : Pdu → List Note → Option Place → List ℕ × List Note
 back_to p h None = (text_line (codes "unknown"), h)

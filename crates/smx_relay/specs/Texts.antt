@@ -8,7 +8,7 @@ use Rattle.smx_pdu.specs.declared.status.TheConstants.{ESME_RMSGQFUL}
 use Rattle.smx_pdu.specs.Pdu.{spelling}
 use Rattle.smx_pdu.specs.Command.{response_of}
 use Rattle.smx_history.specs.declared.entry.Kind.{Kind}
-use Rattle.smx_history.specs.declared.entry.Kind.TheVariants.{Admit, Accept, Take, Answer, Late, Collect, Retire}
+use Rattle.smx_history.specs.declared.entry.Kind.TheVariants.{Admit, Accept, Take, Answer, Late, Collect, Retire, Fail, Down, Up}
 use Rattle.smx_history.specs.declared.entry.Entry.{Entry}
 use Rattle.smx_history.specs.declared.request.Request.{Request}
 use Rattle.smx_relay.specs.declared.offer.Offer.{Offer}
@@ -60,6 +60,9 @@ kind_name Answer = codes "answer"
 kind_name Late = codes "late"
 kind_name Collect = codes "collect"
 kind_name Retire = codes "retire"
+kind_name Fail = codes "fail"
+kind_name Down = codes "down"
+kind_name Up = codes "up"
 
 -- an entry's kind, client, ordinal and number
 abbrev pub entry_line : Entry → List ℕ

@@ -7,7 +7,8 @@ ghost use Rattle.smx_relay.specs.Relay.{take_on, back_on, history_on, turn_on};
 ghost use Rattle.smx_relay.specs.Private.OnLane.{TurnsLane};
 
 use crate::texts::{
-    empty_line, entry_lines, full_line, push_to_client, queued_line, turned_line, up_line,
+    down_line, empty_line, entry_lines, full_line, push_to_client, queued_line, turned_line,
+    up_line,
 };
 use smx_history::{Answered, Request, TakeRefusal};
 use smx_lane::{Lane, Sent};
@@ -43,6 +44,7 @@ pub fn take_on(alloc: Global, lane: &mut Lane, at: u64) -> Result<Vec<u8>, Alloc
         }
         Err(TakeRefusal::QueueEmpty) => empty_line(alloc, at),
         Err(TakeRefusal::WindowFull) => full_line(alloc, at),
+        Err(TakeRefusal::Down) => down_line(alloc, at),
     }
 }
 

@@ -161,6 +161,9 @@ fn kind_name(kind: Kind) -> &'static str
         Kind::Late => "late",
         Kind::Collect => "collect",
         Kind::Retire => "retire",
+        Kind::Fail => "fail",
+        Kind::Down => "down",
+        Kind::Up => "up",
     }
 }
 

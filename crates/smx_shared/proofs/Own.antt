@@ -13,7 +13,7 @@ use Rattle.smx_history.specs.declared.limits.Limits.{Limits}
 use Rattle.smx_history.specs.declared.note.Note.{Note}
 use Rattle.smx_history.specs.declared.note.Event.{Event}
 use Rattle.smx_history.specs.declared.note.Event.TheVariants as event
-use Rattle.smx_history.specs.declared.reply.Refusal.TheVariants.{NotAdmitted, ClientFull, QueueFull, HistoryFull}
+use Rattle.smx_history.specs.declared.reply.Refusal.TheVariants.{NotAdmitted, ClientFull, QueueFull, HistoryFull, Down}
 use Rattle.smx_history.specs.Prefixes.{AtEach, RiseAbove, last_or}
 use Rattle.smx_history.specs.Entries.{is_admit, is_accept, is_retire, admits, accepts, accepts_of, is_admitted, is_retired, present}
 use Rattle.smx_history.specs.Legal.{IsMembership, StandsWell}
@@ -40,6 +40,9 @@ by_is by (event.Answer c n p) = refl
 by_is by (event.Late c n u k) = refl
 by_is by (event.Collect c n) = refl
 by_is by (event.Retire c) = refl
+by_is by (event.Fail c n u k) = refl
+by_is by event.Down = refl
+by_is by event.Up = refl
 
 -- the entries of a seat are those of its notes
 pub own_entries : (k : ℕ) (h : List Note) → filter (λ e. e.by == k) (entries_of h) ≡ entries_of (notes_of writer k h)
@@ -115,13 +118,16 @@ server es c k b m one two = one_admit c k b 0 (admits es) m.clients
     (sym (any_filter (λ e. is_admit e.kind) (λ e. (e.client == c) && (e.by == b)) es) ∙ two)
 
 served_if : (kind : Kind) (before : List Entry) (x : Entry) → StandsWell kind before x → (is_accept kind || is_retire kind) ≡ true → is_admitted x.by x.client before ≡ true
-served_if kind.Accept before x s t = s.0
+served_if kind.Accept before x s t = s.0.0
 served_if kind.Retire before x s t = s.0
 served_if kind.Admit before x s t = cc
 served_if kind.Take before x s t = cc
 served_if kind.Answer before x s t = cc
 served_if kind.Late before x s t = cc
 served_if kind.Collect before x s t = cc
+served_if kind.Fail before x s t = cc
+served_if kind.Down before x s t = cc
+served_if kind.Up before x s t = cc
 
 -- an accept or a retire of the client was made by the one who admitted it
 own_by : (es : List Entry) (c k i : ℕ) (x : Entry) → IsMembership es → AtEach (λ before e. StandsWell e.kind before e) es → is_admitted k c es ≡ true
@@ -184,6 +190,9 @@ below_entries n (m ∷ h) all = below_at m.event all (below_entries n h)
     below_at (Some (event.Late c o u k)) b later = later b
     below_at (Some (event.Collect c o)) b later = later b
     below_at (Some (event.Retire c)) b later = later b
+    below_at (Some (event.Fail c o u k)) b later = later b
+    below_at (Some event.Down) b later = later b
+    below_at (Some event.Up) b later = later b
     below_at None b later = later b
 
 -- the client's row is of the seat that admitted it, and its last ordinal is below n
@@ -219,13 +228,14 @@ own_rows_by f h c found member =
     (present es) h.value.members (present_served es) a.after.members
 
 not_admitted : (v : Content) (m : Member) → refusal_for v (Some m) ≡ Some NotAdmitted → ⊥
-not_admitted v m = refused (nat_le v.limits.client m.pending) (nat_le v.limits.queue (length v.queue)) (has_room v)
+not_admitted v m = refused (nat_le v.limits.client m.pending) (nat_le v.limits.queue (length v.queue)) (has_room v) v.up
   where
-    refused : (x y z : Bool) → (if x then Some ClientFull else if y then Some QueueFull else if not z then Some HistoryFull else None) ≡ Some NotAdmitted → ⊥
-    refused true y z = λ h. cc
-    refused false true z = λ h. cc
-    refused false false true = λ h. cc
-    refused false false false = λ h. cc
+    refused : (x y z u : Bool) → (if x then Some ClientFull else if y then Some QueueFull else if not z then Some HistoryFull else if not u then Some Down else None) ≡ Some NotAdmitted → ⊥
+    refused true y z u = λ h. cc
+    refused false true z u = λ h. cc
+    refused false false false u = λ h. cc
+    refused false false true true = λ h. cc
+    refused false false true false = λ h. cc
 
 -- who was admitted and has not retired is present
 present_in : (es : List Entry) (c k : ℕ) → is_admitted k c es ≡ true → is_retired c es ≡ false → list_any (λ a. a.client == c) (present es) ≡ true

@@ -1,6 +1,5 @@
 -- One hold of a lane's lock serves one call.
-use Rattle.std.specs.Prelude.{◌≡◌, ◌≢◌, ◌⊎◌, ◌+◌, ◌<◌, ◌≤◌, length, ℕ, List, [], ◌∷◌, Option, Some, None, Result, Ok, Err, slice_get}
-use Rattle.std.specs.List.{find}
+use Rattle.std.specs.Prelude.{◌≡◌, ◌⊎◌, ◌+◌, ◌<◌, ◌≤◌, length, ℕ, List, [], ◌∷◌, Option, Some, None, Result, Ok, Err}
 use Rattle.std.specs.Option.{option_map}
 use Rattle.smx_ticket_core.specs.Machine.{most}
 use Rattle.smx_lock.specs.Rule.{notes_of}
@@ -10,30 +9,24 @@ use Rattle.smx_lock.specs.declared.faults.TryFault.{TryFault}
 use Rattle.smx_pdu.specs.declared.pdu.Pdu.{Pdu}
 use Rattle.smx_history.specs.declared.limits.Limits.{Limits}
 use Rattle.smx_history.specs.declared.note.Note.{Note}
-use Rattle.smx_history.specs.declared.place.Place.{Place}
 use Rattle.smx_history.specs.declared.request.Request.{Request}
-use Rattle.smx_history.specs.declared.response.Response.{Response}
-use Rattle.smx_history.specs.declared.note.Event.TheVariants as event
 use Rattle.smx_lane.specs.declared.sent.Sent.{Sent}
 use Rattle.smx_history.specs.declared.reply.TakeRefusal.{TakeRefusal}
 use Rattle.smx_history.specs.declared.reply.Refusal.{Refusal}
-use Rattle.smx_history.specs.declared.reply.Refusal.TheVariants.{NotAdmitted}
 use Rattle.smx_lane.specs.declared.fault.AdmitFault.{AdmitFault}
-use Rattle.smx_lane.specs.Faults.{IsAdmitFault}
 use Rattle.smx_ticket_core.specs.declared.callers.Caller.TheVariants.{Idle}
 use Rattle.smx_history.specs.declared.reply.Answered.{Answered}
-use Rattle.smx_history.specs.declared.reply.Answered.TheVariants.{Queued, Late, Unknown}
 use Rattle.smx_shared.specs.declared.fault.TakeFault as take_fault
 use Rattle.smx_shared.specs.declared.fault.TakeFault.TheVariants as takes
 use Rattle.smx_shared.specs.declared.fault.TurnFault as turn_fault
 use Rattle.smx_shared.specs.declared.fault.TurnFault.TheVariants as turns
 use Rattle.smx_shared.specs.declared.fault.TryTakeFault as try_fault
 use Rattle.smx_shared.specs.declared.fault.TryTakeFault.TheVariants as tries
-use Rattle.smx_history.specs.History.{note, shift, marks_of, stored_of}
+use Rattle.smx_history.specs.History.{shift, marks_of, stored_of}
 use Rattle.smx_history.specs.declared.entry.Entry.{Entry}
 use Rattle.smx_lane.specs.Kept.{writer}
 use Rattle.smx_history.specs.Legal.{IsLegal}
-use Rattle.smx_history.specs.Contents.{Content, Member, AgreesWith}
+use Rattle.smx_history.specs.Contents.{Content, AgreesWith}
 use Rattle.smx_lane.specs.declared.call.Call.{Call}
 use Rattle.smx_lane.specs.declared.call.Call.TheVariants as call
 use Rattle.smx_lane.specs.declared.call.Reply.{Reply}

@@ -1,6 +1,6 @@
 -- What private functions ask and promise: the notes of one hold, a turn of one lane, and a round over
 -- some lanes in a row. No contract of a public function cites this file.
-use Rattle.std.specs.Prelude.{◌≡◌, ◌≤◌, ◌<◌, ℕ, List, [], ◌∷◌, Option, Some, None, Result, Ok, Err, slice_get, All}
+use Rattle.std.specs.Prelude.{◌≡◌, ◌≤◌, ◌<◌, ℕ, List, [], ◌∷◌, Option, Some, None, Ok, slice_get, All}
 use Rattle.std.specs.List.{AllByRecursion}
 use Rattle.smx_lock.specs.Fronts.{Front, Hold, Finds, IsSpent}
 use Rattle.smx_history.specs.declared.limits.Limits.{Limits}

@@ -31,6 +31,9 @@ impl Lane {
         if !self.has_room() {
             return Err(Refusal::HistoryFull);
         }
+        if !self.up {
+            return Err(Refusal::Down);
+        }
         Ok(at)
     }
 
@@ -78,6 +81,9 @@ impl Lane {
         }
         if self.window.is_full() {
             return Err(TakeRefusal::WindowFull);
+        }
+        if !self.up {
+            return Err(TakeRefusal::Down);
         }
         let request = self.queue.pop_front().unwrap();
         let upstream = self.window.put(&request);

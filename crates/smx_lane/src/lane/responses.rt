@@ -9,7 +9,7 @@ use smx_history::{Answered, Entry, Kind, Place, Response};
 use smx_pdu::Pdu;
 
 // The entry of a response to the place.
-fn settling(kind: Kind, by: u64, place: &Place, response: &Pdu) -> Entry
+pub(super) fn settling(kind: Kind, by: u64, place: &Place, response: &Pdu) -> Entry
     ensures { result ≡ record { kind = kind; by = by; client = place.now.client; ordinal = place.now.ordinal; number = response.now.number; command = response.now.command } }
 {
     Entry {
@@ -23,7 +23,7 @@ fn settling(kind: Kind, by: u64, place: &Place, response: &Pdu) -> Entry
 }
 
 // A response as the client of the place sees it.
-fn facing(place: &Place, response: Pdu) -> Response
+pub(super) fn facing(place: &Place, response: Pdu) -> Response
     ensures { result ≡ response_for place.now response }
 {
     let Pdu {

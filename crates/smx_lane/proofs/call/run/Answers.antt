@@ -1,4 +1,4 @@
-use Rattle.smx_lane.proofs.Calling.{admit_made, accept_made, take_made, answer_made, collect_made, retire_made, turn_made}
+use Rattle.smx_lane.proofs.Calling.{admit_made, accept_made, take_made, answer_made, collect_made, retire_made, turn_made, down_made, fail_made, up_made}
 use Rattle.smx_lane.proofs.call.run.Goals as goal
 
 pub returns-in-Admit-clause-reply : goal.returns-in-Admit-clause-reply
@@ -21,3 +21,12 @@ returns-else-not-is_own-2-clause-reply c = rw c.in-Retire.is (retire_made c.args
 
 pub returns-in-TurnOver-clause-reply : goal.returns-in-TurnOver-clause-reply
 returns-in-TurnOver-clause-reply c = rw c.in-TurnOver.is (turn_made c.args.lane.now _ _ _ c.turn_over.result c.turn_over.ensures.turned c.turn_over.ensures.err)
+
+pub returns-in-Down-clause-reply : goal.returns-in-Down-clause-reply
+returns-in-Down-clause-reply c = rw c.in-Down.is (down_made c.args.lane.now _ _ c.down.result c.down.ensures.reply c.down.ensures.agrees c.down.ensures.err)
+
+pub returns-in-Fail-clause-reply : goal.returns-in-Fail-clause-reply
+returns-in-Fail-clause-reply c = rw c.in-Fail.is (fail_made c.args.lane.now _ _ c.fail.result c.fail.ensures.reply c.fail.ensures.failed c.fail.ensures.err)
+
+pub returns-in-Up-clause-reply : goal.returns-in-Up-clause-reply
+returns-in-Up-clause-reply c = rw c.in-Up.is (up_made c.args.lane.now _ _ c.up.result c.up.ensures.reply c.up.ensures.agrees c.up.ensures.err)

@@ -1,10 +1,12 @@
-use Rattle.std.proofs.Common.{arith}
+use mir.Val.{bool_byte}
+use Rattle.std.proofs.Common.{◌≡◌, ◌∙◌, arith, ap, refl, not, cond, Bool, true, false}
 use Rattle.smx_history.specs.Legal.{IsFifo}
 use Rattle.smx_legal.specs.Checks.{entries_before}
 use Rattle.smx_history.proofs.Growing.{AtEachPrefix-whole}
 use Rattle.smx_legal.proofs.CountedEntries.{counted_admit, counted_accept, counted_take, counted_collect, counted_retire, collect_waiting, leaves}
-use Rattle.smx_legal.proofs.CountedSettle.{counted_answer, counted_late, closes, answers_by}
-use Rattle.smx_history.proofs.FitsSettle.{settles_answer, settles_late}
+use Rattle.smx_legal.proofs.CountedSettle.{counted_answer, counted_late, counted_fail, closes, answers_by, fails_by}
+use Rattle.smx_legal.proofs.CountedLink.{counted_down, counted_up}
+use Rattle.smx_history.proofs.FitsSettle.{settles_answer, settles_late, settles_fail}
 use Rattle.smx_legal.proofs.legal.after.Goals as goal
 
 pub overflow_add-result : goal.overflow_add-result
@@ -72,3 +74,24 @@ returns-in-Retire-clause-counted c = counted_retire c.args.limits c.args.totals 
 
 pub overflow_add-result-in-Accept : goal.overflow_add-result-in-Accept
 overflow_add-result-in-Accept c = omega (arith, c.requires.few)
+
+pub overflow_sub-result-in-Fail : goal.overflow_sub-result-in-Fail
+overflow_sub-result-in-Fail c =
+    let p = fails_by c.args.limits (entries_before c.args.past) c.args.entry c.requires.fits c.in-Fail.is in
+    let closed = closes c.args.limits (entries_before c.args.past) c.args.entry c.requires.rules (settles_fail c.args.entry.kind c.in-Fail.is) p in
+    omega (arith, closed.fewer, c.requires.counted.unanswered)
+
+byte : (b : Bool) → bool_byte b ≡ cond b 1 0
+byte true = refl
+byte false = refl
+
+pub returns-in-Fail-clause-counted : goal.returns-in-Fail-clause-counted
+returns-in-Fail-clause-counted c =
+    let told : c.from.result ≡ cond (not c.is_retired-told.result) 1 0 = c.from.ensures ∙ byte (not c.is_retired-told.result) in
+    rw told (counted_fail c.args.limits c.args.totals (entries_before c.args.past) c.args.entry (not c.is_retired-told.result) c.requires.rules c.requires.counted c.requires.fits c.in-Fail.is (ap not c.is_retired-told.ensures))
+
+pub returns-in-Down-clause-counted : goal.returns-in-Down-clause-counted
+returns-in-Down-clause-counted c = counted_down c.args.totals (entries_before c.args.past) c.args.entry c.requires.counted c.in-Down.is
+
+pub returns-in-Up-clause-counted : goal.returns-in-Up-clause-counted
+returns-in-Up-clause-counted c = counted_up c.args.totals (entries_before c.args.past) c.args.entry c.requires.counted c.in-Up.is

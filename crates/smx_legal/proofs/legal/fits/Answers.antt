@@ -2,7 +2,8 @@ use Rattle.smx_legal.specs.Checks.{entries_before}
 use Rattle.smx_legal.proofs.AdmitFits.{admit_iff}
 use Rattle.smx_legal.proofs.AcceptFits.{accept_iff}
 use Rattle.smx_legal.proofs.TakeFits.{take_iff}
-use Rattle.smx_legal.proofs.SettleFits.{answer_iff, late_iff}
+use Rattle.smx_legal.proofs.SettleFits.{answer_iff, late_iff, fail_iff}
+use Rattle.smx_legal.proofs.LinkFits.{down_iff, up_iff}
 use Rattle.smx_legal.proofs.CollectFits.{collect_iff, retire_iff}
 use Rattle.smx_legal.proofs.legal.fits.Goals as goal
 
@@ -26,3 +27,12 @@ returns-in-Collect c = collect_iff c.args.limits (entries_before c.args.past) c.
 
 pub returns-in-Retire : goal.returns-in-Retire
 returns-in-Retire c = retire_iff c.args.limits (entries_before c.args.past) c.args.entry _ c.requires.rules c.in-Retire.is c.retire_fits.ensures
+
+pub returns-in-Fail : goal.returns-in-Fail
+returns-in-Fail c = fail_iff c.args.limits (entries_before c.args.past) c.args.entry _ c.requires.rules c.in-Fail.is c.fail_fits.ensures
+
+pub returns-in-Down : goal.returns-in-Down
+returns-in-Down c = down_iff c.args.limits c.args.totals (entries_before c.args.past) c.args.entry _ c.requires.rules c.requires.counted c.in-Down.is c.down_fits.ensures
+
+pub returns-in-Up : goal.returns-in-Up
+returns-in-Up c = up_iff c.args.limits c.args.totals (entries_before c.args.past) c.args.entry _ c.requires.rules c.requires.counted c.in-Up.is c.up_fits.ensures

@@ -1,6 +1,6 @@
 use Rattle.std.proofs.Common.{rules}
 use Rattle.std.proofs.lemmas.Result.{IfOk-weaker}
-use Rattle.smx_relay.proofs.LaneTurns.{took, took_none, took_full}
+use Rattle.smx_relay.proofs.LaneTurns.{took, took_none, took_full, took_down}
 use Rattle.smx_relay.proofs.on_lane.take_on.Goals as goal
 
 pub returns-in-Ok : goal.returns-in-Ok
@@ -11,3 +11,6 @@ returns-in-Err-QueueEmpty c = λ h a. IfOk-weaker c.empty_line.result _ _ (λ te
 
 pub returns-in-Err-WindowFull : goal.returns-in-Err-WindowFull
 returns-in-Err-WindowFull c = λ h a. IfOk-weaker c.full_line.result _ _ (λ text e. took_full h c.args.lane.now c.take.new.self c.args.at text.items a (search rules) (search rules) e) c.full_line.ensures
+
+pub returns-in-Err-Down : goal.returns-in-Err-Down
+returns-in-Err-Down c = λ h a. IfOk-weaker c.down_line.result _ _ (λ text e. took_down h c.args.lane.now c.take.new.self c.args.at text.items a (search rules) (search rules) e) c.down_line.ensures

@@ -5,7 +5,7 @@ use Rattle.smx_history.specs.History.{entry_by}
 use Rattle.smx_history.specs.Contents.{Content, Member}
 use Rattle.smx_lane.specs.Inside.{content_of}
 use Rattle.smx_history.specs.Replies.{answers_place, member_with}
-use Rattle.smx_history.proofs.Settled.{KeepsRoom-answered, KeepsRoom-late, box_has_room}
+use Rattle.smx_history.proofs.Settled.{KeepsRoom-settled, KeepsRoom-settled_late, box_has_room}
 use Rattle.smx_history.proofs.AnswerAgrees.{AgreesWith-answered}
 use Rattle.smx_history.proofs.LateAgrees.{AgreesWith-late}
 use Rattle.smx_lane.specs.Members.{IsRowOf}
@@ -28,7 +28,7 @@ invariant_of-self c =
     let removed = c.remove.ensures.taken q c.in-Some.ensures.place in
     let place = answered_at v c.args.response removed.0 q (sym c.in-Some.ensures.found) removed.1 in
     record {
-      room = rw (removed.2, c.push_reserved.ensures.items) (KeepsRoom-late v _ q removed.0 c.self.invariant.room place.within place.is);
+      room = rw (removed.2, c.push_reserved.ensures.items) (KeepsRoom-settled_late v _ q removed.0 c.self.invariant.room place.within place.is);
       queue = c.self.invariant.queue;
       window = c.remove.ensures.most ∙ c.self.invariant.window;
       entries = omega (arith, c.push_reserved.ensures.capacity, c.self.invariant.entries);
@@ -45,7 +45,7 @@ invariant_of-self-2 c =
     let row : (m : Member) × IsRowOf v.members q.client c.in-Some-find.row m = c.in-Some-find.ensures in
     let ms = rw (row.1.client_is, c.facing.ensures) at (c.put.ensures.members row.0 row.1.at) in
     record {
-      room = rw (removed.2, c.push_reserved-2.ensures.items, c.settling-2.ensures, ms) (KeepsRoom-answered v c.args.by p q removed.0 row.0 c.self.invariant.room place.within place.is row.1.found);
+      room = rw (removed.2, c.push_reserved-2.ensures.items, c.settling-2.ensures, ms) (KeepsRoom-settled v (entry_by c.args.by (event.Answer q.client q.ordinal p)) p q removed.0 row.0 c.self.invariant.room place.within place.is row.1.found);
       queue = c.self.invariant.queue;
       window = c.remove.ensures.most ∙ c.self.invariant.window;
       entries = omega (arith, c.push_reserved-2.ensures.capacity, c.self.invariant.entries);
@@ -60,7 +60,7 @@ returns-in_default-find-clause-answered c =
     let removed = c.remove.ensures.taken q c.in-Some.ensures.place in
     let place = answered_at v p removed.0 q (sym c.in-Some.ensures.found) removed.1 in
     let gone : member_with q.client v.members ≡ None = c.in_default-find.ensures in
-    let room = KeepsRoom-late v (entry_by c.args.by (event.Late q.client q.ordinal p.number p.command)) q removed.0 c.self.invariant.room place.within place.is in (
+    let room = KeepsRoom-settled_late v (entry_by c.args.by (event.Late q.client q.ordinal p.number p.command)) q removed.0 c.self.invariant.room place.within place.is in (
       q,
       ap (λ (x : Content). find (answers_place p) x.window) (sym c.self.view_is) ∙ place.first,
       ap (λ (x : Content). member_with q.client x.members) (sym c.self.view_is) ∙ gone,
@@ -77,7 +77,7 @@ returns-clause-answered c =
     let place = answered_at v p removed.0 q (sym c.in-Some.ensures.found) removed.1 in
     let row : (m : Member) × IsRowOf v.members q.client c.in-Some-find.row m = c.in-Some-find.ensures in
     let ms = rw (row.1.client_is, c.facing.ensures) at (c.put.ensures.members row.0 row.1.at) in
-    let room = KeepsRoom-answered v c.args.by p q removed.0 row.0 c.self.invariant.room place.within place.is row.1.found in (
+    let room = KeepsRoom-settled v (entry_by c.args.by (event.Answer q.client q.ordinal p)) p q removed.0 row.0 c.self.invariant.room place.within place.is row.1.found in (
       q,
       row.0,
       ap (λ (x : Content). find (answers_place p) x.window) (sym c.self.view_is) ∙ place.first,

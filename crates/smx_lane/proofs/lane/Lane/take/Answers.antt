@@ -39,5 +39,6 @@ returns-clause-agrees c = λ h was.
       | inl lt ↦ lt
       | inr le ↦ let full : true ≡ false = sym (c.is_full.ensures.1 (omega (arith, le, c.self.invariant.window))) ∙ c.if-is_full.false in cc
     ] in
-    let agrees = AgreesWith-taken h v c.args.by r (drop 1 v.queue) u (rw c.self.view_is was) front room c.put-upstream.ensures.range.0 (omega (arith, c.put-upstream.ensures.range.1)) c.put-upstream.ensures.free in
+    let up : v.up ≡ true = cc in
+    let agrees = AgreesWith-taken h v c.args.by r (drop 1 v.queue) u (rw c.self.view_is was) front room up c.put-upstream.ensures.range.0 (omega (arith, c.put-upstream.ensures.range.1)) c.put-upstream.ensures.free in
     rw (popped, c.push_reserved.ensures.items) (AgreesWith-reordered _ (taken v c.args.by r u) c.put-upstream.new.self.taken c.put-upstream.ensures.taken agrees)
