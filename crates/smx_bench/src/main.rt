@@ -2,6 +2,7 @@
 //! machine and on what else runs, so no test compares them.
 #![tactic(auto)]
 
+mod boxes;
 mod figures;
 mod frame;
 mod lane;
@@ -15,6 +16,7 @@ use std::env;
 const USAGE: &str = "usage: smx_bench WORD
 
 lock    the ticket lock, alone and among threads, beside the toolchain's Mutex
+box     letters from 1, 2, 16 and 256 senders in threads of their own to one receiver
 lane    rounds of accept, take, answer and collect on one lane
 frame   PDUs from a stream in pieces of four sizes
 shared  requests of several ports over shared lanes, with a tap for each lane
@@ -25,6 +27,7 @@ fn main(rt: HostRuntime) -> anyhow::Result<()> {
     let word = env::args(&rt)?.nth(1);
     match word.as_deref() {
         Some("lock") => lock::run(&rt),
+        Some("box") => boxes::run(&rt),
         Some("lane") => lane::run(&rt),
         Some("frame") => frame::run(&rt),
         Some("shared") => shared::run(&rt),

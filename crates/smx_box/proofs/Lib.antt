@@ -1,6 +1,6 @@
 pub mod LetterLists
 pub mod BoxHistories
-pub mod BoxHolds
+pub mod BoxRules
 pub mod ShutCounts
 pub mod BoxEnds
-pub mod BoxSeats
+pub mod BoxPasses

@@ -1,30 +1,32 @@
--- The history of a box, what a hold of it did, and what clauses see of its ends.
-use Rattle.std.specs.Prelude.{◌≡◌, ℕ, ◌+◌, ◌<◌, ◌≤◌, true, List, [], ◌∷◌, ◌++◌, length, Option, Some, None}
-use Rattle.smx_lock.specs.Fronts.{LockId, Front, Serves}
+-- The history of a box, what a call did to it, and what clauses see of its ends.
+use Rattle.std.specs.Prelude.{◌≡◌, ℕ, ◌+◌, ◌<◌, ◌≤◌, ◌==◌, true, List, [], ◌∷◌, ◌++◌, length, filter, Option, Some, None}
+use mathlib.Core.List.{IsPrefix}
+use Rattle.atomic_table.specs.Seated.{TableId}
 use Rattle.smx_box.specs.declared.letter.Letter.{Letter}
-use Rattle.smx_box.specs.declared.letter.Sizes.{Sizes}
 use Rattle.smx_box.specs.declared.letter.Deed.{Deed}
 use Rattle.smx_box.specs.declared.letter.Deed.TheVariants.{Putting, Getting}
 use Rattle.smx_box.specs.declared.letter.Note.{Note}
+use Rattle.smx_box.specs.declared.letter.Known.{Known}
 use Rattle.smx_box.specs.declared.receiver.Got.{Got}
 use Rattle.smx_box.specs.declared.receiver.Got.TheVariants.{Item, Shut, Empty}
 use Rattle.smx_box.specs.declared.fault.BoxFault.{BoxFault}
 use Rattle.smx_box.specs.declared.fault.BoxFault.TheVariants.{BadSize, NoMemory, Spent}
 use Rattle.smx_box.specs.Letters.{letter, of, is_open, Delivers}
 
-abbrev pub sizes : ℕ → ℕ → Sizes
-sizes senders places = record { senders = senders; places = places }
-
 abbrev pub AreSizes : ℕ → ℕ → Type 0
 AreSizes senders places = ((0 < senders) × (senders ≤ 256)) × ((0 < places) × (places ≤ 256))
 
-module _ {T : Type 0} where
-  -- the seat that made a note
-  abbrev pub writer : Note T → ℕ
-  writer n = n.by
+-- so many items a sender puts at most, so that its letters are 2^53 at most
+abbrev pub most_items : ℕ
+most_items = 9007199254740991
 
+module _ {T : Type 0} where
   abbrev pub note : ℕ → Deed T → Note T
   note k d = record { by = k; deed = d }
+
+  -- the notes of one pass, in their order
+  abbrev pub notes_of : ℕ → List (Note T) → List (Note T)
+  notes_of number h = filter (λ n. n.by == number) h
 
   abbrev pub put_by : Deed T → List (Letter T)
   put_by (Putting m) = m ∷ []
@@ -44,60 +46,91 @@ module _ {T : Type 0} where
   gets [] = []
   gets (n ∷ h) = got_by n.deed ++ gets h
 
-  -- the receiver has the seat 0 and the sender p the seat p + 1, and nobody else does anything
-  abbrev pub IsOwnDeed : ℕ → ℕ → Deed T → Type 0
-  IsOwnDeed senders k (Putting m) = (k ≡ m.sender + 1) × (m.sender < senders)
-  IsOwnDeed senders k (Getting m) = k ≡ 0
+  -- the receiver has the pass 0 and the sender p the pass p + 1, and nobody else does anything
+  abbrev pub IsOwnDeed : ℕ → Deed T → Type 0
+  IsOwnDeed k (Putting m) = k ≡ m.sender + 1
+  IsOwnDeed k (Getting m) = k ≡ 0
 
-  abbrev pub AreOwnDeeds : ℕ → List (Note T) → Type 0
-  AreOwnDeeds senders [] = Unit {0}
-  AreOwnDeeds senders (n ∷ h) = IsOwnDeed senders n.by n.deed × AreOwnDeeds senders h
+  abbrev pub AreOwnDeeds : List (Note T) → Type 0
+  AreOwnDeeds [] = Unit {0}
+  AreOwnDeeds (n ∷ h) = IsOwnDeed n.by n.deed × AreOwnDeeds h
 
   -- what the box holds after this history
-  pub record BoxHistory (s : Sizes) (h : List (Note T)) (items : List (Letter T)) : Type 0 where
+  pub record BoxHistory (h : List (Note T)) (items : List (Letter T)) : Type 0 where
     pub delivers : Delivers (λ p. of p (puts h)) (gets h) items
-    pub within : length items ≤ s.places
-    pub own : AreOwnDeeds s.senders h
+    pub own : AreOwnDeeds h
 
-  -- one hold found this history, and the box with these letters, and it left the box with those
-  pub record OneHold (f g : Front (Note T) Sizes) (found new : List (Note T)) (before after : List (Letter T)) : Type 0 where
-    pub serves : Serves writer f g found new
-    pub finds : BoxHistory f.lock.fixed found before
-    pub leaves : BoxHistory f.lock.fixed g.seen after
+  -- A step of a pass finds this history, and the box with these letters: the history begins with all that the pass had seen,
+  -- has just the pass's own notes under its number, and for the receiver it has no letter of a sender that was not made
+  pub record Stood (v : Known T) (found : List (Note T)) (items : List (Letter T)) : Type 0 where
+    pub begins : IsPrefix v.seen found
+    pub own : notes_of v.number found ≡ v.mine
+    pub history : BoxHistory found items
+    pub no_others : v.number ≡ 0 → (p : ℕ) → v.senders ≤ p → of p (puts found) ≡ []
 
--- what clauses see of a sender: which it is, all that it put, and its seat
+  -- one step found this history, and the box with these letters, and it left the box with those
+  pub record OneStep (v w : Known T) (found new : List (Note T)) (before after : List (Letter T)) : Type 0 where
+    pub finds : Stood v found before
+    pub number : w.number ≡ v.number
+    pub senders : w.senders ≡ v.senders
+    pub seen : w.seen ≡ found ++ new
+    pub mine : w.mine ≡ v.mine ++ new
+    pub leaves : BoxHistory w.seen after
+
+  -- one step put the letter last
+  abbrev pub Posts : Known T → Letter T → Known T → Type 0
+  Posts v m w = (found : List (Note T)) × (items : List (Letter T)) × OneStep v w found (note v.number (Putting m) ∷ []) items (items ++ m ∷ [])
+
+  -- one step took the letter, which was the oldest
+  abbrev pub Takes : Known T → Letter T → Known T → Type 0
+  Takes v m w = (found : List (Note T)) × (items : List (Letter T)) × OneStep v w found (note v.number (Getting m) ∷ []) (m ∷ items) items
+
+  -- one step found the box with these letters
+  abbrev pub Finds : Known T → List (Letter T) → Type 0
+  Finds v items = (found : List (Note T)) × Stood v found items
+
+-- which queue it is, and how many letters it holds at most
+pub record QueueId : Type 0 where
+  pub table : TableId
+  pub places : ℕ
+
+-- what clauses see of a pass: which queue it is of, and what it knows
+pub record Front (T : Type 0) : Type 0 where
+  pub queue : QueueId
+  pub known : Known T
+
+-- what clauses see of a sender: which it is, all that it put, and its pass
 pub record Sending (T : Type 0) : Type 0 where
   pub sender : ℕ
   pub put : List (Letter T)
-  pub front : Front (Note T) Sizes
+  pub front : Front T
 
--- what clauses see of a receiver: how many senders there are, all that it got, and its seat
+-- what clauses see of a receiver: how many senders there are, all that it got, and its pass
 pub record Receiving (T : Type 0) : Type 0 where
   pub senders : ℕ
   pub got : List (Letter T)
-  pub front : Front (Note T) Sizes
+  pub front : Front T
 
 module _ {T : Type 0} where
-  -- one hold put the letter, where there was a place; what the history says of this sender is what it put
-  abbrev pub PutServes : Sending T → Front (Note T) Sizes → Letter T → Type 0
-  PutServes s g m = (found : List (Note T)) × (items : List (Letter T))
-      × OneHold s.front g found (note s.front.number (Putting m) ∷ []) items (items ++ m ∷ [])
+  -- one step put the letter; what the history says of this sender is what it put
+  abbrev pub PutServes : Sending T → Front T → Letter T → Type 0
+  PutServes s g m = (g.queue ≡ s.front.queue) × (found : List (Note T)) × (items : List (Letter T))
+      × OneStep s.front.known g.known found (note s.front.known.number (Putting m) ∷ []) items (items ++ m ∷ [])
       × (of s.sender (puts found) ≡ s.put)
-      × (length items < s.front.lock.fixed.places)
 
-  -- one hold found every place with a letter, and did nothing
-  abbrev pub FullServes : Sending T → Front (Note T) Sizes → Type 0
-  FullServes s g = (found : List (Note T)) × (items : List (Letter T))
-      × OneHold s.front g found [] items items
+  -- one step found every place with a letter; nothing changed
+  abbrev pub FullServes : Sending T → Front T → Type 0
+  FullServes s g = (g ≡ s.front) × (found : List (Note T)) × (items : List (Letter T))
+      × Stood s.front.known found items
       × (of s.sender (puts found) ≡ s.put)
-      × (length items ≡ s.front.lock.fixed.places)
+      × (length items ≡ s.front.queue.places)
 
-  -- one hold got the oldest letter, or found none and did nothing; what the history says was got is what the receiver got
-  abbrev pub TakeServes : Receiving T → Front (Note T) Sizes → Option (Letter T) → Type 0
-  TakeServes r g (Some m) = (found : List (Note T)) × (items : List (Letter T))
-      × OneHold r.front g found (note r.front.number (Getting m) ∷ []) (m ∷ items) items
+  -- one step got the oldest letter, or found none, and then nothing changed; what the history says was got is what the receiver got
+  abbrev pub TakeServes : Receiving T → Front T → Option (Letter T) → Type 0
+  TakeServes r g (Some m) = (g.queue ≡ r.front.queue) × (found : List (Note T)) × (items : List (Letter T))
+      × OneStep r.front.known g.known found (note r.front.known.number (Getting m) ∷ []) (m ∷ items) items
       × (gets found ≡ r.got)
-  TakeServes r g None = (found : List (Note T)) × OneHold r.front g found [] [] [] × (gets found ≡ r.got)
+  TakeServes r g None = (g ≡ r.front) × (found : List (Note T)) × Stood r.front.known found [] × (gets found ≡ r.got)
 
   -- what a get hands out is the sender's next letter, which no closing mark came before
   abbrev pub Hands : List (Letter T) → List (Letter T) → Got T → Type 0
@@ -105,28 +138,29 @@ module _ {T : Type 0} where
   Hands old new (Shut p) = (new ≡ old ++ letter p (length (of p old) + 1) None ∷ []) × (is_open (of p old) ≡ true)
   Hands old new Empty = new ≡ old
 
-  -- one hold served a get
-  abbrev pub GetServes : Receiving T → Front (Note T) Sizes → Got T → Type 0
+  -- one step served a get
+  abbrev pub GetServes : Receiving T → Front T → Got T → Type 0
   GetServes r g (Item p n x) = TakeServes r g (Some (letter p n (Some x)))
   GetServes r g (Shut p) = TakeServes r g (Some (letter p (length (of p r.got) + 1) None))
   GetServes r g Empty = TakeServes r g None
 
-  -- each sender stands at its index, the first at n, on the lock l, and put nothing
-  abbrev pub StandFrom : ℕ → LockId Sizes → List (Sending T) → Type 0
-  StandFrom n l [] = Unit {0}
-  StandFrom n l (s ∷ ss) = ((s.sender ≡ n) × (s.put ≡ []) × (s.front.lock ≡ l)) × StandFrom (n + 1) l ss
+  -- each sender stands at its index, the first at n, on the queue q, and put nothing
+  abbrev pub StandFrom : ℕ → QueueId → List (Sending T) → Type 0
+  StandFrom n q [] = Unit {0}
+  StandFrom n q (s ∷ ss) = ((s.sender ≡ n) × (s.put ≡ []) × (s.front.queue ≡ q)) × StandFrom (n + 1) q ss
 
   -- a new box of these sizes: nothing was put or got, and each sender stands at its index
   pub record Opens (senders places : ℕ) (r : Receiving T) (all : List (Sending T)) : Type 0 where
     pub within : AreSizes senders places
-    pub made_with : r.front.lock.fixed ≡ sizes senders places
+    pub places_are : r.front.queue.places ≡ places
     pub senders_are : r.senders ≡ senders
     pub nothing_got : r.got ≡ []
+    pub nothing_seen : r.front.known.seen ≡ []
     pub count : length all ≡ senders
-    pub each : StandFrom 0 r.front.lock all
+    pub each : StandFrom 0 r.front.queue all
 
--- only sizes out of range are bad
+-- only sizes out of range are bad, and no new box is spent
 abbrev pub IsBoxFault : ℕ → ℕ → BoxFault → Type 0
 IsBoxFault senders places BadSize = ¬ AreSizes senders places
 IsBoxFault senders places NoMemory = AreSizes senders places
-IsBoxFault senders places Spent = AreSizes senders places
+IsBoxFault senders places Spent = ⊥

@@ -1,2 +1,3 @@
 -- What contracts of private functions, models and invariants cite: no public contract does.
+pub mod Rule
 pub mod Ends

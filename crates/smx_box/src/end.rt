@@ -1,112 +1,65 @@
-//! One seat at a box: each call is served by one hold of its lock.
-ghost use Rattle.std.specs.Prelude.{◌≡◌, Ok, MatchResult, IfOk, OnErr};
+//! One pass at a box: each call is one step of its queue.
+ghost use Rattle.std.specs.Prelude.{◌≡◌};
 ghost use Rattle.std.specs.Arc.{arc_value};
-ghost use Rattle.smx_lock.specs.Fronts.{IsSpent};
+ghost use Rattle.crossbeam_queue.specs.Passes.{IsPassOf, ruled_capacity};
 ghost use Rattle.smx_box.specs.Boxes.{TakeServes};
-ghost use Rattle.smx_box.specs.Private.Ends.{IsNextLetter, sending, receiving, PostServes};
+ghost use Rattle.smx_box.specs.Private.Ends.{IsNextLetter, front_of, sending, receiving, PostServes};
 
-use crate::letter::{Did, Letter};
-use crate::ring::Ring;
-use smx_lock::{LockSeat, Spent, TicketLock};
+use crate::letter::{Known, Letter};
+use crate::rule::{Put, Queue, Taken};
+use crossbeam_queue::Pass;
 use std::alloc::Global;
 use std::marker::Model;
-use std::snapshot::Snapshot;
 use std::sync::{Arc, Wait};
 
-// Contracts see an end as the front of its seat.
+// Contracts see an end as its queue, and what its pass knows.
 #[derive(Drop)]
 pub(crate) struct End<T: Drop> {
-    lock: Arc<TicketLock<Ring<T>>, Global>,
-    // In place between two calls.
-    seat: Option<LockSeat<Ring<T>>>,
+    queue: Arc<Queue<T>, Global>,
+    pass: Pass<Letter<T>, Known<T>>,
 }
 
 impl<T: Drop> Model for End<T> {
-    ghost use Rattle.std.specs.Prelude.{◌≡◌, IsSomeAnd};
     ghost use Rattle.std.specs.Arc.{arc_value};
-    ghost use Rattle.smx_lock.specs.Fronts.{Front};
-    ghost use Rattle.smx_box.specs.declared.letter.Note.{Note};
-    ghost use Rattle.smx_box.specs.declared.letter.Sizes.{Sizes};
-    ghost use Rattle.smx_box.specs.Private.Ends.{front_in};
+    ghost use Rattle.crossbeam_queue.specs.Passes.{IsPassOf, ruled_capacity};
+    ghost use Rattle.smx_box.specs.Boxes.{Front};
+    ghost use Rattle.smx_box.specs.Private.Ends.{front_of};
 
-    ghost Value = { Front (Note T) Sizes };
+    ghost Value = { Front T };
 
-    ghost view = { λ e. front_in (arc_value e.lock) e.seat };
+    ghost view = { λ e. front_of (ruled_capacity (arc_value e.queue)) e.pass };
 
-    ghost invariant = { λ e. IsSomeAnd e.seat (λ f. f.lock ≡ arc_value e.lock) };
+    ghost invariant = { λ e. IsPassOf (arc_value e.queue) e.pass };
 }
 
 impl<T: Drop> End<T> {
-    pub(crate) fn new(lock: Arc<TicketLock<Ring<T>>, Global>, seat: LockSeat<Ring<T>>) -> End<T>
-        requires { seat.lock ≡ arc_value lock }
-        ensures { result ≡ seat }
+    pub(crate) fn new(queue: Arc<Queue<T>, Global>, pass: Pass<Letter<T>, Known<T>>) -> End<T>
+        requires { IsPassOf (arc_value queue) pass }
+        ensures { result ≡ front_of (ruled_capacity (arc_value queue)) pass }
     {
-        End {
-            lock,
-            seat: Some(seat),
-        }
+        End { queue, pass }
     }
 
     // Puts a letter at the end, or hands it back where every place has one.
-    pub(crate) fn post<R: Wait>(
-        &mut self,
-        rt: &R,
-        letter: Letter<T>,
-    ) -> Result<Result<(), Letter<T>>, (Letter<T>, Spent)>
+    pub(crate) fn post<R: Wait>(&mut self, rt: &R, letter: Letter<T>) -> Result<(), Letter<T>>
         requires { IsNextLetter self.old letter }
-        ensures lock { self.new.lock ≡ self.old.lock }
-        ensures served { MatchResult result (PostServes (sending letter.sender self.old) self.new letter) (λ e. (e.0 ≡ letter) × IsSpent self.old self.new) }
+        ensures { PostServes (sending letter.sender self.old) self.new letter result }
     {
-        let Some(seat) = self.seat.take() else {
-            unreachable!()
-        };
-        match self.lock.acquire(rt, seat) {
-            Ok(mut held) => {
-                let told = Snapshot::of(&letter);
-                match held.value_mut().push(letter) {
-                    Ok(()) => {
-                        self.seat = Some(self.lock.release_told(held, &Did::Put(told)));
-                        Ok(Ok(()))
-                    }
-                    Err(letter) => {
-                        self.seat = Some(self.lock.release_told(held, &Did::Nothing));
-                        Ok(Err(letter))
-                    }
-                }
-            }
-            Err((seat, spent)) => {
-                self.seat = Some(seat);
-                Err((letter, spent))
-            }
-        }
+        self.queue.push_as::<Put, R>(rt, &mut self.pass, letter)
     }
 
     // Takes the oldest letter.
-    pub(crate) fn take<R: Wait>(&mut self, rt: &R) -> Result<Option<Letter<T>>, Spent>
-        requires { self.old.number ≡ 0 }
-        ensures lock { self.new.lock ≡ self.old.lock }
-        ensures served { IfOk result (TakeServes (receiving self.old) self.new) }
-        ensures spent { OnErr result (IsSpent self.old self.new) }
+    pub(crate) fn take<R: Wait>(&mut self, rt: &R) -> Option<Letter<T>>
+        requires { self.old.known.number ≡ 0 }
+        ensures { TakeServes (receiving self.old) self.new result }
     {
-        let Some(seat) = self.seat.take() else {
-            unreachable!()
-        };
-        match self.lock.acquire(rt, seat) {
-            Ok(mut held) => match held.value_mut().pop() {
-                Some(letter) => {
-                    let told = Snapshot::of(&letter);
-                    self.seat = Some(self.lock.release_told(held, &Did::Got(told)));
-                    Ok(Some(letter))
-                }
-                None => {
-                    self.seat = Some(self.lock.release_told(held, &Did::Nothing));
-                    Ok(None)
-                }
-            },
-            Err((seat, spent)) => {
-                self.seat = Some(seat);
-                Err(spent)
-            }
-        }
+        self.queue.pop_as::<Taken, R>(rt, &mut self.pass)
+    }
+
+    // How many letters the box holds at most.
+    pub(crate) fn places(&self) -> usize
+        ensures { result ≡ self.now.queue.places }
+    {
+        self.queue.capacity()
     }
 }

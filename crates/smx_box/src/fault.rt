@@ -1,4 +1,4 @@
-//! Why a box isn't made.
+//! Why a box isn't made, and why nothing is got.
 
 /// Why a box isn't made.
 #[derive(Clone, Copy, Debug, PartialEq, Eq, thiserror::Error)]
@@ -9,7 +9,12 @@ pub enum BoxFault {
     /// The places could not be reserved.
     #[error("no memory for the places")]
     NoMemory,
-    /// No hold of the lock is left.
-    #[error("no hold of the lock is left")]
+    /// The box takes no calls. No call answers this.
+    #[error("the box takes no calls")]
     Spent,
 }
+
+/// The box takes no more gets. No call answers this.
+#[derive(Clone, Copy, Debug, PartialEq, Eq, thiserror::Error)]
+#[error("the box takes no more gets")]
+pub struct Spent;

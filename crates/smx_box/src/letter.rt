@@ -1,7 +1,6 @@
 //! What lies in a box, and the notes of what was done to it.
 
-use smx_lock::Told;
-use std::snapshot::Snapshot;
+use std::collections::LinkedList;
 
 /// What one sender put at once: an item, or its closing mark.
 #[derive(Drop)]
@@ -14,35 +13,23 @@ pub struct Letter<T> {
     pub content: Option<T>,
 }
 
-/// How many senders a box has, and how many letters it may hold.
-#[derive(Clone, Copy, Debug, PartialEq, Eq)]
-pub struct Sizes {
-    pub senders: usize,
-    pub places: usize,
-}
-
 /// What was done to a box. No value of it is made.
 pub enum Deed<T> {
     Putting(Letter<T>),
     Getting(Letter<T>),
 }
 
-/// A note: the seat with this number did this. No value of it is made.
+/// A note: the pass with this number did this. No value of it is made.
 pub struct Note<T> {
     pub by: u64,
     pub deed: Deed<T>,
 }
 
-// What one hold did.
-#[derive(Drop)]
-pub(crate) enum Did<T> {
-    Put(Snapshot<Letter<T>>),
-    Got(Snapshot<Letter<T>>),
-    Nothing,
-}
-
-impl<T> Told<Note<T>> for Did<T> {
-    ghost use Rattle.smx_box.specs.Private.Ends.{notes_told};
-
-    ghost notes = { notes_told };
+/// What a pass knows between two calls: its number, from 0, the senders that it made, a history that
+/// has been, and its own notes in that. No value of it is made.
+pub struct Known<T> {
+    pub number: u64,
+    pub senders: u64,
+    pub seen: LinkedList<Note<T>>,
+    pub mine: LinkedList<Note<T>>,
 }

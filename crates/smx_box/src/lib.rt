@@ -1,5 +1,5 @@
 //! Boxes, in which items wait, from several senders to one receiver, each of which may be used by a
-//! thread of its own.
+//! thread of its own. A box is a bounded queue, with a pass for each of its ends.
 #![tactic(auto)]
 
 mod boxed;
@@ -7,11 +7,10 @@ mod end;
 mod fault;
 mod letter;
 mod receiver;
-mod ring;
+mod rule;
 mod sender;
 
 pub use boxed::Boxed;
-pub use fault::BoxFault;
+pub use fault::{BoxFault, Spent};
 pub use receiver::{Got, Receiver};
 pub use sender::{PutFault, Sender};
-pub use smx_lock::Spent;

@@ -1,13 +1,12 @@
 //! The end of a box at which items are got.
-ghost use Rattle.std.specs.Prelude.{◌≡◌, ◌↔◌, ℕ, [], IsTrue, IfOk, OnErr};
-ghost use Rattle.smx_lock.specs.Fronts.{IsSpent};
+ghost use Rattle.std.specs.Prelude.{◌≡◌, ◌↔◌, ℕ, [], IsTrue, IfOk, IsOk};
 ghost use Rattle.smx_box.specs.Letters.{of, Numbered, AllShut};
 ghost use Rattle.smx_box.specs.Boxes.{Hands, GetServes};
 ghost use Rattle.smx_box.specs.Private.Ends.{receiving};
 
 use crate::end::End;
-use crate::letter::{Letter, Sizes};
-use smx_lock::Spent;
+use crate::fault::Spent;
+use crate::letter::Letter;
 use std::marker::Model;
 use std::sync::Wait;
 
@@ -28,11 +27,12 @@ pub enum Got<T> {
     Empty,
 }
 
-/// Contracts see a receiver as the count of senders, the list of all that it got, and its seat.
+/// Contracts see a receiver as the count of senders, the list of all that it got, and its pass.
 #[derive(Drop)]
 pub struct Receiver<T: Drop> {
     end: End<T>,
-    sizes: Sizes,
+    // How many senders there are.
+    senders: usize,
     // How many closing marks it got.
     shut: usize,
 }
@@ -45,36 +45,36 @@ impl<T: Drop> Model for Receiver<T> {
 
     ghost view = { λ r. receiving r.end };
 
-    ghost invariant = { λ r. IsReceiver r.end r.sizes r.shut };
+    ghost invariant = { λ r. IsReceiver r.end r.senders r.shut };
 }
 
 impl<T: Drop> Receiver<T> {
     // A receiver that got nothing.
-    pub(crate) fn new(end: End<T>, sizes: Sizes) -> Receiver<T>
-        requires number { end.number ≡ 0 }
-        requires mine { end.mine ≡ [] }
-        requires sizes { end.lock.fixed ≡ sizes }
+    pub(crate) fn new(end: End<T>, senders: usize) -> Receiver<T>
+        requires number { end.known.number ≡ 0 }
+        requires mine { end.known.mine ≡ [] }
+        requires senders { end.known.senders ≡ senders }
         ensures { result ≡ receiving end }
     {
         Receiver {
             end,
-            sizes,
+            senders,
             shut: 0,
         }
     }
 
-    /// Gets the oldest item or closing mark. `Spent` comes where every ticket of the box's lock
-    /// was drawn, and from then on at once.
+    /// Gets the oldest item or closing mark. It is never refused as spent.
     pub fn get<R: Wait>(&mut self, rt: &R) -> Result<Got<T>, Spent>
+        ensures never_spent { IsOk result }
         ensures got { IfOk result (Hands self.old.got self.new.got) }
         ensures numbered { (p : ℕ) → Numbered 0 (of p self.new.got) }
-        ensures same { (self.new.senders ≡ self.old.senders) × (self.new.front.lock ≡ self.old.front.lock) }
+        ensures same { (self.new.senders ≡ self.old.senders)
+            × (self.new.front.queue ≡ self.old.front.queue) }
 
-        // One hold served the call, or none did.
+        // One step of the queue served the call.
         ensures served { IfOk result (GetServes self.old self.new.front) }
-        ensures spent { OnErr result ((self.new.got ≡ self.old.got) × IsSpent self.old.front self.new.front) }
     {
-        let Some(letter) = self.end.take(rt)? else {
+        let Some(letter) = self.end.take(rt) else {
             return Ok(Got::Empty);
         };
         let Letter {
@@ -99,13 +99,13 @@ impl<T: Drop> Receiver<T> {
     pub fn ended(&self) -> bool
         ensures { IsTrue result ↔ AllShut self.now.senders self.now.got }
     {
-        self.shut == self.sizes.senders
+        self.shut == self.senders
     }
 
     /// How many items and closing marks the box holds at most, as [`crate::Boxed::new`] was told.
     pub fn places(&self) -> usize
-        ensures { result ≡ self.now.front.lock.fixed.places }
+        ensures { result ≡ self.now.front.queue.places }
     {
-        self.sizes.places
+        self.end.places()
     }
 }

@@ -1,18 +1,17 @@
 //! The end of a box at which items are put.
-ghost use Rattle.std.specs.Prelude.{◌≡◌, ◌≤◌, ◌+◌, ◌⊎◌, ◌++◌, [], ◌∷◌, true, length, Some, None, IfOk, OnOk, IfErr, IsSome};
-ghost use Rattle.smx_lock.specs.Fronts.{Front, IsSpent};
-ghost use Rattle.smx_ticket_core.specs.Machine.{most};
-ghost use Rattle.smx_box.specs.declared.letter.Note.{Note};
-ghost use Rattle.smx_box.specs.declared.letter.Sizes.{Sizes};
+ghost use Rattle.std.specs.Prelude.{◌≡◌, ◌<◌, ◌+◌, ◌++◌, [], ◌∷◌, true, length, Some, None, IfOk, OnOk, IfErr, IsSome};
 ghost use Rattle.smx_box.specs.Letters.{letter, is_open, Numbered};
-ghost use Rattle.smx_box.specs.Boxes.{PutServes, FullServes};
-ghost use Rattle.smx_box.specs.Private.Ends.{IsFreshSeat};
+ghost use Rattle.smx_box.specs.Boxes.{Front, most_items, PutServes, FullServes};
+ghost use Rattle.smx_box.specs.Private.Ends.{IsFreshPass};
 
 use crate::end::End;
 use crate::letter::Letter;
-use smx_ticket_core::MOST;
 use std::marker::Model;
 use std::sync::Wait;
+
+// So many items a sender puts at most: 2^53 - 1. Of 256 senders that makes 2^61 letters at most,
+// their marks included, which a queue has numbers for.
+const MOST_ITEMS: u64 = 9007199254740991;
 
 /// Why nothing was put: the first of these that stands.
 #[derive(Clone, Copy, Debug, PartialEq, Eq, thiserror::Error)]
@@ -20,12 +19,12 @@ pub enum PutFault {
     /// Every place of the box has a letter.
     #[error("the box is full")]
     Full,
-    /// Every ticket of the box's lock was drawn, or this sender has put 2^62 items. It stays so.
-    #[error("the box takes no more calls")]
+    /// This sender has put 2^53 - 1 items. It stays so; its closing mark can still be put.
+    #[error("the sender has put all its items")]
     Spent,
 }
 
-/// Contracts see a sender as its index, the list of all that it put, and its seat.
+/// Contracts see a sender as its index, the list of all that it put, and its pass.
 #[derive(Drop)]
 pub struct Sender<T: Drop> {
     end: End<T>,
@@ -48,7 +47,7 @@ impl<T: Drop> Model for Sender<T> {
 impl<T: Drop> Sender<T> {
     // A sender that put nothing.
     pub(crate) fn new(end: End<T>, sender: usize) -> Sender<T>
-        requires { IsFreshSeat end sender }
+        requires { IsFreshPass end sender }
         ensures sender { result.sender ≡ sender }
         ensures front { result.front ≡ end }
         ensures put { result.put ≡ [] }
@@ -64,20 +63,27 @@ impl<T: Drop> Sender<T> {
     /// handed back.
     pub fn put<R: Wait>(&mut self, rt: &R, content: T) -> Result<u64, (T, PutFault)>
         ensures number { IfOk result (λ n. n ≡ length self.new.put) }
-        ensures ok { IfOk result (λ n. self.new.put ≡ self.old.put ++ letter self.old.sender n (Some content) ∷ []) }
+        ensures ok { IfOk result (λ n. self.new.put
+            ≡ self.old.put ++ letter self.old.sender n (Some content) ∷ []) }
         ensures err { IfErr result (λ e. (e.0 ≡ content) × (self.new.put ≡ self.old.put)) }
         ensures numbered { Numbered 0 self.new.put × (is_open self.new.put ≡ true) }
-        ensures same { (self.new.sender ≡ self.old.sender) × (self.new.front.lock ≡ self.old.front.lock) }
+        ensures same { (self.new.sender ≡ self.old.sender)
+            × (self.new.front.queue ≡ self.old.front.queue) }
 
-        // One hold served the call.
-        ensures served { IfOk result (λ n. PutServes self.old self.new.front (letter self.old.sender n (Some content))) }
-        ensures full { IfErr result (λ e. e.1 ≡ PutFault.Full → FullServes self.old self.new.front) }
+        // One step of the queue served the call.
+        ensures served { IfOk result (λ n. PutServes self.old self.new.front
+            (letter self.old.sender n (Some content))) }
+        ensures full { IfErr result (λ e. e.1 ≡ PutFault.Full
+            → FullServes self.old self.new.front) }
 
-        // Or none did.
-        ensures spent { IfErr result (λ e. e.1 ≡ PutFault.Spent →
-            IsSpent self.old.front self.new.front ⊎ ((self.new.front ≡ self.old.front) × (most ≤ length self.old.put))) }
+        // Or none did, exactly where the sender has put all its items.
+        ensures spent { IfErr result (λ e. e.1 ≡ PutFault.Spent
+            → (self.new.front ≡ self.old.front) × (length self.old.put ≡ most_items)) }
+        ensures not_spent { IfOk result (λ _. length self.old.put < most_items) }
+        ensures tested_first { IfErr result (λ e. e.1 ≡ PutFault.Full
+            → length self.old.put < most_items) }
     {
-        if self.count >= MOST {
+        if self.count >= MOST_ITEMS {
             return Err((content, PutFault::Spent));
         }
         let number = self.count + 1;
@@ -87,22 +93,21 @@ impl<T: Drop> Sender<T> {
             content: Some(content),
         };
         match self.end.post(rt, letter) {
-            Ok(Ok(())) => {
+            Ok(()) => {
                 self.count = number;
                 Ok(number)
             }
-            Ok(Err(letter)) => Err((item(letter), PutFault::Full)),
-            Err((letter, _)) => Err((item(letter), PutFault::Spent)),
+            Err(letter) => Err((item(letter), PutFault::Full)),
         }
     }
 
-    /// Puts the closing mark, which takes one place, and ends the sender. Where it is refused the
-    /// sender is handed back.
+    /// Puts the closing mark, which takes one place, and ends the sender. Where the box is full the
+    /// sender is handed back. It is never refused as spent.
     pub fn shut<R: Wait>(self, rt: &R) -> Result<(), (Sender<T>, PutFault)>
-        ensures ok { OnOk result ((g : Front (Note T) Sizes) × PutServes self g (letter self.sender (length self.put + 1) None)) }
-        ensures err { IfErr result (λ e. (e.0.sender ≡ self.sender) × (e.0.put ≡ self.put) × (e.0.front.lock ≡ self.front.lock)) }
-        ensures full { IfErr result (λ e. e.1 ≡ PutFault.Full → FullServes self e.0.front) }
-        ensures spent { IfErr result (λ e. e.1 ≡ PutFault.Spent → IsSpent self.front e.0.front) }
+        ensures ok { OnOk result ((g : Front T)
+            × PutServes self g (letter self.sender (length self.put + 1) None)) }
+        ensures err { IfErr result (λ e. (e.0 ≡ self) × (e.1 ≡ PutFault.Full)) }
+        ensures full { IfErr result (λ e. FullServes self e.0.front) }
     {
         let Sender {
             mut end,
@@ -114,12 +119,10 @@ impl<T: Drop> Sender<T> {
             number: count + 1,
             content: None,
         };
-        let fault = match end.post(rt, mark) {
-            Ok(Ok(())) => return Ok(()),
-            Ok(Err(_)) => PutFault::Full,
-            Err(_) => PutFault::Spent,
-        };
-        Err((Sender { end, sender, count }, fault))
+        match end.post(rt, mark) {
+            Ok(()) => Ok(()),
+            Err(_) => Err((Sender { end, sender, count }, PutFault::Full)),
+        }
     }
 }
 

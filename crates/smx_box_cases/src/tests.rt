@@ -1,11 +1,12 @@
-use smx_box::{BoxFault, Boxed, Got, PutFault, Receiver, Sender, Spent};
+use smx_box::{BoxFault, Boxed, Got, PutFault, Receiver, Sender};
 use std::alloc::Global;
 use std::sync::Wait;
 use std::test::*;
 use std::thread;
 use std::thread::join;
 
-const LAST_TICKET: u64 = 4611686018427387903;
+// How many items each of two threads puts.
+const ITEMS: u64 = 1_000;
 
 // Whether the sender is refused, with its content, since the box is full.
 fn is_refused<R: Wait>(rt: &R, sender: &mut Sender<char>, content: char) -> bool {
@@ -96,39 +97,6 @@ fn the_largest_box_is_made(rt: HostRuntime) {
     assert!(rt; fault.is_none() || fault == Some(BoxFault::NoMemory));
 }
 
-// How a box is refused whose lock has no ticket left.
-fn late_refusal<R: Wait>(rt: &R, alloc: Global) -> Option<BoxFault> {
-    let made: Result<(Receiver<u8>, Vec<Sender<u8>>), BoxFault> = Boxed::new_at(
-        rt,
-        alloc,
-        1,
-        1,
-        LAST_TICKET + 1,
-    );
-    made.err()
-}
-
-#[test]
-fn a_spent_lock_makes_no_box(rt: HostRuntime) {
-    let fault = late_refusal(&rt, rt.alloc());
-    assert!(rt; matches!(fault, Some(BoxFault::Spent | BoxFault::NoMemory)));
-}
-
-fn is_spent<R: Wait>(rt: &R, receiver: &mut Receiver<u8>, from: Sender<u8>) -> bool {
-    let mut sender = from;
-    let refused = sender.put(rt, 7) == Err((7, PutFault::Spent));
-    let received = receiver.get(rt) == Err(Spent);
-    refused && received && matches!(sender.shut(rt), Err((_, PutFault::Spent)))
-}
-
-#[test]
-fn a_spent_lock_is_named(rt: HostRuntime) {
-    let made = Boxed::new_at(&rt, rt.alloc(), 1, 1, LAST_TICKET);
-    let (mut receiver, mut senders) = made.expect(&rt, "no box");
-    let sender = senders.pop().expect(&rt, "no sender");
-    assert!(rt; is_spent(&rt, &mut receiver, sender));
-}
-
 // Puts this, again where the box was full, as the sender's item of that number.
 fn puts<R: Wait>(rt: &R, sender: &mut Sender<u64>, wanted: u64) -> bool {
     for _ in rt.forever() {
@@ -141,9 +109,9 @@ fn puts<R: Wait>(rt: &R, sender: &mut Sender<u64>, wanted: u64) -> bool {
     false
 }
 
-// Puts 1, 2, 3, .., 100.
-fn put_hundred<R: Wait>(rt: &R, sender: &mut Sender<u64>) -> bool {
-    for wanted in 1..=100 {
+// Puts 1, 2, 3, .. up to the count of items.
+fn put_items<R: Wait>(rt: &R, sender: &mut Sender<u64>) -> bool {
+    for wanted in 1..=ITEMS {
         if !puts(rt, sender, wanted) {
             return false;
         }
@@ -167,11 +135,11 @@ fn shuts<R: Wait>(rt: &R, from: Sender<u64>) -> bool {
 
 fn put_all<R: Wait>(rt: &R, from: Sender<u64>) -> bool {
     let mut sender = from;
-    let are_put = put_hundred(rt, &mut sender);
+    let are_put = put_items(rt, &mut sender);
     shuts(rt, sender) && are_put
 }
 
-// Gets what is there next: whether it is the sender's next item, or its mark behind 100 of them.
+// Gets what is there next: whether it is the sender's next item, or its mark behind the last of them.
 fn gets_next<R: Wait>(rt: &R, receiver: &mut Receiver<u64>, next: &mut [u64; 2]) -> bool {
     match receiver.get(rt) {
         Ok(
@@ -185,7 +153,7 @@ fn gets_next<R: Wait>(rt: &R, receiver: &mut Receiver<u64>, next: &mut [u64; 2])
             next[sender] = next[sender].saturating_add(1);
             is_next
         }
-        Ok(Got::Shut { sender }) if sender < 2 => next[sender] == 101,
+        Ok(Got::Shut { sender }) if sender < 2 => next[sender] == ITEMS + 1,
         Ok(Got::Empty) => {
             thread::yield_now();
             true
@@ -194,7 +162,7 @@ fn gets_next<R: Wait>(rt: &R, receiver: &mut Receiver<u64>, next: &mut [u64; 2])
     }
 }
 
-// Whether each of two senders sent 1 to 100 in order and nothing else.
+// Whether each of two senders sent all its items in order and nothing else, up to the end.
 fn get_all<R: Wait>(rt: &R, from: Receiver<u64>) -> bool {
     let mut receiver = from;
     let mut next = [1, 1];
@@ -203,7 +171,7 @@ fn get_all<R: Wait>(rt: &R, from: Receiver<u64>) -> bool {
             return false;
         }
         if receiver.ended() {
-            return next == [101, 101];
+            return next == [ITEMS + 1, ITEMS + 1];
         }
     }
     false

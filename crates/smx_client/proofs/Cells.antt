@@ -5,6 +5,7 @@ use Rattle.std.proofs.lemmas.Bool.{eq-eqb}
 use Rattle.std.specs.declared.snapshot.Snapshot.{Snapshot}
 use Rattle.smx_pdu.specs.declared.pdu.Pdu.{Pdu}
 use Rattle.smx_lock.specs.declared.faults.Spent.{Spent}
+use Rattle.smx_box.specs.declared.fault.Spent.{Spent as BoxSpent}
 use Rattle.smx_box.specs.declared.receiver.Got.{Got}
 use Rattle.smx_session.specs.declared.kind.Kind.{Kind}
 use Rattle.smx_session.specs.declared.kind.Kind.TheVariants as kind
@@ -89,12 +90,12 @@ module _ (t : Before) where
   unfolding go from_collecting
   boxed_again lane reply waits = puts_again t.parked lane reply waits
 
-  gets : (b : Bool) (r : Snapshot (Result (Got MoItem) Spent)) (d : Delivery) → b ≡ false → (if t.lanes == t.lanes then from_boxing b (Did (Fetched r d)) else Wrong) ≡ after_got r.value d
+  gets : (b : Bool) (r : Snapshot (Result (Got MoItem) BoxSpent)) (d : Delivery) → b ≡ false → (if t.lanes == t.lanes then from_boxing b (Did (Fetched r d)) else Wrong) ≡ after_got r.value d
   unfolding from_boxing
   gets b r d none =
       ap (λ c. if c then from_boxing b (Did (Fetched r d)) else Wrong) (eq-eqb t.lanes t.lanes refl) ∙ ap (λ c. from_boxing c (Did (Fetched r d))) none
 
-  pub boxed_got : (r : Snapshot (Result (Got MoItem) Spent)) (d : Delivery) → t.parked ≡ false → go t (MayCollect t.lanes) (Did (Fetched r d)) ≡ after_got r.value d
+  pub boxed_got : (r : Snapshot (Result (Got MoItem) BoxSpent)) (d : Delivery) → t.parked ≡ false → go t (MayCollect t.lanes) (Did (Fetched r d)) ≡ after_got r.value d
   unfolding go from_collecting
   boxed_got r d none = gets t.parked r d none
 

@@ -1,5 +1,5 @@
 -- Each event as one step of the parts, said of plain values.
-use Rattle.std.proofs.Common.{◌≡◌, ◌<◌, ℕ, List, [], ◌∷◌, ◌++◌, length, sym, ◌∙◌, ap, refl, subst, Option, Some, None, Result, Err}
+use Rattle.std.proofs.Common.{◌≡◌, ◌<◌, ℕ, List, [], ◌∷◌, ◌++◌, length, sym, ◌∙◌, ap, refl, subst, Option, Some, None, Result}
 use Rattle.std.proofs.lemmas.List.{append-nil}
 use Rattle.std.specs.declared.snapshot.Snapshot.{Snapshot}
 use Rattle.smx_pdu.specs.declared.pdu.Pdu.{Pdu}
@@ -9,8 +9,8 @@ use Rattle.smx_session.specs.declared.act.Act.{Act}
 use Rattle.smx_session.specs.declared.act.Act.TheVariants as act
 use Rattle.smx_session.specs.declared.client_state.ClientState.{ClientState}
 use Rattle.smx_session.specs.declared.client_state.ClientState.TheVariants.{Ended}
-use Rattle.smx_lock.specs.Fronts.{IsSpent}
 use Rattle.smx_lock.specs.declared.faults.Spent.{Spent}
+use Rattle.smx_box.specs.declared.fault.Spent.{Spent as BoxSpent}
 use Rattle.smx_shared.specs.Views.{PortView}
 use Rattle.smx_shared.specs.Offers.{Accepted, accepted_by}
 use Rattle.smx_shared.specs.Ports.{HasAccepted}
@@ -26,7 +26,6 @@ use Rattle.smx_client.specs.declared.reply.Reply.{Reply}
 use Rattle.smx_client.specs.declared.event.Event.TheVariants.{Decided, Broke, Collected, PutAgain, Got as Fetched}
 use Rattle.smx_client.specs.declared.event.Fate.TheVariants.{Own, Submitted, Settled}
 use Rattle.smx_client.specs.declared.event.Delivery.{Delivery}
-use Rattle.smx_client.specs.declared.event.Delivery.TheVariants.{Dropped}
 use Rattle.smx_client.specs.Replies.{Parks, put_in, parked_on, if_taken, on_lane}
 use Rattle.smx_client.specs.Events.{act_out, refusal_out, response_out, got_out, got_answers, delivery_puts, settled_out}
 use Rattle.smx_client.specs.Parts.{parts, Does, Suits, collect_step, submit_step, settle_step, got_step, Gets, delivery_parks, IsOfferOf}
@@ -130,7 +129,7 @@ module _ (d : Desk) (said said' : List Pdu) (s : ClientState) (w : Window) (i : 
     lanes = count;
   }
 
-  pub got : (p : PortView) (w' : Window) (i' : Receiving MoItem) (x' : List (Sending Pdu)) (h' : Option Parked) (r0 : Result (Got MoItem) Spent) (r : Snapshot (Result (Got MoItem) Spent)) (e : Delivery)
+  pub got : (p : PortView) (w' : Window) (i' : Receiving MoItem) (x' : List (Sending Pdu)) (h' : Option Parked) (r0 : Result (Got MoItem) BoxSpent) (r : Snapshot (Result (Got MoItem) BoxSpent)) (e : Delivery)
       → r.value ≡ r0 → said' ≡ said ++ got_out r0 e → got_step r0 e w w' → Gets p.client (length x) i r0 e i' → delivery_parks e h h' → length x' ≡ length x
       → ((k : ℕ) → k < length x → put_in x' k ≡ put_in x k ++ delivery_puts k r0 e)
       → ((k : ℕ) → k < length x → put_in x' k ++ parked_on k h' ≡ put_in x k ++ parked_on k h ++ got_answers k r0 e)
@@ -148,13 +147,6 @@ module _ (d : Desk) (said said' : List Pdu) (s : ClientState) (w : Window) (i : 
     desk = refl;
     lanes = count;
   }
-
--- the box takes no more calls
-pub got_none : (d : Desk) (said : List Pdu) (s : ClientState) (w : Window) (i i' : Receiving MoItem) (x : List (Sending Pdu)) (h : Option Parked) (p : PortView) (e : Spent) (r : Snapshot (Result (Got MoItem) Spent))
-    → r.value ≡ Err e → (i'.got ≡ i.got) × IsSpent i.front i'.front → Does (parts d said p s w i x h) (Fetched r Dropped) (parts d said p s w i' x h)
-got_none d said s w i i' x h p e r seen spent =
-    got d said said s w i x h p w i' x h (Err e) r Dropped seen (sym (append-nil said)) refl (spent.1, spent.0, refl) refl refl
-    (λ k within. still (put_in x k)) (λ k within. same_put x h k)
 
 -- the answer that waits no more, or again
 again : (x x' : List (Sending Pdu)) (h h0 h' : Option Parked) (a : Parked) (k : ℕ) → Some a ≡ h → h0 ≡ None

@@ -1,8 +1,7 @@
 -- One step of a client's leaving more.
-use Rattle.std.proofs.Common.{◌≡◌, ◌+◌, List, [], ◌∷◌, ◌++◌, sym, ◌∙◌, ap, subst, arith, Result, Ok, Err, IfOk, OnErr, false, Bool, ◌||◌, Option, None}
+use Rattle.std.proofs.Common.{◌≡◌, ◌+◌, List, [], ◌∷◌, ◌++◌, sym, ◌∙◌, ap, subst, arith, Result, Ok, Err, IfOk, IsOk, true≢false, false, Bool, ◌||◌, Option, None}
 use Rattle.std.proofs.Math.Bool.{or-false, or_assoc}
-use Rattle.smx_lock.specs.Fronts.{IsSpent}
-use Rattle.smx_lock.specs.declared.faults.Spent.{Spent}
+use Rattle.smx_box.specs.declared.fault.Spent.{Spent}
 use Rattle.smx_box.specs.declared.receiver.Got.{Got}
 use Rattle.smx_box.specs.Boxes.{Receiving, Sending, GetServes, Hands}
 use Rattle.smx_routes.specs.Window.{Window}
@@ -26,9 +25,9 @@ pub gets_same : (es es' : List Leaving) (e : Leaving) → es' ≡ es ++ e ∷ []
 gets_same es es' e grown none = let h = gets_push es es' e grown in omega (arith, h, none)
 
 pub gives_is : (a b : Receiving MoItem) (r : Result (Got MoItem) Spent) → IfOk r (λ f. GetServes a b.front f) → IfOk r (λ f. Hands a.got b.got f)
-    → OnErr r ((b.got ≡ a.got) × IsSpent a.front b.front) → Gives a r b
-gives_is a b (Ok found) served hands spent = (served, hands)
-gives_is a b (Err e) served hands spent = (spent.1, spent.0)
+    → IsOk r → Gives a r b
+gives_is a b (Ok found) served hands fine = (served, hands)
+gives_is a b (Err e) served hands fine = absurd (true≢false (sym fine))
 
 pub left_first : (h h' : Option Parked) (w w' : Window) (i i' : Receiving MoItem) (x x' : List (Sending Pdu)) (es : List Leaving)
     → es ≡ [] → h' ≡ h → w' ≡ w → i' ≡ i → x' ≡ x → Left (rest_of h' w' i' x') es (rest_of h w i x)

@@ -12,6 +12,7 @@ use Rattle.smx_shared.specs.declared.fault.SubmitFault.{SubmitFault}
 use Rattle.smx_shared.specs.declared.fault.SubmitFault.TheVariants as submit
 use Rattle.smx_shared.specs.Offers.{Accepted, accepted_by}
 use Rattle.smx_lock.specs.declared.faults.Spent.{Spent}
+use Rattle.smx_box.specs.declared.fault.Spent.{Spent as BoxSpent}
 use Rattle.smx_box.specs.declared.receiver.Got.{Got}
 use Rattle.smx_box.specs.declared.receiver.Got.TheVariants.{Item, Shut, Empty}
 use Rattle.smx_turns.specs.declared.mo_item.MoItem.{MoItem}
@@ -67,7 +68,7 @@ abbrev pub item_out : Got MoItem → Delivery → List Pdu
 item_out (Item p n item) (Given number) = message_as number item ∷ []
 item_out _ _ = []
 
-abbrev pub got_out : Result (Got MoItem) Spent → Delivery → List Pdu
+abbrev pub got_out : Result (Got MoItem) BoxSpent → Delivery → List Pdu
 got_out (Ok found) d = item_out found d
 got_out (Err e) d = []
 
@@ -113,7 +114,7 @@ abbrev pub item_answers : ℕ → Got MoItem → Delivery → List (Option Pdu)
 item_answers k (Item p n item) (Refused reply) = on_lane k item.lane (refused_up (response_of item.pdu.command) item.number)
 item_answers k _ _ = []
 
-abbrev pub got_answers : ℕ → Result (Got MoItem) Spent → Delivery → List (Option Pdu)
+abbrev pub got_answers : ℕ → Result (Got MoItem) BoxSpent → Delivery → List (Option Pdu)
 got_answers k (Ok found) d = item_answers k found d
 got_answers k (Err e) d = []
 
@@ -130,7 +131,7 @@ fate_puts k p Own = []
 fate_puts k p (Submitted o r) = []
 fate_puts k p (Settled found reply) = if_taken reply (settled_out k p found)
 
-abbrev pub delivery_puts : ℕ → Result (Got MoItem) Spent → Delivery → List (Option Pdu)
+abbrev pub delivery_puts : ℕ → Result (Got MoItem) BoxSpent → Delivery → List (Option Pdu)
 delivery_puts k r (Given number) = []
 delivery_puts k r (Refused reply) = if_taken reply (got_answers k r (Refused reply))
 delivery_puts k r Dropped = []
@@ -169,11 +170,11 @@ item_told (Item p n item) reply = lane_told item.lane reply
 item_told (Shut p) reply = []
 item_told Empty reply = []
 
-abbrev pub refused_told : Result (Got MoItem) Spent → Reply → List Party
+abbrev pub refused_told : Result (Got MoItem) BoxSpent → Reply → List Party
 refused_told (Ok found) reply = item_told found reply
 refused_told (Err e) reply = []
 
-abbrev pub got_told : Result (Got MoItem) Spent → Delivery → List Party
+abbrev pub got_told : Result (Got MoItem) BoxSpent → Delivery → List Party
 got_told r (Given number) = []
 got_told r (Refused reply) = refused_told r reply
 got_told r Dropped = []
@@ -195,7 +196,7 @@ is_none_found (Ok (Some p)) = false
 is_none_found (Ok None) = true
 is_none_found (Err e) = true
 
-abbrev pub is_empty_got : Result (Got MoItem) Spent → Bool
+abbrev pub is_empty_got : Result (Got MoItem) BoxSpent → Bool
 is_empty_got (Ok (Item p n item)) = false
 is_empty_got (Ok (Shut p)) = false
 is_empty_got (Ok Empty) = true

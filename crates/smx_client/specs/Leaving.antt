@@ -2,8 +2,7 @@
 use Rattle.std.specs.Prelude.{◌≡◌, ◌<◌, ◌+◌, ◌++◌, ◌⊎◌, ℕ, Bool, false, ◌||◌, List, [], ◌∷◌, length, Option, Some, None, Result, Ok, Err, if◌then◌else◌}
 use Rattle.smx_pdu.specs.declared.pdu.Pdu.{Pdu}
 use Rattle.smx_pdu.specs.Command.{response_of}
-use Rattle.smx_lock.specs.Fronts.{IsSpent}
-use Rattle.smx_lock.specs.declared.faults.Spent.{Spent}
+use Rattle.smx_box.specs.declared.fault.Spent.{Spent}
 use Rattle.smx_box.specs.declared.receiver.Got.{Got}
 use Rattle.smx_box.specs.declared.receiver.Got.TheVariants as found
 use Rattle.smx_routes.specs.declared.mo_window.Waiting.{Waiting}
@@ -36,10 +35,10 @@ abbrev pub item_refused : ℕ → Result (Got MoItem) Spent → List (Option Pdu
 item_refused k (Ok (found.Item p n item)) = on_lane k item.lane (refused_up (response_of item.pdu.command) item.number)
 item_refused k _ = []
 
--- one hold of the box served a get, or its tickets are spent
+-- one step of the box served a get, which is never spent
 abbrev pub Gives : Receiving MoItem → Result (Got MoItem) Spent → Receiving MoItem → Type 0
 Gives a (Ok found) b = GetServes a b.front found × Hands a.got b.got found
-Gives a (Err e) b = IsSpent a.front b.front × (b.got ≡ a.got)
+Gives a (Err e) b = ⊥
 
 -- the order: the answer that waits before all, then the messages that were sent by rising number, then the box's items
 abbrev pub answers_next : Rest → Leaving → Rest → Type 0

@@ -8,8 +8,8 @@ use Rattle.smx_session.specs.declared.act.Act.{Act}
 use Rattle.smx_session.specs.declared.act.Act.TheVariants as act
 use Rattle.smx_session.specs.declared.client_state.ClientState.{ClientState}
 use Rattle.smx_session.specs.declared.client_state.ClientState.TheVariants.{Ended}
-use Rattle.smx_lock.specs.Fronts.{IsSpent}
 use Rattle.smx_lock.specs.declared.faults.Spent.{Spent}
+use Rattle.smx_box.specs.declared.fault.Spent.{Spent as BoxSpent}
 use Rattle.smx_shared.specs.Views.{PortView}
 use Rattle.smx_shared.specs.Offers.{Accepted}
 use Rattle.smx_shared.specs.Ports.{HasAccepted}
@@ -100,7 +100,7 @@ item_step (Item p n item) (Given number) w u = IsNext w number × (u ≡ record 
 item_step _ (Given number) w u = ⊥
 item_step _ _ w u = u ≡ w
 
-abbrev pub got_step : Result (Got MoItem) Spent → Delivery → Window → Window → Type 0
+abbrev pub got_step : Result (Got MoItem) BoxSpent → Delivery → Window → Window → Type 0
 got_step (Ok found) d w u = item_step found d w u
 got_step (Err e) d w u = u ≡ w
 
@@ -120,10 +120,10 @@ IsDelivered client lanes (Shut p) Dropped = Unit {0}
 IsDelivered client lanes Empty Dropped = Unit {0}
 IsDelivered client lanes _ _ = ⊥
 
--- one hold of the box served a get, or its tickets are spent
-abbrev pub Gets : ℕ → ℕ → Receiving MoItem → Result (Got MoItem) Spent → Delivery → Receiving MoItem → Type 0
+-- one step of the box served a get, which is never spent
+abbrev pub Gets : ℕ → ℕ → Receiving MoItem → Result (Got MoItem) BoxSpent → Delivery → Receiving MoItem → Type 0
 Gets client lanes a (Ok found) d b = GetServes a b.front found × Hands a.got b.got found × IsDelivered client lanes found d
-Gets client lanes a (Err e) d b = IsSpent a.front b.front × (b.got ≡ a.got) × (d ≡ Dropped)
+Gets client lanes a (Err e) d b = ⊥
 
 abbrev pub inbox_step : ℕ → ℕ → Receiving MoItem → Event → Receiving MoItem → Type 0
 inbox_step client lanes a (Decided p act f) b = b ≡ a

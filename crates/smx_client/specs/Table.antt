@@ -3,6 +3,7 @@ use Rattle.std.specs.Prelude.{◌≡◌, ◌≢◌, ◌==◌, ◌≤◌, ℕ, �
 use Rattle.smx_pdu.specs.declared.pdu.Pdu.{Pdu}
 use Rattle.smx_frame.specs.Stream.{HasNone}
 use Rattle.smx_lock.specs.declared.faults.Spent.{Spent}
+use Rattle.smx_box.specs.declared.fault.Spent.{Spent as BoxSpent}
 use Rattle.smx_box.specs.declared.receiver.Got.{Got}
 use Rattle.smx_session.specs.declared.kind.Kind.{Kind}
 use Rattle.smx_session.specs.declared.kind.Kind.TheVariants as kind
@@ -144,7 +145,7 @@ after_delivery (Given number) = Clear
 after_delivery (Refused reply) = after_reply Clear reply
 after_delivery Dropped = Clear
 
-abbrev pub after_got : Result (Got MoItem) Spent → Delivery → Phase
+abbrev pub after_got : Result (Got MoItem) BoxSpent → Delivery → Phase
 after_got (Ok found) d = after_delivery d
 after_got (Err e) d = Exhausted
 

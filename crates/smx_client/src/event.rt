@@ -2,7 +2,7 @@
 ghost use Rattle.smx_client.specs.Events.{is_quiet_event};
 
 use crate::reply::Reply;
-use smx_box::Got;
+use smx_box::{Got, Spent as BoxSpent};
 use smx_lock::Spent;
 use smx_pdu::Pdu;
 use smx_session::{Act, Kind};
@@ -42,7 +42,7 @@ pub enum Event {
     /// A lane was asked for a response, and gave this.
     Collected(usize, Snapshot<Result<Option<Pdu>, Spent>>),
     /// The box was asked for an item, and gave this.
-    Got(Snapshot<Result<Got<MoItem>, Spent>>, Delivery),
+    Got(Snapshot<Result<Got<MoItem>, BoxSpent>>, Delivery),
     /// The answer that waited for the return box of this lane was put again.
     PutAgain(usize, Reply),
 }

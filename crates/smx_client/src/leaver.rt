@@ -5,9 +5,8 @@ ghost use Rattle.smx_client.specs.Replies.{put_in, refused_up, on_lane};
 ghost use Rattle.smx_client.specs.Leaving.{Left, rest_of, when, item_refused, gets, is_answered, FoundNothing, IsEmptied, IsNothing};
 
 use crate::reply::Parked;
-use smx_box::{Got, Receiver, Sender};
+use smx_box::{Got, Receiver, Sender, Spent};
 use smx_link::Link;
-use smx_lock::Spent;
 use smx_pdu::status::ESME_RX_T_APPN;
 use smx_pdu::{Pdu, response_id};
 use smx_routes::MoWindow;
@@ -215,7 +214,7 @@ impl Leaver {
         ensures last { result ≡ false
             → (last : Leaving) × (self.new.closing ≡ self.old.closing ++ last ∷ [])
             × FoundNothing last }
-        ensures sizes { self.new.inbox.front.lock ≡ self.old.inbox.front.lock }
+        ensures sizes { self.new.inbox.front.queue ≡ self.old.inbox.front.queue }
         ensures first { (self.new.first_parked ≡ self.old.first_parked)
             × (self.new.first_window ≡ self.old.first_window)
             × (self.new.first_inbox ≡ self.old.first_inbox)
@@ -236,7 +235,7 @@ impl Leaver {
     pub(crate) fn answer_all<R: Wait>(&mut self, rt: &R)
         requires none { self.old.closing ≡ [] }
         ensures over { (self.new.parked ≡ None) × (self.new.window.waiting ≡ []) }
-        ensures emptied { IsEmptied self.old.inbox.front.lock.fixed.places self.new.closing }
+        ensures emptied { IsEmptied self.old.inbox.front.queue.places self.new.closing }
         ensures first { (self.new.first_parked ≡ self.old.first_parked)
             × (self.new.first_window ≡ self.old.first_window)
             × (self.new.first_inbox ≡ self.old.first_inbox)

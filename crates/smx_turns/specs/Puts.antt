@@ -1,33 +1,31 @@
 -- What a put does to the senders.
-use Rattle.std.specs.Prelude.{◌≡◌, ◌≤◌, ◌⊎◌, ℕ, List, [], ◌∷◌, ◌++◌, ◌==◌, length, map, set, slice_get, Option, Some, None, Result, Ok, Err, if◌then◌else◌}
-use Rattle.smx_ticket_core.specs.Machine.{most}
-use Rattle.smx_lock.specs.Fronts.{IsSpent}
+use Rattle.std.specs.Prelude.{◌≡◌, ℕ, List, [], ◌∷◌, ◌++◌, ◌==◌, length, map, set, slice_get, Option, Some, None, Result, Ok, Err, if◌then◌else◌}
 use Rattle.smx_box.specs.declared.sender.PutFault.{PutFault}
 use Rattle.smx_box.specs.declared.sender.PutFault.TheVariants.{Full, Spent}
 use Rattle.smx_box.specs.declared.letter.Letter.{Letter}
 use Rattle.smx_box.specs.Letters.{letter}
-use Rattle.smx_box.specs.Boxes.{Sending, PutServes, FullServes}
+use Rattle.smx_box.specs.Boxes.{most_items, Sending, PutServes, FullServes}
 
 module _ {T : Type 0} where
   -- of the senders just this one changed, so
   abbrev pub AtIndex : ℕ → List (Sending T) → List (Sending T) → (Sending T → Sending T → Type 0) → Type 0
   AtIndex i ss tt P = (x : Sending T) × (y : Sending T) × (slice_get ss i ≡ Some x) × (tt ≡ set ss i y) × P x y
 
-  -- one hold put the item, as this sender's n-th
+  -- one step put the item, as this sender's n-th
   pub record Puts (item : T) (n : ℕ) (x y : Sending T) : Type 0 where
     pub number : n ≡ length y.put
     pub put : y.put ≡ x.put ++ letter x.sender n (Some item) ∷ []
     pub served : PutServes x y.front (letter x.sender n (Some item))
 
-  -- one hold found each place of the box taken
+  -- one step found each place of the box taken
   pub record FindsFull (x y : Sending T) : Type 0 where
     pub put : y.put ≡ x.put
     pub served : FullServes x y.front
 
-  -- no hold was to be had: the box's tickets are spent, or the sender's numbers are
+  -- the sender's numbers are spent
   pub record FindsSpent (x y : Sending T) : Type 0 where
     pub put : y.put ≡ x.put
-    pub spent : IsSpent x.front y.front ⊎ ((y.front ≡ x.front) × (most ≤ length x.put))
+    pub spent : (y.front ≡ x.front) × (length x.put ≡ most_items)
 
   abbrev pub PutFails : PutFault → Sending T → Sending T → Type 0
   PutFails Full x y = FindsFull x y

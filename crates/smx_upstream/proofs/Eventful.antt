@@ -1,10 +1,9 @@
 -- One event more, and what a worker keeps.
-use Rattle.std.proofs.Common.{◌≡◌, ℕ, ◌<◌, List, [], ◌∷◌, ◌++◌, Bool, true, false, Option, Some, None, Result, Ok, Err, IfOk, OnErr, sym, ◌∙◌, ap, refl, subst, append_assoc, ◌⊎◌, ⊎_elim}
+use Rattle.std.proofs.Common.{◌≡◌, ℕ, List, [], ◌∷◌, ◌++◌, Bool, false, true≢false, Some, None, Result, Ok, Err, IfOk, IsOk, sym, ◌∙◌, ap, refl, subst, append_assoc, ◌⊎◌, ⊎_elim}
 use Rattle.std.proofs.lemmas.List.{append-nil}
 use Rattle.std.specs.List.{flat_map}
 use Rattle.smx_pdu.specs.declared.pdu.Pdu.{Pdu}
-use Rattle.smx_lock.specs.Fronts.{Front, IsSpent}
-use Rattle.smx_lock.specs.declared.faults.Spent.{Spent}
+use Rattle.smx_box.specs.declared.fault.Spent.{Spent}
 use Rattle.smx_box.specs.declared.receiver.Got.{Got}
 use Rattle.smx_box.specs.Boxes.{Receiving, Hands, GetServes, Sending}
 use Rattle.smx_session.specs.Moments.{Upstream}
@@ -13,17 +12,13 @@ use Rattle.smx_link.specs.Wiring.{Wiring}
 use Rattle.smx_frame.specs.declared.fault.FrameFault.{FrameFault}
 use Rattle.smx_frame.specs.declared.fault.FrameFault.TheVariants.{NoMemory}
 use Rattle.smx_frame.specs.Stream.{fault_at}
-use Rattle.smx_turns.specs.declared.gate.Question.{Question}
-use Rattle.smx_turns.specs.declared.gate.Party.{Party}
 use Rattle.smx_turns.specs.declared.gate.Point.{Point}
-use Rattle.smx_turns.specs.declared.directory.Query.{Query}
 use Rattle.smx_turns.specs.declared.mo_item.MoItem.{MoItem}
 use Rattle.smx_turns.specs.declared.step.Step.{Step}
 use Rattle.smx_turns.specs.declared.step.Step.TheVariants.{Asked, Read, Marked, Did}
 use Rattle.smx_turns.specs.Steps.{Side}
 use Rattle.smx_turns.specs.Runs.{Runs}
 use Rattle.smx_turns.proofs.Chains.{pushed, chain_push, chain_first}
-use Rattle.smx_turns.specs.Steps.{ask_of, poll_of, event_of}
 use Rattle.smx_turns.proofs.Logged.{turned_none, turned_did, turned_step}
 use Rattle.smx_link.specs.declared.link.Polled.{Polled}
 use Rattle.smx_link.specs.declared.link.LinkFault.{LinkFault}
@@ -111,9 +106,9 @@ kept_or_in p (fate.Full place) = refl
 kept_or_in p (fate.BoxSpent place) = refl
 
 -- what the contract of a get says
-pub gets_from : (a b : Receiving Pdu) (r : Result (Got Pdu) Spent) → IfOk r (Hands a.got b.got) → IfOk r (GetServes a b.front) → OnErr r ((b.got ≡ a.got) × IsSpent a.front b.front) → Gets a b r
+pub gets_from : (a b : Receiving Pdu) (r : Result (Got Pdu) Spent) → IfOk r (Hands a.got b.got) → IfOk r (GetServes a b.front) → IsOk r → Gets a b r
 gets_from a b (Ok found) h s e = (s, h)
-gets_from a b (Err fault) h s e = (e.1, e.0)
+gets_from a b (Err fault) h s e = absurd (true≢false (sym e))
 
 pub stands_same : {u u' : Upstream} {t t' : TapView} {a a' : Receiving Pdu} {ss ss' : List (Sending MoItem)} {b b' : Age} → u' ≡ u → t' ≡ t → a' ≡ a → ss' ≡ ss → b' ≡ b
     → stand u' t' a' ss' b' ≡ stand u t a ss b

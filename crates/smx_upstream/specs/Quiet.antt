@@ -2,7 +2,7 @@
 use Rattle.std.specs.Prelude.{Bool, true, false, not, is_none, List, Result, Ok, Err}
 use Rattle.smx_pdu.specs.declared.pdu.Pdu.{Pdu}
 use Rattle.smx_lane.specs.declared.sent.Sent.{Sent}
-use Rattle.smx_lock.specs.declared.faults.Spent.{Spent}
+use Rattle.smx_box.specs.declared.fault.Spent.{Spent}
 use Rattle.smx_box.specs.declared.receiver.Got.{Got}
 use Rattle.smx_box.specs.declared.receiver.Got.TheVariants.{Item, Shut, Empty}
 use Rattle.smx_shared.specs.declared.fault.TakeFault.{TakeFault}

@@ -4,7 +4,7 @@ use Rattle.std.specs.declared.vec.Vec.{Vec}
 use Rattle.std.specs.declared.alloc.Global.{Global}
 use Rattle.smx_pdu.specs.declared.pdu.Pdu.{Pdu}
 use Rattle.smx_history.specs.declared.entry.Entry.{Entry}
-use Rattle.smx_lock.specs.declared.faults.Spent.{Spent}
+use Rattle.smx_box.specs.declared.fault.Spent.{Spent}
 use Rattle.smx_box.specs.declared.receiver.Got.{Got}
 use Rattle.smx_shared.specs.declared.fault.TurnFault.{TurnFault}
 use Rattle.smx_shared.specs.declared.fault.TurnFault.TheVariants as turns

@@ -1,5 +1,5 @@
 -- What a worker stands on, and what each event does to it.
-use Rattle.std.specs.Prelude.{◌≡◌, ◌≢◌, ◌≤◌, ◌⊎◌, ℕ, List, [], ◌∷◌, ◌++◌, length, set, slice_get, Option, Some, None, Result, Ok, Err, MatchResult}
+use Rattle.std.specs.Prelude.{◌≡◌, ◌≢◌, ◌≤◌, ℕ, List, length, Option, Some, None, Result, Ok, Err, MatchResult}
 use Rattle.smx_pdu.specs.declared.pdu.Pdu.{Pdu}
 use Rattle.smx_pdu.specs.declared.body_fault.BodyFault.{BodyFault}
 use Rattle.smx_pdu.specs.declared.command.TheConstants.{BIND_TRANSCEIVER}
@@ -13,7 +13,7 @@ use Rattle.smx_history.specs.declared.limits.Limits.{Limits}
 use Rattle.smx_history.specs.declared.note.Note.{Note}
 use Rattle.smx_history.specs.declared.entry.Entry.{Entry}
 use Rattle.smx_shared.specs.declared.fault.TurnFault.{TurnFault}
-use Rattle.smx_lock.specs.declared.faults.Spent.{Spent}
+use Rattle.smx_box.specs.declared.fault.Spent.{Spent}
 use Rattle.smx_box.specs.declared.receiver.Got.{Got}
 use Rattle.smx_box.specs.Boxes.{Sending, Receiving, GetServes, Hands}
 use Rattle.smx_session.specs.Binds.{own_bind}
@@ -49,10 +49,10 @@ stand session tap answers senders age = record { session = session; tap = tap; a
 abbrev pub bind_of : Upstream → Pdu
 bind_of u = record { command = BIND_TRANSCEIVER; status = ESME_ROK; number = bind_number; body = all_octets bind_fields (in_order (own_bind u.system_id u.password)) }
 
--- one hold of the return box served the call, or its tickets are spent
+-- one step of the return box served the call, which is never spent
 abbrev pub Gets : Receiving Pdu → Receiving Pdu → Result (Got Pdu) Spent → Type 0
 Gets a b (Ok got) = GetServes a b.front got × Hands a.got b.got got
-Gets a b (Err e) = IsSpent a.front b.front × (b.got ≡ a.got)
+Gets a b (Err e) = ⊥
 
 -- the message as an item for the client
 abbrev pub item_for : ℕ → Place → Pdu → MoItem

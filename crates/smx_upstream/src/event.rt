@@ -1,10 +1,9 @@
 //! What a worker did.
 ghost use Rattle.smx_upstream.specs.Quiet.{is_quiet_event};
 
-use smx_box::Got;
+use smx_box::{Got, Spent};
 use smx_history::{Answered, Entry};
 use smx_lane::Sent;
-use smx_lock::Spent;
 use smx_pdu::Pdu;
 use smx_session::UpAct;
 use smx_shared::{TakeFault, TurnFault};

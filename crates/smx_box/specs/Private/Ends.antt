@@ -1,16 +1,10 @@
--- What the ends of a box and its ring keep, and what their private functions do.
-use Rattle.std.specs.Prelude.{◌≡◌, ℕ, ◌+◌, ◌<◌, ◌≤◌, zero, suc, Bool, true, false, List, [], ◌∷◌, length, Option, Some, None, Result, Ok, Err}
-use Rattle.smx_ticket_core.specs.Machine.{most}
-use Rattle.smx_lock.specs.Fronts.{LockId, Front, first_front}
+-- What the ends of a box keep, and what their private functions do.
+use Rattle.std.specs.Prelude.{◌≡◌, ℕ, ◌+◌, ◌≤◌, zero, suc, Bool, true, false, [], length, Result, Ok, Err}
+use Rattle.crossbeam_queue.specs.Passes.{Pass, view}
 use Rattle.smx_box.specs.declared.letter.Letter.{Letter}
-use Rattle.smx_box.specs.declared.letter.Sizes.{Sizes}
-use Rattle.smx_box.specs.declared.letter.Deed.TheVariants.{Putting, Getting}
-use Rattle.smx_box.specs.declared.letter.Note.{Note}
-use Rattle.smx_box.specs.declared.letter.Did.{Did}
-use Rattle.smx_box.specs.declared.letter.Did.TheVariants as did
-use Rattle.smx_box.specs.declared.ring.Ring.{Ring}
+use Rattle.smx_box.specs.declared.letter.Known.{Known}
 use Rattle.smx_box.specs.Letters.{of, is_open, Numbered}
-use Rattle.smx_box.specs.Boxes.{sizes, note, puts, gets, BoxHistory, Sending, Receiving, PutServes, FullServes}
+use Rattle.smx_box.specs.Boxes.{most_items, puts, gets, Front, Sending, Receiving, PutServes, FullServes}
 
 -- counts a sender that is no longer open
 abbrev pub one_if_shut : Bool → ℕ
@@ -23,55 +17,41 @@ shut_below zero opened = 0
 shut_below (suc n) opened = one_if_shut (opened n) + shut_below n opened
 
 module _ {T : Type 0} where
-  -- the notes of what a hold of the seat k did
-  abbrev pub notes_told : Did T → ℕ → List (Note T)
-  notes_told (did.Put m) k = note k (Putting m.value) ∷ []
-  notes_told (did.Got m) k = note k (Getting m.value) ∷ []
-  notes_told did.Nothing k = []
+  -- a pass of a queue with so many places
+  abbrev pub front_of : ℕ → Pass (Letter T) (Known T) → Front T
+  front_of places p = record { queue = record { table = p.table_id; places = places }; known = view p }
 
-  abbrev pub sizes_of : Ring T → Sizes
-  sizes_of r = sizes r.senders r.letters.capacity
+  -- the letter is the next of the sender that has the pass
+  pub record IsNextLetter (f : Front T) (m : Letter T) : Type 0 where
+    pub pass : f.known.number ≡ m.sender + 1
+    pub number : m.number ≡ length (puts f.known.mine) + 1
+    pub opened : is_open (puts f.known.mine) ≡ true
 
-  abbrev pub suits : Ring T → List (Note T) → Type 0
-  suits r h = BoxHistory (sizes_of r) h r.letters.items
+  -- a pass of the sender p that made no note yet
+  abbrev pub IsFreshPass : Front T → ℕ → Type 0
+  IsFreshPass f p = (f.known.number ≡ p + 1) × (f.known.mine ≡ [])
 
-  abbrev pub front_in : LockId Sizes → Option (Front (Note T) Sizes) → Front (Note T) Sizes
-  front_in l (Some f) = f
-  front_in l None = first_front l
+  -- what a sender keeps of its pass
+  pub record IsSender (f : Front T) (p count : ℕ) : Type 0 where
+    pub pass : f.known.number ≡ p + 1
+    pub counted : length (puts f.known.mine) ≡ count
+    pub limit : count ≤ most_items
+    pub numbered : Numbered 0 (puts f.known.mine)
+    pub opened : is_open (puts f.known.mine) ≡ true
 
-  -- the letter is the next of the sender that has the seat
-  pub record IsNextLetter (f : Front (Note T) Sizes) (m : Letter T) : Type 0 where
-    pub seat : f.number ≡ m.sender + 1
-    pub sender : m.sender < f.lock.fixed.senders
-    pub number : m.number ≡ length (puts f.mine) + 1
-    pub opened : is_open (puts f.mine) ≡ true
+  -- what a receiver keeps of its pass
+  pub record IsReceiver (f : Front T) (senders shut : ℕ) : Type 0 where
+    pub pass : f.known.number ≡ 0
+    pub all : f.known.senders ≡ senders
+    pub numbered : (p : ℕ) → Numbered 0 (of p (gets f.known.mine))
+    pub counted : shut ≡ shut_below senders (λ p. is_open (of p (gets f.known.mine)))
 
-  -- a seat of the sender p that made no note yet
-  abbrev pub IsFreshSeat : Front (Note T) Sizes → ℕ → Type 0
-  IsFreshSeat f p = (f.number ≡ p + 1) × (p < f.lock.fixed.senders) × (f.mine ≡ [])
+  abbrev pub sending : ℕ → Front T → Sending T
+  sending sender f = record { sender = sender; put = puts f.known.mine; front = f }
 
-  -- what a sender keeps of its seat
-  pub record IsSender (f : Front (Note T) Sizes) (p count : ℕ) : Type 0 where
-    pub seat : f.number ≡ p + 1
-    pub sender : p < f.lock.fixed.senders
-    pub counted : length (puts f.mine) ≡ count
-    pub limit : count ≤ most
-    pub numbered : Numbered 0 (puts f.mine)
-    pub opened : is_open (puts f.mine) ≡ true
+  abbrev pub receiving : Front T → Receiving T
+  receiving f = record { senders = f.known.senders; got = gets f.known.mine; front = f }
 
-  -- what a receiver keeps of its seat
-  pub record IsReceiver (f : Front (Note T) Sizes) (s : Sizes) (shut : ℕ) : Type 0 where
-    pub seat : f.number ≡ 0
-    pub all : f.lock.fixed ≡ s
-    pub numbered : (p : ℕ) → Numbered 0 (of p (gets f.mine))
-    pub counted : shut ≡ shut_below s.senders (λ p. is_open (of p (gets f.mine)))
-
-  abbrev pub sending : ℕ → Front (Note T) Sizes → Sending T
-  sending sender f = record { sender = sender; put = puts f.mine; front = f }
-
-  abbrev pub receiving : Front (Note T) Sizes → Receiving T
-  receiving f = record { senders = f.lock.fixed.senders; got = gets f.mine; front = f }
-
-  abbrev pub PostServes : Sending T → Front (Note T) Sizes → Letter T → Result (Unit {0}) (Letter T) → Type 0
+  abbrev pub PostServes : Sending T → Front T → Letter T → Result (Unit {0}) (Letter T) → Type 0
   PostServes s g m (Ok _) = PutServes s g m
   PostServes s g m (Err back) = (back ≡ m) × FullServes s g

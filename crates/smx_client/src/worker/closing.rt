@@ -40,7 +40,7 @@ impl<'d, L: Link + Drop> ClientWorker<'d, L> {
             self.entry.senders.items)
             result.closing
             (rest_of None last result.inbox result.senders.items) }
-        ensures emptied { IsEmptied self.entry.inbox.front.lock.fixed.places result.closing }
+        ensures emptied { IsEmptied self.entry.inbox.front.queue.places result.closing }
         ensures answered { result.answered ≡ is_answered result.closing }
     {
         let ClientWorker {

@@ -1,34 +1,28 @@
-use Rattle.std.proofs.Common.{◌≤◌, ◌∷◌, [], length, sym, ap, subst, ◌∙◌}
+use Rattle.std.proofs.Common.{◌≡◌, ◌+◌, length, ap, sym, ◌∙◌, subst}
 use Rattle.std.specs.Arc.{arc_value}
-use Rattle.smx_lock.specs.Fronts.{after_hold, holding}
-use Rattle.smx_box.specs.declared.letter.Deed.TheVariants.{Putting}
-use Rattle.smx_box.specs.Boxes.{note, PutServes, FullServes}
-use Rattle.smx_box.specs.Private.Ends.{front_in, IsNextLetter, sending}
-use Rattle.smx_box.proofs.BoxHolds.{MayBeLeft, Pushed, may_put, put_serves, full_serves}
+use Rattle.crossbeam_queue.specs.Passes.{view, ruled_capacity}
+use Rattle.smx_box.specs.Letters.{is_open}
+use Rattle.smx_box.specs.Boxes.{puts}
+use Rattle.smx_box.specs.Private.Ends.{front_of, sending, PostServes}
+use Rattle.smx_box.proofs.BoxRules.{joins, learns}
+use Rattle.smx_box.proofs.BoxEnds.{posted}
 use Rattle.smx_box.proofs.end.End.post.Goals as goal
 
-pub release_told-requires-clause-notes : goal.release_told-requires-clause-notes
-release_told-requires-clause-notes g c =
-    let is = ap (front_in (arc_value c.self.inside.lock)) c.in-Some.ensures.value ∙ c.self.view_is in
-    let did = subst (λ r. Pushed r c.push.new.self c.args.letter) c.value_mut.ensures.value record { sizes = c.in-Ok-push.ensures.sizes; more = c.in-Ok-push.ensures.ok; room = c.in-Ok-push.ensures.room } in
-    subst (λ x. MayBeLeft c.in-Ok.held c.push.new.self (note c.in-Ok.held.number (Putting x) ∷ [])) (sym c.of-told.ensures)
-    (may_put c.in-Some.seat c.in-Ok.held c.push.new.self c.args.letter c.in-Ok.ensures.found (subst (λ f. IsNextLetter f c.args.letter) (sym is) c.requires) did)
-
-pub returns-in-Ok-push-clause-served : goal.returns-in-Ok-push-clause-served
-returns-in-Ok-push-clause-served g c =
-    let is = ap (front_in (arc_value c.self.inside.lock)) c.in-Some.ensures.value ∙ c.self.view_is in
-    let did = subst (λ r. Pushed r c.push.new.self c.args.letter) c.value_mut.ensures.value record { sizes = c.in-Ok-push.ensures.sizes; more = c.in-Ok-push.ensures.ok; room = c.in-Ok-push.ensures.room } in
-    subst (λ f. PutServes (sending c.args.letter.sender f) c.release_told.result c.args.letter) is
-    (put_serves c.in-Some.seat c.release_told.result c.in-Ok.held c.push.new.self c.args.letter c.in-Ok.ensures.found (subst (λ f. IsNextLetter f c.args.letter) (sym is) c.requires) did
-    (c.release_told.ensures ∙ ap (λ x. after_hold (holding c.in-Ok.held c.push.new.self) (note c.in-Ok.held.number (Putting x) ∷ [])) c.of-told.ensures))
-
-pub returns-in-Err-push-clause-served : goal.returns-in-Err-push-clause-served
-returns-in-Err-push-clause-served g c =
-    let is = ap (front_in (arc_value c.self.inside.lock)) c.in-Some.ensures.value ∙ c.self.view_is in
-    let same = c.value_mut.ensures.value in
-    let err = c.in-Err-push.ensures.err in (
-      err.0,
-      subst (λ f. FullServes (sending c.args.letter.sender f) c.release_told-in-Err-push.result) is
-          (full_serves c.in-Some.seat c.release_told-in-Err-push.result c.in-Ok.held c.push.new.self c.args.letter.sender (ap (λ f. f.number) is ∙ c.requires.seat) c.in-Ok.ensures.found
-          (err.1 ∙ same) (subst (λ r. r.letters.capacity ≤ length r.letters.items) same c.in-Err-push.ensures.full) c.release_told-in-Err-push.ensures),
+pub push_as-requires-clause-rule : goal.push_as-requires-clause-rule
+push_as-requires-clause-rule g c =
+    let r = c.requires in
+    let is = c.self.view_is in
+    let p = c.self.inside.pass in (
+      joins _ _ (view p) c.args.letter (ap (λ f. f.known.number) is ∙ r.pass) (subst (λ f. c.args.letter.number ≡ length (puts f.known.mine) + 1) (sym is) r.number)
+          (ap (λ f. is_open (puts f.known.mine)) is ∙ r.opened),
+      learns _ (view p),
     )
+
+pub returns : goal.returns
+returns g c =
+    let is = c.self.view_is in
+    let p = c.self.inside.pass in
+    let r = c.push_as.result in
+    let told = posted (ruled_capacity c.deref.result.now) p c.push_as.new.pass c.args.letter r (ap (λ f. f.known.number) is ∙ c.requires.pass) c.push_as.ensures.queue c.push_as.ensures.rule in
+    subst (λ f. PostServes (sending c.args.letter.sender f) (front_of (ruled_capacity (arc_value c.self.inside.queue)) c.push_as.new.pass) c.args.letter r) is
+    (subst (λ q. PostServes (sending c.args.letter.sender (front_of (ruled_capacity q) p)) (front_of (ruled_capacity q) c.push_as.new.pass) c.args.letter r) c.deref.ensures told)

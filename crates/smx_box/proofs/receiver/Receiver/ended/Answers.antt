@@ -5,6 +5,6 @@ use Rattle.smx_box.proofs.receiver.Receiver.ended.Goals as goal
 
 pub returns : goal.returns
 returns g c = (
-  (λ e. ended_all c.self.inside.end c.args.self.now c.self.inside.sizes c.self.inside.shut c.self.view_is c.self.invariant (eqb-true c.self.inside.shut c.self.inside.sizes.senders e)),
-  (λ all. eq-eqb c.self.inside.shut c.self.inside.sizes.senders (all_ended c.self.inside.end c.args.self.now c.self.inside.sizes c.self.inside.shut c.self.view_is c.self.invariant all)),
+  (λ e. ended_all c.self.inside.end c.args.self.now c.self.inside.senders c.self.inside.shut c.self.view_is c.self.invariant (eqb-true c.self.inside.shut c.self.inside.senders e)),
+  (λ all. eq-eqb c.self.inside.shut c.self.inside.senders (all_ended c.self.inside.end c.args.self.now c.self.inside.senders c.self.inside.shut c.self.view_is c.self.invariant all)),
 )

@@ -21,7 +21,7 @@ invariant-loop-item g l = record {
   none : l.self.parked ≡ None;
   rows : l.self.window.waiting ≡ [];
   gets : gets l.self.closing ≡ l._item;
-  sizes : l.self.inbox.front.lock ≡ l.fn.self.inbox.front.lock;
+  sizes : l.self.inbox.front.queue ≡ l.fn.self.inbox.front.queue;
   first_parked : l.self.first_parked ≡ l.fn.self.first_parked;
   first_window : l.self.first_window ≡ l.fn.self.first_window;
   first_inbox : l.self.first_inbox ≡ l.fn.self.first_inbox;

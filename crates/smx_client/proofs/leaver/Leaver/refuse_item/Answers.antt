@@ -17,7 +17,7 @@ invariant_of-self g c =
           c.requires.rows,
           c.requires.none,
           refl,
-          subst (λ x. Gives s.inbox x c.get-got.new.self) (sym c.of-found.ensures) (gives_is s.inbox c.get-got.new.self c.get-got.result e.served e.got e.spent),
+          subst (λ x. Gives s.inbox x c.get-got.new.self) (sym c.of-found.ensures) (gives_is s.inbox c.get-got.new.self c.get-got.result e.served e.got e.never_spent),
           subst (λ x. (k : ℕ) → k < length s.senders.items → put_in c.refuse_got-put.new.senders.items k ≡ put_in s.senders.items k ++ when c.refuse_got-put.result (item_refused k x)) (sym c.of-found.ensures) c.refuse_got-put.ensures.put,
         ),
         c.refuse_got-put.ensures.count,

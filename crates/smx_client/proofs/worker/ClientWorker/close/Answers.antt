@@ -17,5 +17,5 @@ returns-clause-left g c =
 
 pub returns-clause-emptied : goal.returns-clause-emptied
 returns-clause-emptied g c =
-    subst (λ es. IsEmptied c.args.self.inbox.front.lock.fixed.places es) (sym c.into_closed.ensures.closing)
-    (subst (λ (i : Receiving MoItem). IsEmptied i.front.lock.fixed.places c.answer_all.new.self.closing) c.new-leaver.ensures.inbox c.answer_all.ensures.emptied)
+    subst (λ es. IsEmptied c.args.self.inbox.front.queue.places es) (sym c.into_closed.ensures.closing)
+    (subst (λ (i : Receiving MoItem). IsEmptied i.front.queue.places c.answer_all.new.self.closing) c.new-leaver.ensures.inbox c.answer_all.ensures.emptied)

@@ -1,6 +1,5 @@
-use Rattle.std.proofs.Common.{◌≡◌, ◌++◌, length, refl, sym, ap, ◌∙◌, subst, Ok, IfOk, OnErr}
+use Rattle.std.proofs.Common.{true≢false, ◌++◌, length, refl, sym, ap, ◌∙◌, subst, Ok, IfOk, IsOk}
 use Rattle.std.proofs.lemmas.List.{append-nil}
-use Rattle.smx_lock.specs.Fronts.{IsSpent}
 use Rattle.smx_box.specs.Boxes.{GetServes, Hands}
 use Rattle.smx_link.specs.Wiring.{spellings}
 use Rattle.smx_turns.proofs.Chains.{chain_push}
@@ -25,7 +24,7 @@ pub invariant_of-self-clause-run_is : goal.invariant_of-self-clause-run_is
 invariant_of-self-clause-run_is g c =
     let s = c.args.self.now in
     chain_push Does _ _ _ _ _ (Got c.of-seen.result Dropped) c.note.ensures.events
-    (doing.got_none _ _ _ _ _ _ _ _ _ _ c.of-seen.result (c.of-seen.ensures ∙ c.in-Err.is) (subst (λ r. OnErr r ((c.get-found.new.self.got ≡ s.inbox.got) × IsSpent s.inbox.front c.get-found.new.self.front)) c.in-Err.is c.get-found.ensures.spent)) s.run_is
+    (absurd (true≢false (sym (subst (λ r. IsOk r) c.in-Err.is c.get-found.ensures.never_spent)))) s.run_is
 
 pub invariant_of-self-in-Ok-clause-heard_is : goal.invariant_of-self-in-Ok-clause-heard_is
 invariant_of-self-in-Ok-clause-heard_is g c =
@@ -48,7 +47,7 @@ pub returns-in-Err-clause-leads : goal.returns-in-Err-clause-leads
 returns-in-Err-clause-leads g c = λ n queries base was.
     let s = c.args.self.now in
     c.note.ensures.leads n _ _ (happens g.L.Link.offered g.L.Link.polls g.L.Link.failures _ _ _ _ queries _ _ _ _ _ _ _ _ (Got c.of-seen.result Dropped)
-    (doing.got_none _ _ _ _ _ _ _ _ _ _ c.of-seen.result (c.of-seen.ensures ∙ c.in-Err.is) (subst (λ r. OnErr r ((c.get-found.new.self.got ≡ s.inbox.got) × IsSpent s.inbox.front c.get-found.new.self.front)) c.in-Err.is c.get-found.ensures.spent))
+    (absurd (true≢false (sym (subst (λ r. IsOk r) c.in-Err.is c.get-found.ensures.never_spent))))
     refl (sym (append-nil _)) c.note.ensures.events (sym (append-nil s.wire.unsent) ∙ ap (λ r. s.wire.unsent ++ spellings (got_out r Dropped)) (sym (c.of-seen.ensures ∙ c.in-Err.is))) refl) base was
 
 pub returns-in-Ok-clause-leads : goal.returns-in-Ok-clause-leads

@@ -1,43 +1,34 @@
-use Rattle.std.proofs.Common.{rules, arith, ◌≡◌, ◌≢◌, ◌++◌, [], ◌∷◌, List, refl, sym, ap, ◌∙◌, subst, Some, None, Ok, Err, Bool, true, false}
+use Rattle.std.proofs.Common.{refl, sym, ap, ◌∙◌, subst}
 use Rattle.std.proofs.lemmas.List.{append-nil}
-use Rattle.smx_pdu.specs.declared.pdu.Pdu.{Pdu}
-use Rattle.smx_session.specs.Moments.{Upstream, at, act_on, after_pdu, enquiry, after_moment, is_silent}
-use Rattle.smx_session.specs.declared.up_act.UpAct.{UpAct}
-use Rattle.smx_shared.specs.Serving.{Takes}
-use Rattle.smx_turns.specs.declared.gate.Point.TheVariants.{Reading, Taking}
-use Rattle.smx_turns.specs.declared.step.Step.TheVariants.{Asked, Read, Marked, Did}
-use Rattle.smx_upstream.specs.declared.mark.Mark.TheVariants.{Offered, Full, Part}
-use Rattle.smx_upstream.specs.declared.event.Event.TheVariants.{Began, Opened, Looked, Young, Shifted, Sought, Decided, Took, Broke}
-use Rattle.smx_upstream.specs.Events.{out_of, in_of, those, unless_kept, kept_by, fate_finds, fate_out, act_out}
-use Rattle.smx_upstream.specs.Standing.{stand, Gets, Becomes}
-use Rattle.smx_upstream.specs.Ages.{next_turn, noted_more, take_notes, after_shift, has_shifted, shift_due}
-use Rattle.smx_upstream.specs.Working.{side_of}
-use Rattle.smx_upstream.specs.Phases.{Phase, Opening, Ready, Written, Watched, Clear, when_kept, Sated, MayRead, Failed, Deciding, Closing, Settled, MayTake, HasTried, ends, when_decided}
-use Rattle.smx_upstream.proofs.Eventful.{did, began, goes_did, goes_mark, goes_read, goes_ask, goes_same, goes_then, kept_or_in, gets_from, stands_same, bad_heard}
-use Rattle.smx_upstream.proofs.Cells.{stepped, kept_phase, cell_offered, cell_closed, cell_opened, cell_looked, cell_young, cell_shifted, kept_right, cell_sought, cell_full, cell_reading, cell_read, cell_decided, cell_broke, cell_part, cell_brim, cell_taking, cell_took, right, decided_right}
+use Rattle.smx_turns.specs.declared.step.Step.TheVariants.{Did}
+use Rattle.smx_upstream.specs.declared.event.Event.TheVariants.{Sought}
+use Rattle.smx_upstream.specs.Standing.{Gets}
+use Rattle.smx_upstream.specs.Phases.{Clear}
+use Rattle.smx_upstream.proofs.Eventful.{did, goes_did, gets_from}
+use Rattle.smx_upstream.proofs.Cells.{stepped, cell_sought}
 use Rattle.smx_upstream.proofs.worker.UpstreamWorker.seek.Goals as goal
 
 pub invariant_of-self : goal.invariant_of-self
 invariant_of-self g c =
     did _ _ (Sought c.of.result) c.self.invariant c.note.ensures.events (ap (λ w. w.heard) c.note.ensures.same) refl c.note.ensures.said refl
-    (subst (λ r. Gets c.self.inside.answers c.get-found.new.self r) (sym c.of.ensures) (gets_from c.self.inside.answers c.get-found.new.self c.get-found.result c.get-found.ensures.got c.get-found.ensures.served c.get-found.ensures.spent), refl)
+    (subst (λ r. Gets c.self.inside.answers c.get-found.new.self r) (sym c.of.ensures) (gets_from c.self.inside.answers c.get-found.new.self c.get-found.result c.get-found.ensures.got c.get-found.ensures.served c.get-found.ensures.never_spent), refl)
     (λ h. ap (λ w. w.failed) c.note.ensures.same ∙ c.self.invariant.goes_on h)
 
 pub invariant_of-self-2 : goal.invariant_of-self-2
 invariant_of-self-2 g c =
     did _ _ (Sought c.of.result) c.self.invariant c.note.ensures.events (ap (λ w. w.heard) c.note.ensures.same) refl c.note.ensures.said refl
-    (subst (λ r. Gets c.self.inside.answers c.get-found.new.self r) (sym c.of.ensures) (gets_from c.self.inside.answers c.get-found.new.self c.get-found.result c.get-found.ensures.got c.get-found.ensures.served c.get-found.ensures.spent), refl)
+    (subst (λ r. Gets c.self.inside.answers c.get-found.new.self r) (sym c.of.ensures) (gets_from c.self.inside.answers c.get-found.new.self c.get-found.result c.get-found.ensures.got c.get-found.ensures.served c.get-found.ensures.never_spent), refl)
     (λ h. ap (λ w. w.failed) c.note.ensures.same ∙ c.self.invariant.goes_on h)
 
 pub returns-then-served-clause-goes : goal.returns-then-served-clause-goes
 returns-then-served-clause-goes g c = rw (← c.self.view_is)
     (λ turn asked told queries. goes_did turn _ _ _ _ (Sought c.of.result) c.note.ensures.log refl (sym (append-nil told)) (sym (append-nil queries)) c.note.ensures.events
-    (subst (λ r. Gets c.self.inside.answers c.get-found.new.self r) (sym c.of.ensures) (gets_from c.self.inside.answers c.get-found.new.self c.get-found.result c.get-found.ensures.got c.get-found.ensures.served c.get-found.ensures.spent), refl) (ap (λ w. g.L.Link.polls w.link) c.note.ensures.same))
+    (subst (λ r. Gets c.self.inside.answers c.get-found.new.self r) (sym c.of.ensures) (gets_from c.self.inside.answers c.get-found.new.self c.get-found.result c.get-found.ensures.got c.get-found.ensures.served c.get-found.ensures.never_spent), refl) (ap (λ w. g.L.Link.polls w.link) c.note.ensures.same))
 
 pub returns-clause-goes : goal.returns-clause-goes
 returns-clause-goes g c = rw (← c.self.view_is)
     (λ turn asked told queries. goes_did turn _ _ _ _ (Sought c.of.result) c.note.ensures.log refl (sym (append-nil told)) (sym (append-nil queries)) c.note.ensures.events
-    (subst (λ r. Gets c.self.inside.answers c.get-found.new.self r) (sym c.of.ensures) (gets_from c.self.inside.answers c.get-found.new.self c.get-found.result c.get-found.ensures.got c.get-found.ensures.served c.get-found.ensures.spent), refl) (ap (λ w. g.L.Link.polls w.link) c.note.ensures.same))
+    (subst (λ r. Gets c.self.inside.answers c.get-found.new.self r) (sym c.of.ensures) (gets_from c.self.inside.answers c.get-found.new.self c.get-found.result c.get-found.ensures.got c.get-found.ensures.served c.get-found.ensures.never_spent), refl) (ap (λ w. g.L.Link.polls w.link) c.note.ensures.same))
 
 pub returns-then-served-clause-phase : goal.returns-then-served-clause-phase
 returns-then-served-clause-phase g c = stepped _ _ (Did (Sought c.of.result)) Clear _ c.note.ensures.log (cell_sought _)

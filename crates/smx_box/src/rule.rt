@@ -1,0 +1,61 @@
+//! The rule of a box's queue, and the six steps that keep it: made, a pass split, a push that fits or
+//! finds no place, a pop that gives or finds nothing.
+
+use crate::letter::{Known, Letter};
+use crossbeam_queue::RuledArrayQueue;
+use crossbeam_queue::protocol::{Lesson, Outcome, Protocol, Split};
+use std::alloc::Global;
+
+// The queue holds what the history of its passes leaves.
+pub(crate) struct Delivery;
+
+impl<T> Protocol<Letter<T>, Known<T>> for Delivery {
+    ghost use Rattle.smx_box.specs.Private.Rule.{Kept, first_known};
+
+    ghost holds = { Kept };
+
+    ghost first = { first_known };
+}
+
+// The receiver's pass makes a sender's.
+pub(crate) struct Made;
+
+impl<T> Split<Known<T>> for Made {
+    ghost use Rattle.smx_box.specs.Private.Rule.{host, guest};
+
+    ghost left = { host };
+
+    ghost right = { guest };
+}
+
+// A sender's letter joins.
+pub(crate) struct Put;
+
+impl<T> Outcome<Letter<T>, Known<T>> for Put {
+    ghost use Rattle.smx_box.specs.Boxes.{Posts};
+
+    ghost then = { Posts };
+}
+
+impl<T> Lesson<Letter<T>, Known<T>> for Put {
+    ghost use Rattle.smx_box.specs.Boxes.{Finds};
+
+    ghost fact = { Finds };
+}
+
+// The receiver takes the oldest letter.
+pub(crate) struct Taken;
+
+impl<T> Outcome<Letter<T>, Known<T>> for Taken {
+    ghost use Rattle.smx_box.specs.Boxes.{Takes};
+
+    ghost then = { Takes };
+}
+
+impl<T> Lesson<Letter<T>, Known<T>> for Taken {
+    ghost use Rattle.smx_box.specs.Boxes.{Finds};
+
+    ghost fact = { Finds };
+}
+
+pub(crate) type Queue<T> = RuledArrayQueue<Letter<T>, Known<T>, Delivery, Global>;
