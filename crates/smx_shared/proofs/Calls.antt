@@ -12,6 +12,13 @@ use Rattle.smx_history.specs.declared.reply.Answered.{Answered}
 use Rattle.smx_history.specs.declared.reply.Answered.TheVariants as answered
 use Rattle.smx_history.specs.declared.reply.Refusal.{Refusal}
 use Rattle.smx_history.specs.declared.reply.TakeRefusal.{TakeRefusal}
+use Rattle.smx_history.specs.declared.reply.AlreadyDown.{AlreadyDown}
+use Rattle.smx_history.specs.declared.reply.Failed.{Failed}
+use Rattle.smx_history.specs.declared.reply.Failed.TheVariants as failed
+use Rattle.smx_history.specs.declared.reply.FailRefusal.{FailRefusal}
+use Rattle.smx_history.specs.declared.reply.UpRefusal.{UpRefusal}
+use Rattle.smx_history.specs.declared.place.Place.{Place}
+use Rattle.smx_history.specs.Failures.{failure_command}
 use Rattle.smx_history.specs.History.{note, shift}
 use Rattle.smx_history.specs.Contents.{Content}
 use Rattle.smx_lane.specs.declared.fault.AdmitFault.{AdmitFault}
@@ -24,7 +31,7 @@ use Rattle.smx_lane.specs.declared.call.Reply.TheVariants as reply
 use Rattle.smx_lane.specs.Kept.{writer}
 use Rattle.smx_lane.specs.Calls.{IsReply, GoesOn}
 use Rattle.smx_lane.proofs.Calling as lane
-use Rattle.smx_shared.specs.Steps.{IsMade, notes_for, answer_notes, late_notes, collect_notes}
+use Rattle.smx_shared.specs.Steps.{IsMade, notes_for, answer_notes, late_notes, collect_notes, fail_notes}
 
 AreBy : ℕ → List Note → Type 0
 AreBy k own = All (λ (n : Note). writer n ≡ k) own
@@ -95,3 +102,22 @@ pub turn_made : (by least : ℕ) (old new : Content) (r : Result (Option (Vec En
 turn_made by least old new (Ok (Some list)) limits m = made by old new _ _ (λ own t. (t.1, subst (AreBy by) (sym t.1) (one_shift by))) limits m
 turn_made by least old new (Ok None) limits m = made by old new _ _ (λ own t. is_none by own t.1) limits m
 turn_made by least old new (Err e) limits m = made by old new _ _ (λ own t. is_none by own t.0) limits m
+
+pub down_made : (by : ℕ) (old new : Content) (r : Result (Unit {0}) AlreadyDown) → new.limits ≡ old.limits → lane.IsMade old (call.Down by) (reply.WentDown r) new
+    → IsMade by old (call.Down by) (reply.WentDown r) new
+down_made by old new (Ok x) limits m = made by old new _ _ (λ own t. is_one by event.Down own _ t.1 refl) limits m
+down_made by old new (Err e) limits m = made by old new _ _ (λ own t. is_none by own t.1.0) limits m
+
+abbrev failed_event : Place → Event
+failed_event q = event.Fail q.client q.ordinal q.upstream (failure_command q.command)
+
+pub fail_made : (by : ℕ) (old new : Content) (r : Result Failed FailRefusal) → new.limits ≡ old.limits → lane.IsMade old (call.Fail by) (reply.Failed r) new
+    → IsMade by old (call.Fail by) (reply.Failed r) new
+fail_made by old new (Ok (failed.Queued c)) limits m = made by old new _ _ (λ own t. is_one by (failed_event t.1) own _ t.5 (ap (fail_notes by) t.2)) limits m
+fail_made by old new (Ok failed.Late) limits m = made by old new _ _ (λ own t. is_one by (failed_event t.1) own _ t.4 (ap (fail_notes by) t.2)) limits m
+fail_made by old new (Err e) limits m = made by old new _ _ (λ own t. is_none by own t.1.0) limits m
+
+pub up_made : (by : ℕ) (old new : Content) (r : Result (Unit {0}) UpRefusal) → new.limits ≡ old.limits → lane.IsMade old (call.Up by) (reply.CameUp r) new
+    → IsMade by old (call.Up by) (reply.CameUp r) new
+up_made by old new (Ok x) limits m = made by old new _ _ (λ own t. is_one by event.Up own _ t.1 refl) limits m
+up_made by old new (Err e) limits m = made by old new _ _ (λ own t. is_none by own t.1.0) limits m

@@ -1,5 +1,5 @@
 -- What the calls of a tap let its caller know.
-use Rattle.std.proofs.Common.{◌≡◌, ℕ, Option, Some, None, List, [], ◌∷◌, ◌++◌, Result, Ok, Err, sym, ◌∙◌, ap, subst, inl, inr}
+use Rattle.std.proofs.Common.{◌≡◌, ℕ, Option, Some, None, List, [], ◌∷◌, ◌++◌, Result, Ok, Err, refl, sym, ◌∙◌, ap, subst, inl, inr}
 use Rattle.std.proofs.lemmas.List.{append-nil}
 use Rattle.std.proofs.lemmas.List.Elements.{filter_map-append}
 use Rattle.smx_pdu.specs.declared.pdu.Pdu.{Pdu}
@@ -21,7 +21,15 @@ use Rattle.smx_lane.specs.declared.call.Reply.TheVariants as reply
 use Rattle.std.specs.Global.{Vec}
 use Rattle.smx_shared.specs.declared.fault.TurnFault as turn_fault
 use Rattle.smx_shared.specs.declared.fault.TurnFault.TheVariants as turns
-use Rattle.smx_shared.specs.Serving.{OneHold, CallServes, Takes, TriesTake, Brings, Turns, TurnServes, StaysServes}
+use Rattle.smx_history.specs.declared.reply.Failed.{Failed}
+use Rattle.smx_history.specs.declared.reply.Failed.TheVariants as failed
+use Rattle.smx_shared.specs.declared.fault.DownFault as down_fault
+use Rattle.smx_shared.specs.declared.fault.DownFault.TheVariants as downs
+use Rattle.smx_shared.specs.declared.fault.FailFault as fail_fault
+use Rattle.smx_shared.specs.declared.fault.FailFault.TheVariants as fails
+use Rattle.smx_shared.specs.declared.fault.UpFault as up_fault
+use Rattle.smx_shared.specs.declared.fault.UpFault.TheVariants as ups
+use Rattle.smx_shared.specs.Serving.{OneHold, CallServes, Takes, TriesTake, Brings, Turns, TurnServes, StaysServes, GoesDown, Fails, ComesUp}
 use Rattle.std.specs.Option.{option_map}
 use Rattle.smx_history.specs.declared.entry.Entry.{Entry}
 use Rattle.smx_shared.specs.Taps.{Queued, known, known_of, known_by_take, known_by_answer}
@@ -59,6 +67,29 @@ answers_known f g p (Ok (answered.Queued c)) h = called f g _ _ _ h h.told.4 ∙
 answers_known f g p (Ok answered.Late) h = called f g _ _ _ h h.told.3
 answers_known f g p (Ok (answered.Unknown back)) h = called f g _ _ [] h h.told.2.0
 answers_known f g p (Err e) h = spent_same f g h.1
+
+-- what is noted of the link, and of a request that is given up, is none of these
+told_nothing : (f g : Front Note Limits) (c : Call) (r : Reply) (ns : List Note) → known_of ns ≡ [] → (h : CallServes f g c r) → h.own ≡ ns → known_of g.mine ≡ known_of f.mine
+told_nothing f g c r ns none h is = called f g c r ns h is ∙ ap (λ k. known_of f.mine ++ k) none ∙ append-nil (known_of f.mine)
+
+spent_nothing : (f g : Front Note Limits) → IsSpent f g → known_of g.mine ≡ known_of f.mine
+spent_nothing f g s = spent_same f g s ∙ append-nil (known_of f.mine)
+
+pub down_known : (f g : Front Note Limits) (r : Result (Unit {0}) down_fault.DownFault) → GoesDown f g r → known_of g.mine ≡ known_of f.mine
+down_known f g (Ok done) h = told_nothing f g _ _ _ refl h h.told.1
+down_known f g (Err (downs.Refused e)) h = told_nothing f g _ _ [] refl h h.told.1.0
+down_known f g (Err downs.Spent) h = spent_nothing f g h
+
+pub fail_known : (f g : Front Note Limits) (r : Result Failed fail_fault.FailFault) → Fails f g r → known_of g.mine ≡ known_of f.mine
+fail_known f g (Ok (failed.Queued c)) h = told_nothing f g _ _ _ refl h h.told.5
+fail_known f g (Ok failed.Late) h = told_nothing f g _ _ _ refl h h.told.4
+fail_known f g (Err (fails.Refused e)) h = told_nothing f g _ _ [] refl h h.told.1.0
+fail_known f g (Err fails.Spent) h = spent_nothing f g h
+
+pub up_known : (f g : Front Note Limits) (r : Result (Unit {0}) up_fault.UpFault) → ComesUp f g r → known_of g.mine ≡ known_of f.mine
+up_known f g (Ok done) h = told_nothing f g _ _ _ refl h h.told.1
+up_known f g (Err (ups.Refused e)) h = told_nothing f g _ _ [] refl h h.told.1.0
+up_known f g (Err ups.Spent) h = spent_nothing f g h
 
 -- a shift is no note of a request
 turned_known : (f g : Front Note Limits) (least : ℕ) (list : Option (List Entry)) → TurnServes f g least list → known_of g.mine ≡ known_of f.mine

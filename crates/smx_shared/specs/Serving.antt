@@ -13,6 +13,16 @@ use Rattle.smx_history.specs.declared.request.Request.{Request}
 use Rattle.smx_lane.specs.declared.sent.Sent.{Sent}
 use Rattle.smx_history.specs.declared.reply.TakeRefusal.{TakeRefusal}
 use Rattle.smx_history.specs.declared.reply.Refusal.{Refusal}
+use Rattle.smx_history.specs.declared.reply.AlreadyDown.{AlreadyDown}
+use Rattle.smx_history.specs.declared.reply.Failed.{Failed}
+use Rattle.smx_history.specs.declared.reply.FailRefusal.{FailRefusal}
+use Rattle.smx_history.specs.declared.reply.UpRefusal.{UpRefusal}
+use Rattle.smx_shared.specs.declared.fault.DownFault as down_fault
+use Rattle.smx_shared.specs.declared.fault.DownFault.TheVariants as downs
+use Rattle.smx_shared.specs.declared.fault.FailFault as fail_fault
+use Rattle.smx_shared.specs.declared.fault.FailFault.TheVariants as fails
+use Rattle.smx_shared.specs.declared.fault.UpFault as up_fault
+use Rattle.smx_shared.specs.declared.fault.UpFault.TheVariants as ups
 use Rattle.smx_lane.specs.declared.fault.AdmitFault.{AdmitFault}
 use Rattle.smx_ticket_core.specs.declared.callers.Caller.TheVariants.{Idle}
 use Rattle.smx_history.specs.declared.reply.Answered.{Answered}
@@ -69,6 +79,15 @@ AdmitServes f g c r = CallServes f g (call.Admit f.number c) (reply.Admitted r)
 abbrev pub RetireServes : Front Note Limits → Front Note Limits → ℕ → Type 0
 RetireServes f g c = CallServes f g (call.Retire f.number c) (reply.Retired (Ok tt))
 
+abbrev pub DownServes : Front Note Limits → Front Note Limits → Result (Unit {0}) AlreadyDown → Type 0
+DownServes f g r = CallServes f g (call.Down f.number) (reply.WentDown r)
+
+abbrev pub FailServes : Front Note Limits → Front Note Limits → Result Failed FailRefusal → Type 0
+FailServes f g r = CallServes f g (call.Fail f.number) (reply.Failed r)
+
+abbrev pub UpServes : Front Note Limits → Front Note Limits → Result (Unit {0}) UpRefusal → Type 0
+UpServes f g r = CallServes f g (call.Up f.number) (reply.CameUp r)
+
 -- what bringing a response leaves: one hold, or the tickets are spent and it comes back
 abbrev pub Brings : Front Note Limits → Front Note Limits → Pdu → Result Answered (Pdu × Spent) → Type 0
 Brings f g p (Ok answered) = AnswerServes f g p answered
@@ -95,6 +114,24 @@ TriesTake f g (Ok sent) = TakeServes f g (Ok sent)
 TriesTake f g (Err (tries.Refused e)) = TakeServes f g (Err e)
 TriesTake f g (Err tries.Spent) = IsSpent f g
 TriesTake f g (Err tries.Busy) = (g ≡ f) × (f.caller ≡ Idle)
+
+-- what becomes of a lane whose link upstream is lost
+abbrev pub GoesDown : Front Note Limits → Front Note Limits → Result (Unit {0}) down_fault.DownFault → Type 0
+GoesDown f g (Ok done) = DownServes f g (Ok done)
+GoesDown f g (Err (downs.Refused e)) = DownServes f g (Err e)
+GoesDown f g (Err downs.Spent) = IsSpent f g
+
+-- what giving a request up leaves
+abbrev pub Fails : Front Note Limits → Front Note Limits → Result Failed fail_fault.FailFault → Type 0
+Fails f g (Ok failed) = FailServes f g (Ok failed)
+Fails f g (Err (fails.Refused e)) = FailServes f g (Err e)
+Fails f g (Err fails.Spent) = IsSpent f g
+
+-- what becomes of a lane that has a link upstream again
+abbrev pub ComesUp : Front Note Limits → Front Note Limits → Result (Unit {0}) up_fault.UpFault → Type 0
+ComesUp f g (Ok done) = UpServes f g (Ok done)
+ComesUp f g (Err (ups.Refused e)) = UpServes f g (Err e)
+ComesUp f g (Err ups.Spent) = IsSpent f g
 
 -- one hold handed out what was stored since the last shift, or found fewer than the least and changed nothing
 abbrev pub TurnServes : Front Note Limits → Front Note Limits → ℕ → Option (List Entry) → Type 0

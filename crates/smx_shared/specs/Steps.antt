@@ -12,7 +12,7 @@ use Rattle.std.specs.List.{find}
 use Rattle.smx_history.specs.declared.place.Place.{Place}
 use Rattle.smx_history.specs.declared.response.Response.{Response}
 use Rattle.smx_history.specs.declared.reply.Answered.TheVariants as answered
-use Rattle.smx_history.specs.Answering.{oldest_in}
+use Rattle.smx_history.specs.Answering.{oldest_in, failing}
 use Rattle.smx_history.specs.Replies.{answers_place, member_with}
 use Rattle.smx_lane.specs.declared.call.Call.TheVariants as call
 use Rattle.smx_lane.specs.declared.call.Reply.TheVariants as reply
@@ -41,6 +41,10 @@ abbrev pub collect_notes : ℕ → ℕ → Option Response → List Note
 collect_notes by c (Some r) = note by (event.Collect c r.ordinal) ∷ []
 collect_notes by c None = []
 
+abbrev pub fail_notes : ℕ → Option Place → List Note
+fail_notes by (Some q) = failing by q ∷ []
+fail_notes by None = []
+
 -- the notes of a call that the lane gave this reply
 abbrev pub notes_for : Content → Call → Reply → List Note
 notes_for old (call.Admit by c) (reply.Admitted (Ok _)) = note by (event.Admit c) ∷ []
@@ -51,6 +55,9 @@ notes_for old (call.Answer by p) (reply.Answered answered.Late) = late_notes by 
 notes_for old (call.Collect by c) (reply.Collected (Some p)) = collect_notes by c (oldest_in (member_with c old.members))
 notes_for old (call.Retire by c) (reply.Retired (Ok _)) = note by (event.Retire c) ∷ []
 notes_for old (call.TurnOver by least) (reply.TurnedOver (Ok (Some list))) = shift by ∷ []
+notes_for old (call.Down by) (reply.WentDown (Ok _)) = note by event.Down ∷ []
+notes_for old (call.Fail by) (reply.Failed (Ok _)) = fail_notes by (slice_get old.window 0)
+notes_for old (call.Up by) (reply.CameUp (Ok _)) = note by event.Up ∷ []
 notes_for old _ _ = []
 
 -- the seat with this number made the call: the reply, its notes, and what the lane holds then

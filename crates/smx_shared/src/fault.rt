@@ -1,6 +1,6 @@
 //! Why a call is refused.
 
-use smx_history::TakeRefusal;
+use smx_history::{AlreadyDown, FailRefusal, TakeRefusal, UpRefusal};
 use thiserror::Error;
 
 /// Why an exchange is not made: the first of these that stands.
@@ -89,6 +89,39 @@ pub enum TryTakeFault {
     /// The lane gives no request.
     #[error("{0}")]
     Refused(TakeRefusal),
+}
+
+/// Why a lane does not go down.
+#[derive(Clone, Copy, Debug, PartialEq, Eq, Error)]
+pub enum DownFault {
+    /// Every ticket was drawn.
+    #[error("every ticket was drawn")]
+    Spent,
+    /// The lane is down already.
+    #[error("{0}")]
+    Refused(AlreadyDown),
+}
+
+/// Why no request fails.
+#[derive(Clone, Copy, Debug, PartialEq, Eq, Error)]
+pub enum FailFault {
+    /// Every ticket was drawn.
+    #[error("every ticket was drawn")]
+    Spent,
+    /// The lane gives no request up.
+    #[error("{0}")]
+    Refused(FailRefusal),
+}
+
+/// Why a lane does not come up.
+#[derive(Clone, Copy, Debug, PartialEq, Eq, Error)]
+pub enum UpFault {
+    /// Every ticket was drawn.
+    #[error("every ticket was drawn")]
+    Spent,
+    /// The lane stays down, or is up.
+    #[error("{0}")]
+    Refused(UpRefusal),
 }
 
 /// A lane was not in its place at the end, as where a hold was never ended: the first such one.

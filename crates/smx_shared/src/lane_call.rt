@@ -6,7 +6,10 @@ ghost use Rattle.smx_shared.specs.Steps.{IsServed};
 ghost use Rattle.smx_lane.specs.declared.call.Call.TheVariants as call;
 ghost use Rattle.smx_lane.specs.declared.call.Reply.TheVariants as reply;
 
-use smx_history::{Answered, Entry, Note, Refusal, Request, TakeRefusal};
+use smx_history::{
+    AlreadyDown, Answered, Entry, FailRefusal, Failed, Note, Refusal, Request, TakeRefusal,
+    UpRefusal,
+};
 use smx_lane::{AdmitFault, Lane, NotAdmitted, Sent};
 use smx_lock::{Held, LockSeat, TicketLock, Told};
 use smx_pdu::Pdu;
@@ -188,5 +191,50 @@ impl LaneCall for TurningOver {
 
     fn make(self, lane: &mut Lane, by: u64) -> Result<Option<Vec<Entry>>, AllocError> {
         lane.turn_over(by, self.least)
+    }
+}
+
+#[derive(Drop)]
+pub(crate) struct GoingDown;
+
+impl LaneCall for GoingDown {
+    type Answer = Result<(), AlreadyDown>;
+
+    ghost call = { λ c by. call.Down by };
+
+    ghost reply = { reply.WentDown };
+
+    fn make(self, lane: &mut Lane, by: u64) -> Result<(), AlreadyDown> {
+        lane.down(by)
+    }
+}
+
+#[derive(Drop)]
+pub(crate) struct Failing;
+
+impl LaneCall for Failing {
+    type Answer = Result<Failed, FailRefusal>;
+
+    ghost call = { λ c by. call.Fail by };
+
+    ghost reply = { reply.Failed };
+
+    fn make(self, lane: &mut Lane, by: u64) -> Result<Failed, FailRefusal> {
+        lane.fail(by)
+    }
+}
+
+#[derive(Drop)]
+pub(crate) struct ComingUp;
+
+impl LaneCall for ComingUp {
+    type Answer = Result<(), UpRefusal>;
+
+    ghost call = { λ c by. call.Up by };
+
+    ghost reply = { reply.CameUp };
+
+    fn make(self, lane: &mut Lane, by: u64) -> Result<(), UpRefusal> {
+        lane.up(by)
     }
 }

@@ -2,7 +2,7 @@
 //!
 //! An `Exchange` keeps the lanes, each under its ticket lock. A `Door` enters clients, a `Port` is
 //! one client's right to submit, to collect and to leave, and a `Tap` takes from one lane, brings its
-//! answers and turns it over. A call of a port or a tap is served by one hold of each lane that it
+//! answers, turns it over, and brings it down and up with its link. A call of a port or a tap is served by one hold of each lane that it
 //! uses. `Door::enter` holds each lane twice, to make a seat and by that seat, and a lane that it
 //! leaves again a third time.
 #![tactic(auto)]
@@ -27,7 +27,10 @@ mod unmade;
 pub use departed::Departed;
 pub use door::Door;
 pub use exchange::Exchange;
-pub use fault::{EnterFault, MakeFault, StateOut, SubmitFault, TakeFault, TryTakeFault, TurnFault};
+pub use fault::{
+    DownFault, EnterFault, FailFault, MakeFault, StateOut, SubmitFault, TakeFault, TryTakeFault,
+    TurnFault, UpFault,
+};
 pub use offer::Offer;
 pub use port::Port;
 pub use starts::Starts;

@@ -15,6 +15,8 @@ use std::alloc::AllocError;
 use std::marker::Model;
 use std::sync::Wait;
 
+mod links;
+
 /// The right to take from one lane and to bring its answers. It is used with the exchange that
 /// made it.
 #[derive(Drop)]
