@@ -15,6 +15,7 @@ use std::sync::Wait;
 use std::test::*;
 
 mod comparing;
+mod links;
 mod spreading;
 mod turning;
 
@@ -363,8 +364,8 @@ fn lane_has_all_calls(rt: HostRuntime) {
     assert!(rt; lanes.iter().all(has_calls));
 }
 
-// An admit takes 2 of a lane's 1,000 entries and a request 4: 249 on lane 1 leave 2, 248 on lane 0
-// leave 6. What then refuses the next client.
+// Of a lane's 1,000 entries 1 is kept for its end, an admit takes 2 and a request 4: 249 on lane 1
+// leave 1, 248 on lane 0 leave 5. What then refuses the next client.
 fn fills<R: Wait>(rt: &R, alloc: Global, at: &Exchange, door: &mut Door) -> Option<EnterFault>
     requires { locks_of door.old.fronts ≡ at.now }
     ensures { locks_of door.new.fronts ≡ at.now }

@@ -1,5 +1,5 @@
 -- The turn's table, cell by cell.
-use Rattle.std.proofs.Common.{◌≡◌, ◌≢◌, ℕ, List, [], ◌∷◌, ◌++◌, Bool, true, false, Option, Some, None, Result, Ok, Err, OnOk, OnErr, IsErr, sym, ◌∙◌, ap, refl, subst, ◌≤◌, length, true≢false}
+use Rattle.std.proofs.Common.{◌≡◌, ◌≢◌, ℕ, List, [], ◌∷◌, ◌++◌, Bool, true, false, Option, Result, Ok, Err, IsErr, sym, ◌∙◌, ap, refl, subst, true≢false}
 use Rattle.smx_link.specs.declared.link.Polled.{Polled}
 use Rattle.smx_link.specs.declared.link.LinkFault.{LinkFault}
 use Rattle.smx_turns.specs.declared.gate.Point.TheVariants.{Reading, Taking}
@@ -12,7 +12,7 @@ use Rattle.smx_upstream.specs.declared.mark.Mark.{Mark}
 use Rattle.smx_upstream.specs.declared.mark.Mark.TheVariants.{Offered, Full, Part}
 use Rattle.smx_upstream.specs.declared.event.Event.{Event}
 use Rattle.smx_upstream.specs.declared.event.Event.TheVariants.{Opened, Looked, Young, Shifted, Sought, Decided, Took, Broke}
-use Rattle.smx_upstream.specs.Phases.{Phase, Opening, Ready, Written, Clogged, Watched, Clear, Sated, Brimming, MayRead, Failed, Deciding, Closing, Settled, MayTake, HasTried, Stopped, Refrained, Ending, Over, Gone, Wrong, go, from_opening, from_ready, from_written, from_watched, from_clear, from_sated, from_may_read, from_deciding, from_closing, from_settled, from_may_take, phase_from, phase_of, after_offer, unless_left, when_looked, when_kept, when_decided, when_part, when_full, when_read, when_may_read, when_may_take, ends, is_end, is_settled, end_of, quiet_end, Waits, IsTurnEnd, IsTurn, EndsEarly, EndsOr, IsPart, LeadsTo}
+use Rattle.smx_upstream.specs.Phases.{Phase, Opening, Ready, Written, Clogged, Watched, Clear, Sated, Brimming, MayRead, Deciding, Closing, Settled, MayTake, HasTried, Stopped, Refrained, Gone, Wrong, go, from_opening, from_ready, from_written, from_watched, from_clear, from_sated, from_may_read, from_deciding, from_closing, from_settled, from_may_take, phase_from, phase_of, after_offer, unless_left, is_last, when_looked, when_kept, when_decided, when_part, when_full, when_read, when_may_read, when_may_take, end_of, quiet_end, Waits, IsTurnEnd, IsTurn, EndsEarly, IsPart}
 
 phase_append : (p : Phase) (xs ys : List (Step Mark Event)) → phase_from p (xs ++ ys) ≡ phase_from (phase_from p xs) ys
 unfolding phase_from
@@ -75,7 +75,7 @@ pub cell_read : (r : Result Polled LinkFault) → go MayRead (Read r) ≡ when_r
 unfolding go from_may_read
 cell_read r = refl
 
-pub cell_decided : (ended : Bool) (p : _) (now : _) (a : _) (f : _) → go (Deciding ended) (Did (Decided p now a f)) ≡ when_decided ended (ends a.value)
+pub cell_decided : (ended : Bool) (p : _) (now : _) (a : _) (f : _) → go (Deciding ended) (Did (Decided p now a f)) ≡ when_decided ended (is_last a.value f)
 unfolding go from_deciding
 cell_decided ended p now a f = refl
 

@@ -28,6 +28,7 @@ use Rattle.smx_upstream.specs.declared.event.Event.{Event}
 use Rattle.smx_upstream.specs.declared.event.Fate.{Fate}
 use Rattle.smx_upstream.specs.declared.event.Fate.TheVariants as fate
 use Rattle.smx_upstream.specs.Events.{ins, outs, in_of, out_of, those, tell_of, find_of, unless_kept, kept_by}
+use Rattle.smx_upstream.specs.Ages.{noted_more, after_shift, fate_notes, fate_shifts}
 use Rattle.smx_upstream.specs.Standing.{Stand, Does, Gets, stand}
 use Rattle.smx_upstream.specs.Working.{Working, IsWorker, Goes, Turns}
 
@@ -97,6 +98,7 @@ goes_then n a b c ss ss' ss'' f g = λ start t. g start (f start t)
 -- a PDU is decided, or waits
 pub kept_or_in : (p : Pdu) (f : Fate) → unless_kept p (kept_by p f) ++ those (kept_by p f) ≡ p ∷ []
 kept_or_in p fate.Own = refl
+kept_or_in p (fate.Up rise) = refl
 kept_or_in p (fate.Lane lane a) = refl
 kept_or_in p fate.LaneSpent = refl
 kept_or_in p fate.Unread = refl
@@ -104,6 +106,12 @@ kept_or_in p (fate.Unrouted found) = refl
 kept_or_in p (fate.Put place n) = refl
 kept_or_in p (fate.Full place) = refl
 kept_or_in p (fate.BoxSpent place) = refl
+
+-- the age after a PDU was decided
+pub aged : (f : Fate) (a b c : Age) (shifted : Bool) (notes : ℕ) → c ≡ noted_more notes b → b ≡ after_shift shifted a → notes ≡ fate_notes f → shifted ≡ fate_shifts f
+    → c ≡ noted_more (fate_notes f) (after_shift (fate_shifts f) a)
+aged f a b c shifted notes more after n s =
+    more ∙ ap (λ (k : ℕ). noted_more k b) n ∙ ap (noted_more (fate_notes f)) (after ∙ ap (λ (x : Bool). after_shift x a) s)
 
 -- what the contract of a get says
 pub gets_from : (a b : Receiving Pdu) (r : Result (Got Pdu) Spent) → IfOk r (Hands a.got b.got) → IfOk r (GetServes a b.front) → IsOk r → Gets a b r

@@ -1,12 +1,10 @@
 -- What a chain of events says of the tokens' own lists.
-use Rattle.std.proofs.Common.{cond, ◌≡◌, ◌≢◌, ℕ, ◌<◌, Bool, true, false, eqb, List, [], ◌∷◌, ◌++◌, map, sym, refl, ap, ◌∙◌, subst, append_assoc, Option, Some, None, Result, Ok, Err, ⊎_elim}
+use Rattle.std.proofs.Common.{cond, ◌≡◌, ℕ, eqb, List, [], ◌∷◌, ◌++◌, sym, ap, ◌∙◌, append_assoc, Option, Some, None, Result, Ok, Err, ⊎_elim}
 use mathlib.Core.List.{IsPrefix}
-use Rattle.std.proofs.Math.Logic.{∥∥₁_map}
 use Rattle.std.proofs.lemmas.List.{append-nil, map-append}
-use Rattle.std.proofs.lemmas.List.Concat.{flat_map-append}
 use Rattle.std.proofs.lemmas.Bool.Decides.{eqb_tells}
 use Rattle.std.proofs.lemmas.Option.{slice_get_within}
-use Rattle.std.specs.List.{flat_map, slice_get}
+use Rattle.std.specs.List.{slice_get}
 use Rattle.std.proofs.Math.ListN.{set}
 use Rattle.smx_shared.proofs.Passing.{got_same, got_other}
 use Rattle.smx_pdu.specs.declared.pdu.Pdu.{Pdu}
@@ -17,7 +15,6 @@ use Rattle.smx_history.specs.declared.reply.Answered.{Answered}
 use Rattle.smx_history.specs.declared.reply.Answered.TheVariants as answered
 use Rattle.smx_lane.specs.Kept.{writer}
 use Rattle.smx_lane.specs.declared.sent.Sent.{Sent}
-use Rattle.smx_lock.specs.declared.faults.Spent.{Spent}
 use Rattle.smx_box.specs.Boxes.{Sending}
 use Rattle.smx_session.specs.declared.up_act.UpAct.{UpAct}
 use Rattle.smx_shared.specs.Views.{TapView}
@@ -28,16 +25,22 @@ use Rattle.std.specs.declared.alloc.Global.{Global}
 use Rattle.smx_history.specs.declared.entry.Entry.{Entry}
 use Rattle.smx_shared.specs.declared.fault.TurnFault.{TurnFault}
 use Rattle.smx_shared.specs.declared.fault.TurnFault.TheVariants as turns
-use Rattle.smx_shared.specs.Serving.{Takes, AnswerServes}
+use Rattle.smx_shared.specs.declared.fault.UpFault.{UpFault}
+use Rattle.smx_history.specs.declared.reply.UpRefusal.TheVariants as refusal
+use Rattle.smx_shared.specs.declared.fault.UpFault.TheVariants as ups
+use Rattle.smx_shared.specs.Serving.{Takes, AnswerServes, ComesUp, Turns}
 use Rattle.smx_shared.specs.Taps.{known_of}
-use Rattle.smx_shared.proofs.Knowing.{takes_known, answers_known, turn_known}
+use Rattle.smx_shared.proofs.Knowing.{takes_known, answers_known, turn_known, up_known}
 use Rattle.smx_turns.specs.declared.mo_item.MoItem.{MoItem}
-use Rattle.smx_turns.specs.Puts.{AtIndex, Puts, FindsFull, contents, contents_in}
+use Rattle.smx_turns.specs.Puts.{AtIndex, Puts, contents, contents_in}
 use Rattle.smx_turns.specs.Runs.{Runs}
 use Rattle.smx_upstream.specs.declared.event.Event.{Event}
 use Rattle.smx_upstream.specs.declared.event.Event.TheVariants as event
 use Rattle.smx_upstream.specs.declared.event.Fate.{Fate}
 use Rattle.smx_upstream.specs.declared.event.Fate.TheVariants as fate
+use Rattle.smx_upstream.specs.declared.event.Rise.{Rise}
+use Rattle.smx_upstream.specs.declared.event.Rise.TheVariants as rise
+use Rattle.smx_upstream.specs.Rising.{Rises}
 use Rattle.smx_upstream.specs.Standing.{Stand, Does, Becomes, Shifts, item_for}
 use Rattle.smx_upstream.specs.Laws.{answer_known, fate_known, known_by, knowns, fate_put, put_by, puts_at, Kept}
 
@@ -49,9 +52,14 @@ answer_note f g p (answered.Queued c) h = answers_known f g p (Ok (answered.Queu
 answer_note f g p answered.Late h = answers_known f g p (Ok answered.Late) h
 answer_note f g p (answered.Unknown back) h = answers_known f g p (Ok (answered.Unknown back)) h
 
+rise_note : (f g : Front Note Limits) (x : Rise) → Rises f g x → known_of g.mine ≡ known_of f.mine
+rise_note f g (rise.Asked said) h = up_known f g said h.0
+rise_note f g (rise.Renewed es said) h = up_known h.1 g said h.4 ∙ turn_known h.0 h.1 1 es h.3 ∙ up_known f h.0 (Err (ups.Refused refusal.HistoryFull)) h.2
+
 fate_note : (p : Pdu) (a : UpAct) (f : Fate) (t : TapView) (ss : List (Sending MoItem)) (t' : TapView) (ss' : List (Sending MoItem)) → Becomes p a f t ss t' ss'
     → known_of t'.front.mine ≡ known_of t.front.mine ++ fate_known p f
 fate_note p a fate.Own t ss t' ss' b = nothing _ _ (ap (λ x. known_of x.front.mine) b.1)
+fate_note p a (fate.Up rise) t ss t' ss' b = nothing _ _ (rise_note t.front t'.front rise.value b.1)
 fate_note p a (fate.Lane at r) t ss t' ss' b = answer_note t.front t'.front p r.value b.1
 fate_note p a fate.LaneSpent t ss t' ss' b = nothing _ _ (⊎_elim (λ e. ap (λ x. known_of x.mine) e) (λ e. ap (λ x. known_of x.mine) e) b.1)
 fate_note p a fate.Unread t ss t' ss' b = nothing _ _ (ap (λ x. known_of x.front.mine) b.2)
@@ -106,8 +114,22 @@ shift_seen f g least (Ok (Some es)) h = served_seen f g _ _ h.2.serves
 shift_seen f g least (Err turns.Spent) h = spent_seen f g h
 shift_seen f g least (Err turns.NoMemory) h = served_seen f g _ _ h.2.serves
 
+up_seen : (f g : Front Note Limits) (r : Result (Unit {0}) UpFault) → ComesUp f g r → IsPrefix f.seen g.seen
+up_seen f g (Ok done) h = served_seen f g h.found h.own h.hold.serves
+up_seen f g (Err (ups.Refused e)) h = served_seen f g h.found h.own h.hold.serves
+up_seen f g (Err ups.Spent) h = spent_seen f g h
+
+turned_seen : (f g : Front Note Limits) (least : ℕ) (r : Result (Option (Vec Entry Global)) TurnFault) → Turns (λ (es : Vec Entry Global). es.items) f g least r → IsPrefix f.seen g.seen
+turned_seen f g least (Ok o) h = shift_seen f g least (Ok o) h
+turned_seen f g least (Err e) h = shift_seen f g least (Err e) h
+
+rise_seen : (f g : Front Note Limits) (x : Rise) → Rises f g x → IsPrefix f.seen g.seen
+rise_seen f g (rise.Asked said) h = up_seen f g said h.0
+rise_seen f g (rise.Renewed es said) h = longer _ _ _ (up_seen f h.0 (Err (ups.Refused refusal.HistoryFull)) h.2) (longer _ _ _ (turned_seen h.0 h.1 1 es h.3) (up_seen h.1 g said h.4))
+
 fate_seen : (p : Pdu) (a : UpAct) (f : Fate) (t : TapView) (ss : List (Sending MoItem)) (t' : TapView) (ss' : List (Sending MoItem)) → Becomes p a f t ss t' ss' → IsPrefix t.front.seen t'.front.seen
 fate_seen p a fate.Own t ss t' ss' b = self _ _ (ap (λ x. x.front.seen) b.1)
+fate_seen p a (fate.Up rise) t ss t' ss' b = rise_seen t.front t'.front rise.value b.1
 fate_seen p a (fate.Lane at r) t ss t' ss' b = answer_seen t.front t'.front p r.value b.1
 fate_seen p a fate.LaneSpent t ss t' ss' b = spent_seen t.front t'.front b.1
 fate_seen p a fate.Unread t ss t' ss' b = self _ _ (ap (λ x. x.front.seen) b.2)
@@ -131,6 +153,7 @@ seen_step s t (event.Unbound p) d = self _ _ (ap (λ x. x.tap.front.seen) d.1)
 -- the lane
 fate_lane : (p : Pdu) (a : UpAct) (f : Fate) (t : TapView) (ss : List (Sending MoItem)) (t' : TapView) (ss' : List (Sending MoItem)) → Becomes p a f t ss t' ss' → t'.lane ≡ t.lane
 fate_lane p a fate.Own t ss t' ss' b = ap (λ x. x.lane) b.1
+fate_lane p a (fate.Up rise) t ss t' ss' b = b.2
 fate_lane p a (fate.Lane at r) t ss t' ss' b = b.3
 fate_lane p a fate.LaneSpent t ss t' ss' b = b.2
 fate_lane p a fate.Unread t ss t' ss' b = ap (λ x. x.lane) b.2
@@ -172,6 +195,7 @@ put_here slot at item n ss tt h = ⊎_elim
 fate_puts : (slot : ℕ) (p : Pdu) (a : UpAct) (f : Fate) (t : TapView) (ss : List (Sending MoItem)) (t' : TapView) (ss' : List (Sending MoItem)) → Becomes p a f t ss t' ss'
     → contents_in (slice_get ss' slot) ≡ contents_in (slice_get ss slot) ++ fate_put slot t.lane p f
 fate_puts slot p a fate.Own t ss t' ss' b = nothing _ _ (ap (λ x. contents_in (slice_get x slot)) b.2)
+fate_puts slot p a (fate.Up rise) t ss t' ss' b = nothing _ _ (ap (λ x. contents_in (slice_get x slot)) b.3)
 fate_puts slot p a (fate.Lane at r) t ss t' ss' b = nothing _ _ (ap (λ x. contents_in (slice_get x slot)) b.4)
 fate_puts slot p a fate.LaneSpent t ss t' ss' b = nothing _ _ (ap (λ x. contents_in (slice_get x slot)) b.3)
 fate_puts slot p a fate.Unread t ss t' ss' b = nothing _ _ (ap (λ x. contents_in (slice_get x slot)) b.3)

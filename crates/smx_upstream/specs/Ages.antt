@@ -8,7 +8,11 @@ use Rattle.smx_history.specs.declared.reply.Answered.TheVariants as answered
 use Rattle.smx_lane.specs.declared.sent.Sent.{Sent}
 use Rattle.smx_shared.specs.declared.fault.TakeFault.{TakeFault}
 use Rattle.smx_shared.specs.declared.fault.TurnFault.{TurnFault}
+use Rattle.smx_shared.specs.declared.fault.UpFault.{UpFault}
 use Rattle.smx_upstream.specs.declared.age.Age.{Age}
+use Rattle.smx_upstream.specs.declared.event.Rise.{Rise}
+use Rattle.smx_upstream.specs.declared.event.Rise.TheVariants as rise
+use Rattle.smx_upstream.specs.Rising.{said_last}
 use Rattle.smx_upstream.specs.declared.event.Fate.{Fate}
 use Rattle.smx_upstream.specs.declared.event.Fate.TheVariants as fate
 
@@ -40,8 +44,17 @@ answer_notes (answered.Queued c) = 1
 answer_notes answered.Late = 1
 answer_notes (answered.Unknown back) = 0
 
+-- an up is noted, and what was noted before a shift no longer counts
+abbrev pub up_notes : Result (Unit {0}) UpFault → ℕ
+up_notes (Ok done) = 1
+up_notes (Err e) = 0
+
+abbrev pub rise_notes : Rise → ℕ
+rise_notes r = up_notes (said_last r)
+
 abbrev pub fate_notes : Fate → ℕ
 fate_notes fate.Own = 0
+fate_notes (fate.Up rise) = rise_notes rise.value
 fate_notes (fate.Lane lane a) = answer_notes a.value
 fate_notes fate.LaneSpent = 0
 fate_notes fate.Unread = 0
@@ -59,3 +72,18 @@ abbrev pub has_shifted : Result (Option (Vec Entry Global)) TurnFault → Bool
 has_shifted (Ok (Some es)) = true
 has_shifted (Ok None) = false
 has_shifted (Err e) = false
+
+abbrev pub rise_shifts : Rise → Bool
+rise_shifts (rise.Asked said) = false
+rise_shifts (rise.Renewed entries said) = has_shifted entries
+
+abbrev pub fate_shifts : Fate → Bool
+fate_shifts fate.Own = false
+fate_shifts (fate.Up rise) = rise_shifts rise.value
+fate_shifts (fate.Lane lane a) = false
+fate_shifts fate.LaneSpent = false
+fate_shifts fate.Unread = false
+fate_shifts (fate.Unrouted found) = false
+fate_shifts (fate.Put place n) = false
+fate_shifts (fate.Full place) = false
+fate_shifts (fate.BoxSpent place) = false

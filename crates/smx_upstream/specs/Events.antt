@@ -61,6 +61,7 @@ act_out act.Ignore = []
 -- what a message that no client gets is answered
 abbrev pub fate_out : Pdu → Fate → List Pdu
 fate_out p fate.Own = []
+fate_out p (fate.Up rise) = []
 fate_out p (fate.Lane lane a) = []
 fate_out p fate.LaneSpent = []
 fate_out p fate.Unread = refusal p.command ESME_RINVCMDLEN p.number ∷ []
@@ -85,6 +86,7 @@ out_of (Unbound p) = those p.value
 -- the PDU that still waits after this fate
 abbrev pub kept_by : Pdu → Fate → Option Pdu
 kept_by p fate.Own = None
+kept_by p (fate.Up rise) = None
 kept_by p (fate.Lane lane a) = None
 kept_by p fate.LaneSpent = Some p
 kept_by p fate.Unread = None
@@ -126,6 +128,7 @@ read_of (Err e) = []
 -- what the directory was asked for a PDU of this fate
 abbrev pub fate_finds : Pdu → Fate → List Query
 fate_finds p fate.Own = []
+fate_finds p (fate.Up rise) = []
 fate_finds p (fate.Lane lane a) = []
 fate_finds p fate.LaneSpent = []
 fate_finds p fate.Unread = []
@@ -155,6 +158,7 @@ answer_tells lane (answered.Unknown back) = []
 -- for whom something waits after this fate
 abbrev pub fate_tells : Fate → List Party
 fate_tells fate.Own = []
+fate_tells (fate.Up rise) = []
 fate_tells (fate.Lane lane a) = answer_tells lane a.value
 fate_tells fate.LaneSpent = []
 fate_tells fate.Unread = []

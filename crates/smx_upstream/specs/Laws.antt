@@ -1,13 +1,11 @@
 -- What a worker's events say of its tokens: filters of all its events.
-use Rattle.std.specs.Prelude.{◌≡◌, ℕ, List, [], ◌∷◌, ◌++◌, ◌==◌, map, Option, Some, None, Result, Ok, Err, slice_get, if◌then◌else◌}
+use Rattle.std.specs.Prelude.{◌≡◌, ℕ, List, [], ◌∷◌, ◌++◌, ◌==◌, Option, Some, slice_get, if◌then◌else◌}
 use mathlib.Core.List.{IsPrefix}
 use Rattle.std.specs.List.{flat_map}
 use Rattle.smx_pdu.specs.declared.pdu.Pdu.{Pdu}
 use Rattle.smx_history.specs.declared.reply.Answered.{Answered}
 use Rattle.smx_history.specs.declared.reply.Answered.TheVariants as answered
-use Rattle.smx_lane.specs.declared.sent.Sent.{Sent}
-use Rattle.smx_shared.specs.declared.fault.TakeFault.{TakeFault}
-use Rattle.smx_shared.specs.Taps.{Known, Took, Queued, CameLate, known_of, known_by_take}
+use Rattle.smx_shared.specs.Taps.{Known, Queued, CameLate, known_of, known_by_take}
 use Rattle.smx_turns.specs.declared.mo_item.MoItem.{MoItem}
 use Rattle.smx_turns.specs.Puts.{contents_in}
 use Rattle.smx_upstream.specs.declared.event.Event.{Event}
@@ -25,6 +23,7 @@ answer_known p (answered.Unknown back) = []
 abbrev pub fate_known : Pdu → Fate → List Known
 fate_known p (fate.Lane at r) = answer_known p r.value
 fate_known p fate.Own = []
+fate_known p (fate.Up rise) = []
 fate_known p fate.LaneSpent = []
 fate_known p fate.Unread = []
 fate_known p (fate.Unrouted found) = []
@@ -51,6 +50,7 @@ knowns es = flat_map known_by es
 abbrev pub fate_put : ℕ → ℕ → Pdu → Fate → List (Option MoItem)
 fate_put slot lane p (fate.Put place n) = if place.slot == slot then Some (item_for lane place p) ∷ [] else []
 fate_put slot lane p fate.Own = []
+fate_put slot lane p (fate.Up rise) = []
 fate_put slot lane p (fate.Lane at r) = []
 fate_put slot lane p fate.LaneSpent = []
 fate_put slot lane p fate.Unread = []

@@ -1,8 +1,10 @@
 pub mod Events
 pub mod Quiet
 pub mod Spent
+pub mod Rising
 pub mod Ages
 pub mod Standing
 pub mod Working
 pub mod Phases
 pub mod Laws
+pub mod Losing

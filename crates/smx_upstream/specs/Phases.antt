@@ -1,11 +1,10 @@
 -- The order of an upstream turn.
-use Rattle.std.specs.Prelude.{◌≡◌, ◌≢◌, ◌≤◌, ℕ, Bool, true, false, List, [], ◌∷◌, length, Result, Ok, Err, Option, Some, None}
+use Rattle.std.specs.Prelude.{◌≡◌, ◌≢◌, ◌≤◌, ℕ, Bool, true, false, ◌||◌, List, [], ◌∷◌, length, Result, Ok, Err, Option, Some, None}
 use Rattle.smx_session.specs.declared.up_act.UpAct.{UpAct}
 use Rattle.smx_session.specs.declared.up_act.UpAct.TheVariants as act
 use Rattle.smx_link.specs.declared.link.Polled.{Polled}
 use Rattle.smx_link.specs.declared.link.Polled.TheVariants.{Octets, Nothing, End}
 use Rattle.smx_link.specs.declared.link.LinkFault.{LinkFault}
-use Rattle.smx_turns.specs.declared.gate.Point.{Point}
 use Rattle.smx_turns.specs.declared.gate.Point.TheVariants.{Reading, Taking}
 use Rattle.smx_turns.specs.declared.end.TurnEnd.{TurnEnd}
 use Rattle.smx_turns.specs.declared.end.TurnEnd.TheVariants.{Worked, Idle, Done}
@@ -13,6 +12,9 @@ use Rattle.smx_turns.specs.declared.end.Fault.{Fault}
 use Rattle.smx_turns.specs.declared.end.Fault.TheVariants as fault
 use Rattle.smx_turns.specs.declared.step.Step.{Step}
 use Rattle.smx_turns.specs.declared.step.Step.TheVariants.{Asked, Read, Marked, Did}
+use Rattle.smx_upstream.specs.declared.event.Fate.{Fate}
+use Rattle.smx_upstream.specs.declared.event.Fate.TheVariants as fate
+use Rattle.smx_upstream.specs.Rising.{said_last, stays_down}
 use Rattle.smx_upstream.specs.declared.wiring.Front.{Front}
 use Rattle.smx_upstream.specs.declared.wiring.Front.TheVariants as front
 use Rattle.smx_upstream.specs.declared.turning.Next.{Next}
@@ -22,7 +24,7 @@ use Rattle.smx_upstream.specs.declared.turning.Progress.TheVariants as progress
 use Rattle.smx_upstream.specs.declared.mark.Mark.{Mark}
 use Rattle.smx_upstream.specs.declared.mark.Mark.TheVariants.{Offered, Full, Part}
 use Rattle.smx_upstream.specs.declared.event.Event.{Event}
-use Rattle.smx_upstream.specs.declared.event.Event.TheVariants.{Began, Opened, Looked, Young, Shifted, Sought, Decided, Took, Broke}
+use Rattle.smx_upstream.specs.declared.event.Event.TheVariants.{Opened, Looked, Young, Shifted, Sought, Decided, Took, Broke}
 
 -- where a turn stands
 pub data Phase : Type 0 where
@@ -79,6 +81,22 @@ ends (act.Answer p) = false
 ends (act.Leave p) = true
 ends act.Closed = true
 ends act.Ignore = false
+
+-- a lane that stays down ends the session's work
+abbrev pub fate_ends : Fate → Bool
+fate_ends fate.Own = false
+fate_ends (fate.Up rise) = stays_down (said_last rise.value)
+fate_ends (fate.Lane lane a) = false
+fate_ends fate.LaneSpent = false
+fate_ends fate.Unread = false
+fate_ends (fate.Unrouted found) = false
+fate_ends (fate.Put place n) = false
+fate_ends (fate.Full place) = false
+fate_ends (fate.BoxSpent place) = false
+
+-- whether nothing is decided after this act, of which this came
+abbrev pub is_last : UpAct → Fate → Bool
+is_last a f = ends a || fate_ends f
 
 -- whether the link has ended
 abbrev pub is_end : Polled → Bool
@@ -159,7 +177,7 @@ from_may_read (Read r) = when_read r
 from_may_read _ = Wrong
 
 unfoldable pub from_deciding : Bool → Step Mark Event → Phase
-from_deciding ended (Did (Decided p now a f)) = when_decided ended (ends a.value)
+from_deciding ended (Did (Decided p now a f)) = when_decided ended (is_last a.value f)
 from_deciding ended (Did Broke) = Closing
 from_deciding ended (Marked Part) = when_part ended
 from_deciding ended (Marked Full) = when_full ended

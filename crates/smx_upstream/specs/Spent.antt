@@ -19,6 +19,7 @@ use Rattle.smx_upstream.specs.Events.{was_served}
 
 abbrev pub is_spent_fate : Fate → Bool
 is_spent_fate fate.Own = false
+is_spent_fate (fate.Up rise) = false
 is_spent_fate (fate.Lane lane a) = false
 is_spent_fate fate.LaneSpent = true
 is_spent_fate fate.Unread = false

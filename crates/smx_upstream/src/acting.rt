@@ -5,7 +5,7 @@ ghost use Rattle.smx_upstream.specs.Quiet.{finds_nothing, takes_nothing};
 ghost use Rattle.smx_upstream.specs.Spent.{EndsSpent};
 ghost use Rattle.smx_upstream.specs.Ages.{next_turn, take_notes, has_shifted};
 ghost use Rattle.smx_upstream.specs.Working.{side_of, Goes};
-ghost use Rattle.smx_upstream.specs.Phases.{phase_of, ends, when_looked, when_kept, when_decided, LeadsTo, Opening, Ready, Written, Watched, Clear, Sated, Deciding, MayTake, HasTried};
+ghost use Rattle.smx_upstream.specs.Phases.{phase_of, when_looked, when_kept, when_decided, LeadsTo, Opening, Ready, Written, Watched, Clear, Sated, Deciding, MayTake, HasTried};
 
 use crate::carry::{Outcome, carry};
 use crate::event::Event;
@@ -16,7 +16,6 @@ use smx_history::Entry;
 use smx_lane::Sent;
 use smx_link::Link;
 use smx_pdu::Pdu;
-use smx_session::UpAct;
 use smx_shared::{Exchange, TakeFault, TurnFault};
 use smx_turns::{Directory, Fault, Gate, Log};
 use std::snapshot::Snapshot;
@@ -73,7 +72,7 @@ fn take_notes(taken: &Result<Sent, TakeFault>) -> usize
 }
 
 // Whether the lane handed its entries out.
-fn has_shifted(entries: &Result<Option<Vec<Entry>>, TurnFault>) -> bool
+pub(crate) fn has_shifted(entries: &Result<Option<Vec<Entry>>, TurnFault>) -> bool
     ensures { result ≡ has_shifted entries.now }
 {
     matches!(entries, Ok(Some(_)))
@@ -84,13 +83,6 @@ fn was_served(taken: &Result<Sent, TakeFault>) -> bool
     ensures { result ≡ was_served taken.now }
 {
     !matches!(taken, Err(TakeFault::Spent))
-}
-
-// Whether nothing is decided after this act.
-fn is_last(act: &UpAct) -> bool
-    ensures { result ≡ ends act.now }
-{
-    matches!(act, UpAct::Failed(_) | UpAct::Leave(_) | UpAct::Closed)
 }
 
 impl<L: Link + Drop> UpstreamWorker<L> {
@@ -303,12 +295,13 @@ impl<L: Link + Drop> UpstreamWorker<L> {
         let read = Snapshot::of(&pdu);
         let act = self.session.on_pdu(&pdu, now);
         let chosen = Snapshot::of(&act);
-        let last = is_last(&act);
         let Outcome {
             fate,
             answer,
             back,
             notes,
+            shifted,
+            over,
         } = carry(
             self.alloc,
             &mut self.tap,
@@ -321,13 +314,13 @@ impl<L: Link + Drop> UpstreamWorker<L> {
             pdu,
         );
         self.held = back;
-        let age = self.age.noted_more(notes);
+        let age = self.age.after_shift(shifted).noted_more(notes);
         self.age = age;
         let event = Event::Decided(read, now, chosen, fate);
         note(event, false, &answer, &mut self.wire, &mut self.events, log);
         if self.held.is_some() {
             return Err(Fault::Spent);
         }
-        Ok(last)
+        Ok(over)
     }
 }

@@ -1,14 +1,16 @@
 //! What becomes of a PDU that the session has decided.
-ghost use Rattle.std.specs.Prelude.{◌≡◌, ◌++◌, ◌∷◌, ◌<◌, [], slice_get, length, Some, None};
+ghost use Rattle.std.specs.Prelude.{◌≡◌, ◌++◌, ◌∷◌, ◌<◌, [], slice_get, length, false, Some, None};
 ghost use Rattle.smx_session.specs.declared.up_act.UpAct.TheVariants as act;
 ghost use Rattle.smx_pdu.specs.Answers.{refusal};
 ghost use Rattle.smx_pdu.specs.Reading.{destination_at};
 ghost use Rattle.smx_turns.specs.declared.directory.Query.TheVariants.{Found};
 ghost use Rattle.smx_upstream.specs.Events.{those, act_out, fate_out, fate_finds, fate_tells, kept_by, read_of};
-ghost use Rattle.smx_upstream.specs.Ages.{answer_notes, fate_notes};
+ghost use Rattle.smx_upstream.specs.Ages.{answer_notes, fate_notes, fate_shifts};
+ghost use Rattle.smx_upstream.specs.Phases.{fate_ends, is_last};
 ghost use Rattle.smx_upstream.specs.Standing.{Becomes, Reads};
 
 use crate::event::Fate;
+use crate::rising::{raise, rise_notes, rise_shifts, stays_down};
 use smx_box::{PutFault, Sender};
 use smx_history::Answered;
 use smx_pdu::status::{ESME_RINVCMDLEN, ESME_RMSGQFUL, ESME_RX_T_APPN};
@@ -26,21 +28,29 @@ pub(crate) struct Outcome {
     pub fate: Fate,
     pub answer: Option<Pdu>,
     pub back: Option<Pdu>,
-    // How many notes the tap made.
+    // How many notes the tap made, since the lane handed its entries out where it did.
     pub notes: usize,
+    // Whether the lane handed its entries out.
+    pub shifted: bool,
+    // Whether nothing is decided after it.
+    pub over: bool,
 }
 
-fn settled(fate: Fate, answer: Option<Pdu>) -> Outcome
+fn settled(fate: Fate, answer: Option<Pdu>, over: bool) -> Outcome
     ensures fate { result.fate ≡ fate }
     ensures answer { result.answer ≡ answer }
     ensures back { result.back ≡ None }
     ensures notes { result.notes ≡ 0 }
+    ensures shifted { result.shifted ≡ false }
+    ensures over { result.over ≡ over }
 {
     Outcome {
         fate,
         answer,
         back: None,
         notes: 0,
+        shifted: false,
+        over,
     }
 }
 
@@ -71,6 +81,8 @@ pub(crate) fn to_lane<R: Wait, G: Gate>(
     ensures asked { G.asked gate.new ≡ G.asked gate.old }
     ensures told { G.told gate.new ≡ G.told gate.old ++ fate_tells result.fate }
     ensures notes { result.notes ≡ fate_notes result.fate }
+    ensures shifted { result.shifted ≡ fate_shifts result.fate }
+    ensures over { result.over ≡ fate_ends result.fate }
 {
     let lane = tap.lane();
     match tap.answer(at, rt, pdu) {
@@ -86,6 +98,8 @@ pub(crate) fn to_lane<R: Wait, G: Gate>(
                 answer: None,
                 back: None,
                 notes: answer_notes(&answered),
+                shifted: false,
+                over: false,
             }
         }
         Err((pdu, _)) => Outcome {
@@ -93,6 +107,8 @@ pub(crate) fn to_lane<R: Wait, G: Gate>(
             answer: None,
             back: Some(pdu),
             notes: 0,
+            shifted: false,
+            over: false,
         },
     }
 }
@@ -105,9 +121,11 @@ fn refused(alloc: Global, pdu: &Pdu, fate: Fate, status: u32) -> Outcome
     ensures answer { fate_out pdu.now result.fate ≡ those result.answer }
     ensures back { result.back ≡ kept_by pdu.now result.fate }
     ensures notes { result.notes ≡ 0 }
+    ensures shifted { result.shifted ≡ false }
+    ensures over { result.over ≡ false }
 {
     let answer = Pdu::refusal(alloc, pdu.command, status, pdu.number);
-    settled(fate, Some(answer))
+    settled(fate, Some(answer), false)
 }
 
 // A message goes into the box of the slot that the directory names.
@@ -130,6 +148,8 @@ pub(crate) fn to_box<R: Wait, G: Gate>(
     ensures asked { G.asked gate.new ≡ G.asked gate.old }
     ensures told { G.told gate.new ≡ G.told gate.old ++ fate_tells result.fate }
     ensures notes { result.notes ≡ fate_notes result.fate }
+    ensures shifted { result.shifted ≡ fate_shifts result.fate }
+    ensures over { result.over ≡ fate_ends result.fate }
 {
     let item = MoItem {
         client: place.client,
@@ -140,7 +160,7 @@ pub(crate) fn to_box<R: Wait, G: Gate>(
     match put_at(rt, senders, place.slot, item) {
         Ok(number) => {
             gate.ready(Party::Slot(place.slot));
-            settled(Fate::Put(place, number), None)
+            settled(Fate::Put(place, number), None, false)
         }
         Err((item, PutFault::Full)) => refused(alloc, &item.pdu, Fate::Full(place), ESME_RMSGQFUL),
         Err((item, PutFault::Spent)) => Outcome {
@@ -148,6 +168,8 @@ pub(crate) fn to_box<R: Wait, G: Gate>(
             answer: None,
             back: Some(item.pdu),
             notes: 0,
+            shifted: false,
+            over: false,
         },
     }
 }
@@ -170,6 +192,8 @@ pub(crate) fn route<R: Wait, G: Gate, D: Directory>(
     ensures asked { G.asked gate.new ≡ G.asked gate.old }
     ensures told { G.told gate.new ≡ G.told gate.old ++ fate_tells result.fate }
     ensures notes { result.notes ≡ fate_notes result.fate }
+    ensures shifted { result.shifted ≡ fate_shifts result.fate }
+    ensures over { result.over ≡ fate_ends result.fate }
 {
     let found = match read_destination(pdu.body.as_slice()) {
         Ok(destination) => directory.find(rt, destination),
@@ -206,11 +230,26 @@ pub(crate) fn carry<R: Wait, G: Gate, D: Directory>(
     ensures asked { G.asked gate.new ≡ G.asked gate.old }
     ensures told { G.told gate.new ≡ G.told gate.old ++ fate_tells result.fate }
     ensures notes { result.notes ≡ fate_notes result.fate }
+    ensures shifted { result.shifted ≡ fate_shifts result.fate }
+    ensures over { result.over ≡ is_last act result.fate }
 {
     match act {
         UpAct::ToLane => to_lane(tap, at, rt, gate, pdu),
         UpAct::Mo => route(alloc, tap, senders, rt, gate, directory, pdu),
-        UpAct::Answer(answer) | UpAct::Leave(answer) => settled(Fate::Own, Some(answer)),
-        UpAct::Up | UpAct::Failed(_) | UpAct::Closed | UpAct::Ignore => settled(Fate::Own, None),
+        UpAct::Up => {
+            let rise = raise(tap, at, rt);
+            Outcome {
+                fate: Fate::Up(Snapshot::of(&rise)),
+                answer: None,
+                back: None,
+                notes: rise_notes(&rise),
+                shifted: rise_shifts(&rise),
+                over: stays_down(&rise),
+            }
+        }
+        UpAct::Answer(answer) => settled(Fate::Own, Some(answer), false),
+        UpAct::Leave(answer) => settled(Fate::Own, Some(answer), true),
+        UpAct::Failed(_) | UpAct::Closed => settled(Fate::Own, None, true),
+        UpAct::Ignore => settled(Fate::Own, None, false),
     }
 }

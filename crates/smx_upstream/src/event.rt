@@ -6,15 +6,26 @@ use smx_history::{Answered, Entry};
 use smx_lane::Sent;
 use smx_pdu::Pdu;
 use smx_session::UpAct;
-use smx_shared::{TakeFault, TurnFault};
+use smx_shared::{TakeFault, TurnFault, UpFault};
 use smx_turns::{Deed, Place};
 use std::snapshot::Snapshot;
+
+/// How a lane came up once its link was bound.
+#[derive(Drop)]
+pub enum Rise {
+    /// The lane was asked once, and said this.
+    Asked(Result<(), UpFault>),
+    /// Its history was full: it was to hand its entries out, and was asked once more.
+    Renewed(Result<Option<Vec<Entry>>, TurnFault>, Result<(), UpFault>),
+}
 
 /// What became of a PDU, beside what the session did.
 #[derive(Drop)]
 pub enum Fate {
     /// Nothing more.
     Own,
+    /// The session is bound now, and the lane was to come up.
+    Up(Snapshot<Rise>),
     /// The lane of this number was asked, and said this.
     Lane(usize, Snapshot<Answered>),
     /// The lane's tickets are spent, and the PDU waits.

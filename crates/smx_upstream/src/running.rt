@@ -1,8 +1,9 @@
 //! Turns of the upstream worker, one after another, and its end.
-ghost use Rattle.std.specs.Prelude.{◌≡◌, ◌≢◌, ◌+◌, ◌++◌, ◌∷◌, [], true, slice_get, Some, None, Ok, Err, OnOk};
+ghost use Rattle.std.specs.Prelude.{◌≡◌, ◌≢◌, ◌+◌, ◌++◌, ◌∷◌, [], true, length, slice_get, Some, None, Ok, Err, OnOk};
 ghost use mathlib.Core.List.{IsPrefix};
 ghost use Rattle.smx_frame.specs.Stream.{HasNone};
 ghost use Rattle.smx_session.specs.Moments.{is_bound};
+ghost use Rattle.smx_shared.specs.Taps.{known_of};
 ghost use Rattle.smx_turns.specs.Rounds.{EndsSo};
 ghost use Rattle.smx_turns.specs.Runs.{Ran};
 ghost use Rattle.smx_upstream.specs.Ages.{next_turn};
@@ -10,8 +11,10 @@ ghost use Rattle.smx_upstream.specs.Quiet.{are_all_quiet};
 ghost use Rattle.smx_upstream.specs.Spent.{EndsSpent};
 ghost use Rattle.smx_upstream.specs.Standing.{Does};
 ghost use Rattle.smx_upstream.specs.Working.{side_of, Turns};
+ghost use Rattle.smx_upstream.specs.Losing.{Loses};
 ghost use Rattle.smx_upstream.specs.Phases.{phase_of, is_settled, link_faults, Waits, IsTurn, IsOver};
 
+use crate::losing::{Lost, lose};
 use crate::worker::UpstreamWorker;
 use smx_box::{Receiver, Sender};
 use smx_link::Link;
@@ -28,6 +31,8 @@ pub struct Closed<L: Link + Drop> {
     pub tap: Tap,
     pub answers: Receiver<Pdu>,
     pub senders: Vec<Sender<MoItem>>,
+    /// What became of its lane.
+    pub lost: Lost,
 }
 
 impl<L: Link + Drop> UpstreamWorker<L> {
@@ -75,25 +80,33 @@ impl<L: Link + Drop> UpstreamWorker<L> {
         end
     }
 
-    /// Ends the worker, and hands back what it was given. It touches no lane.
-    pub fn close<R: Wait>(self, _at: &Exchange, _rt: &R) -> Closed<L>
+    /// Ends the worker, and hands back what it was given. Its lane goes down, and each request that
+    /// was taken and not answered fails, so that its client is told: nothing taken is sent again.
+    pub fn close<R: Wait>(self, at: &Exchange, rt: &R) -> Closed<L>
+        requires lock { slice_get at.now self.stand.tap.lane ≡ Some self.stand.tap.front.lock }
         ensures link { result.link ≡ self.wire.link }
-        ensures tap { result.tap ≡ self.stand.tap }
+        ensures lock { (result.tap.lane ≡ self.stand.tap.lane)
+            × (result.tap.front.lock ≡ self.stand.tap.front.lock) }
+        ensures loses { Loses self.stand.tap.front result.tap.front result.lost }
+        ensures count { result.lost.failed ≡ length result.lost.given }
+        ensures known { known_of result.tap.front.mine ≡ known_of self.stand.tap.front.mine }
         ensures answers { result.answers ≡ self.stand.answers }
         ensures senders { result.senders.items ≡ self.stand.senders }
     {
         let UpstreamWorker {
             wire,
-            tap,
+            mut tap,
             answers,
             senders,
             ..
         } = self;
+        let lost = lose(&mut tap, at, rt);
         Closed {
             link: wire.into_link(),
             tap,
             answers,
             senders,
+            lost,
         }
     }
 }

@@ -18,6 +18,7 @@ use std::process::Abort;
 use std::sync::Wait;
 use std::test::*;
 
+mod losing;
 mod passing;
 mod rows;
 mod stopping;
@@ -370,6 +371,11 @@ fn enter<'a, R: Wait + Abort>(rt: &R, at: &'a Exchange, door: &mut Door) -> Clie
 {
     let port = door.enter(at, rt).ok().expect(rt, "out of memory");
     Client { at, port }
+}
+
+// The response has the client's own number.
+fn is_response(found: Option<Pdu>) -> bool {
+    found.is_some_and(|pdu| pdu.number == 7 && pdu.body.as_slice() == &RESPONSE[16..])
 }
 
 fn submit_body(rt: &impl Abort, alloc: Global) -> Body {

@@ -15,11 +15,6 @@ fn runs_through<R: Wait>(rt: &R, line: Line) -> bool {
     stand == (RunEnd::Idle, UpstreamState::Bound, 2) && message && taken
 }
 
-// The response has the client's own number.
-fn is_response(found: Option<Pdu>) -> bool {
-    found.is_some_and(|pdu| pdu.number == 7 && pdu.body.as_slice() == &RESPONSE[16..])
-}
-
 // The message is the box's first, for client 1 of lane 0 under the centre's number.
 fn has_message<R: Wait>(rt: &R, inbox: &mut Receiver<MoItem>) -> bool {
     let Ok(
@@ -117,12 +112,13 @@ fn entries_left<R: Wait + Abort>(rt: &R, alloc: Global, history: usize) -> usize
     entries_of(rt, exchange, door)
 }
 
-// A request and its response, a message and a client's answer. A lane whose history is said to have
-// 8 entries is turned over at each note, which leaves the collect alone.
+// A request and its response, a message and a client's answer: the lane's entries are an admit, an
+// accept, a take, an answer, the down of the worker's end, and a collect. A lane whose history is
+// said to have 8 entries is turned over at each note, which leaves the last two.
 #[test]
 fn one_of_each(rt: HostRuntime) {
-    assert_eq!(rt; entries_left(&rt, rt.alloc(), 1_000), 5);
-    assert_eq!(rt; entries_left(&rt, rt.alloc(), 8), 1);
+    assert_eq!(rt; entries_left(&rt, rt.alloc(), 1_000), 6);
+    assert_eq!(rt; entries_left(&rt, rt.alloc(), 8), 2);
 }
 
 // An answer with the greatest body.

@@ -1,4 +1,4 @@
-use Rattle.std.proofs.Common.{rules, ◌≡◌, ◌∙◌, ap, refl, subst, sym, ℕ, Some, None}
+use Rattle.std.proofs.Common.{rules, ◌∙◌, ap, refl, subst, sym}
 use Rattle.smx_pdu.specs.Reading.{destination_at}
 use Rattle.smx_session.specs.declared.up_act.UpAct.TheVariants as act
 use Rattle.smx_upstream.specs.declared.event.Fate.{Fate}

@@ -1,20 +1,14 @@
-use Rattle.std.proofs.Common.{rules, arith, ◌≡◌, ◌≢◌, ◌++◌, [], ◌∷◌, List, refl, sym, ap, ◌∙◌, subst, Some, None, Ok, Err, Bool, true, false}
-use Rattle.std.proofs.lemmas.List.{append-nil}
+use Rattle.std.proofs.Common.{◌++◌, refl, sym, ap, ◌∙◌, subst}
 use Rattle.smx_pdu.specs.declared.pdu.Pdu.{Pdu}
-use Rattle.smx_session.specs.Moments.{Upstream, at, act_on, after_pdu, enquiry, after_moment, is_silent}
+use Rattle.smx_session.specs.Moments.{act_on, after_pdu}
 use Rattle.smx_session.specs.declared.up_act.UpAct.{UpAct}
-use Rattle.smx_shared.specs.Serving.{Takes}
-use Rattle.smx_turns.specs.declared.gate.Point.TheVariants.{Reading, Taking}
-use Rattle.smx_turns.specs.declared.step.Step.TheVariants.{Asked, Read, Marked, Did}
-use Rattle.smx_upstream.specs.declared.mark.Mark.TheVariants.{Offered, Full, Part}
-use Rattle.smx_upstream.specs.declared.event.Event.TheVariants.{Began, Opened, Looked, Young, Shifted, Sought, Decided, Took, Broke}
-use Rattle.smx_upstream.specs.Events.{out_of, in_of, those, unless_kept, kept_by, fate_finds, fate_out, act_out}
-use Rattle.smx_upstream.specs.Standing.{stand, Gets, Becomes}
-use Rattle.smx_upstream.specs.Ages.{next_turn, noted_more, take_notes, after_shift, has_shifted, shift_due}
-use Rattle.smx_upstream.specs.Working.{side_of}
-use Rattle.smx_upstream.specs.Phases.{Phase, Opening, Ready, Written, Watched, Clear, when_kept, Sated, MayRead, Failed, Deciding, Closing, Settled, MayTake, HasTried, ends, when_decided}
-use Rattle.smx_upstream.proofs.Eventful.{did, began, goes_did, goes_mark, goes_read, goes_ask, goes_same, goes_then, kept_or_in, gets_from, stands_same, bad_heard}
-use Rattle.smx_upstream.proofs.Cells.{stepped, kept_phase, cell_offered, cell_closed, cell_opened, cell_looked, cell_young, cell_shifted, kept_right, cell_sought, cell_full, cell_reading, cell_read, cell_decided, cell_broke, cell_part, cell_brim, cell_taking, cell_took, right, decided_right}
+use Rattle.smx_turns.specs.declared.step.Step.TheVariants.{Did}
+use Rattle.smx_upstream.specs.declared.event.Event.TheVariants.{Decided}
+use Rattle.smx_upstream.specs.Events.{those, unless_kept, kept_by, fate_finds}
+use Rattle.smx_upstream.specs.Standing.{Becomes}
+use Rattle.smx_upstream.specs.Phases.{Deciding, is_last, when_decided}
+use Rattle.smx_upstream.proofs.Eventful.{did, goes_did, kept_or_in, stands_same, aged}
+use Rattle.smx_upstream.proofs.Cells.{stepped, cell_decided, right, decided_right}
 use Rattle.smx_upstream.proofs.worker.UpstreamWorker.decide.Goals as goal
 
 pub invariant_of-self : goal.invariant_of-self
@@ -27,7 +21,7 @@ invariant_of-self g c =
       c.of-chosen.ensures ∙ c.on_pdu-act.ensures.act ∙ ap (act_on c.self.inside.session) (sym c.of-read.ensures),
       subst (λ (p : Pdu). Becomes p c.of-chosen.result.value c.carry-fate.result.fate c.self.inside.tap c.self.inside.senders.items c.carry-fate.new.tap c.carry-fate.new.senders.items) (sym c.of-read.ensures)
           (subst (λ (a : UpAct). Becomes c.in-Some.pdu a c.carry-fate.result.fate c.self.inside.tap c.self.inside.senders.items c.carry-fate.new.tap c.carry-fate.new.senders.items) (sym c.of-chosen.ensures) c.carry-fate.ensures.becomes),
-      stands_same (c.on_pdu-act.ensures.session ∙ ap (λ (p : Pdu). after_pdu c.self.inside.session p c.args.now) (sym c.of-read.ensures)) refl refl refl (c.noted_more-age.ensures ∙ ap (λ n. noted_more n c.self.inside.age) c.carry-fate.ensures.notes),
+      stands_same (c.on_pdu-act.ensures.session ∙ ap (λ (p : Pdu). after_pdu c.self.inside.session p c.args.now) (sym c.of-read.ensures)) refl refl refl (aged c.carry-fate.result.fate _ _ _ _ _ c.noted_more-age.ensures c.after_shift.ensures c.carry-fate.ensures.notes c.carry-fate.ensures.shifted),
     )
     (λ h. ap (λ w. w.failed) c.note.ensures.same ∙ c.self.invariant.goes_on h)
 
@@ -41,7 +35,7 @@ invariant_of-self-2 g c =
       c.of-chosen.ensures ∙ c.on_pdu-act.ensures.act ∙ ap (act_on c.self.inside.session) (sym c.of-read.ensures),
       subst (λ (p : Pdu). Becomes p c.of-chosen.result.value c.carry-fate.result.fate c.self.inside.tap c.self.inside.senders.items c.carry-fate.new.tap c.carry-fate.new.senders.items) (sym c.of-read.ensures)
           (subst (λ (a : UpAct). Becomes c.in-Some.pdu a c.carry-fate.result.fate c.self.inside.tap c.self.inside.senders.items c.carry-fate.new.tap c.carry-fate.new.senders.items) (sym c.of-chosen.ensures) c.carry-fate.ensures.becomes),
-      stands_same (c.on_pdu-act.ensures.session ∙ ap (λ (p : Pdu). after_pdu c.self.inside.session p c.args.now) (sym c.of-read.ensures)) refl refl refl (c.noted_more-age.ensures ∙ ap (λ n. noted_more n c.self.inside.age) c.carry-fate.ensures.notes),
+      stands_same (c.on_pdu-act.ensures.session ∙ ap (λ (p : Pdu). after_pdu c.self.inside.session p c.args.now) (sym c.of-read.ensures)) refl refl refl (aged c.carry-fate.result.fate _ _ _ _ _ c.noted_more-age.ensures c.after_shift.ensures c.carry-fate.ensures.notes c.carry-fate.ensures.shifted),
     )
     (λ h. ap (λ w. w.failed) c.note.ensures.same ∙ c.self.invariant.goes_on h)
 
@@ -52,7 +46,7 @@ returns-then-is_some-clause-goes g c = rw (← c.self.view_is)
       c.of-chosen.ensures ∙ c.on_pdu-act.ensures.act ∙ ap (act_on c.self.inside.session) (sym c.of-read.ensures),
       subst (λ (p : Pdu). Becomes p c.of-chosen.result.value c.carry-fate.result.fate c.self.inside.tap c.self.inside.senders.items c.carry-fate.new.tap c.carry-fate.new.senders.items) (sym c.of-read.ensures)
           (subst (λ (a : UpAct). Becomes c.in-Some.pdu a c.carry-fate.result.fate c.self.inside.tap c.self.inside.senders.items c.carry-fate.new.tap c.carry-fate.new.senders.items) (sym c.of-chosen.ensures) c.carry-fate.ensures.becomes),
-      stands_same (c.on_pdu-act.ensures.session ∙ ap (λ (p : Pdu). after_pdu c.self.inside.session p c.args.now) (sym c.of-read.ensures)) refl refl refl (c.noted_more-age.ensures ∙ ap (λ n. noted_more n c.self.inside.age) c.carry-fate.ensures.notes),
+      stands_same (c.on_pdu-act.ensures.session ∙ ap (λ (p : Pdu). after_pdu c.self.inside.session p c.args.now) (sym c.of-read.ensures)) refl refl refl (aged c.carry-fate.result.fate _ _ _ _ _ c.noted_more-age.ensures c.after_shift.ensures c.carry-fate.ensures.notes c.carry-fate.ensures.shifted),
     ) (ap (λ w. g.L.Link.polls w.link) c.note.ensures.same))
 
 pub returns-clause-goes : goal.returns-clause-goes
@@ -62,7 +56,7 @@ returns-clause-goes g c = rw (← c.self.view_is)
       c.of-chosen.ensures ∙ c.on_pdu-act.ensures.act ∙ ap (act_on c.self.inside.session) (sym c.of-read.ensures),
       subst (λ (p : Pdu). Becomes p c.of-chosen.result.value c.carry-fate.result.fate c.self.inside.tap c.self.inside.senders.items c.carry-fate.new.tap c.carry-fate.new.senders.items) (sym c.of-read.ensures)
           (subst (λ (a : UpAct). Becomes c.in-Some.pdu a c.carry-fate.result.fate c.self.inside.tap c.self.inside.senders.items c.carry-fate.new.tap c.carry-fate.new.senders.items) (sym c.of-chosen.ensures) c.carry-fate.ensures.becomes),
-      stands_same (c.on_pdu-act.ensures.session ∙ ap (λ (p : Pdu). after_pdu c.self.inside.session p c.args.now) (sym c.of-read.ensures)) refl refl refl (c.noted_more-age.ensures ∙ ap (λ n. noted_more n c.self.inside.age) c.carry-fate.ensures.notes),
+      stands_same (c.on_pdu-act.ensures.session ∙ ap (λ (p : Pdu). after_pdu c.self.inside.session p c.args.now) (sym c.of-read.ensures)) refl refl refl (aged c.carry-fate.result.fate _ _ _ _ _ c.noted_more-age.ensures c.after_shift.ensures c.carry-fate.ensures.notes c.carry-fate.ensures.shifted),
     ) (ap (λ w. g.L.Link.polls w.link) c.note.ensures.same))
 
 pub returns-then-is_some-clause-phase : goal.returns-then-is_some-clause-phase
@@ -71,4 +65,4 @@ returns-then-is_some-clause-phase g c = λ ended was.
 
 pub returns-clause-phase : goal.returns-clause-phase
 returns-clause-phase g c = λ ended was.
-    stepped _ _ (Did (Decided c.of-read.result c.args.now c.of-chosen.result c.carry-fate.result.fate)) (Deciding ended) _ c.note.ensures.log (cell_decided ended _ _ _ _) was ∙ ap (when_decided ended) (ap ends c.of-chosen.ensures ∙ sym c.is_last-last.ensures)
+    stepped _ _ (Did (Decided c.of-read.result c.args.now c.of-chosen.result c.carry-fate.result.fate)) (Deciding ended) _ c.note.ensures.log (cell_decided ended _ _ _ _) was ∙ ap (when_decided ended) (ap (λ (a : UpAct). is_last a c.carry-fate.result.fate) c.of-chosen.ensures ∙ sym c.carry-fate.ensures.over)
