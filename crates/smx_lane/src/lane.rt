@@ -93,6 +93,13 @@ impl Lane {
         self.limits
     }
 
+    /// Whether there is a link upstream, so that requests are accepted and taken.
+    pub fn is_up(&self) -> bool
+        ensures { result ≡ self.now.up }
+    {
+        self.up
+    }
+
     /// The notes since the last shift, without bodies and statuses, the oldest first.
     pub fn entries(&self) -> &[Entry]
         ensures { result.now ≡ self.now.entries }
