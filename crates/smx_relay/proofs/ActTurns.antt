@@ -13,6 +13,7 @@ use Rattle.smx_relay.specs.Texts.{pdu_line, to_client, down_line, up_lane}
 use Rattle.smx_relay.specs.Relay.{Relay}
 use Rattle.smx_relay.specs.Messages.{answer_turn, leave_turn, message_turn}
 use Rattle.smx_relay.specs.ClientTurn.{client_act, followed_by, forward, hang_up}
+use Rattle.smx_relay.specs.LaneLinks.{going_on, lowered}
 use Rattle.smx_relay.specs.CentreTurn.{centre_act, to_lane}
 use Rattle.smx_relay.specs.Private.Agrees.{Agrees, Turned, Prints}
 
@@ -58,7 +59,7 @@ pub centre_answers : (i : ℕ) (p : Pdu) (a : UpAct) (answer : Pdu) (s : Relay) 
 unfolding centre_act
 centre_answers i p a answer s state text is agrees e = centre_by i p a (up.Answer answer) s state text is (record { text = e; left = agrees })
 
-pub centre_leaves : (i : ℕ) (p : Pdu) (a : UpAct) (answer : Pdu) (s : Relay) (state : State) (text : List ℕ) → a ≡ up.Leave answer → Agrees state s → text ≡ pdu_line (up_lane i) answer ++ down_line i → Turned (centre_act i p a s) state text
+pub centre_leaves : (i : ℕ) (p : Pdu) (a : UpAct) (answer : Pdu) (s : Relay) (state : State) (text : List ℕ) → a ≡ up.Leave answer → Agrees state (going_on s i lowered) → text ≡ pdu_line (up_lane i) answer ++ down_line i → Turned (centre_act i p a s) state text
 unfolding centre_act
 centre_leaves i p a answer s state text is agrees e = centre_by i p a (up.Leave answer) s state text is (record { text = e; left = agrees })
 
@@ -70,11 +71,11 @@ pub centre_up : (i : ℕ) (p : Pdu) (a : UpAct) (s : Relay) (state : State) (tex
 unfolding centre_act
 centre_up i p a s state text is agrees e = centre_by i p a up.Up s state text is (record { text = e; left = agrees })
 
-pub centre_failed : (i : ℕ) (p : Pdu) (a : UpAct) (status : ℕ) (s : Relay) (state : State) (text : List ℕ) → a ≡ up.Failed status → Agrees state s → text ≡ [] → Turned (centre_act i p a s) state text
+pub centre_failed : (i : ℕ) (p : Pdu) (a : UpAct) (status : ℕ) (s : Relay) (state : State) (text : List ℕ) → a ≡ up.Failed status → Agrees state (going_on s i lowered) → text ≡ down_line i → Turned (centre_act i p a s) state text
 unfolding centre_act
 centre_failed i p a status s state text is agrees e = centre_by i p a (up.Failed status) s state text is (record { text = e; left = agrees })
 
-pub centre_closed : (i : ℕ) (p : Pdu) (a : UpAct) (s : Relay) (state : State) (text : List ℕ) → a ≡ up.Closed → Agrees state s → text ≡ [] → Turned (centre_act i p a s) state text
+pub centre_closed : (i : ℕ) (p : Pdu) (a : UpAct) (s : Relay) (state : State) (text : List ℕ) → a ≡ up.Closed → Agrees state (going_on s i lowered) → text ≡ down_line i → Turned (centre_act i p a s) state text
 unfolding centre_act
 centre_closed i p a s state text is agrees e = centre_by i p a up.Closed s state text is (record { text = e; left = agrees })
 

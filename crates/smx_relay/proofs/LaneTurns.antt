@@ -65,44 +65,38 @@ took h old new at u r text a taken front goes limits e =
     let queue : queue_after h ≡ r ∷ there.0 = sym a.after.queue ∙ there.1 in
     let room : nat_lt (length (window_after h)) old.limits.window ≡ true = lt-ltb (length (window_after h)) old.limits.window (omega (arith, window_length h old a, ((takable old).takes taken).0)) in
     let up : is_up (entries_of h) ≡ true = sym a.after.up ∙ ((takable old).takes taken).1 in
-    (u, free, rw (queue, room, up) (record { text = e; agrees = longer; limits_are = limits }))
+    (u, free, rw (up, queue, room) (record { text = e; agrees = longer; limits_are = limits }))
 
-pub took_none : (h : List Note) (old new : Content) (at : ℕ) (text : List ℕ) → AgreesWith h old → take_refusal old ≡ Some QueueEmpty → new ≡ old
+pub took_none : (h : List Note) (old new : Content) (at : ℕ) (text : List ℕ) → AgreesWith h old → old.up ≡ true → take_refusal old ≡ Some QueueEmpty → new ≡ old
     → text ≡ text_line (codes "take " ++ (decimal at ++ codes " empty")) → (n : ℕ) × IsFree h n × TurnsLane (take_on old.limits n at h) old new text
 unfolding take_on
-took_none h old new at text a refused same e =
+took_none h old new at text a up refused same e =
     let free = some_free h in
     let queue : queue_after h ≡ [] = sym a.after.queue ∙ (takable old).empty refused in
-    (free.0, free.1, rw queue (record { text = e; agrees = rw same a; limits_are = ap (λ (v : Content). v.limits) same }))
+    let up' : is_up (entries_of h) ≡ true = sym a.after.up ∙ up in
+    (free.0, free.1, rw (up', queue) (record { text = e; agrees = rw same a; limits_are = ap (λ (v : Content). v.limits) same }))
 
-take_with_full : (u at : ℕ) (h : List Note) (queue : List Request) (up : Bool) → length queue ≢ 0 → take_with u at h queue false up ≡ (text_line (codes "take " ++ (decimal at ++ codes " full")), h)
-take_with_full u at h [] up some = absurd (some refl)
-take_with_full u at h (r ∷ rs) up some = refl
+take_with_full : (u at : ℕ) (h : List Note) (queue : List Request) → length queue ≢ 0 → take_with u at h queue false ≡ (text_line (codes "take " ++ (decimal at ++ codes " full")), h)
+take_with_full u at h [] some = absurd (some refl)
+take_with_full u at h (r ∷ rs) some = refl
 
-take_with_down : (u at : ℕ) (h : List Note) (queue : List Request) → length queue ≢ 0 → take_with u at h queue true false ≡ (down_line at, h)
-take_with_down u at h [] some = absurd (some refl)
-take_with_down u at h (r ∷ rs) some = refl
-
-pub took_full : (h : List Note) (old new : Content) (at : ℕ) (text : List ℕ) → AgreesWith h old → take_refusal old ≡ Some WindowFull → new ≡ old
+pub took_full : (h : List Note) (old new : Content) (at : ℕ) (text : List ℕ) → AgreesWith h old → old.up ≡ true → take_refusal old ≡ Some WindowFull → new ≡ old
     → text ≡ text_line (codes "take " ++ (decimal at ++ codes " full")) → (n : ℕ) × IsFree h n × TurnsLane (take_on old.limits n at h) old new text
 unfolding take_on
-took_full h old new at text a refused same e =
+took_full h old new at text a up refused same e =
     let free = some_free h in
     let full = (takable old).full refused in
     let none : nat_lt (length (window_after h)) old.limits.window ≡ false = le-ltb (length (window_after h)) old.limits.window (omega (arith, window_length h old a, full.0)) in
     let some : length (queue_after h) ≢ 0 = λ zero. full.1 (ap length a.after.queue ∙ zero) in
-    (free.0, free.1, rw (none, take_with_full free.0 at h (queue_after h) (is_up (entries_of h)) some) (record { text = e; agrees = rw same a; limits_are = ap (λ (v : Content). v.limits) same }))
+    let up' : is_up (entries_of h) ≡ true = sym a.after.up ∙ up in
+    (free.0, free.1, rw (up', none, take_with_full free.0 at h (queue_after h) some) (record { text = e; agrees = rw same a; limits_are = ap (λ (v : Content). v.limits) same }))
 
-pub took_down : (h : List Note) (old new : Content) (at : ℕ) (text : List ℕ) → AgreesWith h old → take_refusal old ≡ Some Down → new ≡ old
-    → text ≡ down_line at → (n : ℕ) × IsFree h n × TurnsLane (take_on old.limits n at h) old new text
+pub took_down : (h : List Note) (v : Content) (at : ℕ) (text : List ℕ) → AgreesWith h v → v.up ≡ false → text ≡ down_line at → (n : ℕ) × IsFree h n × TurnsLane (take_on v.limits n at h) v v text
 unfolding take_on
-took_down h old new at text a refused same e =
+took_down h v at text a down e =
     let free = some_free h in
-    let is = (takable old).down refused in
-    let room : nat_lt (length (window_after h)) old.limits.window ≡ true = lt-ltb (length (window_after h)) old.limits.window (omega (arith, window_length h old a, is.0)) in
-    let down : is_up (entries_of h) ≡ false = sym a.after.up ∙ is.1 in
-    let some : length (queue_after h) ≢ 0 = λ zero. is.2 (ap length a.after.queue ∙ zero) in
-    (free.0, free.1, rw (room, down, take_with_down free.0 at h (queue_after h) some) (record { text = e; agrees = rw same a; limits_are = ap (λ (v : Content). v.limits) same }))
+    let down' : is_up (entries_of h) ≡ false = sym a.after.up ∙ down in
+    (free.0, free.1, rw down' (record { text = e; agrees = a; limits_are = refl }))
 
 pub answered_queued : (h : List Note) (old new : Content) (p : Pdu) (c : ℕ) (text : List ℕ) → AgreesWith h old → IsAnswered old 0 p (Queued c) new → new.limits ≡ old.limits
     → text ≡ text_line (codes "queued " ++ decimal c) → TurnsLane (back_on p h) old new text

@@ -1,14 +1,21 @@
 -- From each state a line may print something.
-use Rattle.std.proofs.Common.{ℕ, Bool, true, false, List, ◌∷◌, Option, Some, None, refl, slice_get}
+use Rattle.std.proofs.Common.{ℕ, Bool, true, false, List, [], ◌∷◌, Option, Some, None, refl, ap, slice_get, count_by}
 use Rattle.smx_script.specs.declared.command.Action.{Action}
-use Rattle.smx_script.specs.declared.command.Action.TheVariants.{Client, Prefix, In, Take, Back, Collect, History, Turn}
+use Rattle.smx_script.specs.declared.command.Action.TheVariants.{Client, Prefix, In, Take, Back, Collect, History, Turn, Lose, Bind}
 use Rattle.smx_script.specs.declared.command.Command.{Command}
 use Rattle.smx_script.specs.declared.command.Command.TheVariants.{Skip, Set, Run}
 use Rattle.smx_script.specs.Script.{command_of}
-use Rattle.smx_relay.specs.Links.{ClientLink, CentreLink, has_failed, is_down}
+use Rattle.smx_relay.specs.Links.{ClientLink, CentreLink, has_failed}
+use Rattle.smx_relay.specs.LaneLinks.{GivesUp, LosesAt, LosesLink, LoseTurn, going_on, lowered, with_centre}
+use Rattle.smx_relay.specs.Texts.{down_line}
+use Rattle.smx_history.specs.declared.note.Note.{Note}
+use Rattle.smx_history.specs.Entries.{is_up}
+use Rattle.smx_history.specs.History.{entries_of}
+use Rattle.smx_history.specs.Contents.{window_after}
+use Rattle.std.specs.Prelude.{unwrap_or}
 use Rattle.smx_relay.specs.Relay.{Relay, begun, last_of}
-use Rattle.smx_relay.specs.ClientTurn.{OnOpen, OnStream, OnLink, OnClient, InTurn}
-use Rattle.smx_relay.specs.CentreTurn.{OnUp, OnCentre, OnIndex, BackTurn}
+use Rattle.smx_relay.specs.ClientTurn.{OnOpen, OnStream, OnLink, OnClient, InTurn, followed_by, each_pdu}
+use Rattle.smx_relay.specs.CentreTurn.{OnUp, OnCentre, OnIndex, BackTurn, centre_pdu, centre_end}
 use Rattle.std.proofs.lemmas.List.Sorted.{IsPermutation-refl}
 use Rattle.smx_routes.specs.Routing.{Route, route}
 use Rattle.smx_relay.specs.Turns.{AddRoute, is_bad_route, RouteAt, RouteOf, RouteTurn, TakeTurn, Acts, Does, OnCommand, Lines}
@@ -39,22 +46,41 @@ some_in : (s : Relay) (c : ℕ) (octets : List ℕ) → Some_of (InTurn s c octe
 unfolding InTurn
 some_in s c octets = some_client s c octets (last_of s.clients c)
 
-some_up : (s : Relay) (i : ℕ) (octets : List ℕ) (k : CentreLink) → Some_of (OnUp s i octets k)
-some_up s i octets k =
+some_given_up : (i : ℕ) (y : List ℕ × Relay) → Some_of (GivesUp i y)
+some_given_up i y =
+    let h = unwrap_or (slice_get y.1.histories i) [] in
+    (_, (window_after h, λ g at test. ap (λ (o : Option (List Note)). count_by test (window_after (unwrap_or o []))) at, refl))
+
+some_up : (s : Relay) (i : ℕ) (octets : List ℕ) (o : Option CentreLink) → Some_of (OnUp s i octets o)
+some_up s i octets None = (None, refl)
+some_up s i octets (Some k) =
     let r = some_received k.stream octets in
-    (_, (r.0, r.1, r.2, refl))
+    let x = some_given_up i (followed_by (each_pdu (centre_pdu i) (with_centre s i (record k { stream = r.1 })) r.0) (centre_end i (has_failed r.1))) in
+    (x.0, (r.0, r.1, r.2, x.1))
 
-some_centre : (s : Relay) (i : ℕ) (octets : List ℕ) (k : CentreLink) (b : Bool) → Some_of (OnCentre s i octets k b)
-some_centre s i octets k true = (_, refl)
-some_centre s i octets k false = some_up s i octets k
+some_centre : (s : Relay) (i : ℕ) (octets : List ℕ) (b : Bool) → Some_of (OnCentre s i octets b)
+some_centre s i octets false = (_, refl)
+some_centre s i octets true = some_up s i octets (slice_get s.centres i)
 
-some_index : (s : Relay) (i : ℕ) (octets : List ℕ) (o : Option CentreLink) → Some_of (OnIndex s i octets o)
+some_index : (s : Relay) (i : ℕ) (octets : List ℕ) (o : Option (List Note)) → Some_of (OnIndex s i octets o)
 some_index s i octets None = (None, refl)
-some_index s i octets (Some k) = some_centre s i octets k (is_down k)
+some_index s i octets (Some h) = some_centre s i octets (is_up (entries_of h))
+
+some_lost_where : (s : Relay) (i : ℕ) (b : Bool) → Some_of (LosesLink s i b)
+some_lost_where s i false = (_, refl)
+some_lost_where s i true = some_given_up i (down_line i, going_on s i lowered)
+
+some_lost_at : (s : Relay) (i : ℕ) (o : Option (List Note)) → Some_of (LosesAt s i o)
+some_lost_at s i None = (None, refl)
+some_lost_at s i (Some h) = some_lost_where s i (is_up (entries_of h))
+
+some_lost : (s : Relay) (i : ℕ) → Some_of (LoseTurn s i)
+unfolding LoseTurn
+some_lost s i = some_lost_at s i (slice_get s.histories i)
 
 some_back : (s : Relay) (i : ℕ) (octets : List ℕ) → Some_of (BackTurn s i octets)
 unfolding BackTurn
-some_back s i octets = some_index s i octets (slice_get s.centres i)
+some_back s i octets = some_index s i octets (slice_get s.histories i)
 
 some_take : (s : Relay) (i : ℕ) → Some_of (TakeTurn s i)
 some_take s i =
@@ -87,6 +113,8 @@ some_act s (Back i octets) = some_back s i octets
 some_act s (Collect c) = (_, refl)
 some_act s (History i) = (_, refl)
 some_act s (Turn i) = (_, refl)
+some_act s (Lose i) = some_lost s i
+some_act s (Bind i) = (_, refl)
 
 some_does : (s : Relay) (command : Command) → Some_of (Does s command)
 unfolding Does

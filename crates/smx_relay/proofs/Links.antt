@@ -12,7 +12,8 @@ use Rattle.smx_relay.specs.Texts.{pdu_line, up_lane, down_line}
 use Rattle.smx_routes.specs.Routing.{Route}
 use Rattle.smx_relay.specs.Relay.{Relay, all_left, left, with_link}
 use Rattle.smx_relay.specs.ClientTurn.{hang_up, client_act, client_pdu, client_pdu_at, client_end, client_end_at, decides}
-use Rattle.smx_relay.specs.CentreTurn.{with_centre, centre_act, centre_pdu, centre_pdu_at, centre_end, centre_end_at, act_of, session_after}
+use Rattle.smx_relay.specs.LaneLinks.{with_centre, going_on, lowered}
+use Rattle.smx_relay.specs.CentreTurn.{centre_act, centre_pdu, centre_pdu_at, centre_end, centre_end_at, act_of, session_after}
 use Rattle.smx_relay.specs.Private.Agrees.{Agrees, HasLeft, IsReached, AreReached, Turned}
 use Rattle.smx_relay.proofs.Lanes.{written_back}
 use Rattle.smx_relay.proofs.Keeping.{KeepsSettings}
@@ -179,8 +180,8 @@ centre_end_left s i true k at gone = ap (centre_end_at i s) at ∙ rw gone refl
 centre_end_left s i false k at gone = refl
 
 -- a bad length came
-pub centre_ended : (state : State) (s : Relay) (i : ℕ) (k : CentreLink) (answer : Pdu) (text : List ℕ) → Agrees state s → slice_get s.centres i ≡ Some k → has_left k ≡ false → answer ≡ undecoded → text ≡ pdu_line (up_lane i) answer ++ down_line i → Turned (centre_end i true s) state text
+pub centre_ended : (state : State) (s : Relay) (i : ℕ) (k : CentreLink) (answer : Pdu) (text : List ℕ) → slice_get s.centres i ≡ Some k → has_left k ≡ false → answer ≡ undecoded → text ≡ pdu_line (up_lane i) answer ++ down_line i → Agrees state (going_on s i lowered) → Turned (centre_end i true s) state text
 unfolding centre_end
-centre_ended state s i k answer text a at here said e =
+centre_ended state s i k answer text at here said e a =
     subst (λ (x : List ℕ × Relay). Turned x state text) (sym (ap (centre_end_at i s) at ∙ rw here refl))
-    (subst (λ (p : Pdu). Turned (pdu_line (up_lane i) p ++ down_line i, s) state text) said (record { text = e; left = a }))
+    (subst (λ (p : Pdu). Turned (pdu_line (up_lane i) p ++ down_line i, going_on s i lowered) state text) said (record { text = e; left = a }))

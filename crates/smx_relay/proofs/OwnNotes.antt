@@ -1,10 +1,13 @@
 -- What the lines add to the histories is the one caller's.
-use Rattle.std.proofs.Common.{◌≡◌, ◌⊎◌, ◌<◌, ◌≤◌, ◌+◌, ℕ, Bool, true, false, cond, List, [], ◌∷◌, ◌++◌, length, set, refl, sym, ◌∙◌, ap, subst, arith, Option, Some, None, slice_get, inl, inr, zero, suc, codes}
+use Rattle.std.proofs.Common.{◌≡◌, ◌⊎◌, ◌<◌, ◌≤◌, ◌+◌, ℕ, Bool, true, false, cond, List, [], ◌∷◌, ◌++◌, length, set, refl, sym, ◌∙◌, ap, subst, arith, Option, Some, None, slice_get, inl, inr, zero, suc, codes, map, append_assoc, nat_lt}
 use Rattle.std.specs.Prelude.{unwrap_or}
 use Rattle.std.specs.List.{AllByRecursion}
 use Rattle.std.specs.Fmt.{decimal}
 use Rattle.smx_history.specs.declared.note.Event.TheVariants as event
-use Rattle.smx_relay.specs.Texts.{text_line}
+use Rattle.smx_relay.specs.Texts.{text_line, down_line}
+use Rattle.smx_relay.specs.LaneLinks.{given_up, lowered, raised}
+use Rattle.smx_history.specs.Answering.{failing}
+use Rattle.std.proofs.lemmas.List.{append-nil}
 use Rattle.smx_pdu.specs.declared.pdu.Pdu.{Pdu}
 use Rattle.smx_history.specs.declared.entry.Entry.{Entry}
 use Rattle.smx_history.specs.declared.limits.Limits.{Limits}
@@ -12,9 +15,9 @@ use Rattle.smx_history.specs.declared.request.Request.{Request}
 use Rattle.smx_history.specs.declared.response.Response.{Response}
 use Rattle.smx_history.specs.declared.note.Note.{Note}
 use Rattle.smx_history.specs.declared.place.Place.{Place}
-use Rattle.smx_history.specs.Entries.{is_accept}
+use Rattle.smx_history.specs.Entries.{is_accept, is_up}
 use Rattle.smx_history.specs.History.{entry_in, entries_of, note}
-use Rattle.smx_history.specs.Contents.{queue_after}
+use Rattle.smx_history.specs.Contents.{queue_after, window_after}
 use Rattle.smx_history.specs.Finding.{is_present, place_answered, waiting_after}
 use Rattle.smx_history.proofs.Growing.{All-push}
 use Rattle.smx_history.proofs.ShiftAgrees.{entries_of-shift}
@@ -27,18 +30,45 @@ pub own_push : (clients : List (Option ℕ)) (h : List Note) (n : Note) (e : Ent
 own_push clients h n e entry own is = subst (AllByRecursion (IsOwn clients)) (sym (entries_of-push h n e entry)) (All-push (IsOwn clients) (entries_of h) e own is)
 
 -- an entry of the one caller that is no accept
-own_other : (clients : List (Option ℕ)) (e : Entry) → e.by ≡ 0 → is_accept e.kind ≡ false → IsOwn clients e
+pub own_other : (clients : List (Option ℕ)) (e : Entry) → e.by ≡ 0 → is_accept e.kind ≡ false → IsOwn clients e
 own_other clients e by other = record { by = by; known = λ accept. absurd (let z : true ≡ false = sym accept ∙ other in cc) }
 
-own_take_with : (clients : List (Option ℕ)) (u i : ℕ) (h : List Note) (queue : List Request) (room up : Bool) → AreOwn clients h → AreOwn clients (take_with u i h queue room up).1
-own_take_with clients u i h [] room up own = own
-own_take_with clients u i h (r ∷ rs) true false own = own
-own_take_with clients u i h (r ∷ rs) true true own = own_push clients h _ _ refl own (own_other clients _ refl refl)
-own_take_with clients u i h (r ∷ rs) false up own = own
+own_take_with : (clients : List (Option ℕ)) (u i : ℕ) (h : List Note) (queue : List Request) (room : Bool) → AreOwn clients h → AreOwn clients (take_with u i h queue room).1
+own_take_with clients u i h [] room own = own
+own_take_with clients u i h (r ∷ rs) true own = own_push clients h _ _ refl own (own_other clients _ refl refl)
+own_take_with clients u i h (r ∷ rs) false own = own
 
 pub own_take : (clients : List (Option ℕ)) (limits : Limits) (u i : ℕ) (h : List Note) → AreOwn clients h → AreOwn clients (take_on limits u i h).1
 unfolding take_on
-own_take clients limits u i h own = own_take_with clients u i h (queue_after h) _ _ own
+own_take clients limits u i h own = at (is_up (entries_of h))
+  where
+    at : (b : Bool) → AreOwn clients (cond {A = List ℕ × List Note} b (take_with u i h (queue_after h) (nat_lt (length (window_after h)) limits.window)) (down_line i, h)).1
+    at true = own_take_with clients u i h (queue_after h) _ own
+    at false = own
+
+own_failing : (clients : List (Option ℕ)) (h : List Note) (qs : List Place) → AreOwn clients h → AreOwn clients (h ++ map (failing 0) qs)
+own_failing clients h [] own = subst (AreOwn clients) (sym (append-nil h)) own
+own_failing clients h (q ∷ qs) own = subst (AreOwn clients) (append_assoc h (failing 0 q ∷ []) (map (failing 0) qs)) (own_failing clients (h ++ failing 0 q ∷ []) qs (own_push clients h _ _ refl own (own_other clients _ refl refl)))
+
+pub own_given_up : (clients : List (Option ℕ)) (qs : List Place) (h : List Note) → AreOwn clients h → AreOwn clients (given_up qs h)
+unfolding given_up
+own_given_up clients qs h own = at (is_up (entries_of h))
+  where
+    at : (b : Bool) → AreOwn clients (cond {A = List Note} b h (h ++ map (failing 0) qs))
+    at true = own
+    at false = own_failing clients h qs own
+
+pub own_lowered : (clients : List (Option ℕ)) (h : List Note) → AreOwn clients h → AreOwn clients (lowered h)
+unfolding lowered
+own_lowered clients h own = at (is_up (entries_of h))
+  where
+    at : (b : Bool) → AreOwn clients (cond {A = List Note} b (h ++ note 0 event.Down ∷ []) h)
+    at true = own_push clients h _ _ refl own (own_other clients _ refl refl)
+    at false = own
+
+pub own_raised : (clients : List (Option ℕ)) (h : List Note) → AreOwn clients h → AreOwn clients (raised h)
+unfolding raised
+own_raised clients h own = own_push clients h _ _ refl own (own_other clients _ refl refl)
 
 own_back_to : (clients : List (Option ℕ)) (p : Pdu) (h : List Note) (o : Option Place) → AreOwn clients h → AreOwn clients (back_to p h o).1
 own_back_to clients p h None own = own

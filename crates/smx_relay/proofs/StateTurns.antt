@@ -1,5 +1,5 @@
 -- Turns of one lane, as turns of the whole state.
-use Rattle.std.proofs.Common.{◌≡◌, ◌<◌, ◌≤◌, ℕ, List, [], length, set, get_or, sym, ◌∙◌, ap, subst, arith, Option, Some, None, slice_get, Result, Ok, Err, IfOk}
+use Rattle.std.proofs.Common.{◌≡◌, ◌<◌, ◌≤◌, ℕ, List, [], length, set, get_or, refl, sym, ◌∙◌, ap, subst, arith, Option, Some, None, slice_get, Result, Ok, Err, IfOk}
 use Rattle.std.specs.Prelude.{unwrap_or}
 use Rattle.std.specs.Global.{Vec}
 use Rattle.std.specs.List.{AllZip}
@@ -11,9 +11,9 @@ use Rattle.smx_history.specs.Finding.{IsFree}
 use Rattle.smx_history.proofs.Finding.{some_free}
 use Rattle.smx_relay.specs.declared.state.State.{State}
 use Rattle.smx_relay.specs.Relay.{Relay, on_lane, take_on, back_on, history_on, turn_on}
-use Rattle.smx_relay.specs.Turns.{IsFreeOn}
+use Rattle.smx_relay.specs.Turns.{IsFreeOn, TakeTurn}
 use Rattle.smx_relay.specs.Private.OnLane.{OnLane, AreOwn, TurnsLane}
-use Rattle.smx_relay.specs.Private.Agrees.{Agrees, Prints, Turned}
+use Rattle.smx_relay.specs.Private.Agrees.{Agrees, MayPrint, Prints, Turned}
 use Rattle.smx_relay.proofs.Lanes.{zip-length, zip-get, zip-set}
 use Rattle.smx_relay.proofs.OwnNotes.{own_take, own_back, own_turn}
 use Rattle.smx_relay.proofs.ActTurns.{some_printed}
@@ -69,9 +69,12 @@ free_here s i u h at free g there =
     let e : h ≡ g = let x : Some h ≡ Some g = sym at ∙ there in cc in
     subst (λ k. IsFree k u) e free
 
--- a request of a lane that is up is taken
+-- a request is taken
 abbrev pub Takes : Relay → ℕ → State → Option (Vec ℕ) → Type 0
 Takes s i new text = (u : ℕ) × IsFreeOn s i u × Prints (on_lane s i (take_on s.limits u i)) new text
+
+pub take_turns : (s : Relay) (i : ℕ) (new : State) (text : Option (Vec ℕ)) → Takes s i new text → MayPrint (TakeTurn s i) new text
+take_turns s i new text takes = (on_lane s i (take_on s.limits takes.0 i), (takes.0, takes.1, refl), takes.2)
 
 pub takes_none : (old new : State) (s : Relay) (i : ℕ) → Agrees old s → length old.lanes.items ≤ i → Takes s i new None
 takes_none old new s i a past =

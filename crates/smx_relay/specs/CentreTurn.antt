@@ -1,5 +1,5 @@
 -- Octets of the centre on a lane: what the lane's session decides of each PDU, and what comes of that.
-use Rattle.std.specs.Prelude.{◌≡◌, ℕ, ◌++◌, Bool, true, false, List, [], set, Option, Some, None, slice_get, unwrap_or, if◌then◌else◌}
+use Rattle.std.specs.Prelude.{◌≡◌, ℕ, ◌++◌, Bool, true, false, List, [], Option, Some, None, slice_get, unwrap_or, if◌then◌else◌}
 use Rattle.smx_pdu.specs.declared.pdu.Pdu.{Pdu}
 use Rattle.smx_frame.specs.Stream.{Stream}
 use Rattle.smx_session.specs.declared.up_act.UpAct.{UpAct}
@@ -7,8 +7,12 @@ use Rattle.smx_session.specs.declared.up_act.UpAct.TheVariants.{Up, Failed, ToLa
 use Rattle.smx_pdu.specs.Answers.{undecoded}
 use Rattle.smx_session.specs.Moments.{Upstream, act_on, after_pdu}
 use Rattle.smx_relay.specs.Texts.{pdu_line, up_lane, down_line}
-use Rattle.smx_relay.specs.Links.{CentreLink, Receives, has_failed, has_left, is_down}
+use Rattle.smx_relay.specs.Links.{CentreLink, Receives, has_failed, has_left}
+use Rattle.smx_history.specs.declared.note.Note.{Note}
+use Rattle.smx_history.specs.Entries.{is_up}
+use Rattle.smx_history.specs.History.{entries_of}
 use Rattle.smx_relay.specs.Relay.{Relay, on_lane, back_on}
+use Rattle.smx_relay.specs.LaneLinks.{with_centre, going_on, lowered, GivesUp}
 use Rattle.smx_relay.specs.Messages.{message_turn}
 use Rattle.smx_relay.specs.ClientTurn.{followed_by, each_pdu}
 
@@ -26,19 +30,20 @@ answer_centre i answer = pdu_line (up_lane i) answer
 abbrev pub to_lane : ℕ → Pdu → Relay → List ℕ × Relay
 to_lane i p s = unwrap_or (on_lane s i (back_on p)) ([], s)
 
+-- the session has ended, and so the link is lost
+abbrev pub lose_lane : ℕ → List ℕ → Relay → List ℕ × Relay
+lose_lane i said s = (said ++ down_line i, going_on s i lowered)
+
 -- what comes of a session's act: a response goes to the lane, and a message to a client
 unfoldable pub centre_act : ℕ → Pdu → UpAct → Relay → List ℕ × Relay
 centre_act i p Up s = ([], s)
-centre_act i p (Failed status) s = ([], s)
+centre_act i p (Failed status) s = lose_lane i [] s
 centre_act i p ToLane s = to_lane i p s
 centre_act i p Mo s = message_turn i p s
 centre_act i p (Answer answer) s = (answer_centre i answer, s)
-centre_act i p (Leave answer) s = (answer_centre i answer ++ down_line i, s)
-centre_act i p Closed s = ([], s)
+centre_act i p (Leave answer) s = lose_lane i (answer_centre i answer) s
+centre_act i p Closed s = lose_lane i [] s
 centre_act i p Ignore s = ([], s)
-
-abbrev pub with_centre : Relay → ℕ → CentreLink → Relay
-with_centre s i k = record s { centres = set s.centres i k }
 
 -- what comes after the centre's unbind is dropped
 abbrev pub centre_pdu_at : ℕ → Pdu → Relay → Option CentreLink → List ℕ × Relay
@@ -52,35 +57,29 @@ centre_pdu i p s = centre_pdu_at i p s (slice_get s.centres i)
 
 abbrev pub centre_end_at : ℕ → Relay → Option CentreLink → List ℕ × Relay
 centre_end_at i s None = ([], s)
-centre_end_at i s (Some k) = if has_left k then ([], s) else (answer_centre i undecoded ++ down_line i, s)
+centre_end_at i s (Some k) = if has_left k then ([], s) else lose_lane i (answer_centre i undecoded) s
 
--- at a bad length the lane is down, unless it was
+-- at a bad length the link is lost, unless the centre has unbound
 unfoldable pub centre_end : ℕ → Bool → Relay → List ℕ × Relay
 centre_end i false s = ([], s)
 centre_end i true s = centre_end_at i s (slice_get s.centres i)
 
 -- each PDU that the octets complete is decided
-abbrev pub OnUp : Relay → ℕ → List ℕ → CentreLink → Option (List ℕ × Relay) → Type 0
-OnUp s i octets k x =
+abbrev pub OnUp : Relay → ℕ → List ℕ → Option CentreLink → Option (List ℕ × Relay) → Type 0
+OnUp s i octets None x = x ≡ None
+OnUp s i octets (Some k) x =
     (ps : List Pdu) × (stream : Stream) × Receives k.stream octets ps stream
-    × (x ≡ Some (followed_by (each_pdu (centre_pdu i) (with_centre s i (record k { stream = stream })) ps) (centre_end i (has_failed stream))))
+    × GivesUp i (followed_by (each_pdu (centre_pdu i) (with_centre s i (record k { stream = stream })) ps) (centre_end i (has_failed stream))) x
 
-abbrev pub OnCentre : Relay → ℕ → List ℕ → CentreLink → Bool → Option (List ℕ × Relay) → Type 0
-OnCentre s i octets k true x = x ≡ Some (down_line i, s)
-OnCentre s i octets k false x = OnUp s i octets k x
+-- where the lane is up
+abbrev pub OnCentre : Relay → ℕ → List ℕ → Bool → Option (List ℕ × Relay) → Type 0
+OnCentre s i octets false x = x ≡ Some (down_line i, s)
+OnCentre s i octets true x = OnUp s i octets (slice_get s.centres i) x
 
-abbrev pub OnIndex : Relay → ℕ → List ℕ → Option CentreLink → Option (List ℕ × Relay) → Type 0
+abbrev pub OnIndex : Relay → ℕ → List ℕ → Option (List Note) → Option (List ℕ × Relay) → Type 0
 OnIndex s i octets None x = x ≡ None
-OnIndex s i octets (Some k) x = OnCentre s i octets k (is_down k) x
+OnIndex s i octets (Some h) x = OnCentre s i octets (is_up (entries_of h)) x
 
 -- octets of the centre
 unfoldable pub BackTurn : Relay → ℕ → List ℕ → Option (List ℕ × Relay) → Type 0
-BackTurn s i octets x = OnIndex s i octets (slice_get s.centres i) x
-
-abbrev pub unless_down_at : Relay → ℕ → Option CentreLink → Option (List ℕ × Relay) → Option (List ℕ × Relay)
-unless_down_at s i None x = None
-unless_down_at s i (Some k) x = if is_down k then Some (down_line i, s) else x
-
--- on a lane that is up
-abbrev pub unless_down : Relay → ℕ → Option (List ℕ × Relay) → Option (List ℕ × Relay)
-unless_down s i x = unless_down_at s i (slice_get s.centres i) x
+BackTurn s i octets x = OnIndex s i octets (slice_get s.histories i) x

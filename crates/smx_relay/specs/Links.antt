@@ -1,5 +1,5 @@
 -- The links of the engine, and what comes on them.
-use Rattle.std.specs.Prelude.{◌≡◌, ℕ, ◌++◌, ◌||◌, List, [], codes, Bool, true, false, Option, Some, None, is_some}
+use Rattle.std.specs.Prelude.{◌≡◌, ℕ, ◌++◌, List, [], codes, Bool, true, false, Option, Some, None, is_some}
 use Rattle.smx_pdu.specs.declared.pdu.Pdu.{Pdu}
 use Rattle.smx_frame.specs.Stream.{Stream, Cuts, fault_at}
 use Rattle.smx_session.specs.declared.kind.Kind.{Kind}
@@ -67,7 +67,3 @@ is_ended Ended = true
 -- the centre has unbound
 abbrev pub has_left : CentreLink → Bool
 has_left k = is_ended k.session.state
-
--- the centre has unbound, or its stream has failed
-abbrev pub is_down : CentreLink → Bool
-is_down k = has_left k || has_failed k.stream

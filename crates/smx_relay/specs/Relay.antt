@@ -141,15 +141,17 @@ in_turn_at s c last o None = (pdu_line (to_client c) (refusal_of o), s)
 in_turn_at s c last o (Some i) =
     (text_line (codes "accepted " ++ (decimal c ++ (codes " " ++ decimal i))), accepted s c last o i (slice_get s.histories i))
 
-abbrev pub take_with : ℕ → ℕ → List Note → List Request → Bool → Bool → List ℕ × List Note
-take_with u i h [] room up = (text_line (codes "take " ++ (decimal i ++ codes " empty")), h)
-take_with u i h (r ∷ rs) false up = (text_line (codes "take " ++ (decimal i ++ codes " full")), h)
-take_with u i h (r ∷ rs) true false = (down_line i, h)
-take_with u i h (r ∷ rs) true true = (pdu_line (up_lane i) (upstream_of r u), h ++ note 0 (event.Take r.client r.ordinal u) ∷ [])
+abbrev pub take_with : ℕ → ℕ → List Note → List Request → Bool → List ℕ × List Note
+take_with u i h [] room = (text_line (codes "take " ++ (decimal i ++ codes " empty")), h)
+take_with u i h (r ∷ rs) false = (text_line (codes "take " ++ (decimal i ++ codes " full")), h)
+take_with u i h (r ∷ rs) true = (pdu_line (up_lane i) (upstream_of r u), h ++ note 0 (event.Take r.client r.ordinal u) ∷ [])
 
--- the oldest request goes upstream as u
+-- the oldest request goes upstream as u, on a lane that is up
 unfoldable pub take_on : Limits → ℕ → ℕ → List Note → List ℕ × List Note
-take_on limits u i h = take_with u i h (queue_after h) (nat_lt (length (window_after h)) limits.window) (is_up (entries_of h))
+take_on limits u i h =
+    if is_up (entries_of h)
+    then take_with u i h (queue_after h) (nat_lt (length (window_after h)) limits.window)
+    else (down_line i, h)
 
 abbrev pub back_to : Pdu → List Note → Option Place → List ℕ × List Note
 back_to p h None = (text_line (codes "unknown"), h)

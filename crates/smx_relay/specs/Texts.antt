@@ -36,6 +36,14 @@ closed_line c = text_line (codes "closed " ++ decimal c)
 abbrev pub down_line : ℕ → List ℕ
 down_line lane = text_line (codes "down " ++ decimal lane)
 
+-- a lane is bound to the centre
+abbrev pub bound_line : ℕ → List ℕ
+bound_line lane = text_line (codes "bound " ++ decimal lane)
+
+-- it isn't, for want of room
+abbrev pub unbound_line : ℕ → List ℕ
+unbound_line lane = text_line (codes "full " ++ decimal lane)
+
 -- a lane goes on without so many entries
 abbrev pub turned_line : ℕ → ℕ → List ℕ
 turned_line lane count = text_line (codes "turned " ++ (decimal lane ++ (codes " " ++ decimal count)))

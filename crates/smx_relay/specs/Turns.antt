@@ -7,14 +7,15 @@ use Rattle.smx_history.specs.Finding.{IsFree}
 use Rattle.smx_script.specs.declared.command.Command.{Command}
 use Rattle.smx_script.specs.declared.command.Command.TheVariants.{Skip, Set, Run}
 use Rattle.smx_script.specs.declared.command.Action.{Action}
-use Rattle.smx_script.specs.declared.command.Action.TheVariants.{Client, Prefix, In, Take, Back, Collect, History, Turn}
+use Rattle.smx_script.specs.declared.command.Action.TheVariants.{Client, Prefix, In, Take, Back, Collect, History, Turn, Lose, Bind}
 use Rattle.smx_script.specs.Script.{command_of}
 use Rattle.smx_relay.specs.Texts.{text_line}
 use Rattle.smx_relay.specs.Links.{ClientLink, may_receive}
 use Rattle.smx_relay.specs.Relay.{Relay, set_turn, begun, last_of, on_lane, take_on, client_turn, collect_lanes, history_on, turn_on}
 use Rattle.smx_relay.specs.Messages.{send_turn}
 use Rattle.smx_relay.specs.ClientTurn.{InTurn, followed_by}
-use Rattle.smx_relay.specs.CentreTurn.{BackTurn, unless_down}
+use Rattle.smx_relay.specs.CentreTurn.{BackTurn}
+use Rattle.smx_relay.specs.LaneLinks.{LoseTurn, bind_turn}
 
 -- the number is free on the lane, where there is such a lane
 abbrev pub IsFreeOn : Relay → ℕ → ℕ → Type 0
@@ -22,7 +23,7 @@ IsFreeOn s i u = (h : List Note) → slice_get s.histories i ≡ Some h → IsFr
 
 -- a request that is taken gets some free number
 abbrev pub TakeTurn : Relay → ℕ → Option (List ℕ × Relay) → Type 0
-TakeTurn s i x = (u : ℕ) × IsFreeOn s i u × (x ≡ unless_down s i (on_lane s i (take_on s.limits u i)))
+TakeTurn s i x = (u : ℕ) × IsFreeOn s i u × (x ≡ on_lane s i (take_on s.limits u i))
 
 abbrev pub AddRoute : Relay → Route → Bool → Option (List ℕ × Relay) → Type 0
 AddRoute s r true x = x ≡ None
@@ -65,6 +66,8 @@ Acts s (Back i octets) x = BackTurn s i octets x
 Acts s (Collect c) x = x ≡ collect_turn s c (last_of s.clients c)
 Acts s (History i) x = x ≡ on_lane s i history_on
 Acts s (Turn i) x = x ≡ on_lane s i (turn_on i)
+Acts s (Lose i) x = LoseTurn s i x
+Acts s (Bind i) x = x ≡ bind_turn s i
 
 unfoldable pub Does : Relay → Command → Option (List ℕ × Relay) → Type 0
 Does s Skip x = x ≡ Some ([], s)

@@ -4,8 +4,9 @@ ghost use Rattle.smx_pdu.specs.Answers.{undecoded};
 ghost use Rattle.smx_relay.specs.Relay.{Relay};
 ghost use Rattle.smx_relay.specs.ClientTurn.{each_pdu};
 ghost use Rattle.smx_relay.specs.CentreTurn.{BackTurn, centre_act, centre_end, centre_pdu, to_lane};
-ghost use Rattle.smx_relay.specs.Private.Agrees.{Agrees, MayPrint, Turned};
+ghost use Rattle.smx_relay.specs.Private.Agrees.{Agrees, IsReached, MayPrint, Turned};
 
+use crate::lane_link::{give_up, lower};
 use crate::messages::message;
 use crate::on_lane::back_on;
 use crate::refusal::undecoded;
@@ -40,10 +41,19 @@ fn centre_act(
         UpAct::ToLane => back(alloc, state, lane, pdu),
         UpAct::Mo => message(alloc, state, lane, pdu),
         UpAct::Answer(answer) => up_line(alloc, lane, &answer),
-        UpAct::Leave(answer) => farewell_lines(alloc, lane, &answer),
+        UpAct::Leave(answer) => {
+            lower(state, lane);
+            farewell_lines(alloc, lane, &answer)
+        }
+        UpAct::Failed(_) => {
+            lower(state, lane);
+            down_line(alloc, lane)
+        }
+        UpAct::Closed => {
+            lower(state, lane);
+            down_line(alloc, lane)
+        }
         UpAct::Up => Ok(Vec::new(alloc)),
-        UpAct::Failed(_) => Ok(Vec::new(alloc)),
-        UpAct::Closed => Ok(Vec::new(alloc)),
         UpAct::Ignore => Ok(Vec::new(alloc)),
     }
 }
@@ -80,14 +90,14 @@ fn each_centre_pdu(
     Ok(text)
 }
 
-// A lane is down from a bad length on.
+// A lane's link is lost at a bad length.
 fn centre_end(
     alloc: Global,
-    state: &State,
+    state: &mut State,
     lane: u64,
     has_failed: bool,
 ) -> Result<Vec<u8>, AllocError>
-    ensures { (s : Relay) → Agrees state.now s → IfOk result (λ text. Turned (centre_end lane has_failed s) state.now text.items) }
+    ensures { (s : Relay) → Agrees state.old s → IfOk result (λ text. Turned (centre_end lane has_failed s) state.new text.items) }
 {
     let at = lane as usize;
     if !has_failed {
@@ -99,6 +109,7 @@ fn centre_end(
     if state.centres[at].has_left() {
         return Ok(Vec::new(alloc));
     }
+    lower(state, lane);
     farewell_lines(alloc, lane, &undecoded(alloc))
 }
 
@@ -109,19 +120,24 @@ pub(crate) fn receive_back(
     lane: u64,
     octets: &[u8],
 ) -> Result<Option<Vec<u8>>, AllocError>
+    requires { IsReached state.old }
     ensures { (s : Relay) → Agrees state.old s → IfOk result (λ text. MayPrint (BackTurn s lane octets.now) state.new text) }
 {
     let at = lane as usize;
+    if at >= state.lanes.len() {
+        return Ok(None);
+    }
+    if !state.lanes[at].is_up() {
+        return Ok(Some(down_line(alloc, lane)?));
+    }
     if at >= state.centres.len() {
         return Ok(None);
     }
     let link = &mut state.centres[at];
-    if link.is_down() {
-        return Ok(Some(down_line(alloc, lane)?));
-    }
     let pdus = link.receive(alloc, octets)?;
     let has_failed = link.has_failed();
     let mut text = each_centre_pdu(alloc, state, lane, pdus)?;
     text.extend_from_slice(&centre_end(alloc, state, lane, has_failed)?)?;
+    give_up(state, lane);
     Ok(Some(text))
 }

@@ -7,6 +7,7 @@ mod clients;
 mod end;
 mod engine;
 mod inbox;
+mod lane_link;
 mod line;
 mod link;
 mod messages;

@@ -7,25 +7,19 @@ ghost use Rattle.smx_relay.specs.Private.Agrees.{Agrees, IsReached, MayPrint, Pr
 use crate::centre_turn::receive_back;
 use crate::client_turn::receive_in;
 use crate::clients::{collect, enter};
+use crate::lane_link::{bind, lose};
 use crate::messages::route;
 use crate::on_lane::{history_on, take_on, turn_on};
 use crate::settings::{begin, set};
 use crate::state::State;
-use crate::texts::down_line;
 use smx_script::{Action, Command, read_command};
 use std::alloc::{AllocError, Global};
 
-// Takes the oldest request of a lane that is up. There is no text where there is no such lane.
+// Takes the oldest request of a lane. There is no text where there is no such lane.
 fn take(alloc: Global, state: &mut State, lane: u64) -> Result<Option<Vec<u8>>, AllocError>
     ensures { (s : Relay) → Agrees state.old s → IfOk result (λ text. MayPrint (TakeTurn s lane) state.new text) }
 {
     let at = lane as usize;
-    if at >= state.centres.len() {
-        return Ok(None);
-    }
-    if state.centres[at].is_down() {
-        return Ok(Some(down_line(alloc, lane)?));
-    }
     if at >= state.lanes.len() {
         return Ok(None);
     }
@@ -76,6 +70,8 @@ fn run_action(
         Action::Collect { client } => collect(alloc, state, client),
         Action::History { lane } => history(alloc, state, lane),
         Action::Turn { lane } => turn(alloc, state, lane),
+        Action::Lose { lane } => lose(alloc, state, lane),
+        Action::Bind { lane } => bind(alloc, state, lane),
     }
 }
 

@@ -1,6 +1,6 @@
 //! The links: what comes on them is cut into PDUs, which a session decides.
 ghost use Rattle.std.specs.Prelude.{◌≡◌, true, false, Some, None, IfOk, IfErr, IfSome, IfNone, OnOk, Ok};
-ghost use Rattle.smx_relay.specs.Links.{Receives, has_failed, has_left, is_down, may_receive, new_link, new_stream, bound_centre};
+ghost use Rattle.smx_relay.specs.Links.{Receives, has_failed, has_left, may_receive, new_link, new_stream, bound_centre};
 
 use crate::inbox::Inbox;
 use crate::receive::receive;
@@ -194,13 +194,6 @@ impl CentreLink {
         ensures { result ≡ has_left self.now }
     {
         self.session.state() == UpstreamState::Ended
-    }
-
-    /// Whether the lane is down: the centre has unbound, or a bad length came.
-    pub(crate) fn is_down(&self) -> bool
-        ensures { result ≡ is_down self.now }
-    {
-        self.has_left() || self.has_failed()
     }
 
     /// The PDUs that these octets complete.

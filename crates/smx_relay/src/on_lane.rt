@@ -18,12 +18,15 @@ use std::alloc::{AllocError, Global};
 /// The number of the one caller of all lanes.
 pub const CALLER: u64 = 0;
 
-/// Takes the oldest request.
+/// Takes the oldest request of a lane that is up.
 #[tactic(auto, unfolding(crate::specs::Relay::take_on))]
 pub fn take_on(alloc: Global, lane: &mut Lane, at: u64) -> Result<Vec<u8>, AllocError>
     ensures { (h : List Note) → AgreesWith h lane.old → IfOk result (λ text. (u : ℕ) × IsFree h u
         × TurnsLane (take_on lane.old.limits u at h) lane.old lane.new text.items) }
 {
+    if !lane.is_up() {
+        return down_line(alloc, at);
+    }
     match lane.take(CALLER) {
         Ok(sent) => {
             let Sent { request, upstream } = sent;
@@ -44,7 +47,7 @@ pub fn take_on(alloc: Global, lane: &mut Lane, at: u64) -> Result<Vec<u8>, Alloc
         }
         Err(TakeRefusal::QueueEmpty) => empty_line(alloc, at),
         Err(TakeRefusal::WindowFull) => full_line(alloc, at),
-        Err(TakeRefusal::Down) => down_line(alloc, at),
+        Err(TakeRefusal::Down) => unreachable!(),
     }
 }
 
@@ -82,6 +85,26 @@ pub fn turn_on(alloc: Global, lane: &mut Lane, at: u64) -> Result<Vec<u8>, Alloc
     let mut text = entry_lines(alloc, &entries)?;
     text.extend_from_slice(&turned_line(alloc, at, entries.len() as u64)?)?;
     Ok(text)
+}
+
+ghost use Rattle.std.specs.Prelude.{◌++◌, map};
+ghost use Rattle.smx_history.specs.declared.place.Place.{Place};
+ghost use Rattle.smx_history.specs.Prefixes.{SameCounts};
+ghost use Rattle.smx_history.specs.Contents.{window_after};
+ghost use Rattle.smx_relay.specs.LaneLinks.{given_up};
+
+/// Each request that was taken and not answered fails, on a lane that is down. Which of them first,
+/// isn't said.
+pub fn give_up_on(lane: &mut Lane)
+    requires { (h : List Note) × AgreesWith h lane.old }
+    ensures agrees { (h : List Note) → AgreesWith h lane.old → (qs : List Place)
+        × SameCounts (window_after h) qs × AgreesWith (given_up qs h) lane.new }
+    ensures limits { lane.new.limits ≡ lane.old.limits }
+{
+    if lane.is_up() {
+        return;
+    }
+    while let Ok(_failed) = lane.fail(CALLER) {}
 }
 
 ghost use Rattle.smx_relay.specs.Relay.{collect_text, collected};

@@ -1,6 +1,6 @@
 //! The lines that a run prints.
 ghost use Rattle.std.specs.Prelude.{◌≡◌, ◌++◌, IfOk, OnOk, string_bytes, codes};
-ghost use Rattle.smx_relay.specs.Texts.{bad_line, closed_line, down_line, entry_line, kind_name, pdu_line, text_line, to_client, turned_line, up_lane};
+ghost use Rattle.smx_relay.specs.Texts.{bad_line, bound_line, closed_line, down_line, entry_line, kind_name, pdu_line, text_line, to_client, turned_line, unbound_line, up_lane};
 ghost use Rattle.std.specs.Fmt.{decimal};
 ghost use Rattle.std.specs.List.{flat_map};
 
@@ -129,6 +129,20 @@ pub fn down_line(alloc: Global, lane: u64) -> Result<Vec<u8>, AllocError>
     ensures { IfOk result (λ line. line.items ≡ down_line lane) }
 {
     Ok(format!(in alloc; "down {lane}\n")?.into_bytes())
+}
+
+/// What is printed of a lane that is bound to the centre.
+pub fn bound_line(alloc: Global, lane: u64) -> Result<Vec<u8>, AllocError>
+    ensures { IfOk result (λ line. line.items ≡ bound_line lane) }
+{
+    Ok(format!(in alloc; "bound {lane}\n")?.into_bytes())
+}
+
+/// What is printed of a lane that stays down for want of room.
+pub fn unbound_line(alloc: Global, lane: u64) -> Result<Vec<u8>, AllocError>
+    ensures { IfOk result (λ line. line.items ≡ unbound_line lane) }
+{
+    Ok(format!(in alloc; "full {lane}\n")?.into_bytes())
 }
 
 /// What a client gets last, and that it is hung up.

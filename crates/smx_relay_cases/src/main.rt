@@ -8,6 +8,8 @@ mod config_tests;
 #[cfg(test)]
 mod fakes;
 #[cfg(test)]
+mod link_tests;
+#[cfg(test)]
 mod message_tests;
 #[cfg(test)]
 mod script_tests;

@@ -5,7 +5,7 @@ use std::process::Abort;
 use std::test::*;
 
 // Lines that say something to a run, whether or not there is such a client or lane.
-const GOOD: [&str; 16] = [
+const GOOD: [&str; 18] = [
     "",
     "# \r\0",
     "limits 65535 1024 256 1000000",
@@ -22,10 +22,12 @@ const GOOD: [&str; 16] = [
     "back 16 00",
     "collect 0",
     "turn 16",
+    "lose 0",
+    "bind 16",
 ];
 
 // Lines that say nothing to any run.
-const BAD: [&str; 18] = [
+const BAD: [&str; 20] = [
     "account a",
     "account aaaaaaaaaaaaaaaa p",
     "account a ppppppppp",
@@ -44,6 +46,8 @@ const BAD: [&str; 18] = [
     "turn",
     "turn 1 0",
     "turns 1",
+    "lose",
+    "bind 0 1",
 ];
 
 // What the line says.

@@ -100,7 +100,7 @@ const ROWS: [(&str, &str, &str); 13] = [
 ];
 
 // Lines that are bad after one client entered, and why.
-const BAD_LINES: [(&str, &str); 25] = [
+const BAD_LINES: [(&str, &str); 28] = [
     ("take 1", "lane 1 is unknown; lanes 1, from 0"),
     (
         "take 00",
@@ -152,6 +152,9 @@ const BAD_LINES: [(&str, &str); 25] = [
     ("history 1", "lane 1 is unknown; lanes 1, from 0"),
     ("turn 1", "lane 1 is unknown; lanes 1, from 0"),
     ("turn", "its form is turn LANE"),
+    ("lose 1", "lane 1 is unknown; lanes 1, from 0"),
+    ("bind 1", "lane 1 is unknown; lanes 1, from 0"),
+    ("bind", "its form is bind LANE"),
     (
         "limits 1 1 3 1000",
         "a setting; settings stand before the first other line",
@@ -199,12 +202,12 @@ fn a_first_line_that_is_bad(rt: HostRuntime) {
 }
 
 // Adds the text.
-fn add(rt: &impl Abort, to: &mut String, text: &str) {
+pub fn add(rt: &impl Abort, to: &mut String, text: &str) {
     to.push_str(text).expect(rt, "out of memory");
 }
 
 // Adds the word and the number of a client, and what stands behind them.
-fn add_client(
+pub fn add_client(
     rt: &impl Abort,
     alloc: Global,
     to: &mut String,
@@ -227,30 +230,30 @@ fn crowd(rt: &impl Abort, alloc: Global) -> String {
     for _ in 0..496 {
         add(rt, &mut script, "client trx\n");
     }
-    add(rt, &mut script, "history 0\ncollect 496\n");
+    add(rt, &mut script, "history 0\ncollect 495\n");
     script
 }
 
-// Lane 1 has one accepted request more than lane 0, and so no room for the 496th client first: with
-// n clients present, the next one needs 2n + 8 of the 1,000 places on lane 0 and 2n + 12 on lane 1.
+// Lane 1 has one accepted request more than lane 0, and so no room for the 495th client first: with
+// n clients present, the next one needs 2n + 9 of the 1,000 places on lane 0 and 2n + 13 on lane 1.
 #[test]
 fn clients_that_are_refused(rt: HostRuntime) {
     let script = crowd(&rt, rt.alloc());
     let (found, out) = said(&rt, rt.alloc(), script.as_bytes());
-    assert!(rt; found.as_str() == "line 506: client 496 is unknown");
+    assert!(rt; found.as_str() == "line 506: client 495 is unknown");
     let begin =
         "client 1\nclient 2\naccepted 1 0\naccepted 2 1\nup 1 00000022000000040000000000000001000000000000310000000000000000000000\naccepted 2 1\nclient 3\n";
     let end =
-        "admit 495 0 0\nadmit 496 0 0\nretire 496 0 0\nadmit 497 0 0\nretire 497 0 0\nbad line 506\n";
+        "admit 494 0 0\nadmit 495 0 0\nretire 495 0 0\nadmit 496 0 0\nretire 496 0 0\nbad line 506\n";
     assert!(rt; out.as_slice().starts_with(begin.as_bytes()));
     assert!(rt; out.as_slice().ends_with(end.as_bytes()));
 }
 
-// A script of 499 clients, one more, a turn over, and one more again.
+// A script of 498 clients, one more, a turn over, and one more again.
 fn full_lane(rt: &impl Abort, alloc: Global) -> String {
     let mut script = String::new(alloc);
     add(rt, &mut script, "limits 1 1 1 1000\n");
-    for _ in 0..499 {
+    for _ in 0..498 {
         add(rt, &mut script, "client trx\n");
     }
     add(
@@ -261,23 +264,23 @@ fn full_lane(rt: &impl Abort, alloc: Global) -> String {
     script
 }
 
-// What it prints: a lane with 499 entries and 499 clients has no room for the next, and once it is
+// What it prints: a lane with 498 entries and 498 clients has no room for the next, and once it is
 // turned over it has.
 fn of_full_lane(rt: &impl Abort, alloc: Global) -> String {
     let mut output = String::new(alloc);
-    for client in 1..=499 {
+    for client in 1..=498 {
         add_client(rt, alloc, &mut output, "client", client, "");
     }
     add(rt, &mut output, "refused\n");
-    for client in 1..=499 {
+    for client in 1..=498 {
         add_client(rt, alloc, &mut output, "admit", client, " 0 0");
     }
-    add(rt, &mut output, "turned 0 499\nclient 501\nadmit 501 0 0\n");
+    add(rt, &mut output, "turned 0 498\nclient 500\nadmit 500 0 0\n");
     output
 }
 
-// An admit wants 4 places more, which goes beyond the lane's 1,000. After a turn over the 499 present
-// alone count.
+// An admit wants 4 places more, beside the one of a lane that is up, which goes beyond the lane's
+// 1,000. After a turn over the 498 present and that one alone count.
 #[test]
 fn a_full_lane_that_goes_on(rt: HostRuntime) {
     let script = full_lane(&rt, rt.alloc());

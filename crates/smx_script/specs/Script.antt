@@ -11,7 +11,7 @@ use Rattle.smx_session.specs.declared.kind.Kind.TheVariants.{Tx, Rx, Trx}
 use Rattle.smx_script.specs.declared.command.Command.{Command}
 use Rattle.smx_script.specs.declared.command.Command.TheVariants.{Skip, Set, Run}
 use Rattle.smx_script.specs.declared.command.Setting.TheVariants.{Sizes, Lanes, Places, Account}
-use Rattle.smx_script.specs.declared.command.Action.TheVariants.{Client, Prefix, In, Take, Back, Collect, History, Turn}
+use Rattle.smx_script.specs.declared.command.Action.TheVariants.{Client, Prefix, In, Take, Back, Collect, History, Turn, Lose, Bind}
 
 -- lines end with a line feed, which the last may lack
 abbrev pub lines_of : List ℕ → List (List ℕ)
@@ -75,6 +75,8 @@ pair_command word what =
     else if bytes_eq word (codes "collect") then collect_command (number_of what)
     else if bytes_eq word (codes "history") then history_command (number_of what)
     else if bytes_eq word (codes "turn") then turn_command (number_of what)
+    else if bytes_eq word (codes "lose") then lose_command (number_of what)
+    else if bytes_eq word (codes "bind") then bind_command (number_of what)
     else None
   where
     client_command : Option (Option Kind) → Option Command
@@ -104,6 +106,14 @@ pair_command word what =
     turn_command : Option ℕ → Option Command
     turn_command None = None
     turn_command (Some lane) = Some (Run (Turn lane))
+
+    lose_command : Option ℕ → Option Command
+    lose_command None = None
+    lose_command (Some lane) = Some (Run (Lose lane))
+
+    bind_command : Option ℕ → Option Command
+    bind_command None = None
+    bind_command (Some lane) = Some (Run (Bind lane))
 
 abbrev pub in_command : Option ℕ → Option (List ℕ) → Option Command
 in_command (Some client) (Some octets) = Some (Run (In client octets))

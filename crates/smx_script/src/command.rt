@@ -36,6 +36,10 @@ pub enum Action {
     History { lane: u64 },
     /// A lane's stored entries are listed, and it goes on without them.
     Turn { lane: u64 },
+    /// A lane's link to the centre is lost.
+    Lose { lane: u64 },
+    /// A lane is bound to the centre again.
+    Bind { lane: u64 },
 }
 
 /// What a line asks for.

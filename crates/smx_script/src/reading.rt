@@ -58,6 +58,14 @@ fn pair_command(word: &[u8], what: &[u8]) -> Option<Command>
         let lane = number(what)?;
         return Some(Command::Run(Action::Turn { lane }));
     }
+    if word == "lose".as_bytes() {
+        let lane = number(what)?;
+        return Some(Command::Run(Action::Lose { lane }));
+    }
+    if word == "bind".as_bytes() {
+        let lane = number(what)?;
+        return Some(Command::Run(Action::Bind { lane }));
+    }
     None
 }
 

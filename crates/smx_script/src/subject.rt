@@ -20,7 +20,7 @@ pub enum Subject {
 }
 
 /// The commands as they are written.
-const FORMS: [&str; 12] = [
+const FORMS: [&str; 14] = [
     "limits Q W C H",
     "lanes L",
     "box N",
@@ -33,6 +33,8 @@ const FORMS: [&str; 12] = [
     "collect C",
     "history LANE",
     "turn LANE",
+    "lose LANE",
+    "bind LANE",
 ];
 
 // The form of the command with this name.

@@ -12,16 +12,16 @@ pub returns-in-Answer : goal.returns-in-Answer
 returns-in-Answer c = λ s a. IfOk-weaker c.up_line.result _ _ (λ text e. centre_answers c.args.lane c.args.pdu c.args.act c.in-Answer.answer s c.args.state.now text.items c.in-Answer.is a e) c.up_line.ensures
 
 pub returns-in-Leave : goal.returns-in-Leave
-returns-in-Leave c = λ s a. IfOk-weaker c.farewell_lines.result _ _ (λ text e. centre_leaves c.args.lane c.args.pdu c.args.act c.in-Leave.answer s c.args.state.now text.items c.in-Leave.is a e) c.farewell_lines.ensures
+returns-in-Leave c = λ s a. IfOk-weaker c.farewell_lines.result _ _ (λ text e. centre_leaves c.args.lane c.args.pdu c.args.act c.in-Leave.answer s c.lower.new.state text.items c.in-Leave.is (c.lower.ensures s a) e) c.farewell_lines.ensures
 
 pub returns-in-Up : goal.returns-in-Up
 returns-in-Up c = λ s a. centre_up c.args.lane c.args.pdu c.args.act s c.args.state.now _ c.in-Up.is a c.new.ensures.items
 
 pub returns-in-Failed : goal.returns-in-Failed
-returns-in-Failed c = λ s a. centre_failed c.args.lane c.args.pdu c.args.act c.in-Failed.field-0 s c.args.state.now _ c.in-Failed.is a c.new-in-Failed.ensures.items
+returns-in-Failed c = λ s a. IfOk-weaker c.down_line.result _ _ (λ text e. centre_failed c.args.lane c.args.pdu c.args.act c.in-Failed.field-0 s c.lower-in-Failed.new.state text.items c.in-Failed.is (c.lower-in-Failed.ensures s a) e) c.down_line.ensures
 
 pub returns-in-Closed : goal.returns-in-Closed
-returns-in-Closed c = λ s a. centre_closed c.args.lane c.args.pdu c.args.act s c.args.state.now _ c.in-Closed.is a c.new-in-Closed.ensures.items
+returns-in-Closed c = λ s a. IfOk-weaker c.down_line-in-Closed.result _ _ (λ text e. centre_closed c.args.lane c.args.pdu c.args.act s c.lower-in-Closed.new.state text.items c.in-Closed.is (c.lower-in-Closed.ensures s a) e) c.down_line-in-Closed.ensures
 
 pub returns-in-Ignore : goal.returns-in-Ignore
 returns-in-Ignore c = λ s a. centre_ignored c.args.lane c.args.pdu c.args.act s c.args.state.now _ c.in-Ignore.is a c.new-in-Ignore.ensures.items

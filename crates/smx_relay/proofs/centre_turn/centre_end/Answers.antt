@@ -20,4 +20,4 @@ returns-then-has_left c = λ s a.
 pub returns : goal.returns
 returns c = λ s a.
     let at = centre_at c.args.state.now s c.args.lane c.index.result.now a (omega arith) (search rules) in
-    rw c.if-not-has_failed.false (IfOk-weaker c.farewell_lines.result _ _ (λ text e. centre_ended c.args.state.now s c.args.lane c.index.result.now c.undecoded.result text.items a at (sym c.has_left.ensures ∙ c.if-has_left.false) c.undecoded.ensures e) c.farewell_lines.ensures)
+    rw c.if-not-has_failed.false (IfOk-weaker c.farewell_lines.result _ _ (λ text e. centre_ended c.lower.new.state s c.args.lane c.index.result.now c.undecoded.result text.items at (sym c.has_left.ensures ∙ c.if-has_left.false) c.undecoded.ensures e (c.lower.ensures s a)) c.farewell_lines.ensures)

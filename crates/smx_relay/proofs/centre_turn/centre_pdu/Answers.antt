@@ -1,7 +1,7 @@
 use Rattle.std.proofs.Common.{arith, refl, subst, sym, ◌∙◌}
 use Rattle.std.specs.Vec.{with_item}
 use Rattle.std.proofs.lemmas.Result.{IfOk-weaker}
-use Rattle.smx_relay.specs.CentreTurn.{with_centre}
+use Rattle.smx_relay.specs.LaneLinks.{with_centre}
 use Rattle.smx_relay.specs.Private.Agrees.{Turned}
 use Rattle.smx_relay.proofs.Turning.{turned_nothing}
 use Rattle.smx_relay.proofs.Links.{centred, centre_at, no_centre, centre_untouched, centre_pdu_none, centre_pdu_left, centre_pdu_some}

@@ -1,0 +1,94 @@
+//! A lane's link to the centre: it is lost, and there is one again.
+ghost use Rattle.std.specs.Prelude.{◌≡◌, List, IfOk, set};
+ghost use Rattle.smx_history.specs.declared.place.Place.{Place};
+ghost use Rattle.smx_relay.specs.Relay.{Relay};
+ghost use Rattle.smx_relay.specs.LaneLinks.{AreTakenOn, LoseTurn, bind_turn, given_up, going_on, lowered};
+ghost use Rattle.smx_relay.specs.Private.Agrees.{Agrees, IsReached, MayPrint, Prints};
+
+use crate::link::CentreLink;
+use crate::on_lane::{CALLER, give_up_on};
+use crate::state::State;
+use crate::texts::{bound_line, down_line, unbound_line};
+use smx_history::UpRefusal;
+use std::alloc::{AllocError, Global};
+
+/// The link of a lane is lost, where it is up.
+pub(crate) fn lower(state: &mut State, lane: u64)
+    ensures { (s : Relay) → Agrees state.old s → Agrees state.new (going_on s lane lowered) }
+{
+    let at = lane as usize;
+    if at >= state.lanes.len() {
+        return;
+    }
+    let _was_down = state.lanes[at].down(CALLER);
+}
+
+/// Each request that was taken on a lane that is down fails.
+pub(crate) fn give_up(state: &mut State, lane: u64)
+    requires { IsReached state.old }
+    ensures { (s : Relay) → Agrees state.old s → (qs : List Place) × AreTakenOn s lane qs
+        × Agrees state.new (going_on s lane (given_up qs)) }
+{
+    let at = lane as usize;
+    if at >= state.lanes.len() {
+        return;
+    }
+    give_up_on(&mut state.lanes[at]);
+}
+
+/// The link of a lane is lost, and what was taken fails. A lane that is down stays as it is. There is
+/// no text where there is no such lane.
+pub(crate) fn lose(
+    alloc: Global,
+    state: &mut State,
+    lane: u64,
+) -> Result<Option<Vec<u8>>, AllocError>
+    requires { IsReached state.old }
+    ensures { (s : Relay) → Agrees state.old s → IfOk result (λ text.
+        MayPrint (LoseTurn s lane) state.new text) }
+{
+    let at = lane as usize;
+    if at >= state.lanes.len() {
+        return Ok(None);
+    }
+    if !state.lanes[at].is_up() {
+        return Ok(Some(down_line(alloc, lane)?));
+    }
+    lower(state, lane);
+    give_up(state, lane);
+    Ok(Some(down_line(alloc, lane)?))
+}
+
+// A lane has a new link.
+fn renew(centres: &mut Vec<CentreLink>, at: usize, link: CentreLink)
+    ensures { centres.new.items ≡ set centres.old.items at link }
+{
+    if at < centres.len() {
+        centres[at] = link;
+    }
+}
+
+/// A lane that is down gets a new link, which is bound, where it has room. There is no text where
+/// there is no such lane.
+pub(crate) fn bind(
+    alloc: Global,
+    state: &mut State,
+    lane: u64,
+) -> Result<Option<Vec<u8>>, AllocError>
+    ensures { (s : Relay) → Agrees state.old s → IfOk result (λ text.
+        Prints (bind_turn s lane) state.new text) }
+{
+    let at = lane as usize;
+    if at >= state.lanes.len() {
+        return Ok(None);
+    }
+    match state.lanes[at].up(CALLER) {
+        Ok(()) => {
+            renew(&mut state.centres, at, CentreLink::bound(alloc)?);
+            Ok(Some(bound_line(alloc, lane)?))
+        }
+        Err(UpRefusal::AlreadyUp) => Ok(Some(bound_line(alloc, lane)?)),
+        Err(UpRefusal::WindowNotEmpty) => Ok(Some(unbound_line(alloc, lane)?)),
+        Err(UpRefusal::HistoryFull) => Ok(Some(unbound_line(alloc, lane)?)),
+    }
+}
