@@ -1,7 +1,8 @@
 //! Histories that are legal, and changes that make them illegal.
 
+use crate::lane_fixture::entry;
 use smx_history::Kind::{Accept, Admit, Answer, Collect, Late, Retire, Take};
-use smx_history::{Entry, Kind, Limits};
+use smx_history::{Entry, Limits};
 use smx_legal::{is_legal, is_legal_shifts};
 use std::alloc::Global;
 use std::process::Abort;
@@ -17,17 +18,6 @@ const LIMITS: Limits = Limits {
     client: 10,
     history: 1_000,
 };
-
-fn entry(kind: Kind, client: u64, ordinal: u64, number: u32, command: u32) -> Entry {
-    Entry {
-        kind,
-        by: 0,
-        client,
-        ordinal,
-        number,
-        command,
-    }
-}
 
 // One client, two requests: the first answered in time and collected, the second answered late.
 fn session() -> [Entry; 9] {
@@ -125,13 +115,13 @@ fn limits_are_kept(rt: HostRuntime) {
     assert!(rt; is_legal(&[], LIMITS));
     assert!(rt; is_legal(&session(), LIMITS));
     // Two requests wait in the queue, two are open in the window, and the one client has both. The
-    // size is three entries, three to come of each of two requests, and the client's retire.
+    // size is three entries, three to come of each of two requests, the client's retire and a down.
     for (queue, window, client, history, legal) in [
-        (2, 2, 2, 10, true),
-        (1, 2, 2, 10, false),
-        (2, 1, 2, 10, false),
-        (2, 2, 1, 10, false),
-        (2, 2, 2, 9, false),
+        (2, 2, 2, 11, true),
+        (1, 2, 2, 11, false),
+        (2, 1, 2, 11, false),
+        (2, 2, 1, 11, false),
+        (2, 2, 2, 10, false),
     ] {
         let limits = Limits {
             queue,
@@ -164,19 +154,19 @@ fn are_legal(
     is_legal_shifts(&lists, limits)
 }
 
-// The size is 2 and 6 after the first two entries, and 10 after each from the third to the eighth.
+// The size is 3 and 7 after the first two entries, and 11 after each from the third to the eighth.
 const TIGHT: Limits = Limits {
-    history: 10,
+    history: 11,
     ..LIMITS
 };
 
 const TIGHTER: Limits = Limits {
-    history: 9,
+    history: 10,
     ..LIMITS
 };
 
 // The rules go on over a shift behind so many entries, the count of entries begins anew. A shift
-// before the third entry takes one or two entries off the 10.
+// before the third entry takes one or two entries off the 11.
 fn is_joined(rt: &impl Abort, alloc: Global, at: usize) -> bool {
     let all = session();
     let (before, after) = all.split_at(at.min(all.len()));

@@ -1,73 +1,17 @@
-ghost use Rattle.std.specs.Prelude.{◌≡◌};
+//! A lane against replies worked out by hand.
 
-use smx_lane::{
-    AdmitFault, Answered, Call, Kind, Lane, LaneFault, Limits, NotAdmitted, Refusal, Reply,
-    Request, Sent, TakeRefusal, run_all,
+use crate::lane_fixture::{
+    ROOMY, accepts, admits, answer_to, collect_number, lane_of, lane_with_one, refusal_of, retires,
+    submit, submitted, take_number, turned,
 };
-use smx_pdu::{Body, Pdu};
+use smx_lane::{
+    AdmitFault, Answered, Call, Kind, Lane, LaneFault, Limits, NotAdmitted, Refusal, Reply, Sent,
+    TakeRefusal, run_all,
+};
+use smx_pdu::Pdu;
 use std::alloc::{AllocError, Global};
 use std::process::Abort;
 use std::test::*;
-
-const ROOMY: Limits = Limits {
-    queue: 10,
-    window: 10,
-    client: 10,
-    history: 1_000,
-};
-
-// A submit_sm that its client calls 7.
-fn submit(alloc: Global, client: u64, ordinal: u64) -> Request
-    ensures client { result.client ≡ client }
-    ensures ordinal { result.ordinal ≡ ordinal }
-{
-    Request {
-        client,
-        ordinal,
-        own: 7,
-        command: 0x0000_0004,
-        body: Body::empty(alloc),
-    }
-}
-
-// The submit_sm_resp to what went upstream under the number.
-fn submitted(alloc: Global, number: u32) -> Pdu {
-    Pdu {
-        command: 0x8000_0004,
-        status: 0,
-        number,
-        body: Body::empty(alloc),
-    }
-}
-
-// The lane's refusal of the client's request under the ordinal, where it is the client's next.
-fn refusal_of(lane: &mut Lane, alloc: Global, client: u64, ordinal: u64) -> Option<Refusal> {
-    if !lane.is_next(0, client, ordinal) {
-        return None;
-    }
-    match lane.accept(0, submit(alloc, client, ordinal)) {
-        Ok(()) => None,
-        Err((_, refusal)) => Some(refusal),
-    }
-}
-
-// Whether the lane accepts the client's request under the ordinal.
-fn accepts(lane: &mut Lane, alloc: Global, client: u64, ordinal: u64) -> bool {
-    lane.is_next(0, client, ordinal) && lane.accept(0, submit(alloc, client, ordinal)).is_ok()
-}
-
-// The number under which the lane's next request goes upstream.
-fn take_number(lane: &mut Lane) -> Option<u32> {
-    lane.take(0).ok().map(|sent| sent.upstream)
-}
-
-// The client whose box gets the response to the number.
-fn answer_to(lane: &mut Lane, alloc: Global, number: u32) -> Option<u64> {
-    match lane.answer(0, submitted(alloc, number)) {
-        Answered::Queued { client } => Some(client),
-        _ => None,
-    }
-}
 
 // Whether no request bears the number.
 fn is_unknown(lane: &mut Lane, alloc: Global, number: u32) -> bool {
@@ -77,40 +21,9 @@ fn is_unknown(lane: &mut Lane, alloc: Global, number: u32) -> bool {
     )
 }
 
-// The number of the response that waits for the client.
-fn collect_number(lane: &mut Lane, client: u64) -> Option<u32> {
-    if !lane.is_own(0, client) {
-        return None;
-    }
-    lane.collect(0, client).map(|pdu| pdu.number)
-}
-
-// Whether the client is retired, which it is once.
-fn retires(lane: &mut Lane, client: u64) -> bool {
-    lane.is_own(0, client) && lane.retire(0, client).is_ok()
-}
-
 // Whether the client is retired already.
 fn has_retired(lane: &mut Lane, client: u64) -> bool {
     lane.is_own(0, client) && lane.retire(0, client) == Err(NotAdmitted)
-}
-
-// The length of the list that a turn over hands out: none where the lane has fewer entries.
-fn turned(rt: &impl Abort, lane: &mut Lane, least: usize) -> Option<usize> {
-    let list = lane.turn_over(0, least).expect(rt, "out of memory")?;
-    Some(list.len())
-}
-
-// A lane under these limits.
-fn lane_of(rt: &impl Abort, alloc: Global, limits: Limits) -> Lane {
-    Lane::new(alloc, limits).expect(rt, "no lane")
-}
-
-// A lane under these limits, to which client 1 is admitted.
-fn lane_with_one(rt: &impl Abort, alloc: Global, limits: Limits) -> Lane {
-    let mut lane = lane_of(rt, alloc, limits);
-    lane.admit(0, 1).expect(rt, "not admitted");
-    lane
 }
 
 #[test]
@@ -164,7 +77,7 @@ fn rounds(lane: &mut Lane, alloc: Global, first: u64) -> Option<(u64, Refusal)> 
     None
 }
 
-// 1 + 4 * 249 entries, and no room for four more beside the client's retire.
+// 1 + 4 * 249 entries, and no room for four more beside the client's retire and the lane's down.
 fn fills_its_history(lane: &mut Lane, alloc: Global) -> bool {
     rounds(lane, alloc, 1) == Some((249, Refusal::HistoryFull))
         && retires(lane, 1)
@@ -178,25 +91,16 @@ fn rounds_fill_the_history(rt: HostRuntime) {
     assert!(rt; fills_its_history(&mut lane, rt.alloc()));
 }
 
-// Whether these clients are admitted, one after another.
-fn admits(lane: &mut Lane, clients: u64) -> bool {
-    for client in 1..=clients {
-        if lane.admit(0, client).is_err() {
-            return false;
-        }
-    }
-    true
-}
-
-// Client 500 has no room.
-fn admits_499(lane: &mut Lane) -> bool {
-    admits(lane, 499) && lane.admit(0, 500) == Err(AdmitFault::HistoryFull)
+// Client 499 has no room: 498 clients make an entry each and have their retire to come, and with the
+// lane's down that is 997.
+fn admits_498(lane: &mut Lane) -> bool {
+    admits(lane, 498) && lane.admit(0, 499) == Err(AdmitFault::HistoryFull)
 }
 
 #[test]
 fn clients_fill_the_history(rt: HostRuntime) {
     let mut lane = lane_of(&rt, rt.alloc(), ROOMY);
-    assert!(rt; admits_499(&mut lane));
+    assert!(rt; admits_498(&mut lane));
 }
 
 // Only a greater number than each before is admitted.
