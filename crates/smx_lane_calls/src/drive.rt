@@ -4,7 +4,7 @@ use crate::model::Model;
 use crate::spoiling::Spoiling;
 use rand_core::utils::NextWord;
 use rand_pcg::Pcg32;
-use smx_lane::{Answered, Entry, Kind, Lane, LaneFault, Limits, Request};
+use smx_lane::{Answered, Entry, Failed, Kind, Lane, LaneFault, Limits, Request};
 use smx_pdu::{Body, Pdu};
 use std::alloc::{AllocError, Global};
 
@@ -38,6 +38,26 @@ fn body(alloc: Global, number: u64) -> Result<Body, AllocError> {
 // Whether the body is the one octet of the number.
 fn tells(body: &Body, number: u64) -> bool {
     body.as_slice() == [octet(number)].as_slice()
+}
+
+// What tells a client that its request with the command failed: the response with ESME_RSUBMITFAIL of
+// submit_sm and data_sm, generic_nack with ESME_RSYSERR of query_sm.
+fn failure(request: u32) -> (u32, u32) {
+    match request {
+        0x0000_0004 => (0x8000_0004, 0x45),
+        0x0000_0103 => (0x8000_0103, 0x45),
+        _ => (0x8000_0000, 0x08),
+    }
+}
+
+// Whether what is collected for the answer or failure tells what it should.
+fn told(pdu: &Pdu, answer: Entry, request: u32) -> bool {
+    if answer.kind == Kind::Fail {
+        let (command, status) = failure(request);
+        pdu.command == command && pdu.status == status && pdu.body.as_slice().is_empty()
+    } else {
+        pdu.command == answer.command && tells(&pdu.body, answer.ordinal)
+    }
 }
 
 fn entry(kind: Kind, by: u64, client: u64, ordinal: u64) -> Entry {
@@ -76,13 +96,16 @@ impl Driver {
     /// Makes one call, and says whether lane and model agree.
     pub(crate) fn step(&mut self) -> Result<bool, AllocError> {
         let (by, client) = self.client();
-        let same = match self.below(40) {
+        let same = match self.below(48) {
             0..=1 => self.admit()?,
             2..=13 => self.accept(by, client)?,
             14..=22 => self.take(by)?,
             23..=30 => self.answer(by)?,
             31..=38 => self.collect(by, client)?,
-            _ => self.retire(by, client)?,
+            39 => self.retire(by, client)?,
+            40 => self.down(by)?,
+            41..=43 => self.fail(by)?,
+            _ => self.up(by)?,
         };
         Ok(same && self.lane.entries() == self.model.entries())
     }
@@ -131,10 +154,10 @@ impl Driver {
             .saturating_add(1)
             .saturating_add(skipped);
         let own = self.below(100);
-        let command = if self.below(2) == 0 {
-            0x0000_0004
-        } else {
-            0x0000_0103
+        let command = match self.below(3) {
+            0 => 0x0000_0004,
+            1 => 0x0000_0103,
+            _ => 0x0000_0003,
         };
         let refusal = self.model.accept_refusal(client);
         let request = Request {
@@ -194,7 +217,8 @@ impl Driver {
         let number = self.below(6);
         let command = match self.below(5) {
             0 => 0x8000_0000,
-            1 | 2 => 0x8000_0103,
+            1 => 0x8000_0003,
+            2 => 0x8000_0103,
             _ => 0x8000_0004,
         };
         let accept = self.model.answered(number, command);
@@ -237,9 +261,8 @@ impl Driver {
             self.model.oldest_answer(client),
         ) {
             (Some(pdu), Some(answer)) => {
-                let same = pdu.command == answer.command
-                    && pdu.number == self.model.own(client, answer.ordinal)
-                    && tells(&pdu.body, answer.ordinal);
+                let (own, command) = self.model.asked(client, answer.ordinal);
+                let same = pdu.number == own && told(&pdu, answer, command);
                 self.model
                     .note(entry(Kind::Collect, by, client, answer.ordinal))?;
                 Ok(same)
@@ -259,5 +282,46 @@ impl Driver {
             self.model.note(entry(Kind::Retire, by, client, 0))?;
         }
         Ok(retired == is_present)
+    }
+
+    fn down(&mut self, by: u64) -> Result<bool, AllocError> {
+        let refusal = self.model.down_refusal();
+        let answer = self.lane.down(by);
+        if answer.is_ok() {
+            self.model.note(entry(Kind::Down, by, 0, 0))?;
+        }
+        Ok(answer.err() == refusal)
+    }
+
+    // Which request fails is the lane's choice: its newest entry names the number upstream.
+    fn fail(&mut self, by: u64) -> Result<bool, AllocError> {
+        let refusal = self.model.fail_refusal();
+        let failed = match self.lane.fail(by) {
+            Ok(failed) if refusal.is_none() => failed,
+            answer => return Ok(answer.err() == refusal),
+        };
+        let number = self.lane.last_entry().map_or(0, |entry| entry.number);
+        let Some(accept) = self.model.answered(number, 0x8000_0000) else {
+            return Ok(false);
+        };
+        self.model.note(Entry {
+            number,
+            command: failure(accept.command).0,
+            ..entry(Kind::Fail, by, accept.client, accept.ordinal)
+        })?;
+        let is_present = self.model.is_present(accept.client);
+        Ok(match failed {
+            Failed::Queued { client } => is_present && client == accept.client,
+            Failed::Late => !is_present,
+        })
+    }
+
+    fn up(&mut self, by: u64) -> Result<bool, AllocError> {
+        let refusal = self.model.up_refusal();
+        let answer = self.lane.up(by);
+        if answer.is_ok() {
+            self.model.note(entry(Kind::Up, by, 0, 0))?;
+        }
+        Ok(answer.err() == refusal)
     }
 }

@@ -22,8 +22,8 @@ enum Difference {
     Spoiled(Spoiling),
 }
 
-fn main(rt: HostRuntime) -> anyhow::Result<()> {
-    let mut driver = Driver::new(rt.alloc())?;
+// Makes the calls, and tries the spoilings on the history that they end with.
+fn compare(rt: &impl Print, driver: &mut Driver) -> anyhow::Result<()> {
     for call in 0..CALLS {
         if !driver.step()? {
             return Err(Difference::Call(call).into());
@@ -42,4 +42,9 @@ fn main(rt: HostRuntime) -> anyhow::Result<()> {
     }
     println!(rt; "{} spoilings are refused", SPOILINGS.len())?;
     Ok(())
+}
+
+fn main(rt: HostRuntime) -> anyhow::Result<()> {
+    let mut driver = Driver::new(rt.alloc())?;
+    compare(&rt, &mut driver)
 }

@@ -1,6 +1,8 @@
 //! The slow model: a list of entries, read anew at each call.
 
-use smx_lane::{AdmitFault, Entry, Kind, Limits, Refusal, TakeRefusal};
+use smx_lane::{
+    AdmitFault, AlreadyDown, Entry, FailRefusal, Kind, Limits, Refusal, TakeRefusal, UpRefusal,
+};
 use std::alloc::{AllocError, Global};
 
 /// What a lane stores after its calls, and nothing else.
@@ -30,16 +32,16 @@ fn accept_of(entries: &[Entry], client: u64, ordinal: u64) -> Option<&Entry> {
     })
 }
 
-// Whether an answer to the request came, in time or late.
+// Whether an answer to the request came, in time or late, or it failed.
 fn is_settled(entries: &[Entry], client: u64, ordinal: u64) -> bool {
     entries.iter().any(|entry| {
-        (entry.kind == Kind::Answer || entry.kind == Kind::Late)
+        matches!(entry.kind, Kind::Answer | Kind::Late | Kind::Fail)
             && entry.client == client
             && entry.ordinal == ordinal
     })
 }
 
-// How many takes have no answer.
+// How many takes have no answer and did not fail.
 fn open(entries: &[Entry]) -> usize {
     entries
         .iter()
@@ -49,13 +51,12 @@ fn open(entries: &[Entry]) -> usize {
         .count()
 }
 
-// How many responses wait for the client.
+// How many responses wait for the client that is present: those that came, and those that tell it of
+// failures.
 fn waiting(entries: &[Entry], client: u64) -> usize {
-    of_client(entries, Kind::Answer, client).saturating_sub(of_client(
-        entries,
-        Kind::Collect,
-        client,
-    ))
+    of_client(entries, Kind::Answer, client)
+        .saturating_add(of_client(entries, Kind::Fail, client))
+        .saturating_sub(of_client(entries, Kind::Collect, client))
 }
 
 impl Model {
@@ -111,6 +112,15 @@ impl Model {
         all
     }
 
+    /// Whether there is a link upstream: the last word on it, and there is one at first.
+    pub(crate) fn is_up(&self) -> bool {
+        self.entries
+            .iter()
+            .filter(|entry| matches!(entry.kind, Kind::Down | Kind::Up))
+            .last()
+            .map_or(true, |entry| entry.kind == Kind::Up)
+    }
+
     // Whether one more accept or admit fits.
     fn has_room(&self) -> bool {
         let queued = of_kind(self.entries(), Kind::Accept).saturating_sub(of_kind(
@@ -124,7 +134,8 @@ impl Model {
             .saturating_add(queued.saturating_mul(3))
             .saturating_add(open(self.entries()).saturating_mul(2))
             .saturating_add(waiting)
-            .saturating_add(present);
+            .saturating_add(present)
+            .saturating_add(usize::from(self.is_up()));
         used.saturating_add(4) <= self.limits.history as usize
     }
 
@@ -158,6 +169,41 @@ impl Model {
             Some(Refusal::QueueFull)
         } else if !self.has_room() {
             Some(Refusal::HistoryFull)
+        } else if !self.is_up() {
+            Some(Refusal::Down)
+        } else {
+            None
+        }
+    }
+
+    /// Why the link is not lost.
+    pub(crate) fn down_refusal(&self) -> Option<AlreadyDown> {
+        if self.is_up() {
+            None
+        } else {
+            Some(AlreadyDown)
+        }
+    }
+
+    /// Why no request fails.
+    pub(crate) fn fail_refusal(&self) -> Option<FailRefusal> {
+        if self.is_up() {
+            Some(FailRefusal::Up)
+        } else if open(self.entries()) == 0 {
+            Some(FailRefusal::WindowEmpty)
+        } else {
+            None
+        }
+    }
+
+    /// Why the lane does not come up.
+    pub(crate) fn up_refusal(&self) -> Option<UpRefusal> {
+        if self.is_up() {
+            Some(UpRefusal::AlreadyUp)
+        } else if open(self.entries()) > 0 {
+            Some(UpRefusal::WindowNotEmpty)
+        } else if !self.has_room() {
+            Some(UpRefusal::HistoryFull)
         } else {
             None
         }
@@ -176,6 +222,9 @@ impl Model {
         if open(self.entries()) >= self.limits.window as usize {
             return Err(TakeRefusal::WindowFull);
         }
+        if !self.is_up() {
+            return Err(TakeRefusal::Down);
+        }
         Ok(*next)
     }
 
@@ -191,19 +240,23 @@ impl Model {
         fits.then_some(*accept)
     }
 
-    /// The client's oldest answer that it has not collected.
+    /// The client's oldest answer or failure that it has not collected.
     pub(crate) fn oldest_answer(&self, client: u64) -> Option<Entry> {
         if !self.is_present(client) {
             return None;
         }
         let collected = of_client(self.entries(), Kind::Collect, client);
-        let mut answers = self.entries.iter().filter(|entry| entry.kind == Kind::Answer
-            && entry.client == client);
+        let mut answers = self.entries.iter().filter(|entry| {
+            matches!(entry.kind, Kind::Answer | Kind::Fail) && entry.client == client
+        });
         answers.nth(collected).copied()
     }
 
-    /// What the client called the request.
-    pub(crate) fn own(&self, client: u64, ordinal: u64) -> u32 {
-        accept_of(self.entries(), client, ordinal).map_or(0, |accept| accept.number)
+    /// What the client called the request, and its command.
+    pub(crate) fn asked(&self, client: u64, ordinal: u64) -> (u32, u32) {
+        accept_of(self.entries(), client, ordinal).map_or(
+            (0, 0),
+            |accept| (accept.number, accept.command),
+        )
     }
 }

@@ -10,6 +10,8 @@ pub enum Spoiling {
     Repeated(Kind),
     /// The first entry of the second kind changes places with that of the first kind before it.
     Swapped(Kind, Kind),
+    /// The last entry of the second kind changes places with the last one of the first kind before it.
+    Exchanged(Kind, Kind),
     /// The first entry of the kind is another caller's.
     By(Kind),
     /// It is another client's.
@@ -24,30 +26,60 @@ pub enum Spoiling {
     Late,
     /// A client hands in a request after it has retired.
     AfterRetire,
+    /// The first failure has the other command of those that answer its request: generic_nack in
+    /// place of a response, else the response to query_sm.
+    OtherFailure,
+    /// The request that failed first is answered after that.
+    FailedAnswered,
+    /// The request that was answered first fails after that.
+    AnsweredFails,
 }
 
-pub const SPOILINGS: [Spoiling; 20] = [
+pub const SPOILINGS: [Spoiling; 34] = [
     Spoiling::Repeated(Kind::Admit),
     Spoiling::Repeated(Kind::Accept),
     Spoiling::Repeated(Kind::Take),
     Spoiling::Repeated(Kind::Answer),
     Spoiling::Repeated(Kind::Collect),
     Spoiling::Repeated(Kind::Retire),
+    Spoiling::Repeated(Kind::Fail),
+    Spoiling::Repeated(Kind::Down),
+    Spoiling::Repeated(Kind::Up),
     Spoiling::Swapped(Kind::Admit, Kind::Accept),
     Spoiling::Swapped(Kind::Accept, Kind::Take),
     Spoiling::Swapped(Kind::Take, Kind::Answer),
     Spoiling::Swapped(Kind::Answer, Kind::Collect),
+    Spoiling::Swapped(Kind::Take, Kind::Fail),
+    Spoiling::Exchanged(Kind::Accept, Kind::Down),
+    Spoiling::Exchanged(Kind::Take, Kind::Down),
+    Spoiling::Exchanged(Kind::Fail, Kind::Up),
     Spoiling::By(Kind::Accept),
     Spoiling::By(Kind::Collect),
     Spoiling::By(Kind::Retire),
     Spoiling::Client(Kind::Take),
+    Spoiling::Client(Kind::Down),
     Spoiling::Ordinal(Kind::Collect),
+    Spoiling::Ordinal(Kind::Up),
     Spoiling::Number(Kind::Take),
     Spoiling::Number(Kind::Answer),
+    Spoiling::Number(Kind::Fail),
     Spoiling::Command(Kind::Answer),
+    Spoiling::Command(Kind::Fail),
     Spoiling::Late,
     Spoiling::AfterRetire,
+    Spoiling::OtherFailure,
+    Spoiling::FailedAnswered,
+    Spoiling::AnsweredFails,
 ];
+
+// Of the commands that answer the request, the one that does not tell of its failure.
+fn other_failure(command: u32) -> u32 {
+    if command == 0x8000_0000 {
+        0x8000_0003
+    } else {
+        0x8000_0000
+    }
+}
 
 impl Spoiling {
     // The kind of the entry that is changed, or that the change comes after.
@@ -55,67 +87,70 @@ impl Spoiling {
         match self {
             Spoiling::Repeated(kind)
             | Spoiling::Swapped(_, kind)
+            | Spoiling::Exchanged(_, kind)
             | Spoiling::By(kind)
             | Spoiling::Client(kind)
             | Spoiling::Ordinal(kind)
             | Spoiling::Number(kind)
             | Spoiling::Command(kind) => kind,
-            Spoiling::Late => Kind::Answer,
+            Spoiling::Late | Spoiling::AnsweredFails => Kind::Answer,
             Spoiling::AfterRetire => Kind::Retire,
+            Spoiling::OtherFailure | Spoiling::FailedAnswered => Kind::Fail,
         }
     }
 
-    // The entries that stand in place of the one that is changed.
-    fn instead(self, entry: Entry) -> (Entry, Option<Entry>) {
+    // The entry that stands in place of the one that is changed.
+    fn changed(self, entry: Entry) -> Entry {
         match self {
-            Spoiling::Repeated(_) => (entry, Some(entry)),
-            Spoiling::Swapped(..) => (entry, None),
-            Spoiling::By(_) => (
-                Entry {
-                    by: entry.by ^ 1,
-                    ..entry
-                },
-                None,
-            ),
-            Spoiling::Client(_) => (
-                Entry {
-                    client: entry.client ^ 0x1_0000_0000,
-                    ..entry
-                },
-                None,
-            ),
-            Spoiling::Ordinal(_) => (
-                Entry {
-                    ordinal: entry.ordinal ^ 0x1_0000_0000,
-                    ..entry
-                },
-                None,
-            ),
-            Spoiling::Number(_) => (Entry { number: 0, ..entry }, None),
-            Spoiling::Command(_) => (
-                Entry {
-                    command: 0x8000_0005,
-                    ..entry
-                },
-                None,
-            ),
-            Spoiling::Late => (
-                Entry {
-                    kind: Kind::Late,
-                    ..entry
-                },
-                None,
-            ),
-            Spoiling::AfterRetire => (
-                entry,
-                Some(Entry {
-                    kind: Kind::Accept,
-                    ordinal: 0x1_0000_0000,
-                    number: 1,
-                    command: 0x0000_0004,
-                    ..entry
-                }),
-            ),
+            Spoiling::By(_) => Entry {
+                by: entry.by ^ 1,
+                ..entry
+            },
+            Spoiling::Client(_) => Entry {
+                client: entry.client ^ 0x1_0000_0000,
+                ..entry
+            },
+            Spoiling::Ordinal(_) => Entry {
+                ordinal: entry.ordinal ^ 0x1_0000_0000,
+                ..entry
+            },
+            Spoiling::Number(_) => Entry { number: 0, ..entry },
+            Spoiling::Command(_) => Entry {
+                command: 0x8000_0005,
+                ..entry
+            },
+            Spoiling::Late => Entry {
+                kind: Kind::Late,
+                ..entry
+            },
+            Spoiling::OtherFailure => Entry {
+                command: other_failure(entry.command),
+                ..entry
+            },
+            _ => entry,
+        }
+    }
+
+    // The entry that the change adds behind it.
+    fn added(self, entry: Entry) -> Option<Entry> {
+        match self {
+            Spoiling::Repeated(_) => Some(entry),
+            Spoiling::AfterRetire => Some(Entry {
+                kind: Kind::Accept,
+                ordinal: 0x1_0000_0000,
+                number: 1,
+                command: 0x0000_0004,
+                ..entry
+            }),
+            Spoiling::FailedAnswered => Some(Entry {
+                kind: Kind::Answer,
+                ..entry
+            }),
+            Spoiling::AnsweredFails => Some(Entry {
+                kind: Kind::Fail,
+                ..entry
+            }),
+            _ => None,
         }
     }
 
@@ -131,10 +166,9 @@ impl Spoiling {
         let mut spoiled = Vec::with_capacity(alloc, entries.len())?;
         for (i, entry) in entries.iter().enumerate() {
             if i == at {
-                let (first, second) = self.instead(*entry);
-                spoiled.push(first)?;
-                if let Some(second) = second {
-                    spoiled.push(second)?;
+                spoiled.push(self.changed(*entry))?;
+                if let Some(added) = self.added(*entry) {
+                    spoiled.push(added)?;
                 }
             } else {
                 spoiled.push(*entry)?;
@@ -142,6 +176,7 @@ impl Spoiling {
         }
         match self {
             Spoiling::Swapped(before, _) => Ok(swapped(spoiled, before, at)),
+            Spoiling::Exchanged(before, kind) => Ok(exchanged(spoiled, before, kind)),
             _ => Ok(Some(spoiled)),
         }
     }
@@ -156,6 +191,29 @@ fn swapped(entries: Vec<Entry>, before: Kind, at: usize) -> Option<Vec<Entry>> {
             && other.client == entry.client
             && (before == Kind::Admit || other.ordinal == entry.ordinal)
     })?;
+    exchange(entries, from, at)
+}
+
+// Where the last entry of the kind stands among the first of the list.
+fn last_of(entries: &[Entry], kind: Kind, end: usize) -> Option<usize> {
+    entries
+        .iter()
+        .take(end)
+        .enumerate()
+        .filter(|(_, entry)| entry.kind == kind)
+        .last()
+        .map(|(i, _)| i)
+}
+
+// The last entry of the second kind in the place of the last one of the first kind before it.
+fn exchanged(entries: Vec<Entry>, before: Kind, kind: Kind) -> Option<Vec<Entry>> {
+    let at = last_of(entries.as_slice(), kind, entries.len())?;
+    let from = last_of(entries.as_slice(), before, at)?;
+    exchange(entries, from, at)
+}
+
+// The two entries in each other's place.
+fn exchange(entries: Vec<Entry>, from: usize, at: usize) -> Option<Vec<Entry>> {
     let mut entries = entries;
     if from >= entries.len() || at >= entries.len() {
         return None;
