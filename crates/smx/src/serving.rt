@@ -21,7 +21,7 @@ pub(crate) fn heed<R: Input + AllocGlobal>(rt: &R, remote: &Remote) {
     }
 }
 
-/// Serves by this configuration until the proxy is stopped, or an upstream ends.
+/// Serves by this configuration until the proxy is stopped.
 pub(crate) fn run<R>(rt: &R, alloc: Global, server: Server, config: &Config) -> ExitCode
 where
     R: Clock + Wait + Net<Listener = TcpListener, Stream = TcpStream> + Eprint,

@@ -5,6 +5,8 @@ mod desk;
 mod entrance;
 mod guests;
 mod heard;
+mod lane;
+mod linking;
 mod notice;
 mod remote;
 mod seats;

@@ -11,12 +11,6 @@ pub enum Ended {
     /// It was told to stop: it has unbound, and what waited is written.
     #[error("stopped")]
     Stopped,
-    /// The link with the upstream of this index ended, or its bind was refused.
-    #[error("upstream {0} has ended")]
-    Upstream(usize),
-    /// The upstream of this index refused the connection, or there was no memory for its worker.
-    #[error("upstream {0} can't be reached")]
-    Unreached(usize),
     /// The address where clients connect can't be had.
     #[error("the address to listen at can't be had")]
     NotListening,
@@ -66,6 +60,8 @@ pub(crate) enum Notice<'a> {
     Door(&'static str, &'a str),
     // Of an upstream, its address and its name.
     Lane(usize, &'a str, &'a str, Words),
+    // Of an upstream, how many requests failed with it, and in how many milliseconds it is tried again.
+    Lost(usize, &'a str, &'a str, Words, usize, u64),
     // Of a client, its address, and its name, which is empty before it is bound.
     Client(u64, &'a str, &'a str, Words),
     // A connection from this address was closed at once.
@@ -79,6 +75,13 @@ impl fmt::Display for Notice<'_> {
             Notice::Door(words, address) => write!(f, "{words} {address}"),
             Notice::Lane(lane, address, name, words) => {
                 write!(f, "upstream {lane} {name} at {address}: {words}")
+            }
+            Notice::Lost(lane, address, name, words, failed, again) => {
+                write!(f, "upstream {lane} {name} at {address}: {words}; ")?;
+                write!(
+                    f,
+                    "{failed} requests failed; it is tried again in {again} ms"
+                )
             }
             Notice::Client(client, address, "", words) => {
                 write!(f, "client {client} at {address}: {words}")

@@ -12,7 +12,7 @@ use smx_shared::{Door, EnterFault, Exchange, Port, Tap};
 use smx_slots::{ClientEnds, LaneEnds};
 use smx_socket::SocketLink;
 use smx_turns::{Directory, Gate, RunEnd};
-use smx_upstream::{Parts, UpstreamWorker, run_upstream};
+use smx_upstream::{Closed as Ended, Parts, UpstreamWorker, run_upstream};
 use std::alloc::Global;
 use std::sync::{Arc, Wait};
 
@@ -165,7 +165,7 @@ impl<'d> Member<'d> {
 }
 
 impl Carrier {
-    // A worker for a lane, or nothing where there is no memory for it.
+    // A worker for a lane. Where there is no memory for it the tap and the ends come back.
     pub fn new(
         alloc: Global,
         drawer: Drawer,
@@ -173,7 +173,7 @@ impl Carrier {
         ends: LaneEnds,
         link: SocketLink,
         history: usize,
-    ) -> Option<Carrier>
+    ) -> Result<Carrier, (Drawer, LaneEnds)>
         requires { session.state ≡ UpstreamState.Binding }
     {
         let Drawer { at, tap } = drawer;
@@ -186,13 +186,36 @@ impl Carrier {
             senders,
         };
         match UpstreamWorker::new(alloc, parts, history) {
-            Ok(worker) => Some(Carrier {
+            Ok(worker) => Ok(Carrier {
                 at,
                 worker,
                 over: false,
             }),
-            Err(_) => None,
+            Err(parts) => {
+                let Parts {
+                    tap,
+                    answers,
+                    senders,
+                    ..
+                } = parts;
+                Err((Drawer { at, tap }, LaneEnds { answers, senders }))
+            }
         }
+    }
+
+    // Ends it: its lane goes down, and what was taken and not answered fails. The tap and the ends
+    // come back, and how many requests failed.
+    pub fn close<R: Wait>(self, rt: &R) -> (Drawer, LaneEnds, usize) {
+        let Carrier { at, worker, .. } = self;
+        let Ended {
+            tap,
+            answers,
+            senders,
+            lost,
+            ..
+        } = worker.close(&at, rt);
+        let drawer = Drawer { at, tap };
+        (drawer, LaneEnds { answers, senders }, lost.failed)
     }
 
     // Whether it has ended, or a turn of it failed.
@@ -204,6 +227,11 @@ impl Carrier {
     // to be waited for.
     pub fn stop(&mut self) -> bool {
         !self.over && self.worker.stop() == Ok(true)
+    }
+
+    // Whether its bind isn't answered yet.
+    pub fn is_binding(&self) -> bool {
+        self.worker.state() == UpstreamState::Binding
     }
 
     // Whether its bind was answered well, and no unbind came or went since.

@@ -2,20 +2,21 @@
 
 use crate::desk::desk_of;
 use crate::entrance::Entrance;
+use crate::lane::Lane;
 use crate::notice::{Ended, Notice};
 use crate::remote::Remote;
 use crate::seats::{Drawer, Gateway};
 use crate::tables::Tables;
 use crate::teller::Teller;
 use crate::turning::{LISTENER, Loop, WAKER};
-use crate::upstreams::{drawers_of, lanes_of};
+use crate::upstreams::drawers_of;
 use mio::net::TcpListener;
 use mio::{Interest, Poll, Token, Waker};
 use smx_client::Desk;
 use smx_config::Config;
 use smx_shared::Exchange;
 use smx_slots::{ClientEnds, LaneEnds, ends_of};
-use std::alloc::Global;
+use std::alloc::{AllocError, Global};
 use std::net::{Net, TcpStream};
 use std::rt::Clock;
 use std::sync::{Arc, Wait};
@@ -121,7 +122,20 @@ fn wiring_of<R: Wait>(rt: &R, alloc: Global, config: &Config) -> Result<Wiring, 
     })
 }
 
-// The loop, which listens and is connected to all upstreams.
+// Each lane beside its boxes, not connected yet.
+fn lanes_of(
+    alloc: Global,
+    drawers: Vec<Drawer>,
+    ends: Vec<LaneEnds>,
+) -> Result<Vec<Lane>, AllocError> {
+    let mut lanes = Vec::new(alloc);
+    for (drawer, ends) in drawers.into_iter().zip(ends) {
+        lanes.push(Lane::new(drawer, ends))?;
+    }
+    Ok(lanes)
+}
+
+// The loop, which listens and is not connected yet.
 fn loop_of<'d, R>(
     rt: &R,
     alloc: Global,
@@ -140,7 +154,7 @@ where
         ends,
         lane_ends,
     } = wiring;
-    let lanes = lanes_of(rt, alloc, poll.registry(), config, drawers, lane_ends, 0)?;
+    let lanes = lanes_of(alloc, drawers, lane_ends)?;
     let entrance = Entrance {
         alloc,
         listener,
@@ -176,8 +190,9 @@ impl Server {
         }
     }
 
-    /// Serves by this configuration until it is told to stop or an upstream ends, on this thread
-    /// alone. It says one line an event on standard error.
+    /// Serves by this configuration until it is told to stop, on this thread alone. An upstream that
+    /// can't be reached, refuses the bind or ends is tried again after the configuration's silence. It
+    /// says one line an event on standard error.
     pub fn serve<R>(self, rt: &R, alloc: Global, config: &Config) -> Ended
     where
         R: Clock + Wait + Net<Listener = std::net::TcpListener, Stream = TcpStream> + Eprint,

@@ -3,6 +3,7 @@
 use crate::notice::{Ended, Notice};
 use crate::turning::Loop;
 use smx_turns::RunEnd;
+use std::net::Net;
 use std::rt::Clock;
 use std::sync::Wait;
 use std::time::Instant;
@@ -14,12 +15,12 @@ const PATIENCE: u64 = 2_000;
 impl<'d> Loop<'d> {
     // Whether an octet waits for a socket.
     fn has_octets(&self) -> bool {
-        self.guests.is_lingering() || self.lanes.iter().any(|lane| lane.socket.has_octets())
+        self.guests.is_lingering() || self.lanes.iter().any(|lane| lane.has_octets())
     }
 
     // Whether a lane's worker hasn't ended.
     fn has_lanes(&self) -> bool {
-        self.lanes.iter().any(|lane| !lane.carrier.is_over())
+        self.lanes.iter().any(|lane| lane.is_turning())
     }
 
     // Lets each client go.
@@ -35,7 +36,7 @@ impl<'d> Loop<'d> {
     fn unbind(&mut self) -> bool {
         let mut any = false;
         for lane in self.lanes.iter_mut() {
-            any |= lane.carrier.stop();
+            any |= lane.stop();
         }
         for lane in 0..self.lanes.len() {
             self.ready.add(lane);
@@ -45,7 +46,7 @@ impl<'d> Loop<'d> {
 
     // Turns whoever is ready, writes and waits: until nobody is ready and nothing waits for a socket,
     // and, where the lanes are to end, until they have; at most so long.
-    fn settle<R: Wait + Clock + Eprint>(
+    fn settle<R: Wait + Clock + Net + Eprint>(
         &mut self,
         rt: &R,
         start: Instant,
@@ -58,7 +59,7 @@ impl<'d> Loop<'d> {
                 return Ok(());
             }
             if !self.ready.is_empty() {
-                self.pass(rt)?;
+                self.pass(rt);
                 continue;
             }
             self.flush();
@@ -71,7 +72,7 @@ impl<'d> Loop<'d> {
     }
 
     // Lets the clients go, writes what waits, and unbinds.
-    fn end<R: Wait + Clock + Eprint>(&mut self, rt: &R, start: Instant) -> Result<(), Ended> {
+    fn end<R: Wait + Clock + Net + Eprint>(&mut self, rt: &R, start: Instant) -> Result<(), Ended> {
         self.dismiss(rt);
         self.settle(rt, start, false)?;
         if self.unbind() {
@@ -81,7 +82,7 @@ impl<'d> Loop<'d> {
     }
 
     /// Lets the clients go, writes what waits, unbinds upstream, and ends.
-    pub fn stop<R: Wait + Clock + Eprint>(&mut self, rt: &R, start: Instant) -> Ended {
+    pub fn stop<R: Wait + Clock + Net + Eprint>(&mut self, rt: &R, start: Instant) -> Ended {
         let _ = eprintln!(rt; "{}", Notice::Plain("stopping"));
         self.stopping = true;
         match self.end(rt, start) {

@@ -2,10 +2,10 @@
 
 use crate::entrance::Entrance;
 use crate::guests::{Guest, Guests};
-use crate::notice::{Ended, Notice, Words};
+use crate::lane::Lane;
+use crate::notice::{Ended, Words};
 use crate::remote::Remote;
 use crate::tables::{Queues, Tables};
-use crate::upstreams::Lane;
 use mio::{Events, Poll, Token};
 use smx_client::Desk;
 use smx_config::Config;
@@ -13,6 +13,7 @@ use smx_routes::Routes;
 use smx_slots::{Bell, Guide, Ready, Roll};
 use smx_socket::{Flushed, Socket};
 use smx_turns::RunEnd;
+use std::net::Net;
 use std::rt::Clock;
 use std::sync::Wait;
 use std::time::{Duration, Instant};
@@ -103,7 +104,7 @@ impl<'d> Loop<'d> {
     fn socket(&self, party: usize) -> Option<&Socket> {
         let lanes = self.lanes.len();
         if party < lanes {
-            return Some(&self.lanes.get(party)?.socket);
+            return self.lanes.get(party)?.socket();
         }
         self.guests.socket(party - lanes)
     }
@@ -131,38 +132,17 @@ impl<'d> Loop<'d> {
         self.stalled.clear();
     }
 
-    fn say_of_lane<R: Eprint>(&self, rt: &R, lane: usize, words: Words) {
-        let config = self.config;
-        if let Some(upstream) = config.upstream.get(lane) {
-            let address = upstream.address.as_str();
-            let name = upstream.system_id.as_str();
-            let _ = eprintln!(rt; "{}", Notice::Lane(lane, address, name, words));
-        }
-    }
-
-    // What is said of a lane that has ended so.
-    fn farewell(&self, lane: usize, end: RunEnd) -> Words {
-        if self.stopping {
-            return Words::Said("unbound");
-        }
-        match self.lanes.get(lane) {
-            Some(place) => place.farewell(self.entrance.alloc, end),
-            None => Words::Said("ended"),
-        }
-    }
-
-    // Turns a lane's worker until it is idle, at most so often. False where it has ended.
-    fn turn_lane<R: Wait + Eprint>(&mut self, rt: &R, lane: usize) -> bool {
+    // Turns a lane's worker until it is idle, at most so often. One that has ended loses its link.
+    fn turn_lane<R: Wait + Eprint>(&mut self, rt: &R, lane: usize) {
         let count = self.lanes.len();
         let Some(place) = self.lanes.get_mut(lane) else {
-            return true;
+            return;
         };
-        if place.carrier.is_over() {
-            return true;
-        }
         let mut bell = Bell::new(count, &mut self.ready, &self.roll);
         let mut guide = Guide::new(&mut self.routes, &self.roll);
-        let turned = place.turn(rt, &mut bell, &mut guide, self.now, TURNS);
+        let Some(turned) = place.turn(rt, &mut bell, &mut guide, self.now, TURNS) else {
+            return;
+        };
         if turned.newly_bound {
             self.say_of_lane(rt, lane, Words::Said("bound"));
         }
@@ -171,11 +151,11 @@ impl<'d> Loop<'d> {
         }
         self.was_turned(lane, turned.end, turned.moved);
         match turned.end {
-            RunEnd::Idle | RunEnd::Turns => true,
-            RunEnd::Left | RunEnd::Fault(_) => {
-                self.say_of_lane(rt, lane, self.farewell(lane, turned.end));
-                false
+            RunEnd::Idle | RunEnd::Turns => {}
+            RunEnd::Left | RunEnd::Fault(_) if self.stopping => {
+                self.say_of_lane(rt, lane, Words::Said("unbound"));
             }
+            RunEnd::Left | RunEnd::Fault(_) => self.lose_lane(rt, lane, turned.end),
         }
     }
 
@@ -254,8 +234,8 @@ impl<'d> Loop<'d> {
         }
     }
 
-    // Turns each that is ready once: a lane's end ends it.
-    pub fn pass<R: Wait + Eprint>(&mut self, rt: &R) -> Result<(), Ended> {
+    // Turns each that is ready once.
+    pub fn pass<R: Wait + Eprint>(&mut self, rt: &R) {
         let lanes = self.lanes.len();
         self.ready.swap(&mut self.current);
         for at in 0..self.current.len() {
@@ -265,16 +245,11 @@ impl<'d> Loop<'d> {
             self.ready.begin(party);
             if party >= lanes {
                 self.turn_slot(rt, party - lanes);
-            } else if !self.turn_lane(rt, party) && !self.stopping {
-                // What it said last is written: an unbind of the centre is answered.
-                if let Some(lane) = self.lanes.get(party) {
-                    lane.socket.flush();
-                }
-                return Err(Ended::Upstream(party));
+            } else {
+                self.turn_lane(rt, party);
             }
         }
         self.current.clear();
-        Ok(())
     }
 
     // Writes what waits. A worker whose socket failed is told by its next turn.
@@ -296,8 +271,9 @@ impl<'d> Loop<'d> {
         self.current.clear();
     }
 
-    // Reads the clock; at a tick each lane is turned, and what hangs is tried again.
-    pub fn look<R: Wait + Clock + Eprint>(&mut self, rt: &R, start: Instant) {
+    // Reads the clock; at a tick each lane is connected where it has no link, and turned, and what
+    // hangs is tried again.
+    pub fn look<R: Wait + Clock + Net + Eprint>(&mut self, rt: &R, start: Instant) {
         if let Ok(passed) = start.elapsed(rt) {
             self.now = u64::try_from(passed.as_millis()).unwrap_or(u64::MAX);
         }
@@ -306,6 +282,7 @@ impl<'d> Loop<'d> {
         }
         self.ticked = self.now;
         for lane in 0..self.lanes.len() {
+            self.tend(rt, lane);
             self.ready.add(lane);
         }
         self.unstall();
@@ -352,7 +329,11 @@ impl<'d> Loop<'d> {
     }
 
     // One pass, or a wait where nobody is ready.
-    fn round<R: Wait + Clock + Eprint>(&mut self, rt: &R, start: Instant) -> Result<(), Ended> {
+    fn round<R: Wait + Clock + Net + Eprint>(
+        &mut self,
+        rt: &R,
+        start: Instant,
+    ) -> Result<(), Ended> {
         self.look(rt, start);
         if self.ready.is_empty() {
             self.flush();
@@ -360,7 +341,7 @@ impl<'d> Loop<'d> {
                 return self.wait(rt, TICK);
             }
         }
-        self.pass(rt)?;
+        self.pass(rt);
         self.passes = self.passes.wrapping_add(1);
         if self.passes % PASSES == 0 {
             self.flush();
@@ -369,13 +350,16 @@ impl<'d> Loop<'d> {
         Ok(())
     }
 
-    /// Goes on until it is told to stop, or an upstream ends.
-    pub fn run<R: Wait + Clock + Eprint>(
+    /// Connects each lane, and goes on until it is told to stop.
+    pub fn run<R: Wait + Clock + Net + Eprint>(
         &mut self,
         rt: &R,
         remote: &Remote,
         start: Instant,
     ) -> Ended {
+        for lane in 0..self.lanes.len() {
+            self.tend(rt, lane);
+        }
         for _ in rt.forever() {
             if remote.is_stopping() {
                 return self.stop(rt, start);

@@ -199,7 +199,7 @@ fn cells_of_a_client(rt: HostRuntime) -> Result<(), Fail> {
     Ok(())
 }
 
-// A centre before and after it answered the bind. It unbinds last, and so the proxy ends.
+// A centre before and after it answered the bind. It unbinds last.
 #[test]
 fn cells_of_a_centre(rt: HostRuntime) -> Result<(), Fail> {
     let alloc = rt.alloc();
@@ -207,6 +207,9 @@ fn cells_of_a_centre(rt: HostRuntime) -> Result<(), Fail> {
     let config = config_for(alloc, centre.local_addr()?.port())?;
     let Some(server) = Server::new(&rt, alloc) else {
         panic!(rt; "no server");
+    };
+    let Some(remote) = server.remote() else {
+        panic!(rt; "no remote");
     };
     let proxy = thread::spawn(&rt, move || server.serve(&rt, rt.alloc(), &config))?;
     let (mut up, _) = centre.accept()?;
@@ -216,6 +219,7 @@ fn cells_of_a_centre(rt: HostRuntime) -> Result<(), Fail> {
     assert!(rt; are_decided(alloc, &mut up, 1, 0));
     assert!(rt; header(UNBIND, 0, 7).is_said(alloc, &mut up));
     assert!(rt; header(RESPONSE | UNBIND, 0, 7).is_heard(alloc, &mut up));
-    assert_eq!(rt; proxy.join(&rt), Ended::Upstream(0));
+    remote.stop();
+    assert_eq!(rt; proxy.join(&rt), Ended::Stopped);
     Ok(())
 }

@@ -7,6 +7,8 @@ mod cells;
 #[cfg(test)]
 mod loopback;
 #[cfg(test)]
+mod returning;
+#[cfg(test)]
 mod showing;
 #[cfg(test)]
 mod stage;

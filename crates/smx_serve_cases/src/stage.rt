@@ -15,8 +15,13 @@ pub(crate) const OWN_BOUND: &[u8] =
 
 // A proxy at any free port, with one upstream at this port and the account alpha.
 pub(crate) fn config_for(alloc: Global, port: u16) -> Result<Config, Fail> {
+    config_with(alloc, port, 30_000)
+}
+
+// The same with this silence, in milliseconds.
+pub(crate) fn config_with(alloc: Global, port: u16, silence: u64) -> Result<Config, Fail> {
     let text = format!(in alloc;
-        "listen = \"127.0.0.1:0\"\n[[upstream]]\naddress = \"127.0.0.1:{port}\"\nsystem_id = \"proxy\"\npassword = \"pw\"\n[[account]]\nsystem_id = \"alpha\"\npassword = \"p\"\nprefixes = [\"49\"]\n"
+        "listen = \"127.0.0.1:0\"\nsilence = {silence}\n[[upstream]]\naddress = \"127.0.0.1:{port}\"\nsystem_id = \"proxy\"\npassword = \"pw\"\n[[account]]\nsystem_id = \"alpha\"\npassword = \"p\"\nprefixes = [\"49\"]\n"
     )?;
     match read(alloc, text.as_str()) {
         Ok(config) => Ok(config),
