@@ -29,7 +29,10 @@ fn is_failure(found: Option<Pdu>) -> bool {
 // Closes the worker, which had sent one request, and makes one over a new link.
 fn changes<'a, R: Wait + Abort>(rt: &R, alloc: Global, line: Line<'a>) -> (bool, Line<'a>) {
     let Line {
-        at, worker, inbox, ..
+        at,
+        worker,
+        inbox,
+        ..
     } = line;
     let Closed {
         link,
