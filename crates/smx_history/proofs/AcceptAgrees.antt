@@ -1,7 +1,7 @@
 -- An accept takes a lane that agrees with a history to one that agrees with the longer history.
 use Rattle.smx_history.proofs.FitsAccept.{MayAccept, accepted_push, accepted_own, accepted_other, accept_fit}
 use Rattle.smx_history.proofs.Shifting.{IsLegal-next, stored-push}
-use Rattle.std.proofs.Common.{◌≡◌, ◌<◌, ◌≤◌, ◌+◌, ◌==◌, ℕ, true, false, cond, List, [], ◌∷◌, ◌++◌, length, map, refl, sym, ◌∙◌, ap, arith, length-append, Some}
+use Rattle.std.proofs.Common.{◌≡◌, ◌<◌, ◌≤◌, ◌+◌, ◌==◌, ℕ, true, false, cond, List, [], ◌∷◌, ◌++◌, length, map, refl, sym, ◌∙◌, ap, arith, length-append, Some, count_by}
 use Rattle.std.specs.List.{AllZip}
 use Rattle.std.proofs.lemmas.List.{map-append, drop-append-le}
 use Rattle.std.proofs.lemmas.Bool.{eqb-true, eqb-false, cond_both}
@@ -18,10 +18,12 @@ use Rattle.smx_history.specs.Contents.{AgreesWith, IsMemberAfter, Content, Membe
 use Rattle.smx_history.specs.Replies.{member_with}
 use Rattle.smx_history.proofs.Updates.{with_row, accepted}
 use Rattle.smx_history.proofs.Refusals.{IsAllowed}
-use Rattle.smx_history.proofs.Reading.{entries_of-push, marks_of-push, shown-kept, places-kept, length-requests, responses-other}
+use Rattle.smx_history.proofs.Places.{window_after-other}
+use Rattle.smx_history.proofs.Numbering.{IsNumbered-other}
+use Rattle.smx_history.proofs.Reading.{entries_of-push, marks_of-push, shown-kept, length-requests, responses-other}
 use Rattle.smx_history.proofs.Sizes.{length-queue, takes-le-accepts, size_agrees, found_admit, present_served}
 use Rattle.smx_history.proofs.Growing.{AtEachPrefix-whole, last_or-push}
-use Rattle.smx_history.proofs.Frames.{collects_of-other, admits-other, takes-other, unanswered-other, present-other, waiting-other, is_up-other}
+use Rattle.smx_history.proofs.Frames.{unanswered-other, collects_of-other, admits-other, takes-other, present-other, waiting-other, is_up-other}
 
 -- what is owed grows by three for a request that is queued
 owed-accepted : (es : List Entry) (by : ℕ) (r : Request) → length (takes es) ≤ length (accepts es) → owed (es ++ entry_by by (Accept r) ∷ []) ≡ owed es + 3
@@ -103,12 +105,13 @@ AgreesWith-accepted h v by r m a found ok above own =
       legal = rw (marks_of-push h n e refl) (IsLegal-next v.limits (marks_of h) e a.legal (accept_fit v.limits es e a.legal.rules refl (may_accept h v by r m a found ok above own)) (omega (arith, owed-accepted es by r (takes-le-accepts es fifo), size_agrees h v a.after, ok.history)));
       after = record {
         queue = rw (push, takes-other es e refl, requests-push h by r, drop-append-le (length (takes es)) (requests h) (r ∷ []) (omega (arith, takes-le-accepts es fifo, length-requests h))) (ap (λ q. q ++ r ∷ []) a.after.queue);
-        window = rw (push, unanswered-other es e refl refl, places-kept es (e ∷ []) fifo) a.after.window;
+        window = λ test. a.after.window test ∙ ap (count_by test) (sym (window_after-other h n e refl refl refl fifo));
         members = rw (push, present-other es e refl refl)
             (zip-with_row (IsMemberAfter h) (IsMemberAfter (h ++ n ∷ [])) r.client (λ x. record x { last = r.ordinal; pending = x.pending + 1 })
             (λ x y same is. member-accepted h by r x y a.legal.rules.pairing same is) (λ x y apart is. member-accepted_other h by r x y a.legal.rules.pairing apart is) (present es) v.members a.after.members);
         greatest = rw (push, admits-other es e refl) a.after.greatest;
         up = rw (push, is_up-other es e refl) a.after.up;
+        numbers = IsNumbered-other h n e v.limits.window v.generations v.latest refl refl a.after.numbers;
         entries = rw (marks_of-push h n e refl, stored-push (marks_of h) e) (ap (λ xs. xs ++ e ∷ []) a.after.entries);
       };
     }

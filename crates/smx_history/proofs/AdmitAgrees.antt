@@ -3,7 +3,7 @@ use Rattle.smx_history.proofs.FitsAdmit.{admit_fit}
 use Rattle.smx_history.proofs.Presence.{present_admitted}
 use Rattle.smx_history.proofs.Shifting.{IsLegal-next, stored-push}
 use Rattle.smx_history.proofs.SettleAgrees.{within-after}
-use Rattle.std.proofs.Common.{◌≡◌, ◌<◌, ◌≤◌, ◌+◌, ℕ, true, false, List, [], ◌∷◌, ◌++◌, length, map, refl, sym, ◌∙◌, ap, arith, sum_by, length-append, inl, inr, Some, None}
+use Rattle.std.proofs.Common.{◌≡◌, ◌<◌, ◌≤◌, ◌+◌, ℕ, true, false, List, [], ◌∷◌, ◌++◌, length, map, refl, sym, ◌∙◌, ap, arith, sum_by, length-append, inl, inr, Some, None, count_by}
 use Rattle.std.specs.List.{AllByRecursion, AllZip}
 use Rattle.std.proofs.lemmas.List.{map-append}
 use Rattle.std.proofs.lemmas.List.Sums.{sum_by-append}
@@ -19,9 +19,11 @@ use Rattle.smx_history.specs.Contents.{AgreesWith, IsAfter, IsMemberAfter, Conte
 use Rattle.smx_history.proofs.Room.{KeepsRoom, FitsBox}
 use Rattle.smx_history.specs.Replies.{admit_refusal, has_room}
 use Rattle.smx_history.proofs.Updates.{admitted, new_row}
-use Rattle.smx_history.proofs.Reading.{marks_of-push, entries_of-push, length-responses, responses-other, places-kept, All-each}
+use Rattle.smx_history.proofs.Places.{window_after-other}
+use Rattle.smx_history.proofs.Numbering.{IsNumbered-other}
+use Rattle.smx_history.proofs.Reading.{marks_of-push, entries_of-push, length-responses, responses-other, All-each}
 use Rattle.smx_history.proofs.Growing.{filter_push, AtEachPrefix-whole, RiseAbove-push, last_or-push, All-push}
-use Rattle.smx_history.proofs.Frames.{takes-other, accepts_of-other, collects_of-other, unanswered-other, is_up-other}
+use Rattle.smx_history.proofs.Frames.{takes-other, accepts_of-other, collects_of-other, is_up-other}
 use Rattle.smx_history.proofs.TakeAgrees.{IsMemberAfter-other, zip-each, requests-other}
 use Rattle.smx_history.proofs.Unseen.{none_admitted, unseen, IsUnseen}
 
@@ -109,13 +111,14 @@ IsAfter-admitted h v by c a none =
     let push = entries_of-push h n e refl in
     record {
       queue = rw (push, takes-other es e refl, requests-other h n refl) a.after.queue;
-      window = rw (push, unanswered-other es e refl refl, places-kept es (e ∷ []) fifo) a.after.window;
+      window = λ test. a.after.window test ∙ ap (count_by test) (sym (window_after-other h n e refl refl refl fifo));
       members = rw (push, present_admitted es e refl none.retired)
           (zip-push (IsMemberAfter (h ++ n ∷ [])) (present es) v.members e (new_row by c)
           (zip-each (IsMemberAfter h) (IsMemberAfter (h ++ n ∷ [])) (λ x m is. IsMemberAfter-other h n e x m refl refl refl refl a.legal.rules.pairing is) (present es) v.members a.after.members)
           (member-admitted h by c none));
       greatest = rw (push, filter_push (λ x. is_admit x.kind) es e refl, map-append (λ x. x.client) (admits es) (e ∷ []), last_or-push 0 (map (λ x. x.client) (admits es)) c) refl;
       up = rw (push, is_up-other es e refl) a.after.up;
+      numbers = IsNumbered-other h n e v.limits.window v.generations v.latest refl refl a.after.numbers;
       entries = rw (marks_of-push h n e refl, stored-push (marks_of h) e) (ap (λ xs. xs ++ e ∷ []) a.after.entries);
     }
 

@@ -22,6 +22,7 @@ use Rattle.smx_history.specs.Replies.{member_with}
 use Rattle.smx_history.proofs.Updates.{settled, answered, response_for}
 use Rattle.smx_history.proofs.Growing.{AtEachPrefix-whole, StartsWith-length}
 use Rattle.smx_history.proofs.Frames.{takes-other, accepts_of-other, collects_of-other, admits-other, present-other, is_up-other}
+use Rattle.smx_history.proofs.Numbering.{IsNumbered-other}
 use Rattle.smx_history.proofs.Reading.{marks_of-push, entries_of-push, shown-kept, own_of-kept, length-responses}
 use Rattle.smx_history.proofs.Sizes.{found_admit, present_served}
 use Rattle.smx_history.proofs.AcceptAgrees.{zip-with_row}
@@ -90,7 +91,7 @@ IsAfter-settled h v n e p q i brings a within is =
     let s = b.settles in
     record {
       queue = rw (push, takes-other es e s.take, requests-other h n b.request) a.after.queue;
-      window = rw push (window-settled h v e q i a s b.client b.ordinal within is);
+      window = window-settled h v n e q i a b.entry s b.client b.ordinal within is;
       members = rw (push, present-other es e s.admit s.retire)
           (zip-with_row (IsMemberAfter h) (IsMemberAfter (h ++ n ∷ [])) q.client (λ m. record m { waiting = m.waiting ++ response_for q p ∷ [] })
           (λ x m same is. member-settled h n e p q x m b.entry s.accept s.collect brings.response fifo a.legal.rules.pairing place same is)
@@ -98,6 +99,7 @@ IsAfter-settled h v n e p q i brings a within is =
           (present es) v.members a.after.members);
       greatest = rw (push, admits-other es e s.admit) a.after.greatest;
       up = rw (push, is_up-other es e b.link) a.after.up;
+      numbers = IsNumbered-other h n e v.limits.window v.generations v.latest b.entry s.take a.after.numbers;
       entries = rw (marks_of-push h n e b.entry, stored-push (marks_of h) e) (ap (λ xs. xs ++ e ∷ []) a.after.entries);
     }
 

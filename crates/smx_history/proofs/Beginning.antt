@@ -1,11 +1,12 @@
 -- A new lane agrees with the empty history.
-use Rattle.std.proofs.Common.{◌≤◌, List, [], ◌∷◌, refl, arith, zero, suc, Option}
+use Rattle.std.proofs.Common.{◌≡◌, ◌<◌, ◌≤◌, ℕ, List, [], ◌∷◌, refl, arith, zero, suc, replicate, slice_get, Some, Option}
 use Rattle.std.specs.List.{IsDistinct}
 use Rattle.smx_history.specs.declared.entry.Entry.{Entry}
 use Rattle.smx_history.specs.declared.limits.Limits.{Limits}
 use Rattle.smx_history.specs.Prefixes.{AtEachPrefix, AtEach}
 use Rattle.smx_history.specs.Legal.{IsLegal, KeepsRules, IsFifo, AreApart, IsBounded, IsWithin, HasForm, StandsWell, IsPaired}
-use Rattle.smx_history.specs.Contents.{AgreesWith}
+use Rattle.smx_history.specs.Contents.{AgreesWith, IsNumbered}
+use Rattle.smx_history.specs.Numbers.{place_in, generation_in, generation_after}
 use Rattle.smx_history.specs.Room.{AreLimits}
 use Rattle.smx_history.proofs.Room.{KeepsRoom}
 use Rattle.smx_history.proofs.Updates.{empty}
@@ -31,6 +32,7 @@ KeepsRules-empty limits = record {
   standing = AtEach-empty (λ before e. StandsWell e.kind before e);
   pairing = AtEach-empty (λ before e. IsPaired e.kind before e);
   apart = AtEachPrefix-empty AreApart apart-empty;
+  spaced = λ i j u lt first second. cc;
   bounds = AtEachPrefix-empty (IsBounded limits) (record { queue = omega arith; window = omega arith; client = λ c gone. omega arith });
 }
 
@@ -43,10 +45,23 @@ pub IsLegal-some : (limits : Limits) (marks : List (Option Entry)) → IsLegal l
 IsLegal-some limits [] h = omega (arith, h.size 0)
 IsLegal-some limits (mark ∷ marks) h = omega (arith, h.size 0)
 
+zeros : (n k : ℕ) → k < n → slice_get {X = ℕ} (replicate n 0) k ≡ Some 0
+zeros zero k lt = absurd (omega arith)
+zeros (suc n) zero lt = refl
+zeros (suc n) (suc k) lt = zeros n k (omega (arith, lt))
+
+numbered_new : (window : ℕ) → IsNumbered [] window (replicate window 0) 0
+numbered_new window = record {
+  within = tt;
+  placed = AtEach-empty (λ before u. generation_in u ≡ generation_after (place_in u) before);
+  next = λ k lt. zeros window k lt;
+  latest = refl;
+}
+
 pub AgreesWith-new : (limits : Limits) → AreLimits limits → AgreesWith [] (empty limits)
 AgreesWith-new limits are = record {
   legal = IsLegal-empty limits (omega (arith, are.history.0));
-  after = record { queue = refl; window = λ test. refl; members = tt; greatest = refl; up = refl; entries = refl };
+  after = record { queue = refl; window = λ test. refl; members = tt; greatest = refl; up = refl; numbers = numbered_new limits.window; entries = refl };
 }
 
 pub KeepsRoom-new : (limits : Limits) → AreLimits limits → KeepsRoom (empty limits)

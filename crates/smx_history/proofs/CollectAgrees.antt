@@ -2,7 +2,7 @@
 use Rattle.smx_history.proofs.FitsCollect.{collect_fit, collected_other, oldest_next}
 use Rattle.smx_history.proofs.Shifting.{IsLegal-next, stored-push}
 use Rattle.smx_history.proofs.SettleAgrees.{within-after}
-use Rattle.std.proofs.Common.{◌≡◌, ◌≤◌, ◌+◌, ◌-◌, ◌==◌, ℕ, true, false, cond, ◌&&◌, List, [], ◌∷◌, ◌++◌, length, map, drop, refl, sym, ◌∙◌, ap, arith, length-append, Some, suc, zero, add-one}
+use Rattle.std.proofs.Common.{◌≡◌, ◌≤◌, ◌+◌, ◌-◌, ◌==◌, ℕ, true, false, cond, ◌&&◌, List, [], ◌∷◌, ◌++◌, length, map, drop, refl, sym, ◌∙◌, ap, arith, length-append, Some, suc, zero, add-one, count_by}
 use Rattle.std.specs.List.{AllByRecursion, AllZip}
 use Rattle.std.proofs.lemmas.Bool.{eq-eqb, eqb-true, eqb-false, cond_both}
 use Rattle.smx_history.specs.declared.note.Event.TheVariants.{Collect}
@@ -18,8 +18,10 @@ use Rattle.smx_history.proofs.Room.{KeepsRoom}
 use Rattle.smx_history.specs.Replies.{member_with}
 use Rattle.smx_history.proofs.Updates.{collected, with_row}
 use Rattle.smx_history.proofs.Growing.{filter_push, AtEachPrefix-whole}
-use Rattle.smx_history.proofs.Frames.{takes-other, accepts_of-other, admits-other, present-other, unanswered-other, is_up-other}
-use Rattle.smx_history.proofs.Reading.{marks_of-push, entries_of-push, shown-kept, responses_are_answers, responses-other, places-kept}
+use Rattle.smx_history.proofs.Frames.{takes-other, accepts_of-other, admits-other, present-other, is_up-other}
+use Rattle.smx_history.proofs.Places.{window_after-other}
+use Rattle.smx_history.proofs.Numbering.{IsNumbered-other}
+use Rattle.smx_history.proofs.Reading.{marks_of-push, entries_of-push, shown-kept, responses_are_answers, responses-other}
 use Rattle.smx_history.proofs.Sizes.{found_admit, present_served}
 use Rattle.smx_history.proofs.Keeping.{one_row}
 use Rattle.std.proofs.lemmas.List.{drop-map}
@@ -97,13 +99,14 @@ IsAfter-collected h v by c r m a rise found some =
     let push = entries_of-push h n e refl in
     record {
       queue = rw (push, takes-other es e refl, requests-other h n refl) a.after.queue;
-      window = rw (push, unanswered-other es e refl refl, places-kept es (e ∷ []) fifo) a.after.window;
+      window = λ test. a.after.window test ∙ ap (count_by test) (sym (window_after-other h n e refl refl refl fifo));
       members = rw (push, present-other es e refl refl)
           (zip-with_known (IsMemberAfter h) (IsMemberAfter (h ++ n ∷ [])) (λ x. x.client ≡ c → x ≡ m) c (λ x. record x { pending = x.pending - 1; waiting = drop 1 x.waiting })
           (λ x y same only is. member-collected h by c r.ordinal x y a.legal.rules.pairing same (let y' = only same in omega (arith, ap (λ (z : Member). z.pending) y', some)) is)
           (λ x y apart is. member-collected_other h by c r.ordinal x y a.legal.rules.pairing apart is) (present es) v.members (one_row v.members c 0 m rise found) a.after.members);
       greatest = rw (push, admits-other es e refl) a.after.greatest;
       up = rw (push, is_up-other es e refl) a.after.up;
+      numbers = IsNumbered-other h n e v.limits.window v.generations v.latest refl refl a.after.numbers;
       entries = rw (marks_of-push h n e refl, stored-push (marks_of h) e) (ap (λ xs. xs ++ e ∷ []) a.after.entries);
     }
 

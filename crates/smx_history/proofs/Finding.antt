@@ -1,10 +1,11 @@
 -- What a lane finds is what its history says.
-use Rattle.std.proofs.Common.{◌≡◌, ◌<◌, ◌≤◌, ◌+◌, ◌==◌, ℕ, Bool, true, false, cond, not, ◌||◌, ◌&&◌, List, [], ◌∷◌, ◌++◌, length, map, drop, refl, sym, ◌∙◌, ap, subst, arith, count_by, length-append, inl, inr, Some, None, nat_le, slice_get, suc, nat_eq, zero, filter}
+use Rattle.std.proofs.Common.{◌≡◌, ◌<◌, ◌≤◌, ◌+◌, ◌==◌, ℕ, Bool, true, false, cond, not, ◌||◌, ◌&&◌, List, [], ◌∷◌, ◌++◌, length, map, drop, refl, sym, ◌∙◌, ap, subst, arith, count_by, length-append, length-drop, ◌-◌, zero, inl, inr, Some, None, nat_le, slice_get, suc, nat_eq, zero, filter}
 use Rattle.std.specs.List.{list_any, find, AllZip, AllByRecursion, IsDistinct}
 use Rattle.std.proofs.lemmas.Bool.{cases_Bool, cases_lt, eqb-true, eq-eqb, ne_eqb, and_parts, and_from, or_parts}
 use Rattle.std.proofs.lemmas.List.Elements.{filter_agree}
 use Rattle.std.proofs.lemmas.List.Sums.{sum_by-cons}
-use Rattle.std.proofs.lemmas.List.{drop-drop}
+use Rattle.std.proofs.lemmas.List.{drop-drop, length-map}
+use Rattle.std.proofs.lemmas.List.Folds.{list_any-append}
 use Rattle.smx_pdu.specs.declared.pdu.Pdu.{Pdu}
 use Rattle.smx_history.specs.declared.entry.Entry.{Entry}
 use Rattle.smx_history.specs.declared.note.Note.{Note}
@@ -12,7 +13,10 @@ use Rattle.smx_history.specs.declared.note.Event.TheVariants.{Collect, Take}
 use Rattle.smx_history.specs.declared.place.Place.{Place}
 use Rattle.smx_history.specs.declared.response.Response.{Response}
 use Rattle.smx_history.specs.Prefixes.{SameCounts}
-use Rattle.smx_history.specs.Entries.{is_collect, is_take, is_settling, is_settled, has_name, takes, accepts_of, collects_of, present, unanswered, is_admitted, is_retired}
+use Rattle.smx_history.specs.Entries.{is_collect, is_take, is_settling, is_settled, has_name, takes, accepts_of, collects_of, present, unanswered, is_admitted, is_retired, numbers}
+use Rattle.smx_history.specs.Numbers.{AreSpaced, recent}
+use Rattle.smx_history.proofs.Spacing.{spaced_free}
+use Rattle.smx_history.proofs.FitsTake.{numbers_push}
 use Rattle.smx_history.specs.Legal.{AreApart, IsLegal, KeepsRules, IsPaired}
 use Rattle.smx_history.specs.History.{entries_of, entry_by, note, responses, marks_of}
 use Rattle.smx_history.specs.Contents.{AgreesWith, IsMemberAfter, Content, Member, place_of, shown, window_after}
@@ -135,11 +139,11 @@ none_find test (y ∷ xs) none = at (test y) refl none (none_find test xs)
 
 -- the places are equal field by field
 is_place : Place → Place → Bool
-is_place q x = (x.upstream == q.upstream) && ((x.client == q.client) && ((x.ordinal == q.ordinal) && ((x.own == q.own) && (x.command == q.command))))
+is_place q x = (x.upstream == q.upstream) && ((x.client == q.client) && ((x.ordinal == q.ordinal) && ((x.own == q.own) && ((x.command == q.command) && (x.moment == q.moment)))))
 
 is_place-self : (q : Place) → is_place q q ≡ true
 unfolding is_place
-is_place-self q = rw (eq-eqb q.upstream q.upstream refl, eq-eqb q.client q.client refl, eq-eqb q.ordinal q.ordinal refl, eq-eqb q.own q.own refl, eq-eqb q.command q.command refl) refl
+is_place-self q = rw (eq-eqb q.upstream q.upstream refl, eq-eqb q.client q.client refl, eq-eqb q.ordinal q.ordinal refl, eq-eqb q.own q.own refl, eq-eqb q.command q.command refl, eq-eqb q.moment q.moment refl) refl
 
 is_place-true : (q x : Place) → is_place q x ≡ true → x ≡ q
 unfolding is_place
@@ -148,17 +152,14 @@ is_place-true q x h =
     let two = and_parts _ _ one.1 in
     let three = and_parts _ _ two.1 in
     let four = and_parts _ _ three.1 in
+    let five = and_parts _ _ four.1 in
     let e1 = eqb-true x.upstream q.upstream one.0 in
     let e2 = eqb-true x.client q.client two.0 in
     let e3 = eqb-true x.ordinal q.ordinal three.0 in
     let e4 = eqb-true x.own q.own four.0 in
-    let e5 = eqb-true x.command q.command four.1 in
-    let whole : Place = record { upstream = q.upstream; client = q.client; ordinal = q.ordinal; own = q.own; command = q.command } in
-    ap (λ (n : ℕ). record { upstream = n; client = x.client; ordinal = x.ordinal; own = x.own; command = x.command }) e1
-    ∙ ap (λ (n : ℕ). record { upstream = q.upstream; client = n; ordinal = x.ordinal; own = x.own; command = x.command }) e2
-    ∙ ap (λ (n : ℕ). record { upstream = q.upstream; client = q.client; ordinal = n; own = x.own; command = x.command }) e3
-    ∙ ap (λ (n : ℕ). record { upstream = q.upstream; client = q.client; ordinal = q.ordinal; own = n; command = x.command }) e4
-    ∙ ap (λ (n : ℕ). record { upstream = q.upstream; client = q.client; ordinal = q.ordinal; own = q.own; command = n }) e5
+    let e5 = eqb-true x.command q.command five.0 in
+    let e6 = eqb-true x.moment q.moment five.1 in
+    λ i. record { upstream = e1 i; client = e2 i; ordinal = e3 i; own = e4 i; command = e5 i; moment = e6 i }
 
 -- numbers that are pairwise different, counted
 few_numbers : (n : ℕ) (us : List Entry) → IsDistinct nat_eq (map (λ e. e.number) us) → count_by (λ e. e.number == n) us ≤ 1
@@ -183,7 +184,7 @@ few_numbers n (e ∷ us) h = at (e.number == n) refl (few_numbers n us h.1)
 
 few_places : (h : List Note) (v : Content) (n : ℕ) → AgreesWith h v → count_by (λ (q : Place). q.upstream == n) (window_after h) ≤ 1
 few_places h v n a =
-    omega (arith, count_by-map (λ (q : Place). q.upstream == n) (place_of (entries_of h)) (unanswered (entries_of h)), few_numbers n (unanswered (entries_of h)) (AtEachPrefix-whole AreApart (entries_of h) a.legal.rules.apart))
+    omega (arith, count_by-map (λ (q : Place). q.upstream == n) (place_of h) (unanswered (entries_of h)), few_numbers n (unanswered (entries_of h)) (AtEachPrefix-whole AreApart (entries_of h) a.legal.rules.apart))
 
 -- a place with the number is that place
 only_place : (xs ys : List Place) (n : ℕ) (q y : Place) (test : Place → Bool) → SameCounts xs ys → count_by (λ (x : Place). x.upstream == n) xs ≤ 1 → find test xs ≡ Some q → q.upstream ≡ n → find test ys ≡ Some y → y.upstream ≡ n → y ≡ q
@@ -238,13 +239,17 @@ waiting-collected h v by c n a =
     at true k xs = more k xs
     at false k xs = refl
 
--- numbers are had from 1 up to some that is free, among the first 1,024
-first_free : (ps : List Place) (left n : ℕ) → n + left ≡ 1025 → 1 ≤ n → ((k : ℕ) → 1 ≤ k → k < n → list_any (λ p. p.upstream == k) ps ≡ true) → length ps < 1024 → (u : ℕ) × (0 < u) × (u ≤ 1024) × (list_any (λ p. p.upstream == u) ps ≡ false)
-first_free ps zero n sum low had room = absurd (let all = had-le-length 1024 ps (λ k one lt. had k one (omega arith)) in omega (arith, all))
-first_free ps (suc left) n sum low had room =
-    elim (cases_Bool (list_any (λ p. p.upstream == n) ps)) [
-      | inl here ↦ first_free ps left (n + 1) (omega arith) (omega arith) (had_more ps n had here) room
-      | inr free ↦ (n, omega arith, omega arith, free)
+any_mapped : {X Y : Type 0} (p : Y → Bool) (f : X → Y) (xs : List X) → list_any p (map f xs) ≡ list_any (λ x. p (f x)) xs
+any_mapped p f [] = refl
+any_mapped p f (x ∷ xs) = ap (λ b. p (f x) || b) (any_mapped p f xs)
+
+-- numbers are had from 1 up to some that is free
+first_free : (ks : List ℕ) (left n : ℕ) → n + left ≡ 1001024 → 1 ≤ n → ((k : ℕ) → 1 ≤ k → k < n → list_any (λ x. x == k) ks ≡ true) → length ks < 1001023 → (u : ℕ) × (0 < u) × (u ≤ 1001023) × (list_any (λ x. x == u) ks ≡ false)
+first_free ks zero n sum low had room = absurd (let all = had-le-length 1001023 ks (λ k one lt. had k one (omega (arith, lt, sum))) in omega (arith, all, room))
+first_free ks (suc left) n sum low had room =
+    elim (cases_Bool (list_any (λ x. x == n) ks)) [
+      | inl here ↦ first_free ks left (n + 1) (omega (arith, sum)) (omega arith) (had_more ks n had here) room
+      | inr free ↦ (n, omega (arith, low), omega (arith, sum), free)
     ]
 
 -- after each history some number is free
@@ -252,9 +257,21 @@ pub some_free : (h : List Note) → (u : ℕ) × IsFree h u
 some_free h =
     elim (cases_lt (length (window_after h)) 1024) [
       | inl room ↦
-          let found = first_free (window_after h) 1024 1 refl (omega arith) (λ k one lt. absurd (omega arith)) room in
-          (found.0, record { above = λ _. found.1; below = λ _. omega (arith, found.2); unused = λ _. found.3 })
-      | inr full ↦ (0, record { above = λ room. absurd (omega arith); below = λ room. absurd (omega arith); unused = λ room. absurd (omega arith) })
+          let ns = numbers (entries_of h) in
+          let used = map (λ (p : Place). p.upstream) (window_after h) in
+          let few : length (used ++ recent ns) < 1001023 =
+          omega (arith, room, length-append used (recent ns), length-map (window_after h) (λ (p : Place). p.upstream), length-drop (length ns - 999999) ns) in
+          let found = first_free (used ++ recent ns) 1001023 1 refl (omega arith) (λ k one lt. absurd (omega (arith, one, lt))) few in
+          let apart = or_parts (list_any (λ x. x == found.0) used) (list_any (λ x. x == found.0) (recent ns)) (sym (list_any-append (λ x. x == found.0) used (recent ns)) ∙ found.3) in (
+            found.0,
+            record {
+              above = λ _. found.1;
+              below = λ _. omega (arith, found.2);
+              unused = λ _. sym (any_mapped (λ x. x == found.0) (λ (p : Place). p.upstream) (window_after h)) ∙ apart.0;
+              spaced = λ _. apart.1;
+            },
+          )
+      | inr full ↦ (0, record { above = λ room. absurd (omega arith); below = λ room. absurd (omega arith); unused = λ room. absurd (omega arith); spaced = λ room. absurd (omega arith) })
     ]
 
 -- no taken request has the name where none of that name is among the entries
@@ -281,16 +298,12 @@ last_apart (x ∷ us) e h = rw (apart us h.0, last_apart us e h.1) refl
     apart [] all = all.0
     apart (y ∷ xs) all = apart xs all.1
 
-any_mapped : {X Y : Type 0} (p : Y → Bool) (f : X → Y) (xs : List X) → list_any p (map f xs) ≡ list_any (λ x. p (f x)) xs
-any_mapped p f [] = refl
-any_mapped p f (x ∷ xs) = ap (λ b. p (f x) || b) (any_mapped p f xs)
-
 -- the number of a take that the history may have was free
-pub taken_free : (h : List Note) (new : Content) (by c n u : ℕ) → IsLegal new.limits (marks_of h) → AgreesWith (h ++ note by (Take c n u) ∷ []) new → IsFree h u
-taken_free h new by c n u before a =
+pub taken_free : (h : List Note) (new : Content) (by c n u t : ℕ) → IsLegal new.limits (marks_of h) → AgreesWith (h ++ note by (Take c n u t) ∷ []) new → IsFree h u
+taken_free h new by c n u t before a =
     let es = entries_of h in
-    let e = entry_by by (Take c n u) in
-    let legal : KeepsRules new.limits (es ++ e ∷ []) = subst (λ xs. KeepsRules new.limits xs) (entries_of-push h (note by (Take c n u)) e refl) a.legal.rules in
+    let e = entry_by by (Take c n u t) in
+    let legal : KeepsRules new.limits (es ++ e ∷ []) = subst (λ xs. KeepsRules new.limits xs) (entries_of-push h (note by (Take c n u t)) e refl) a.legal.rules in
     let named : Entry → Bool = λ x. is_take x.kind && has_name c n x in
     let one : ◌≡◌ {A = ℕ} (cond (named e) 1 0) 1 = ap {B = ℕ} (λ b. cond b 1 0) (and_from (is_take e.kind) (has_name c n e) refl (and_from _ _ (eq-eqb c c refl) (eq-eqb n n refl))) in
     let none = count_none_any named es (omega (arith, legal.once.takes c n, count_by-push named es e, one)) in
@@ -298,8 +311,9 @@ taken_free h new by c n u before a =
     let grown = unanswered-more es e refl refl unsettled in
     let apart = last_apart (unanswered es) e (subst (λ xs. IsDistinct nat_eq (map (λ x. x.number) xs)) grown (AtEachPrefix-whole AreApart (es ++ e ∷ []) legal.apart)) in
     let range = AtEach-last (λ earlier x. IsPaired x.kind earlier x) es e legal.pairing in
-    let free : list_any (λ p. p.upstream == u) (window_after h) ≡ false = any_mapped (λ (p : Place). p.upstream == u) (place_of es) (unanswered es) ∙ apart in
-    record { above = λ _. range.0; below = λ _. range.1; unused = λ _. free }
+    let free : list_any (λ p. p.upstream == u) (window_after h) ≡ false = any_mapped (λ (p : Place). p.upstream == u) (place_of h) (unanswered es) ∙ apart in
+    let spaced = spaced_free (numbers es) u (subst (λ ns. AreSpaced ns) (numbers_push es e refl) legal.spaced) in
+    record { above = λ _. range.0; below = λ _. range.1; unused = λ _. free; spaced = λ _. spaced }
 
 -- nothing waits for a client that is not present
 pub waiting_absent : (h : List Note) (c : ℕ) → is_present c h ≡ false → waiting_after h c ≡ []

@@ -12,7 +12,7 @@ use Rattle.smx_history.specs.Legal.{KeepsRules, IsFifo, AreApart, IsBounded, IsS
 use Rattle.smx_history.proofs.Fitting.{Fits}
 use Rattle.smx_history.proofs.Growing.{filter_push, filter_other, AtEachPrefix-whole, RiseAbove-push, StartsWith-more}
 use Rattle.smx_history.proofs.Frames.{takes-other, answers_of-other, collects_of-other, is_retired-other, unanswered-other}
-use Rattle.smx_history.proofs.Kept.{takes_kept, settlings_kept, membership_kept, apart_kept, HasForm-by, StandsWell-by, IsPaired-by}
+use Rattle.smx_history.proofs.Kept.{takes_kept, settlings_kept, membership_kept, apart_kept, spaced_kept, HasForm-by, StandsWell-by, IsPaired-by}
 
 pub accepted_push : (es : List Entry) (e : Entry) → e.kind ≡ kind.Accept → accepts (es ++ e ∷ []) ≡ accepts es ++ e ∷ []
 accepted_push es e k = filter_push (λ x. is_accept x.kind) es e (ap is_accept k)
@@ -57,6 +57,7 @@ accept_fit limits es e legal k p =
       standing = StandsWell-by es e kind.Accept k (p.served, p.up);
       pairing = IsPaired-by es e kind.Accept k tt;
       apart = apart_kept es e (ap is_take k) (ap is_settling k) (AtEachPrefix-whole AreApart es legal.apart);
+      spaced = spaced_kept es e (ap is_take k) legal.spaced;
       bounds = record {
         queue = rw (accepted_push es e k, takes-other es e (ap is_take k)) (omega (arith, length-append (accepts es) (e ∷ []), p.queue));
         window = rw (unanswered-other es e (ap is_take k) (ap is_settling k)) was.window;

@@ -10,7 +10,7 @@ use Rattle.smx_history.specs.Legal.{KeepsRules, IsFifo, AreApart, IsBounded, Has
 use Rattle.smx_history.proofs.Fitting.{Fits}
 use Rattle.smx_history.proofs.Growing.{filter_push, AtEachPrefix-whole, RiseAbove-push}
 use Rattle.smx_history.proofs.Frames.{accepts-other, takes-other, accepts_of-other, collects_of-other, is_retired-other, unanswered-other}
-use Rattle.smx_history.proofs.Kept.{fifo_kept, once_kept, retires_kept, apart_kept, HasForm-by, StandsWell-by, IsPaired-by}
+use Rattle.smx_history.proofs.Kept.{fifo_kept, once_kept, retires_kept, apart_kept, spaced_kept, HasForm-by, StandsWell-by, IsPaired-by}
 
 -- a list of entries keeps to its bounds where an entry is neither accept nor take, answers nothing and retires nobody
 pub bounds_kept : (limits : Limits) (es : List Entry) (e : Entry) → is_accept e.kind ≡ false → is_take e.kind ≡ false → is_settling e.kind ≡ false → is_collect e.kind ≡ false → is_retire e.kind ≡ false → IsBounded limits es → IsBounded limits (es ++ e ∷ [])
@@ -36,5 +36,6 @@ admit_fit limits es e legal k form above =
       standing = StandsWell-by es e kind.Admit k tt;
       pairing = IsPaired-by es e kind.Admit k tt;
       apart = apart_kept es e (ap is_take k) (ap is_settling k) (AtEachPrefix-whole AreApart es legal.apart);
+      spaced = spaced_kept es e (ap is_take k) legal.spaced;
       bounds = bounds_kept limits es e (ap is_accept k) (ap is_take k) (ap is_settling k) (ap is_collect k) (ap is_retire k) (AtEachPrefix-whole (IsBounded limits) es legal.bounds);
     }

@@ -13,7 +13,7 @@ use Rattle.smx_history.proofs.Fitting.{Fits}
 use Rattle.smx_history.proofs.Growing.{filter_push, filter_other, AtEachPrefix-whole}
 use Rattle.smx_history.proofs.Counts.{none_count}
 use Rattle.smx_history.proofs.Frames.{accepts-other, takes-other, admits-other, accepts_of-other, answers_of-other, collects_of-other, is_retired-other, unanswered-other, retired_before}
-use Rattle.smx_history.proofs.Kept.{fifo_kept, once_kept, membership_kept, apart_kept, HasForm-by, StandsWell-by, IsPaired-by}
+use Rattle.smx_history.proofs.Kept.{fifo_kept, once_kept, membership_kept, apart_kept, spaced_kept, HasForm-by, StandsWell-by, IsPaired-by}
 use Rattle.smx_history.proofs.Parts.{StartsWith-next, count_one, count_other}
 
 pub collected_own : (c : ℕ) (es : List Entry) (e : Entry) → e.kind ≡ kind.Collect → e.client ≡ c → collects_of c (es ++ e ∷ []) ≡ collects_of c es ++ e ∷ []
@@ -67,6 +67,7 @@ collect_fit limits es e legal k form served oldest =
       standing = StandsWell-by es e kind.Collect k served;
       pairing = IsPaired-by es e kind.Collect k tt;
       apart = apart_kept es e (ap is_take k) (ap is_settling k) (AtEachPrefix-whole AreApart es legal.apart);
+      spaced = spaced_kept es e (ap is_take k) legal.spaced;
       bounds = record {
         queue = rw (accepts-other es e (ap is_accept k), takes-other es e (ap is_take k)) was.queue;
         window = rw (unanswered-other es e (ap is_take k) (ap is_settling k)) was.window;
@@ -102,6 +103,7 @@ retire_fit limits es e legal k form served =
       standing = StandsWell-by es e kind.Retire k served;
       pairing = IsPaired-by es e kind.Retire k tt;
       apart = apart_kept es e (ap is_take k) (ap is_settling k) (AtEachPrefix-whole AreApart es legal.apart);
+      spaced = spaced_kept es e (ap is_take k) legal.spaced;
       bounds = record {
         queue = rw (accepts-other es e (ap is_accept k), takes-other es e (ap is_take k)) was.queue;
         window = rw (unanswered-other es e (ap is_take k) (ap is_settling k)) was.window;

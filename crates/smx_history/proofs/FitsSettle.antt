@@ -8,14 +8,15 @@ use Rattle.smx_history.specs.declared.entry.Entry.{Entry}
 use Rattle.smx_history.specs.declared.entry.Kind.{Kind}
 use Rattle.smx_history.specs.declared.entry.Kind.TheVariants as kind
 use Rattle.smx_history.specs.declared.limits.Limits.{Limits}
-use Rattle.smx_history.specs.Entries.{is_admit, is_accept, is_take, is_answer, is_collect, is_retire, is_settling, has_name, takes, answers_of, collects_of, is_retired, is_settled, unanswered, command_of}
+use Rattle.smx_history.specs.Entries.{is_admit, is_accept, is_take, is_answer, is_collect, is_retire, is_settling, has_name, takes, answers_of, collects_of, is_retired, is_settled, unanswered, command_of, numbers}
+use Rattle.smx_history.specs.Numbers.{AreSpaced}
 use Rattle.smx_history.specs.Failures.{failure_command}
 use Rattle.smx_history.specs.Legal.{KeepsRules, IsFifo, IsOnce, AreApart, IsBounded, Answers}
 use Rattle.smx_history.proofs.Fitting.{Fits}
 use Rattle.smx_history.proofs.Growing.{AtEachPrefix-whole, StartsWith-more}
 use Rattle.smx_history.proofs.Counts.{none_count, eqb_sym, length_part}
 use Rattle.smx_history.proofs.Frames.{accepts-other, takes-other, accepts_of-other, collects_of-other, is_retired-other}
-use Rattle.smx_history.proofs.Kept.{takes_kept, membership_kept, HasForm-by, StandsWell-by, IsPaired-by}
+use Rattle.smx_history.proofs.Kept.{takes_kept, membership_kept, HasForm-by, StandsWell-by, IsPaired-by, spaced_kept}
 use Rattle.smx_history.proofs.Taking.{filter-and}
 use Rattle.smx_history.proofs.Parts.{apart-filter, count_one, count_other}
 
@@ -76,6 +77,7 @@ record FitsBut (limits : Limits) (es : List Entry) (e : Entry) : Type 0 where
   fifo : IsFifo (es ++ e ∷ [])
   once : IsOnce (es ++ e ∷ [])
   apart : AreApart (es ++ e ∷ [])
+  spaced : AreSpaced (numbers (es ++ e ∷ []))
   bounds : IsBounded limits (es ++ e ∷ [])
 
 settle_but : (limits : Limits) (es : List Entry) (e : Entry) → KeepsRules limits es → Settles e.kind → Answers es e → FitsBut limits es e
@@ -95,6 +97,7 @@ settle_but limits es e legal s p =
         settlings = settles_once es e s p.first legal.once;
       };
       apart = rw gone (apart-filter (λ t. not (has_name e.client e.ordinal t)) (unanswered es) (AtEachPrefix-whole AreApart es legal.apart));
+      spaced = spaced_kept es e s.take legal.spaced;
       bounds = record {
         queue = rw (accepts-other es e s.accept, takes-other es e s.take) was.queue;
         window = rw gone (let l = length_part (λ (t : Entry). not (has_name e.client e.ordinal t)) (unanswered es) in omega (arith, l, was.window));
@@ -114,6 +117,7 @@ answer_fit limits es e legal k p here =
       standing = StandsWell-by es e kind.Answer k here;
       pairing = IsPaired-by es e kind.Answer k p;
       apart = but.apart;
+      spaced = but.spaced;
       bounds = but.bounds;
     }
 
@@ -129,6 +133,7 @@ late_fit limits es e legal k p gone =
       standing = StandsWell-by es e kind.Late k gone;
       pairing = IsPaired-by es e kind.Late k p;
       apart = but.apart;
+      spaced = but.spaced;
       bounds = but.bounds;
     }
 
@@ -144,5 +149,6 @@ fail_fit limits es e legal k p command =
       standing = StandsWell-by es e kind.Fail k tt;
       pairing = IsPaired-by es e kind.Fail k (p, command);
       apart = but.apart;
+      spaced = but.spaced;
       bounds = but.bounds;
     }

@@ -1,5 +1,5 @@
 -- A take fits exactly where the check says so.
-use Rattle.std.proofs.Common.{◌≡◌, ◌<◌, ◌≤◌, ◌==◌, ℕ, Bool, true, false, not, ◌&&◌, ◌||◌, cond, List, [], ◌∷◌, ◌++◌, length, map, filter, refl, sym, ◌∙◌, ap, arith, length-append, inl, inr, count_by, Some, slice_get}
+use Rattle.std.proofs.Common.{◌≡◌, ◌<◌, ◌≤◌, ◌==◌, ℕ, Bool, true, false, not, ◌&&◌, ◌||◌, cond, List, [], ◌∷◌, ◌++◌, length, map, filter, refl, sym, subst, ◌∙◌, ap, arith, length-append, inl, inr, count_by, Some, slice_get}
 use Rattle.std.specs.List.{list_any, AllByRecursion}
 use Rattle.std.proofs.lemmas.List.{map-append}
 use Rattle.std.proofs.lemmas.List.Elements.{filter_agree}
@@ -8,7 +8,8 @@ use Rattle.smx_history.specs.declared.entry.Entry.{Entry}
 use Rattle.smx_history.specs.declared.entry.Kind.TheVariants as kind
 use Rattle.smx_history.specs.declared.limits.Limits.{Limits}
 use Rattle.smx_history.specs.Prefixes.{AtEach}
-use Rattle.smx_history.specs.Entries.{is_admit, is_accept, is_take, is_answer, is_collect, is_retire, is_settling, name_of, has_name, accepts, takes, is_settled, unanswered, is_up}
+use Rattle.smx_history.specs.Entries.{is_admit, is_accept, is_take, is_answer, is_collect, is_retire, is_settling, name_of, has_name, accepts, takes, is_settled, unanswered, is_up, numbers}
+use Rattle.smx_history.specs.Numbers.{AreSpaced}
 use Rattle.smx_history.specs.Legal.{KeepsRules, IsFifo, AreApart, IsBounded, IsPaired}
 use Rattle.smx_history.proofs.Fitting.{Fits, is_taken}
 use Rattle.smx_history.proofs.Growing.{filter_push, AtEachPrefix-whole}
@@ -36,6 +37,9 @@ own_name e = and_from _ _ (eq-eqb e.client e.client refl) (eq-eqb e.ordinal e.or
 pub takes_push : (es : List Entry) (e : Entry) → e.kind ≡ kind.Take → takes (es ++ e ∷ []) ≡ takes es ++ e ∷ []
 takes_push es e k = filter_push (λ x. is_take x.kind) es e (ap is_take k)
 
+pub numbers_push : (es : List Entry) (e : Entry) → e.kind ≡ kind.Take → numbers (es ++ e ∷ []) ≡ numbers es ++ e.number ∷ []
+numbers_push es e k = ap (map (λ (t : Entry). t.number)) (takes_push es e k) ∙ map-append (λ t. t.number) (takes es) (e ∷ [])
+
 pub unanswered_taken : (es : List Entry) (e : Entry) → e.kind ≡ kind.Take → is_settled e.client e.ordinal es ≡ false → unanswered (es ++ e ∷ []) ≡ unanswered es ++ e ∷ []
 unanswered_taken es e k none =
     ap (filter (λ x. not (is_settled x.client x.ordinal (es ++ e ∷ [])))) (takes_push es e k)
@@ -52,6 +56,7 @@ pub record MayTake (limits : Limits) (es : List Entry) (e : Entry) : Type 0 wher
   pub free : count_by (λ x. x.number == e.number) (unanswered es) ≡ 0
   pub window : length (unanswered es) < limits.window
   pub up : is_up es ≡ true
+  pub spaced : AreSpaced (numbers es ++ e.number ∷ [])
 
 takes_once : (es : List Entry) (e : Entry) → e.kind ≡ kind.Take → is_taken e.client e.ordinal es ≡ false → ((c n : ℕ) → count_by (λ x. is_take x.kind && has_name c n x) es ≤ 1) → (c n : ℕ) → count_by (λ x. is_take x.kind && has_name c n x) (es ++ e ∷ []) ≤ 1
 takes_once es e k none few c n =
@@ -87,6 +92,7 @@ take_fit limits es e legal k p =
       pairing = IsPaired-by es e kind.Take k (p.positive, p.within);
       apart = rw (push, map-append (λ x. x.number) (unanswered es) (e ∷ []))
           (IsDistinct-push (map (λ x. x.number) (unanswered es)) e.number (AtEachPrefix-whole AreApart es legal.apart) (none_numbered e.number (unanswered es) p.free));
+      spaced = subst (λ ns. AreSpaced ns) (sym (numbers_push es e k)) p.spaced;
       bounds = record {
         queue = rw (accepts-other es e (ap is_accept k), takes_push es e k) (omega (arith, length-append (takes es) (e ∷ []), was.queue));
         window = rw push (omega (arith, length-append (unanswered es) (e ∷ []), p.window));

@@ -3,7 +3,8 @@ use Rattle.std.specs.Prelude.{◌&&◌, ℕ, Bool, List, [], ◌∷◌, ◌++◌
 use Rattle.std.specs.List.{list_any}
 use Rattle.smx_history.specs.declared.entry.Entry.{Entry}
 use Rattle.smx_history.specs.declared.limits.Limits.{Limits}
-use Rattle.smx_history.specs.Entries.{is_take, has_name}
+use Rattle.smx_history.specs.Entries.{is_take, has_name, numbers}
+use Rattle.smx_history.specs.Numbers.{AreSpaced}
 use Rattle.smx_history.specs.Legal.{HasForm, IsFifo, IsOnce, IsMembership, StandsWell, IsPaired, AreApart, IsBounded}
 
 -- the entry may follow the list, but for the size
@@ -15,6 +16,7 @@ pub record Fits (limits : Limits) (es : List Entry) (e : Entry) : Type 0 where
   pub standing : StandsWell e.kind es e
   pub pairing : IsPaired e.kind es e
   pub apart : AreApart (es ++ e ∷ [])
+  pub spaced : AreSpaced (numbers (es ++ e ∷ []))
   pub bounds : IsBounded limits (es ++ e ∷ [])
 
 -- the request of that name was taken

@@ -5,7 +5,9 @@ use Rattle.std.proofs.lemmas.List.Elements.{filter-append}
 use Rattle.smx_history.specs.declared.entry.Entry.{Entry}
 use Rattle.smx_history.specs.declared.limits.Limits.{Limits}
 use Rattle.smx_history.specs.Prefixes.{RiseAbove}
-use Rattle.smx_history.specs.Entries.{is_admit, is_accept, is_take, is_retire, is_settling, has_name, admits, accepts_of}
+use Rattle.smx_history.specs.Entries.{is_admit, is_accept, is_take, is_retire, is_settling, has_name, admits, takes, accepts_of, numbers}
+use Rattle.smx_history.specs.Numbers.{AreSpaced}
+use Rattle.smx_history.proofs.Spacing.{spaced_start}
 use Rattle.smx_history.specs.Legal.{KeepsRules, IsFifo, IsOnce, IsMembership, AreApart, IsBounded, HasForm, StandsWell, IsPaired}
 use Rattle.smx_history.proofs.Fitting.{Fits}
 use Rattle.smx_history.proofs.Growing.{AtEach-push, AtEach-init, AtEachPrefix-push, AtEachPrefix-init}
@@ -32,6 +34,9 @@ IsMembership-init es e h = record {
   retires = λ c. let few = h.retires c in omega (arith, few, count_by-push (λ x. is_retire x.kind && (x.client == c)) es e);
 }
 
+numbers-split : (es : List Entry) (e : Entry) → numbers (es ++ e ∷ []) ≡ numbers es ++ numbers (e ∷ [])
+numbers-split es e = ap (map (λ (x : Entry). x.number)) (filter-append (λ x. is_take x.kind) es (e ∷ [])) ∙ map-append (λ x. x.number) (takes es) (takes (e ∷ []))
+
 -- without its last entry a legal list is legal
 pub KeepsRules-init : (limits : Limits) (es : List Entry) (e : Entry) → KeepsRules limits (es ++ e ∷ []) → KeepsRules limits es
 KeepsRules-init limits es e h = record {
@@ -42,6 +47,7 @@ KeepsRules-init limits es e h = record {
   standing = AtEach-init (λ before x. StandsWell x.kind before x) es e h.standing;
   pairing = AtEach-init (λ before x. IsPaired x.kind before x) es e h.pairing;
   apart = AtEachPrefix-init AreApart es e h.apart;
+  spaced = spaced_start (numbers es) (numbers (e ∷ [])) (subst (λ ns. AreSpaced ns) (numbers-split es e) h.spaced);
   bounds = AtEachPrefix-init (IsBounded limits) es e h.bounds;
 }
 
@@ -60,5 +66,6 @@ KeepsRules-next limits es e h fits = record {
   standing = AtEach-push (λ before x. StandsWell x.kind before x) es e h.standing fits.standing;
   pairing = AtEach-push (λ before x. IsPaired x.kind before x) es e h.pairing fits.pairing;
   apart = AtEachPrefix-push AreApart es e h.apart fits.apart;
+  spaced = fits.spaced;
   bounds = AtEachPrefix-push (IsBounded limits) es e h.bounds fits.bounds;
 }

@@ -5,7 +5,7 @@ use Rattle.std.proofs.lemmas.List.{map-append}
 use Rattle.std.proofs.Common.{true, map, ◌≡◌, ◌-◌, ◌==◌, ℕ, false, not, ◌&&◌, List, [], ◌∷◌, ◌++◌, length, ◌∙◌, ap, filter, sum_by}
 use Rattle.std.proofs.lemmas.List.Elements.{filter_agree}
 use Rattle.smx_history.specs.declared.entry.Entry.{Entry}
-use Rattle.smx_history.specs.Entries.{is_admit, is_accept, is_take, is_answer, is_collect, is_retire, is_settling, has_name, admits, accepts, takes, accepts_of, answers_of, collects_of, is_retired, unanswered, is_settled, present, is_link, is_rise, is_up}
+use Rattle.smx_history.specs.Entries.{is_admit, is_accept, is_take, is_answer, is_collect, is_retire, is_settling, has_name, admits, accepts, takes, accepts_of, answers_of, collects_of, is_retired, unanswered, is_settled, present, is_link, is_rise, is_up, numbers}
 use Rattle.smx_history.specs.Prefixes.{last_or}
 use Rattle.smx_history.specs.Legal.{waiting}
 
@@ -29,6 +29,9 @@ admits-other es e h = filter_other (λ x. is_admit x.kind) es e h
 
 pub takes-other : (es : List Entry) (e : Entry) → is_take e.kind ≡ false → takes (es ++ e ∷ []) ≡ takes es
 takes-other es e h = filter_other (λ x. is_take x.kind) es e h
+
+pub numbers-other : (es : List Entry) (e : Entry) → is_take e.kind ≡ false → numbers (es ++ e ∷ []) ≡ numbers es
+numbers-other es e k = ap (map (λ (t : Entry). t.number)) (takes-other es e k)
 
 pub accepts-other : (es : List Entry) (e : Entry) → is_accept e.kind ≡ false → accepts (es ++ e ∷ []) ≡ accepts es
 accepts-other es e h = filter_other (λ x. is_accept x.kind) es e h

@@ -3,9 +3,10 @@ use Rattle.std.proofs.Common.{◌≡◌, ◌≤◌, ◌==◌, ℕ, false, ◌&&�
 use Rattle.std.proofs.lemmas.Bool.{and_left}
 use Rattle.smx_history.specs.declared.entry.Entry.{Entry}
 use Rattle.smx_history.specs.declared.entry.Kind.{Kind}
-use Rattle.smx_history.specs.Entries.{is_admit, is_accept, is_take, is_answer, is_collect, is_retire, is_settling, has_name}
+use Rattle.smx_history.specs.Entries.{is_admit, is_accept, is_take, is_answer, is_collect, is_retire, is_settling, has_name, numbers}
+use Rattle.smx_history.specs.Numbers.{AreSpaced}
 use Rattle.smx_history.specs.Legal.{IsFifo, IsOnce, IsMembership, AreApart, HasForm, StandsWell, IsPaired}
-use Rattle.smx_history.proofs.Frames.{accepts-other, takes-other, admits-other, accepts_of-other, answers_of-other, collects_of-other, unanswered-other}
+use Rattle.smx_history.proofs.Frames.{accepts-other, takes-other, numbers-other, admits-other, accepts_of-other, answers_of-other, collects_of-other, unanswered-other}
 use Rattle.smx_history.proofs.Parts.{count_other}
 
 pub fifo_kept : (es : List Entry) (e : Entry) → is_accept e.kind ≡ false → is_take e.kind ≡ false → is_answer e.kind ≡ false → is_collect e.kind ≡ false → IsFifo es → IsFifo (es ++ e ∷ [])
@@ -38,6 +39,9 @@ membership_kept es e a r h = record {
 
 pub apart_kept : (es : List Entry) (e : Entry) → is_take e.kind ≡ false → is_settling e.kind ≡ false → AreApart es → AreApart (es ++ e ∷ [])
 apart_kept es e t s h = rw (unanswered-other es e t s) h
+
+pub spaced_kept : (es : List Entry) (e : Entry) → is_take e.kind ≡ false → AreSpaced (numbers es) → AreSpaced (numbers (es ++ e ∷ []))
+spaced_kept es e t h = subst (λ ns. AreSpaced ns) (sym (numbers-other es e t)) h
 
 -- what is said of an entry by its kind
 pub HasForm-by : (e : Entry) (k : Kind) → e.kind ≡ k → HasForm k e → HasForm e.kind e

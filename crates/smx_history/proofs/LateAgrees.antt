@@ -17,6 +17,7 @@ use Rattle.smx_history.specs.Replies.{member_with}
 use Rattle.smx_history.proofs.Updates.{settled_late, late}
 use Rattle.smx_history.proofs.Counts.{none_count}
 use Rattle.smx_history.proofs.Frames.{takes-other, admits-other, present-other, is_up-other}
+use Rattle.smx_history.proofs.Numbering.{IsNumbered-other}
 use Rattle.smx_history.proofs.Reading.{marks_of-push, entries_of-push}
 use Rattle.smx_history.proofs.Taking.{any_none}
 use Rattle.smx_history.proofs.SettleAgrees.{place_taken, place_answers, window-settled, within-after}
@@ -68,13 +69,14 @@ IsAfter-settled_late h v n e q i b a within is gone =
     let s = b.settles in
     record {
       queue = rw (push, takes-other es e s.take, requests-other h n b.request) a.after.queue;
-      window = rw push (window-settled h v e q i a s b.client b.ordinal within is);
+      window = window-settled h v n e q i a b.entry s b.client b.ordinal within is;
       members = rw (push, present-other es e s.admit s.retire)
           (zip-apart (IsMemberAfter h) (IsMemberAfter (h ++ n ∷ [])) q.client
           (λ x m apart was. IsMemberAfter-other h n e x m b.entry s.accept s.collect (b.others x.client (λ of. apart (was.client ∙ sym of))) a.legal.rules.pairing was)
           (present es) v.members a.after.members gone);
       greatest = rw (push, admits-other es e s.admit) a.after.greatest;
       up = rw (push, is_up-other es e b.link) a.after.up;
+      numbers = IsNumbered-other h n e v.limits.window v.generations v.latest b.entry s.take a.after.numbers;
       entries = rw (marks_of-push h n e b.entry, stored-push (marks_of h) e) (ap (λ xs. xs ++ e ∷ []) a.after.entries);
     }
 

@@ -9,6 +9,10 @@ pub mod Members
 pub mod Refusals
 pub mod Keeping
 pub mod Numbers
+pub mod Spacing
+pub mod Moments
+pub mod Places
+pub mod Numbering
 pub mod Taken
 pub mod Settled
 pub mod AcceptAgrees

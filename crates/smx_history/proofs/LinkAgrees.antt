@@ -17,7 +17,8 @@ use Rattle.smx_history.proofs.Fitting.{Fits}
 use Rattle.smx_history.proofs.Growing.{AtEachPrefix-whole}
 use Rattle.smx_history.proofs.Frames.{is_up-push}
 use Rattle.smx_history.proofs.FitsAdmit.{bounds_kept}
-use Rattle.smx_history.proofs.Kept.{fifo_kept, once_kept, membership_kept, apart_kept}
+use Rattle.smx_history.proofs.Kept.{fifo_kept, once_kept, membership_kept, apart_kept, spaced_kept}
+use Rattle.smx_history.proofs.Numbering.{IsNumbered-other}
 use Rattle.smx_history.proofs.Reading.{entries_of-push}
 use Rattle.smx_history.proofs.Sizes.{length-window}
 use Rattle.smx_history.proofs.AdmitAgrees.{empty_of}
@@ -68,6 +69,7 @@ link_fit limits es e legal is form stands =
       standing = stands;
       pairing = link_paired e.kind es e is;
       apart = apart_kept es e k.take k.settling (AtEachPrefix-whole AreApart es legal.apart);
+      spaced = spaced_kept es e k.take legal.spaced;
       bounds = bounds_kept limits es e k.accept k.take k.settling k.collect k.retire (AtEachPrefix-whole (IsBounded limits) es legal.bounds);
     }
 
@@ -81,6 +83,7 @@ linked h v n e is link request response a =
       members = members-kept h n e v is k.admit k.retire k.accept k.collect response a;
       greatest = greatest-kept h n e v is k.admit a.after;
       up = rw (entries_of-push h n e is) (sym (is_up-push (entries_of h) e link));
+      numbers = IsNumbered-other h n e v.limits.window v.generations v.latest is k.take a.after.numbers;
       entries = entries-pushed h n e v is a.after;
     }
 

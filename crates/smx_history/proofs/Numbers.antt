@@ -3,9 +3,8 @@ use Rattle.std.proofs.Common.{◌≡◌, ◌<◌, ◌≤◌, ◌+◌, ◌==◌, 
 use Rattle.std.specs.List.{list_any}
 use Rattle.std.proofs.lemmas.List.Sums.{count_by-le-length, sum_by-cons}
 use Rattle.std.proofs.lemmas.Bool.{le-leb, lt-leb, cases_lt, eq-eqb, ne_eqb, cases_order}
-use Rattle.smx_history.specs.declared.place.Place.{Place}
 
-count_any : (p : Place → Bool) (ps : List Place) → list_any p ps ≡ true → 1 ≤ count_by p ps
+count_any : (p : ℕ → Bool) (ps : List ℕ) → list_any p ps ≡ true → 1 ≤ count_by p ps
 count_any p [] h = cc
 count_any p (x ∷ ps) h = count_any_at (p x) refl h (count_any p ps)
   where
@@ -13,12 +12,12 @@ count_any p (x ∷ ps) h = count_any_at (p x) refl h (count_any p ps)
     count_any_at true e t later = omega (arith, sum_by-cons (λ y. cond (p y) 1 0) x ps, ap {B = ℕ} (λ b. cond b 1 0) e)
     count_any_at false e t later = let l = later t in omega (arith, sum_by-cons (λ y. cond (p y) 1 0) x ps, l)
 
--- a place counts once among the numbers up to m and the next one
-count_next : (m : ℕ) (ps : List Place) → count_by (λ p. nat_le p.upstream m) ps + count_by (λ p. p.upstream == (m + 1)) ps ≤ count_by (λ p. nat_le p.upstream (m + 1)) ps
+-- a number counts once among those up to m and the next one
+count_next : (m : ℕ) (ps : List ℕ) → count_by (λ p. nat_le p m) ps + count_by (λ p. p == (m + 1)) ps ≤ count_by (λ p. nat_le p (m + 1)) ps
 count_next m [] = omega arith
 count_next m (p ∷ ps) =
     let rest = count_next m ps in
-    omega (arith, rest, sum_by-cons (λ (x : Place). cond (nat_le x.upstream m) 1 0) p ps, sum_by-cons (λ (x : Place). cond (x.upstream == (m + 1)) 1 0) p ps, sum_by-cons (λ (x : Place). cond (nat_le x.upstream (m + 1)) 1 0) p ps, one p.upstream m)
+    omega (arith, rest, sum_by-cons (λ (x : ℕ). cond (nat_le x m) 1 0) p ps, sum_by-cons (λ (x : ℕ). cond (x == (m + 1)) 1 0) p ps, sum_by-cons (λ (x : ℕ). cond (nat_le x (m + 1)) 1 0) p ps, one p m)
   where
     one : (u m : ℕ) → cond (nat_le u m) 1 0 + cond (u == (m + 1)) 1 0 ≤ cond (nat_le u (m + 1)) 1 0
     one u m = elim (cases_order u (m + 1)) [
@@ -29,21 +28,21 @@ count_next m (p ∷ ps) =
       ]
     ]
 
-all_had : (m : ℕ) (ps : List Place) → ((k : ℕ) → 1 ≤ k → k < m + 1 → list_any (λ p. p.upstream == k) ps ≡ true) → m ≤ count_by (λ p. nat_le p.upstream m) ps
+all_had : (m : ℕ) (ps : List ℕ) → ((k : ℕ) → 1 ≤ k → k < m + 1 → list_any (λ p. p == k) ps ≡ true) → m ≤ count_by (λ p. nat_le p m) ps
 all_had zero ps h = omega arith
 all_had (suc m) ps h =
-    let before : m ≤ count_by (λ p. nat_le p.upstream m) ps = all_had m ps (λ k low high. h k low (omega arith)) in
-    let here : 1 ≤ count_by (λ p. p.upstream == (m + 1)) ps = count_any (λ p. p.upstream == (m + 1)) ps (h (m + 1) (omega arith) (omega arith)) in
+    let before : m ≤ count_by (λ p. nat_le p m) ps = all_had m ps (λ k low high. h k low (omega arith)) in
+    let here : 1 ≤ count_by (λ p. p == (m + 1)) ps = count_any (λ p. p == (m + 1)) ps (h (m + 1) (omega arith) (omega arith)) in
     let next = count_next m ps in
-    let all : m + 1 ≤ count_by (λ p. nat_le p.upstream (m + 1)) ps = omega (arith, before, here, next) in
+    let all : m + 1 ≤ count_by (λ p. nat_le p (m + 1)) ps = omega (arith, before, here, next) in
     rw (← add-one) all
 
--- where each of the numbers 1 to m is had, there are m places
-pub had-le-length : (m : ℕ) (ps : List Place) → ((k : ℕ) → 1 ≤ k → k < m + 1 → list_any (λ p. p.upstream == k) ps ≡ true) → m ≤ length ps
-had-le-length m ps h = omega (arith, all_had m ps h, count_by-le-length (λ (p : Place). nat_le p.upstream m) ps)
+-- where each of the numbers 1 to m is had, there are m numbers
+pub had-le-length : (m : ℕ) (ps : List ℕ) → ((k : ℕ) → 1 ≤ k → k < m + 1 → list_any (λ p. p == k) ps ≡ true) → m ≤ length ps
+had-le-length m ps h = omega (arith, all_had m ps h, count_by-le-length (λ (p : ℕ). nat_le p m) ps)
 
 -- one more number that is had
-pub had_more : (ps : List Place) (n : ℕ) → ((k : ℕ) → 1 ≤ k → k < n → list_any (λ p. p.upstream == k) ps ≡ true) → list_any (λ p. p.upstream == n) ps ≡ true → (k : ℕ) → 1 ≤ k → k < n + 1 → list_any (λ p. p.upstream == k) ps ≡ true
+pub had_more : (ps : List ℕ) (n : ℕ) → ((k : ℕ) → 1 ≤ k → k < n → list_any (λ p. p == k) ps ≡ true) → list_any (λ p. p == n) ps ≡ true → (k : ℕ) → 1 ≤ k → k < n + 1 → list_any (λ p. p == k) ps ≡ true
 had_more ps n before here k low high =
     elim (cases_lt k n) [
       | inl lt ↦ before k low lt

@@ -1,5 +1,5 @@
 -- Notes and their entries; which requests the names in a legal history have.
-use Rattle.std.proofs.Common.{◌≡◌, ◌==◌, ℕ, Bool, true, false, cond, not, ◌||◌, ◌&&◌, List, [], ◌∷◌, ◌++◌, length, map, take, drop, refl, sym, ◌∙◌, ap, subst, Option, Some, None, slice_get, filter, zero, suc}
+use Rattle.std.proofs.Common.{◌≡◌, ◌==◌, ℕ, Bool, true, false, cond, ◌||◌, ◌&&◌, List, [], ◌∷◌, ◌++◌, length, map, take, drop, refl, sym, ◌∙◌, ap, subst, Option, Some, None, slice_get, filter, zero, suc}
 use Rattle.std.specs.List.{list_any, AllByRecursion, cons_option}
 use Rattle.std.proofs.lemmas.List.{append-nil, length-map, take-append-drop, map-append}
 use Rattle.std.proofs.lemmas.List.Elements.{filter_map-append}
@@ -14,10 +14,10 @@ use Rattle.smx_history.specs.declared.entry.Entry.{Entry}
 use Rattle.smx_history.specs.declared.note.Note.{Note}
 use Rattle.smx_history.specs.declared.response.Response.{Response}
 use Rattle.smx_history.specs.Prefixes.{AtEach, first_or}
-use Rattle.smx_history.specs.Entries.{is_accept, is_answer, Name, name_of, has_name, accepts, takes, answers_of, is_accepted, unanswered, own_of, command_of, is_settled}
+use Rattle.smx_history.specs.Entries.{is_accept, is_answer, Name, name_of, has_name, accepts, takes, answers_of, is_accepted, own_of, command_of}
 use Rattle.smx_history.specs.Legal.{IsFifo, IsPaired}
 use Rattle.smx_history.specs.History.{entry_by, entry_in, marks_of, entries_of, requests, request_in, responses, response_in}
-use Rattle.smx_history.specs.Contents.{place_of, shown}
+use Rattle.smx_history.specs.Contents.{shown}
 use Rattle.smx_history.proofs.Growing.{any_kept}
 use Rattle.smx_history.specs.Shifts.{noted}
 use Rattle.smx_history.specs.Failures.{failure}
@@ -32,7 +32,7 @@ requests-cons : (by : ℕ) (event : Option Event) (h : List Note) → map (λ r.
 requests-cons by None h same = same
 requests-cons by (Some (Admit c)) h same = same
 requests-cons by (Some (Accept r)) h same = ap (λ es. entry_by 0 (Accept r) ∷ es) same
-requests-cons by (Some (Take c n u)) h same = same
+requests-cons by (Some (Take c n u t)) h same = same
 requests-cons by (Some (Answer c n p)) h same = same
 requests-cons by (Some (Late c n u k)) h same = same
 requests-cons by (Some (Collect c n)) h same = same
@@ -54,7 +54,7 @@ responses-cons : (c by : ℕ) (event : Option Event) (h : List Note) → map (λ
 responses-cons c by None h same = same
 responses-cons c by (Some (Admit d)) h same = same
 responses-cons c by (Some (Accept r)) h same = same
-responses-cons c by (Some (Take d n u)) h same = same
+responses-cons c by (Some (Take d n u t)) h same = same
 responses-cons c by (Some (Answer d n p)) h same =
     elim (d == c) as (λ b. map (λ r. r.ordinal) (cons_option (cond b (Some (record { ordinal = n; pdu = p })) None) (responses c h)) ≡ map (λ e. e.ordinal) (cond b (entry_by by (Answer d n p) ∷ answers_of c (entries_of h)) (answers_of c (entries_of h)))) [
       | true ↦ ap (λ ns. n ∷ ns) same
@@ -202,15 +202,7 @@ pub All-each : {X : Type 0} (P Q : X → Type 0) → ((x : X) → P x → Q x) �
 All-each P Q f [] h = tt
 All-each P Q f (x ∷ xs) h = (f x h.0, All-each P Q f xs h.1)
 
--- later entries change no place of the window
-pub places-kept : (es more : List Entry) → IsFifo es → map (place_of (es ++ more)) (unanswered es) ≡ map (place_of es) (unanswered es)
-places-kept es more fifo =
-    map_agree (place_of (es ++ more)) (place_of es) (unanswered es)
-    (All-each (λ t. is_accepted t.client t.ordinal es ≡ true) (λ t. place_of (es ++ more) t ≡ place_of es t)
-    (λ t h. rw (own_of-kept t.client t.ordinal es more h, command_of-kept t.client t.ordinal es more h) refl) (unanswered es)
-    (All-kept (λ t. is_accepted t.client t.ordinal es ≡ true) (λ t. not (is_settled t.client t.ordinal es)) (takes es) (takes_accepted es fifo)))
-
--- nor what a client sees of a response
+-- later entries change nothing of what a client sees of a response
 pub shown-kept : (c : ℕ) (h : List Note) (more : List Entry) → AtEach (λ before e. IsPaired e.kind before e) (entries_of h) → map (shown (entries_of h ++ more) c) (responses c h) ≡ map (shown (entries_of h) c) (responses c h)
 shown-kept c h more paired =
     map_agree (shown (entries_of h ++ more) c) (shown (entries_of h) c) (responses c h)

@@ -4,7 +4,7 @@ use Rattle.smx_history.proofs.Presence.{present_retired}
 use Rattle.smx_history.proofs.Shifting.{IsLegal-next, stored-push}
 use Rattle.smx_history.proofs.SettleAgrees.{within-after}
 use Rattle.smx_history.proofs.Counts.{length_part}
-use Rattle.std.proofs.Common.{◌≡◌, ◌<◌, ◌≤◌, ◌+◌, ◌==◌, ℕ, Bool, true, false, cond, not, List, [], ◌∷◌, ◌++◌, length, map, refl, sym, ◌∙◌, ap, arith, filter, sum_by, length-append, Some}
+use Rattle.std.proofs.Common.{◌≡◌, ◌<◌, ◌≤◌, ◌+◌, ◌==◌, ℕ, Bool, true, false, cond, not, List, [], ◌∷◌, ◌++◌, length, map, refl, sym, ◌∙◌, ap, arith, filter, sum_by, length-append, Some, count_by}
 use Rattle.std.specs.List.{AllZip}
 use Rattle.std.proofs.lemmas.List.Sums.{sum_by-cons}
 use Rattle.smx_history.specs.declared.note.Event.TheVariants.{Retire}
@@ -18,10 +18,12 @@ use Rattle.smx_history.specs.Contents.{AgreesWith, IsAfter, IsMemberAfter, Conte
 use Rattle.smx_history.proofs.Room.{KeepsRoom, FitsBox}
 use Rattle.smx_history.specs.Replies.{member_with}
 use Rattle.smx_history.proofs.Updates.{retired, without}
-use Rattle.smx_history.proofs.Reading.{marks_of-push, entries_of-push, places-kept, All-kept}
+use Rattle.smx_history.proofs.Places.{window_after-other}
+use Rattle.smx_history.proofs.Numbering.{IsNumbered-other}
+use Rattle.smx_history.proofs.Reading.{marks_of-push, entries_of-push, All-kept}
 use Rattle.smx_history.proofs.Sizes.{found_admit, present_served}
 use Rattle.smx_history.proofs.Growing.{AtEachPrefix-whole}
-use Rattle.smx_history.proofs.Frames.{takes-other, admits-other, unanswered-other, is_up-other}
+use Rattle.smx_history.proofs.Frames.{takes-other, admits-other, is_up-other}
 use Rattle.smx_history.proofs.TakeAgrees.{IsMemberAfter-other, zip-each, requests-other}
 
 -- part of what rises rises
@@ -95,12 +97,13 @@ IsAfter-retired h v by c a =
     let push = entries_of-push h n e refl in
     record {
       queue = rw (push, takes-other es e refl, requests-other h n refl) a.after.queue;
-      window = rw (push, unanswered-other es e refl refl, places-kept es (e ∷ []) fifo) a.after.window;
+      window = λ test. a.after.window test ∙ ap (count_by test) (sym (window_after-other h n e refl refl refl fifo));
       members = rw (push, present_retired es e refl)
           (zip-each (IsMemberAfter h) (IsMemberAfter (h ++ n ∷ [])) (λ x y is. IsMemberAfter-other h n e x y refl refl refl refl a.legal.rules.pairing is)
           (filter (λ x. not (x.client == c)) (present es)) (without c v.members) (zip-without h c (present es) v.members a.after.members));
       greatest = rw (push, admits-other es e refl) a.after.greatest;
       up = rw (push, is_up-other es e refl) a.after.up;
+      numbers = IsNumbered-other h n e v.limits.window v.generations v.latest refl refl a.after.numbers;
       entries = rw (marks_of-push h n e refl, stored-push (marks_of h) e) (ap (λ xs. xs ++ e ∷ []) a.after.entries);
     }
 

@@ -17,8 +17,9 @@ use Rattle.smx_history.specs.Contents.{AgreesWith, IsAfter, Content, place_of, w
 use Rattle.smx_history.proofs.Room.{KeepsRoom}
 use Rattle.smx_history.proofs.Growing.{AtEachPrefix-whole}
 use Rattle.smx_history.proofs.Counts.{remove_only, filter-map, All-same, count_by-map, count_by-filter, count-filter-le}
-use Rattle.smx_history.proofs.Reading.{marks_of-push, own_of-kept, command_of-kept, map_agree, All-each, All-kept, All-from_get, All-filtered, any_at, takes_accepted}
+use Rattle.smx_history.proofs.Reading.{marks_of-push, entries_of-push, All-from_get, All-filtered, any_at, takes_accepted}
 use Rattle.smx_history.proofs.Sizes.{size_agrees}
+use Rattle.smx_history.proofs.Places.{places_of-kept}
 use Rattle.smx_history.proofs.Taking.{filter-and}
 use Rattle.smx_history.proofs.FitsSettle.{Settles, unanswered_settled}
 
@@ -36,21 +37,22 @@ is_taken es q =
     list_any (λ t. is_take t.kind && (has_name q.client q.ordinal t && (t.number == q.upstream))) es
     && (not (is_settled q.client q.ordinal es) && (is_accepted q.client q.ordinal es && ((own_of q.client q.ordinal es == q.own) && (command_of q.client q.ordinal es == q.command))))
 
-taken_places : (es : List Entry) → IsFifo es → AllByRecursion (λ t. is_taken es (place_of es t) ≡ true) (unanswered es)
+taken_places : (h : List Note) → IsFifo (entries_of h) → AllByRecursion (λ t. is_taken (entries_of h) (place_of h t) ≡ true) (unanswered (entries_of h))
 unfolding is_taken
-taken_places es fifo =
+taken_places h fifo =
+    let es = entries_of h in
     let taken : AllByRecursion (λ t. list_any (λ x. is_take x.kind && (has_name t.client t.ordinal x && (x.number == t.number))) es ≡ true) (takes es) =
     All-filtered (λ t. list_any (λ x. is_take x.kind && (has_name t.client t.ordinal x && (x.number == t.number))) es ≡ true) (λ t. is_take t.kind) es
     (All-from_get (λ t. is_take t.kind ≡ true → list_any (λ x. is_take x.kind && (has_name t.client t.ordinal x && (x.number == t.number))) es ≡ true) es (λ k t at take.
     any_at (λ x. is_take x.kind && (has_name t.client t.ordinal x && (x.number == t.number))) es k t at
     (and_from _ _ take (and_from _ _ (and_from _ _ (eq-eqb t.client t.client refl) (eq-eqb t.ordinal t.ordinal refl)) (eq-eqb t.number t.number refl))))) in
-    All-filtered (λ t. is_taken es (place_of es t) ≡ true) (λ t. not (is_settled t.client t.ordinal es)) (takes es)
+    All-filtered (λ t. is_taken es (place_of h t) ≡ true) (λ t. not (is_settled t.client t.ordinal es)) (takes es)
     (both (takes es) taken (takes_accepted es fifo))
   where
-    both : (us : List Entry) → AllByRecursion (λ t. list_any (λ x. is_take x.kind && (has_name t.client t.ordinal x && (x.number == t.number))) es ≡ true) us → AllByRecursion (λ t. is_accepted t.client t.ordinal es ≡ true) us → AllByRecursion (λ t. not (is_settled t.client t.ordinal es) ≡ true → is_taken es (place_of es t) ≡ true) us
+    both : (us : List Entry) → AllByRecursion (λ t. list_any (λ x. is_take x.kind && (has_name t.client t.ordinal x && (x.number == t.number))) (entries_of h) ≡ true) us → AllByRecursion (λ t. is_accepted t.client t.ordinal (entries_of h) ≡ true) us → AllByRecursion (λ t. not (is_settled t.client t.ordinal (entries_of h)) ≡ true → is_taken (entries_of h) (place_of h t) ≡ true) us
     both [] a b = tt
     both (t ∷ us) a b =
-        ((λ n. and_from _ _ a.0 (and_from _ _ n (and_from _ _ b.0 (and_from _ _ (eq-eqb (own_of t.client t.ordinal es) _ refl) (eq-eqb (command_of t.client t.ordinal es) _ refl))))), both us a.1 b.1)
+        ((λ n. and_from _ _ a.0 (and_from _ _ n (and_from _ _ b.0 (and_from _ _ (eq-eqb (own_of t.client t.ordinal (entries_of h)) _ refl) (eq-eqb (command_of t.client t.ordinal (entries_of h)) _ refl))))), both us a.1 b.1)
 
 taken_from : (es : List Entry) (q : Place) → is_taken es q ≡ true → IsTaken es q
 unfolding is_taken
@@ -67,10 +69,10 @@ place_taken h v i q a within is =
     let es = entries_of h in
     let fifo = AtEachPrefix-whole IsFifo es a.legal.rules.fifo in
     let none : list_any (λ x. not (is_taken es x)) (window_after h) ≡ false =
-    any_map_none (unanswered es) (taken_places es fifo) in
+    any_map_none (unanswered es) (taken_places h fifo) in
     taken_from es q (All-same (is_taken es) (window_after h) v.window a.after.window none i q within is)
   where
-    any_map_none : (us : List Entry) → AllByRecursion (λ t. is_taken (entries_of h) (place_of (entries_of h) t) ≡ true) us → list_any (λ x. not (is_taken (entries_of h) x)) (map (place_of (entries_of h)) us) ≡ false
+    any_map_none : (us : List Entry) → AllByRecursion (λ t. is_taken (entries_of h) (place_of h t) ≡ true) us → list_any (λ x. not (is_taken (entries_of h) x)) (map (place_of h) us) ≡ false
     any_map_none [] all = refl
     any_map_none (t ∷ us) all = rw (all.0, any_map_none us all.1) refl
 
@@ -87,7 +89,7 @@ pub few_named : (h : List Note) (v : Content) (c n : ℕ) → count_by (λ (x : 
 few_named h v c n same once =
     let es = entries_of h in
     let a : count_by (λ (x : Place). (x.client == c) && (x.ordinal == n)) (window_after h) ≡ count_by (has_name c n) (unanswered es) =
-    count_by-map (λ (x : Place). (x.client == c) && (x.ordinal == n)) (place_of es) (unanswered es) in
+    count_by-map (λ (x : Place). (x.client == c) && (x.ordinal == n)) (place_of h) (unanswered es) in
     let b : count_by (has_name c n) (unanswered es) ≤ count_by (has_name c n) (takes es) =
     count-filter-le (has_name c n) (λ t. not (is_settled t.client t.ordinal es)) (takes es) in
     let d : count_by (has_name c n) (takes es) ≡ count_by (λ x. is_take x.kind && has_name c n x) es =
@@ -95,20 +97,14 @@ few_named h v c n same once =
     omega (arith, same, a, b, d, once)
 
 -- the places of what is left
-pub window-settled : (h : List Note) (v : Content) (e : Entry) (q : Place) (i : ℕ) → AgreesWith h v → Settles e.kind → q.client ≡ e.client → q.ordinal ≡ e.ordinal → i < length v.window → q ≡ get_or v.window i q → SameCounts (map (place_of (entries_of h ++ e ∷ [])) (unanswered (entries_of h ++ e ∷ []))) (remove v.window i)
-window-settled h v e q i a settles of named' within is =
+pub window-settled : (h : List Note) (v : Content) (n : Note) (e : Entry) (q : Place) (i : ℕ) → AgreesWith h v → entry_in n ≡ Some e → Settles e.kind → q.client ≡ e.client → q.ordinal ≡ e.ordinal → i < length v.window → q ≡ get_or v.window i q → SameCounts (window_after (h ++ n ∷ [])) (remove v.window i)
+window-settled h v n e q i a entry settles of named' within is =
     let es = entries_of h in
     let fifo = AtEachPrefix-whole IsFifo es a.legal.rules.fifo in
     let named : Place → Bool = λ x. (x.client == e.client) && (x.ordinal == e.ordinal) in
-    let left = filter (λ t. not (has_name e.client e.ordinal t)) (unanswered es) in
-    let kept : map (place_of (es ++ e ∷ [])) left ≡ map (place_of es) left =
-    map_agree (place_of (es ++ e ∷ [])) (place_of es) left
-    (All-each (λ t. is_accepted t.client t.ordinal es ≡ true) (λ t. place_of (es ++ e ∷ []) t ≡ place_of es t)
-    (λ t is. rw (own_of-kept t.client t.ordinal es (e ∷ []) is, command_of-kept t.client t.ordinal es (e ∷ []) is) refl) left
-    (All-kept (λ t. is_accepted t.client t.ordinal es ≡ true) (λ t. not (has_name e.client e.ordinal t)) (unanswered es)
-    (All-kept (λ t. is_accepted t.client t.ordinal es ≡ true) (λ t. not (is_settled t.client t.ordinal es)) (takes es) (takes_accepted es fifo)))) in
-    let places : map (place_of (es ++ e ∷ [])) (unanswered (es ++ e ∷ [])) ≡ filter (λ x. not (named x)) (window_after h) =
-    ap (map (place_of (es ++ e ∷ []))) (unanswered_settled es e settles) ∙ kept ∙ sym (filter-map (λ x. not (named x)) (place_of es) (unanswered es)) in
+    let places : window_after (h ++ n ∷ []) ≡ filter (λ x. not (named x)) (window_after h) =
+    ap (map (place_of (h ++ n ∷ []))) (ap unanswered (entries_of-push h n e entry) ∙ unanswered_settled es e settles)
+    ∙ places_of-kept h (n ∷ []) (λ t. not (has_name e.client e.ordinal t)) fifo ∙ sym (filter-map (λ x. not (named x)) (place_of h) (unanswered es)) in
     let few : count_by named v.window ≤ 1 =
     few_named h v e.client e.ordinal (a.after.window named) (a.legal.rules.once.takes e.client e.ordinal) in
     λ test.

@@ -24,7 +24,7 @@ takes-le-accepts es fifo =
     omega (arith, le, length-map (accepts es) name_of, length-map (takes es) name_of)
 
 pub length-window : (h : List Note) (v : Content) → IsAfter h v → length v.window ≡ length (unanswered (entries_of h))
-length-window h v a = length-same (window_after h) v.window a.window ∙ length-map (unanswered (entries_of h)) (place_of (entries_of h))
+length-window h v a = length-same (window_after h) v.window a.window ∙ length-map (unanswered (entries_of h)) (place_of h)
 
 zip-length : {X Y : Type 0} (R : X → Y → Type 0) (xs : List X) (ys : List Y) → AllZip R xs ys → length xs ≡ length ys
 zip-length R [] [] z = refl

@@ -5,7 +5,7 @@ use Rattle.smx_history.proofs.FitsTake.{MayTake, takes_push, unanswered_taken, t
 use Rattle.smx_history.proofs.Shifting.{IsLegal-next, IsLegal-within, stored-push}
 use Rattle.smx_history.proofs.Parts.{count_numbered}
 use Rattle.smx_history.proofs.Taking.{any-and, drop-split, drop-next, filter-and, none_before, filter_none, not_settled}
-use Rattle.std.proofs.Common.{slice_get, zero, ◌≡◌, ◌<◌, ◌≤◌, ◌+◌, ◌==◌, ℕ, Bool, true, false, cond, ◌||◌, ◌&&◌, List, [], ◌∷◌, ◌++◌, length, map, take, drop, refl, sym, ◌∙◌, ap, subst, arith, filter, length-append, length-drop, nat_eq, Some, None, suc}
+use Rattle.std.proofs.Common.{slice_get, zero, ◌≡◌, ◌<◌, ◌≤◌, ◌+◌, ◌==◌, ℕ, Bool, true, false, cond, ◌||◌, ◌&&◌, List, [], ◌∷◌, ◌++◌, length, map, take, drop, refl, sym, ◌∙◌, ap, subst, arith, filter, count_by, length-append, length-drop, nat_eq, Some, None, suc}
 use Rattle.std.specs.List.{list_any, AllByRecursion, AllZip, cons_option}
 use Rattle.std.proofs.lemmas.List.{append-nil, length-map, map-append, take-map, drop-map}
 use Rattle.std.proofs.lemmas.List.Elements.{filter-append, filter_map-append}
@@ -24,8 +24,11 @@ use Rattle.smx_history.specs.Contents.{AgreesWith, IsMemberAfter, Content, Membe
 use Rattle.smx_history.proofs.Updates.{taken, place_for}
 use Rattle.smx_history.proofs.Growing.{filter_other, AtEachPrefix-whole}
 use Rattle.smx_history.proofs.Frames.{accepts-other, accepts_of-other, collects_of-other, admits-other, present-other, waiting-other, is_up-other}
-use Rattle.smx_history.proofs.Reading.{requests_are_accepts, unsigned, entries_of-push, marks_of-push, places-kept, shown-kept, responses-other, All-to_map, All-of_map}
+use Rattle.smx_history.proofs.Reading.{requests_are_accepts, unsigned, entries_of-push, marks_of-push, shown-kept, responses-other, All-to_map, All-of_map}
 use Rattle.smx_history.proofs.Sizes.{length-window}
+use Rattle.smx_history.proofs.Places.{places-kept}
+use Rattle.smx_history.proofs.Moments.{moment_of-taken}
+use Rattle.smx_history.proofs.Numbering.{IsNumbered-taken, spaced_taken, IsNext as IsNextNumber}
 
 -- the entry of the accept that is next to be taken
 pub record IsNext (es : List Entry) (r : Request) (y : Entry) (zs : List Entry) : Type 0 where
@@ -92,9 +95,9 @@ next_name es r y zs next =
     front_of zero (x ∷ xs) h = cc
     front_of (suc n) (x ∷ xs) h = front_of n xs h
 
-owed-taken : (es : List Entry) (by : ℕ) (r : Request) (u : ℕ) → is_settled r.client r.ordinal es ≡ false → length (takes es) < length (accepts es) → owed (es ++ entry_by by (Take r.client r.ordinal u) ∷ []) + 1 ≡ owed es
-owed-taken es by r u none lt =
-    let e = entry_by by (Take r.client r.ordinal u) in
+owed-taken : (es : List Entry) (by : ℕ) (r : Request) (u t : ℕ) → is_settled r.client r.ordinal es ≡ false → length (takes es) < length (accepts es) → owed (es ++ entry_by by (Take r.client r.ordinal u t) ∷ []) + 1 ≡ owed es
+owed-taken es by r u t none lt =
+    let e = entry_by by (Take r.client r.ordinal u t) in
     rw (unanswered_taken es e refl none, waiting-other es e refl refl refl refl, present-other es e refl refl, accepts-other es e refl, takes_push es e refl, is_up-other es e refl)
     (omega (arith, length-append es (e ∷ []), length-append (takes es) (e ∷ []), length-append (unanswered es) (e ∷ [])))
 
@@ -128,9 +131,9 @@ zip-each R S f (x ∷ xs) [] z = z
 zip-each R S f (x ∷ xs) (y ∷ ys) z = (f x y z.0, zip-each R S f xs ys z.1)
 
 -- the numbers of the places are those of the unanswered takes
-places_numbers : (es us : List Entry) → map (λ (p : Place). p.upstream) (map (place_of es) us) ≡ map (λ e. e.number) us
-places_numbers es [] = refl
-places_numbers es (e ∷ us) = ap (λ ns. e.number ∷ ns) (places_numbers es us)
+places_numbers : (h : List Note) (us : List Entry) → map (λ (p : Place). p.upstream) (map (place_of h) us) ≡ map (λ e. e.number) us
+places_numbers h [] = refl
+places_numbers h (e ∷ us) = ap (λ ns. e.number ∷ ns) (places_numbers h us)
 
 free_numbers : (u : ℕ) (xs : List ℕ) → list_any (λ k. nat_eq k u) xs ≡ false → AllByRecursion (λ k. nat_eq k u ≡ false) xs
 free_numbers u [] h = tt
@@ -143,59 +146,72 @@ any-map p f (x ∷ xs) = ap (λ b. p (f x) || b) (any-map p f xs)
 pub requests-other : (h : List Note) (n : Note) → request_in n.event ≡ None → requests (h ++ n ∷ []) ≡ requests h
 requests-other h n none = filter_map-append (λ x. request_in x.event) h (n ∷ []) ∙ ap (λ o. requests h ++ cons_option o []) none ∙ append-nil (requests h)
 
-cong_place : {u c n a b d e : ℕ} → a ≡ b → d ≡ e → ◌≡◌ {A = Place} (record { upstream = u; client = c; ordinal = n; own = a; command = d }) (record { upstream = u; client = c; ordinal = n; own = b; command = e })
-cong_place {u = u} {c = c} {n = n} p q = λ i. record { upstream = u; client = c; ordinal = n; own = p i; command = q i }
+cong_place : {u c n a b d e s t : ℕ} → a ≡ b → d ≡ e → s ≡ t → ◌≡◌ {A = Place} (record { upstream = u; client = c; ordinal = n; own = a; command = d; moment = s }) (record { upstream = u; client = c; ordinal = n; own = b; command = e; moment = t })
+cong_place {u = u} {c = c} {n = n} p q m = λ i. record { upstream = u; client = c; ordinal = n; own = p i; command = q i; moment = m i }
 
 queue_taken : (k : ℕ) (ts : List Entry) (e : Entry) (queue all : List Request) (r : Request) (rest : List Request) → length ts ≡ k → queue ≡ r ∷ rest → queue ≡ drop k all → drop 1 queue ≡ drop (length (ts ++ e ∷ [])) all
 queue_taken k ts e queue all r rest n front q =
     let count : length (ts ++ e ∷ []) ≡ k + 1 = omega (arith, length-append ts (e ∷ []), n) in
     ap (drop 1) front ∙ sym (drop-next k all r rest (sym q ∙ front)) ∙ ap (λ j. drop j all) (sym count)
 
-AgreesWith-taken_at : (h : List Note) (v : Content) (by : ℕ) (r : Request) (rest : List Request) (u : ℕ) (y : Entry) (zs : List Entry) → IsNext (entries_of h) r y zs → AgreesWith h v → v.queue ≡ r ∷ rest → length v.window < v.limits.window → v.up ≡ true → 0 < u → u ≤ 2147483644 → list_any (λ (p : Place). p.upstream == u) v.window ≡ false → AgreesWith (h ++ note by (Take r.client r.ordinal u) ∷ []) (taken v by r u)
-AgreesWith-taken_at h v by r rest u y zs next a front room up positive within free =
+-- what a take needs of the lane, and of the number that it gives
+pub record MayBeTaken (v : Content) (u : ℕ) : Type 0 where
+  pub room : length v.window < v.limits.window
+  pub up : v.up ≡ true
+  pub positive : 0 < u
+  pub within : u ≤ 2147483644
+  pub free : list_any (λ (p : Place). p.upstream == u) v.window ≡ false
+  pub next : IsNextNumber v.limits.window v.generations u
+
+AgreesWith-taken_at : (h : List Note) (v : Content) (by : ℕ) (r : Request) (rest : List Request) (u t : ℕ) (y : Entry) (zs : List Entry) → IsNext (entries_of h) r y zs → AgreesWith h v → v.queue ≡ r ∷ rest → MayBeTaken v u → AgreesWith (h ++ note by (Take r.client r.ordinal u t) ∷ []) (taken v by r u t)
+AgreesWith-taken_at h v by r rest u t y zs next a front may_be =
     let es = entries_of h in
-    let e = entry_by by (Take r.client r.ordinal u) in
-    let n = note by (Take r.client r.ordinal u) in
+    let e = entry_by by (Take r.client r.ordinal u t) in
+    let n = note by (Take r.client r.ordinal u t) in
     let fifo = AtEachPrefix-whole IsFifo es a.legal.rules.fifo in
     let push = entries_of-push h n e refl in
-    let unsettled = not_settled r.client r.ordinal es a.legal.rules.pairing (no_take es r y zs next fifo a.legal.rules.once) in
-    let named = named_next es r y zs next a.legal.rules.once in
-    let own : own_of r.client r.ordinal (es ++ e ∷ []) ≡ r.own =
-    ap (λ xs. first_or 0 (map (λ x. x.number) xs)) (filter_other (λ x. is_accept x.kind && has_name r.client r.ordinal x) es e refl ∙ named) ∙ next.own in
-    let command : command_of r.client r.ordinal (es ++ e ∷ []) ≡ r.command =
-    ap (λ xs. first_or 0 (map (λ x. x.command) xs)) (filter_other (λ x. is_accept x.kind && has_name r.client r.ordinal x) es e refl ∙ named) ∙ next.command in
-    let place : place_of (es ++ e ∷ []) e ≡ place_for r u = cong_place own command in
-    let numbers : list_any (λ k. nat_eq k u) (map (λ x. x.number) (unanswered es)) ≡ false =
-    ap (list_any (λ k. nat_eq k u)) (sym (places_numbers es (unanswered es))) ∙ any-map (λ k. nat_eq k u) (λ (p : Place). p.upstream) (window_after h)
-    ∙ any-same (λ (p : Place). p.upstream == u) (window_after h) v.window a.after.window free in
     let none = no_take es r y zs next fifo a.legal.rules.once in
+    let untaken = any-and es r.client r.ordinal none in
+    let unsettled = not_settled r.client r.ordinal es a.legal.rules.pairing none in
+    let named = named_next es r y zs next a.legal.rules.once in
+    let own : own_of r.client r.ordinal (entries_of (h ++ n ∷ [])) ≡ r.own =
+    ap (own_of r.client r.ordinal) push ∙ ap (λ xs. first_or 0 (map (λ x. x.number) xs)) (filter_other (λ x. is_accept x.kind && has_name r.client r.ordinal x) es e refl ∙ named) ∙ next.own in
+    let command : command_of r.client r.ordinal (entries_of (h ++ n ∷ [])) ≡ r.command =
+    ap (command_of r.client r.ordinal) push ∙ ap (λ xs. first_or 0 (map (λ x. x.command) xs)) (filter_other (λ x. is_accept x.kind && has_name r.client r.ordinal x) es e refl ∙ named) ∙ next.command in
+    let place : place_of (h ++ n ∷ []) e ≡ place_for r u t = cong_place own command (moment_of-taken r.client r.ordinal u t by h untaken) in
+    let numbers : list_any (λ k. nat_eq k u) (map (λ x. x.number) (unanswered es)) ≡ false =
+    ap (list_any (λ k. nat_eq k u)) (sym (places_numbers h (unanswered es))) ∙ any-map (λ k. nat_eq k u) (λ (p : Place). p.upstream) (window_after h)
+    ∙ any-same (λ (p : Place). p.upstream == u) (window_after h) v.window a.after.window may_be.free in
     let may : MayTake v.limits es e = record {
       command = refl;
-      positive = positive;
-      within = within;
+      positive = may_be.positive;
+      within = may_be.within;
       next = next_name es r y zs next;
-      first = any-and es r.client r.ordinal none;
+      first = untaken;
       free = count_numbered u (unanswered es) (free_numbers u (map (λ x. x.number) (unanswered es)) numbers);
-      window = omega (arith, length-window h v a.after, room);
-      up = sym a.after.up ∙ up;
+      window = omega (arith, length-window h v a.after, may_be.room);
+      up = sym a.after.up ∙ may_be.up;
+      spaced = spaced_taken h by r.client r.ordinal u t v.limits.window v.generations v.latest a.after.numbers may_be.next;
     } in
-    let window : map (place_of (es ++ e ∷ [])) (unanswered es ++ e ∷ []) ≡ window_after h ++ place_for r u ∷ [] =
-    map-append (place_of (es ++ e ∷ [])) (unanswered es) (e ∷ []) ∙ ap (λ xs. xs ++ place_of (es ++ e ∷ []) e ∷ []) (places-kept es (e ∷ []) fifo) ∙ ap (λ x. window_after h ++ x ∷ []) place in
+    let window : window_after (h ++ n ∷ []) ≡ window_after h ++ place_for r u t ∷ [] =
+    ap (map (place_of (h ++ n ∷ []))) (ap unanswered push ∙ unanswered_taken es e refl unsettled)
+    ∙ map-append (place_of (h ++ n ∷ [])) (unanswered es) (e ∷ []) ∙ ap (λ xs. xs ++ place_of (h ++ n ∷ []) e ∷ []) (places-kept h (n ∷ []) fifo) ∙ ap (λ x. window_after h ++ x ∷ []) place in
     record {
-      legal = rw (marks_of-push h n e refl) (IsLegal-next v.limits (marks_of h) e a.legal (take_fit v.limits es e a.legal.rules refl may) (let was = IsLegal-within v.limits (marks_of h) a.legal in omega (arith, owed-taken es by r u unsettled (next-lt es r y zs next), was)));
+      legal = rw (marks_of-push h n e refl) (IsLegal-next v.limits (marks_of h) e a.legal (take_fit v.limits es e a.legal.rules refl may) (let was = IsLegal-within v.limits (marks_of h) a.legal in omega (arith, owed-taken es by r u t unsettled (next-lt es r y zs next), was)));
       after = record {
         queue = rw (push, takes_push es e refl, requests-other h n refl) (queue_taken (length (takes es)) (takes es) e v.queue (requests h) r rest refl front a.after.queue);
-        window = rw (push, unanswered_taken es e refl unsettled, window) (SameCounts-push (window_after h) v.window (place_for r u) a.after.window);
+        window = λ test. SameCounts-push (window_after h) v.window (place_for r u t) a.after.window test ∙ ap (count_by test) (sym window);
         members = rw (push, present-other es e refl refl)
             (zip-each (IsMemberAfter h) (IsMemberAfter (h ++ n ∷ [])) (λ x m is. IsMemberAfter-other h n e x m refl refl refl refl a.legal.rules.pairing is) (present es) v.members a.after.members);
         greatest = rw (push, admits-other es e refl) a.after.greatest;
         up = rw (push, is_up-other es e refl) a.after.up;
+        numbers = IsNumbered-taken h by r.client r.ordinal u t v.limits.window v.generations v.latest a.after.numbers may_be.next;
         entries = rw (marks_of-push h n e refl, stored-push (marks_of h) e) (ap (λ xs. xs ++ e ∷ []) a.after.entries);
       };
     }
 
 -- a take takes a lane that agrees with a history to one that agrees with the longer one
-pub AgreesWith-taken : (h : List Note) (v : Content) (by : ℕ) (r : Request) (rest : List Request) (u : ℕ) → AgreesWith h v → v.queue ≡ r ∷ rest → length v.window < v.limits.window → v.up ≡ true → 0 < u → u ≤ 2147483644 → list_any (λ (p : Place). p.upstream == u) v.window ≡ false → AgreesWith (h ++ note by (Take r.client r.ordinal u) ∷ []) (taken v by r u)
-AgreesWith-taken h v by r rest u a front room up positive within free =
+pub AgreesWith-taken : (h : List Note) (v : Content) (by : ℕ) (r : Request) (rest : List Request) (u t : ℕ) → AgreesWith h v → v.queue ≡ r ∷ rest → MayBeTaken v u → AgreesWith (h ++ note by (Take r.client r.ordinal u t) ∷ []) (taken v by r u t)
+AgreesWith-taken h v by r rest u t a front may =
     let w = next_accept h r rest (sym front ∙ a.after.queue) in
-    AgreesWith-taken_at h v by r rest u w.0 w.1 w.2 a front room up positive within free
+    AgreesWith-taken_at h v by r rest u t w.0 w.1 w.2 a front may

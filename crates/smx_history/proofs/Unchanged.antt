@@ -1,5 +1,5 @@
 -- What a note that leaves a part of the content as it is keeps of the agreement.
-use Rattle.std.proofs.Common.{◌≡◌, ℕ, false, List, [], ◌∷◌, ◌++◌, ap, Some, None}
+use Rattle.std.proofs.Common.{◌≡◌, ℕ, false, List, [], ◌∷◌, ◌++◌, ap, sym, ◌∙◌, count_by, Some, None}
 use Rattle.std.specs.List.{AllZip}
 use Rattle.smx_history.specs.declared.entry.Entry.{Entry}
 use Rattle.smx_history.specs.declared.note.Note.{Note}
@@ -10,8 +10,9 @@ use Rattle.smx_history.proofs.Fitting.{Fits}
 use Rattle.smx_history.specs.History.{entry_in, entries_of, marks_of, stored_of, request_in, response_in}
 use Rattle.smx_history.specs.Contents.{AgreesWith, IsAfter, IsMemberAfter, Content, queue_after, window_after, greatest_after}
 use Rattle.smx_history.proofs.Room.{KeepsRoom}
-use Rattle.smx_history.proofs.Frames.{takes-other, admits-other, unanswered-other, present-other}
-use Rattle.smx_history.proofs.Reading.{marks_of-push, entries_of-push, places-kept}
+use Rattle.smx_history.proofs.Frames.{takes-other, admits-other, present-other}
+use Rattle.smx_history.proofs.Reading.{marks_of-push, entries_of-push}
+use Rattle.smx_history.proofs.Places.{window_after-other}
 use Rattle.smx_history.proofs.Shifting.{stored-push, IsLegal-next}
 use Rattle.smx_history.proofs.SettleAgrees.{within-after}
 use Rattle.smx_history.proofs.TakeAgrees.{IsMemberAfter-other, requests-other, zip-each}
@@ -22,7 +23,7 @@ queue-kept h n e v is t none a = rw (entries_of-push h n e is, takes-other (entr
 
 -- neither a take nor an answer: the window
 pub window-kept : (h : List Note) (n : Note) (e : Entry) (v : Content) → entry_in n ≡ Some e → is_take e.kind ≡ false → is_settling e.kind ≡ false → IsFifo (entries_of h) → IsAfter h v → SameCounts (window_after (h ++ n ∷ [])) v.window
-window-kept h n e v is t s fifo a = rw (entries_of-push h n e is, unanswered-other (entries_of h) e t s, places-kept (entries_of h) (e ∷ []) fifo) a.window
+window-kept h n e v is t s fifo a = λ test. a.window test ∙ ap (count_by test) (sym (window_after-other h n e is t s fifo))
 
 -- no note of a client's coming, going, accepts, answers or collects: the rows
 pub members-kept : (h : List Note) (n : Note) (e : Entry) (v : Content) → entry_in n ≡ Some e → is_admit e.kind ≡ false → is_retire e.kind ≡ false → is_accept e.kind ≡ false → is_collect e.kind ≡ false

@@ -1,5 +1,5 @@
 -- What each call leaves, said of what the lane holds: what the code does, shown to agree with the history in the files named for each call.
-use Rattle.std.specs.Prelude.{true, false, ◌+◌, ◌-◌, ◌==◌, ℕ, not, List, [], ◌∷◌, ◌++◌, map, drop, filter, if◌then◌else◌}
+use Rattle.std.specs.Prelude.{true, false, ◌+◌, ◌-◌, ◌==◌, ◌%◌, ℕ, set, replicate, not, List, [], ◌∷◌, ◌++◌, map, drop, filter, if◌then◌else◌}
 use Rattle.std.specs.List.{remove}
 use Rattle.smx_history.specs.declared.limits.Limits.{Limits}
 use Rattle.smx_history.specs.declared.request.Request.{Request}
@@ -10,11 +10,12 @@ use Rattle.smx_pdu.specs.declared.pdu.Pdu.{Pdu}
 use Rattle.smx_history.specs.declared.response.Response.{Response}
 use Rattle.smx_history.specs.declared.place.Place.{Place}
 use Rattle.smx_history.specs.History.{entry_by}
+use Rattle.smx_history.specs.Numbers.{place_in, generation_in}
 use Rattle.smx_history.specs.Contents.{Content, Member}
 
 -- what a new lane holds
 abbrev pub empty : Limits → Content
-empty limits = record { limits = limits; queue = []; window = []; members = []; greatest = 0; up = true; entries = [] }
+empty limits = record { limits = limits; queue = []; window = []; members = []; greatest = 0; up = true; generations = replicate limits.window 0; latest = 0; entries = [] }
 
 -- the row of a client that was just admitted
 abbrev pub new_row : ℕ → ℕ → Member
@@ -51,16 +52,22 @@ accepted v by r = record v {
   entries = v.entries ++ entry_by by (Accept r) ∷ [];
 }
 
--- the place of a request that goes upstream as u
-abbrev pub place_for : Request → ℕ → Place
-place_for r u = record { upstream = u; client = r.client; ordinal = r.ordinal; own = r.own; command = r.command }
+-- the place of a request that goes upstream as u at that moment
+abbrev pub place_for : Request → ℕ → ℕ → Place
+place_for r u t = record { upstream = u; client = r.client; ordinal = r.ordinal; own = r.own; command = r.command; moment = t }
+
+-- the generation that follows on one, going round
+abbrev pub following : ℕ → ℕ
+following g = (g + 1) % 2097151
 
 -- what a take of the request leaves
-abbrev pub taken : Content → ℕ → Request → ℕ → Content
-taken v by r u = record v {
+abbrev pub taken : Content → ℕ → Request → ℕ → ℕ → Content
+taken v by r u t = record v {
   queue = drop 1 v.queue;
-  window = v.window ++ place_for r u ∷ [];
-  entries = v.entries ++ entry_by by (Take r.client r.ordinal u) ∷ [];
+  window = v.window ++ place_for r u t ∷ [];
+  generations = set v.generations (place_in u) (following (generation_in u));
+  latest = t;
+  entries = v.entries ++ entry_by by (Take r.client r.ordinal u t) ∷ [];
 }
 
 -- a response as the client of the place sees it

@@ -13,7 +13,7 @@ use Rattle.smx_history.specs.Contents.{Content, Member, AgreesWith}
 use Rattle.smx_history.specs.declared.reply.Failed.{Failed}
 use Rattle.smx_history.specs.declared.reply.Failed.TheVariants as failed
 use Rattle.smx_history.specs.Failures.{failure_command}
-use Rattle.smx_history.specs.Replies.{answers_place, member_with}
+use Rattle.smx_history.specs.Replies.{answers_place, member_with, expired_in}
 
 -- queued where the client of the place is present, late where it has retired, unknown where no place is answered
 abbrev pub IsAnswered : Content → ℕ → Pdu → Answered → Content → Type 0
@@ -41,11 +41,17 @@ IsCollected old by c (Some p) new =
 abbrev pub failing : ℕ → Place → Note
 failing by q = note by (event.Fail q.client q.ordinal q.upstream (failure_command q.command))
 
--- the request of the window's first place failed (a window stands in any order): what tells its client waits for it where it is present
+-- the request of that place failed: what tells its client waits for it where it is present
+abbrev pub IsGivenUp : Content → ℕ → Place → Failed → Content → Type 0
+IsGivenUp old by q (failed.Queued c) new =
+    (q.client ≡ c) × IsSome (member_with c old.members) × ((h : List Note) → AgreesWith h old → AgreesWith (h ++ failing by q ∷ []) new)
+IsGivenUp old by q failed.Late new =
+    (member_with q.client old.members ≡ None) × ((h : List Note) → AgreesWith h old → AgreesWith (h ++ failing by q ∷ []) new)
+
+-- that of the window's first place (a window stands in any order)
 abbrev pub IsFailed : Content → ℕ → Failed → Content → Type 0
-IsFailed old by (failed.Queued c) new =
-    (q : Place) × (slice_get old.window 0 ≡ Some q) × (q.client ≡ c) × IsSome (member_with c old.members)
-    × ((h : List Note) → AgreesWith h old → AgreesWith (h ++ failing by q ∷ []) new)
-IsFailed old by failed.Late new =
-    (q : Place) × (slice_get old.window 0 ≡ Some q) × (member_with q.client old.members ≡ None)
-    × ((h : List Note) → AgreesWith h old → AgreesWith (h ++ failing by q ∷ []) new)
+IsFailed old by failed new = (q : Place) × (slice_get old.window 0 ≡ Some q) × IsGivenUp old by q failed new
+
+-- that of the first place that was taken so long ago
+abbrev pub IsExpired : Content → ℕ → ℕ → ℕ → Failed → Content → Type 0
+IsExpired old by now age failed new = (q : Place) × (expired_in old now age ≡ Some q) × IsGivenUp old by q failed new

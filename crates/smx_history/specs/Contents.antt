@@ -1,16 +1,17 @@
 -- What a lane holds, and what it holds after a history.
-use Rattle.std.specs.Prelude.{◌≡◌, ◌+◌, ◌*◌, ℕ, List, map, drop, length, sum_by, Bool, if◌then◌else◌}
-use Rattle.std.specs.List.{AllZip}
+use Rattle.std.specs.Prelude.{◌≡◌, ◌+◌, ◌*◌, ◌<◌, ℕ, slice_get, Some, List, map, drop, length, sum_by, Bool, if◌then◌else◌}
+use Rattle.std.specs.List.{AllZip, AllByRecursion}
 use Rattle.smx_history.specs.declared.entry.Entry.{Entry}
 use Rattle.smx_history.specs.declared.limits.Limits.{Limits}
 use Rattle.smx_history.specs.declared.request.Request.{Request}
 use Rattle.smx_history.specs.declared.note.Note.{Note}
 use Rattle.smx_history.specs.Prefixes.{last_or, SameCounts}
-use Rattle.smx_history.specs.Entries.{admits, takes, accepts_of, collects_of, unanswered, own_of, command_of, present, is_up}
+use Rattle.smx_history.specs.Entries.{admits, takes, accepts_of, collects_of, unanswered, own_of, command_of, present, is_up, numbers}
+use Rattle.smx_history.specs.Numbers.{place_in, generation_after, ArePlaced}
 use Rattle.smx_history.specs.Legal.{IsLegal}
 use Rattle.smx_history.specs.declared.place.Place.{Place}
 use Rattle.smx_history.specs.declared.response.Response.{Response}
-use Rattle.smx_history.specs.History.{entries_of, marks_of, stored_of, requests, responses}
+use Rattle.smx_history.specs.History.{entries_of, marks_of, stored_of, requests, responses, moment_of, latest_after}
 
 -- a client that was admitted and has not retired
 pub record Member : Type 0 where
@@ -34,6 +35,10 @@ pub record Content : Type 0 where
   pub greatest : ℕ
   -- whether there is a link upstream
   pub up : Bool
+  -- for each place below the window's size, the generation of its next take
+  pub generations : List ℕ
+  -- the moment of the last take, or 0
+  pub latest : ℕ
   pub entries : List Entry
 
 -- as a client sees a response: with its own number (SMPP 3.4, section 5.1.4)
@@ -41,8 +46,16 @@ abbrev pub shown : List Entry → ℕ → Response → Response
 shown es c r = record { ordinal = r.ordinal; pdu = record { command = r.pdu.command; status = r.pdu.status; number = own_of c r.ordinal es; body = r.pdu.body } }
 
 -- the place of a take in the window
-abbrev pub place_of : List Entry → Entry → Place
-place_of es t = record { upstream = t.number; client = t.client; ordinal = t.ordinal; own = own_of t.client t.ordinal es; command = command_of t.client t.ordinal es }
+abbrev pub place_of : List Note → Entry → Place
+place_of h t =
+    record {
+      upstream = t.number;
+      client = t.client;
+      ordinal = t.ordinal;
+      own = own_of t.client t.ordinal (entries_of h);
+      command = command_of t.client t.ordinal (entries_of h);
+      moment = moment_of t.client t.ordinal h;
+    }
 
 -- the row of a client after a history, which has this admit
 pub record IsMemberAfter (h : List Note) (admit : Entry) (m : Member) : Type 0 where
@@ -58,11 +71,18 @@ queue_after h = drop (length (takes (entries_of h))) (requests h)
 
 -- the takes without an answer
 abbrev pub window_after : List Note → List Place
-window_after h = map (place_of (entries_of h)) (unanswered (entries_of h))
+window_after h = map (place_of h) (unanswered (entries_of h))
 
 -- the greatest client admitted, or 0
 abbrev pub greatest_after : List Note → ℕ
 greatest_after h = last_or 0 (map (λ e. e.client) (admits (entries_of h)))
+
+-- the takes bear a place below the window's size and its generation in turn; the content has each place's next generation, and the last take's moment
+pub record IsNumbered (h : List Note) (window : ℕ) (generations : List ℕ) (last : ℕ) : Type 0 where
+  pub within : AllByRecursion (λ u. place_in u < window) (numbers (entries_of h))
+  pub placed : ArePlaced (numbers (entries_of h))
+  pub next : (k : ℕ) → k < window → slice_get generations k ≡ Some (generation_after k (numbers (entries_of h)))
+  pub latest : last ≡ latest_after h
 
 -- the content is what the history leaves
 pub record IsAfter (h : List Note) (content : Content) : Type 0 where
@@ -71,6 +91,7 @@ pub record IsAfter (h : List Note) (content : Content) : Type 0 where
   pub members : AllZip (IsMemberAfter h) (present (entries_of h)) content.members
   pub greatest : content.greatest ≡ greatest_after h
   pub up : content.up ≡ is_up (entries_of h)
+  pub numbers : IsNumbered h content.limits.window content.generations content.latest
   pub entries : content.entries ≡ stored_of h
 
 -- the history is legal, and the content is what it leaves

@@ -73,6 +73,10 @@ accepts es = filter (λ e. is_accept e.kind) es
 abbrev pub takes : List Entry → List Entry
 takes es = filter (λ e. is_take e.kind) es
 
+-- the numbers of the takes upstream, in order
+abbrev pub numbers : List Entry → List ℕ
+numbers es = map (λ t. t.number) (takes es)
+
 -- the same of one client
 abbrev pub accepts_of : ℕ → List Entry → List Entry
 accepts_of c es = filter (λ e. is_accept e.kind && (e.client == c)) es

@@ -12,7 +12,8 @@ use Rattle.smx_history.specs.declared.reply.Refusal.{Refusal}
 use Rattle.smx_history.specs.declared.reply.Refusal.TheVariants.{NotAdmitted, ClientFull, QueueFull, HistoryFull, Down}
 use Rattle.smx_history.specs.declared.reply.TakeRefusal.{TakeRefusal}
 use Rattle.smx_history.specs.declared.reply.TakeRefusal.TheVariants.{QueueEmpty, WindowFull, Down as TakeDown}
-use Rattle.smx_history.specs.Entries.{accepts_of, collects_of, present, is_up}
+use Rattle.smx_history.specs.Entries.{accepts_of, collects_of, present, is_up, numbers}
+use Rattle.smx_history.specs.Numbers.{recent}
 use Rattle.smx_history.specs.Legal.{size}
 use Rattle.smx_history.specs.History.{marks_of, entries_of, responses}
 use Rattle.smx_history.specs.Contents.{shown, queue_after, window_after, greatest_after}
@@ -64,8 +65,9 @@ unfoldable pub waiting_after : List Note → ℕ → List Response
 waiting_after h c =
     if is_present c h then drop (length (collects_of c (entries_of h))) (map (shown (entries_of h) c) (responses c h)) else []
 
--- a number that the next request may bear upstream: in range, and of none that is unanswered. A window has at most 1,024 places, so with room in it there is such a number
+-- a number that the next request may bear upstream: in range, of none that is unanswered, and of none of the last 999,999 takes. A window has at most 1,024 places, so with room in it there is such a number
 pub record IsFree (h : List Note) (u : ℕ) : Type 0 where
   pub above : length (window_after h) < 1024 → 0 < u
   pub below : length (window_after h) < 1024 → u ≤ 2147483644
   pub unused : length (window_after h) < 1024 → list_any (λ p. p.upstream == u) (window_after h) ≡ false
+  pub spaced : length (window_after h) < 1024 → list_any (λ n. n == u) (recent (numbers (entries_of h))) ≡ false

@@ -1,5 +1,5 @@
 -- A lane's history: notes with bodies and statuses.
-use Rattle.std.specs.Prelude.{◌==◌, ℕ, List, map, filter_map, Option, Some, None, if◌then◌else◌}
+use Rattle.std.specs.Prelude.{◌==◌, ◌&&◌, ℕ, List, map, filter_map, Option, Some, None, if◌then◌else◌}
 use Rattle.smx_history.specs.declared.entry.Kind.TheVariants as kind
 use Rattle.smx_history.specs.declared.note.Event.{Event}
 use Rattle.smx_history.specs.declared.note.Event.TheVariants.{Admit, Accept, Take, Answer, Late, Collect, Retire, Fail, Down, Up}
@@ -8,6 +8,7 @@ use Rattle.smx_history.specs.declared.request.Request.{Request}
 use Rattle.smx_history.specs.declared.note.Note.{Note}
 use Rattle.smx_history.specs.declared.response.Response.{Response}
 use Rattle.std.specs.Option.{option_map}
+use Rattle.smx_history.specs.Prefixes.{first_or, last_or}
 use Rattle.smx_history.specs.Shifts.{noted, stored}
 use Rattle.smx_history.specs.Failures.{failure}
 
@@ -15,7 +16,7 @@ use Rattle.smx_history.specs.Failures.{failure}
 abbrev pub entry_by : ℕ → Event → Entry
 entry_by by (Admit c) = record { kind = kind.Admit; by = by; client = c; ordinal = 0; number = 0; command = 0 }
 entry_by by (Accept r) = record { kind = kind.Accept; by = by; client = r.client; ordinal = r.ordinal; number = r.own; command = r.command }
-entry_by by (Take c n u) = record { kind = kind.Take; by = by; client = c; ordinal = n; number = u; command = 0 }
+entry_by by (Take c n u t) = record { kind = kind.Take; by = by; client = c; ordinal = n; number = u; command = 0 }
 entry_by by (Answer c n p) = record { kind = kind.Answer; by = by; client = c; ordinal = n; number = p.number; command = p.command }
 entry_by by (Late c n u k) = record { kind = kind.Late; by = by; client = c; ordinal = n; number = u; command = k }
 entry_by by (Collect c n) = record { kind = kind.Collect; by = by; client = c; ordinal = n; number = 0; command = 0 }
@@ -58,6 +59,23 @@ response_in c _ = None
 -- the responses that came for a client in time, as they came
 abbrev pub responses : ℕ → List Note → List Response
 responses c h = filter_map (λ note. response_in c note.event) h
+
+-- the moment of a take, in milliseconds
+abbrev pub moment_in : Option Event → Option ℕ
+moment_in (Some (Take c n u t)) = Some t
+moment_in _ = None
+
+-- that of the last take, or 0
+abbrev pub latest_after : List Note → ℕ
+latest_after h = last_or 0 (filter_map (λ note. moment_in note.event) h)
+
+-- that of the take of the request of that name
+abbrev pub moment_named : ℕ → ℕ → Option Event → Option ℕ
+moment_named c n (Some (Take d m u t)) = if (d == c) && (m == n) then Some t else None
+moment_named c n _ = None
+
+abbrev pub moment_of : ℕ → ℕ → List Note → ℕ
+moment_of c n h = first_or 0 (filter_map (λ note. moment_named c n note.event) h)
 
 -- an event of that caller
 abbrev pub note : ℕ → Event → Note

@@ -9,7 +9,8 @@ use Rattle.smx_pdu.specs.Command.{is_forwarded, is_response_to}
 use Rattle.smx_history.specs.Shifts.{noted, stored}
 use Rattle.smx_history.specs.Failures.{failure_command}
 use Rattle.smx_history.specs.Prefixes.{AtEachPrefix, AtEach, StartsWith, RiseAbove}
-use Rattle.smx_history.specs.Entries.{is_take, is_settling, is_retire, name_of, has_name, admits, accepts, takes, accepts_of, answers_of, collects_of, is_retired, is_admitted, is_accepted, is_settled, unanswered, command_of, present, is_up}
+use Rattle.smx_history.specs.Entries.{is_take, is_settling, is_retire, name_of, has_name, admits, accepts, takes, accepts_of, answers_of, collects_of, is_retired, is_admitted, is_accepted, is_settled, unanswered, command_of, present, is_up, numbers}
+use Rattle.smx_history.specs.Numbers.{AreSpaced}
 
 -- the entry speaks of no client
 abbrev pub IsBare : Entry → Type 0
@@ -106,7 +107,7 @@ pub record IsBounded (limits : Limits) (es : List Entry) : Type 0 where
 abbrev pub IsWithin : Limits → List (Option Entry) → Type 0
 IsWithin limits marks = size marks ≤ limits.history
 
--- what all entries keep to, over all shifts: each is the entry of some note, and the list keeps the rules of Fifo, Once, Membership (by two fields), Pairing (by two) and Bounds
+-- what all entries keep to, over all shifts: each is the entry of some note, and the list keeps the rules of Fifo, Once, Membership (by two fields), Pairing (by three) and Bounds
 pub record KeepsRules (limits : Limits) (es : List Entry) : Type 0 where
   pub form : AtEach (λ before e. HasForm e.kind e) es
   pub fifo : AtEachPrefix IsFifo es
@@ -115,6 +116,7 @@ pub record KeepsRules (limits : Limits) (es : List Entry) : Type 0 where
   pub standing : AtEach (λ before e. StandsWell e.kind before e) es
   pub pairing : AtEach (λ before e. IsPaired e.kind before e) es
   pub apart : AtEachPrefix AreApart es
+  pub spaced : AreSpaced (numbers es)
   pub bounds : AtEachPrefix (IsBounded limits) es
 
 -- a legal history: all entries keep the rules, and at each moment the size since the last shift is within the limit

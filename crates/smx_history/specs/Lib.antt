@@ -2,6 +2,7 @@ pub mod Prefixes
 pub mod Entries
 pub mod Legal
 pub mod History
+pub mod Numbers
 pub mod Contents
 pub mod Replies
 pub mod Room

@@ -1,5 +1,5 @@
 -- What the calls answer, and what they leave.
-use Rattle.std.specs.Prelude.{◌+◌, ◌==◌, ◌&&◌, nat_le, ℕ, Bool, not, List, [], length, Option, Some, None, if◌then◌else◌}
+use Rattle.std.specs.Prelude.{◌+◌, ◌==◌, ◌&&◌, nat_le, max, ℕ, Bool, not, List, [], length, Option, Some, None, if◌then◌else◌}
 use Rattle.std.specs.List.{find}
 use Rattle.smx_history.specs.declared.reply.AdmitRefusal.{AdmitRefusal}
 use Rattle.smx_history.specs.declared.reply.AdmitRefusal.TheVariants.{Known, HistoryFull as AdmitHistoryFull}
@@ -71,6 +71,18 @@ up_refusal v =
 -- the place that a response answers: it has its number, and its command answers the request's (SMPP 3.4, section 5.1.4)
 abbrev pub answers_place : Pdu → Place → Bool
 answers_place p q = (q.upstream == p.number) && is_response_to q.command p.command
+
+-- the moment that counts where this one is handed in: one below that of the last take counts as that
+abbrev pub moment_at : Content → ℕ → ℕ
+moment_at v now = max now v.latest
+
+-- the request of the place was taken at least so long before, in milliseconds
+abbrev pub is_expired : ℕ → ℕ → Place → Bool
+is_expired at age q = nat_le (q.moment + age) at
+
+-- the first place whose request was
+abbrev pub expired_in : Content → ℕ → ℕ → Option Place
+expired_in v now age = find (is_expired (moment_at v now) age) v.window
 
 -- what a shift leaves: the entries were handed out
 abbrev pub turned : Content → Content

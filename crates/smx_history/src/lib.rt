@@ -15,7 +15,8 @@ pub use limits::Limits;
 pub use note::{Event, Note};
 pub use place::Place;
 pub use reply::{
-    AdmitRefusal, AlreadyDown, Answered, FailRefusal, Failed, Refusal, TakeRefusal, UpRefusal,
+    AdmitRefusal, AlreadyDown, Answered, FailRefusal, Failed, NoneExpired, Refusal, TakeRefusal,
+    UpRefusal,
 };
 pub use request::Request;
 pub use response::Response;

@@ -12,10 +12,12 @@ pub enum Event {
     Accept {
         request: Request,
     },
+    /// The moment is in milliseconds, and no smaller than that of the take before.
     Take {
         client: u64,
         ordinal: u64,
         upstream: u32,
+        moment: u64,
     },
     /// The response as it came, with the number upstream.
     Answer {

@@ -10,4 +10,6 @@ pub struct Place {
     /// The client's own sequence number.
     pub own: u32,
     pub command: u32,
+    /// When it was taken, in milliseconds.
+    pub moment: u64,
 }

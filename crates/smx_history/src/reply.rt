@@ -78,6 +78,11 @@ pub enum FailRefusal {
     WindowEmpty,
 }
 
+/// No request that was taken is so old without an answer.
+#[derive(Clone, Copy, Debug, PartialEq, Eq, Error)]
+#[error("no taken request is so old")]
+pub struct NoneExpired;
+
 /// What became of a request that failed.
 #[derive(Clone, Copy, Debug, PartialEq, Eq)]
 pub enum Failed {

@@ -12,3 +12,4 @@ pub mod CountedSettle
 pub mod Nth
 pub mod Marking
 pub mod Steps
+pub mod Bearing

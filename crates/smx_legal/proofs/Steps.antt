@@ -23,6 +23,7 @@ KeepsRules-fits limits es e h = record {
   standing = AtEach-last (λ before x. StandsWell x.kind before x) es e h.standing;
   pairing = AtEach-last (λ before x. IsPaired x.kind before x) es e h.pairing;
   apart = AtEachPrefix-whole AreApart (es ++ e ∷ []) h.apart;
+  spaced = h.spaced;
   bounds = AtEachPrefix-whole (IsBounded limits) (es ++ e ∷ []) h.bounds;
 }
 

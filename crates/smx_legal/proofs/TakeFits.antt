@@ -1,5 +1,5 @@
 -- The test of a take says whether it fits.
-use Rattle.smx_history.proofs.FitsTake.{MayTake, take_fit, own_name, takes_push, unanswered_taken, untaken_unsettled}
+use Rattle.smx_history.proofs.FitsTake.{MayTake, take_fit, own_name, takes_push, numbers_push, unanswered_taken, untaken_unsettled}
 use Rattle.std.proofs.Common.{◌≡◌, ◌≤◌, ◌↔◌, ℕ, Bool, true, false, not, ◌&&◌, List, [], ◌∷◌, ◌++◌, length, map, sym, ◌∙◌, ap, subst, arith, length-append, slice_get, nat_eq}
 use Rattle.std.specs.List.{IsDistinct}
 use Rattle.std.specs.Option.{option_map}
@@ -11,12 +11,14 @@ use Rattle.smx_history.specs.declared.entry.Kind.TheVariants as kind
 use Rattle.smx_history.specs.declared.limits.Limits.{Limits}
 use Rattle.smx_legal.specs.declared.totals.Totals.{Totals}
 use Rattle.smx_history.specs.Prefixes.{StartsWith}
-use Rattle.smx_history.specs.Entries.{is_accept, is_take, name_of, has_name, accepts, takes, unanswered}
+use Rattle.smx_history.specs.Entries.{is_accept, is_take, name_of, has_name, accepts, takes, unanswered, numbers}
+use Rattle.smx_history.specs.Numbers.{AreSpaced}
 use Rattle.smx_history.specs.Legal.{KeepsRules, HasForm, IsPaired, StandsWell}
 use Rattle.smx_history.proofs.Fitting.{Fits, is_taken}
 use Rattle.smx_legal.specs.Checks.{Counted, take_fits, takes_as, settlings_as}
 use Rattle.smx_history.proofs.Counts.{count_none_any}
 use Rattle.smx_history.proofs.Frames.{accepts-other}
+use Rattle.smx_history.proofs.Spacing.{spaced_next, spaced_free}
 use Rattle.smx_history.proofs.Parts.{StartsWith-end, IsDistinct-end, count_numbered, count_one}
 use Rattle.smx_legal.proofs.Passing.{named_some, some_named}
 
@@ -24,10 +26,11 @@ next_is : (t : Totals) (es : List Entry) (e : Entry) → Counted es t → option
 next_is t es e counted =
     sym (slice_get-map name_of (accepts es) t.taken) ∙ ap (slice_get (map name_of (accepts es))) (counted.taken ∙ sym (length-map (takes es) name_of))
 
-passes_from : (limits : Limits) (t : Totals) (es : List Entry) (e : Entry) → Counted es t → take_fits limits t es e ≡ true → MayTake limits es e
-passes_from limits t es e counted test =
+passes_from : (limits : Limits) (t : Totals) (es : List Entry) (e : Entry) → KeepsRules limits es → Counted es t → take_fits limits t es e ≡ true → MayTake limits es e
+passes_from limits t es e legal counted test =
     let a = and_parts _ _ test in
-    let b = and_parts _ _ a.0 in
+    let r = and_parts _ _ a.0 in
+    let b = and_parts _ _ r.0 in
     let c = and_parts _ _ b.0 in
     let d = and_parts _ _ c.0 in
     let f = and_parts _ _ d.0 in
@@ -43,13 +46,14 @@ passes_from limits t es e counted test =
       first = not-true _ c.1;
       free = omega (arith, same, counted.numbers e.number);
       window = omega (arith, ltb-true _ _ a.1, counted.unanswered);
+      spaced = spaced_next (numbers es) e.number legal.spaced (not-true _ r.1);
     }
 
 passes_to : (limits : Limits) (t : Totals) (es : List Entry) (e : Entry) → Counted es t → MayTake limits es e → take_fits limits t es e ≡ true
 passes_to limits t es e counted p =
     let same : settlings_as e.number es ≡ takes_as e.number es = omega (arith, p.free, counted.numbers e.number) in
-    and_from _ _ (and_from _ _ (and_from _ _ (and_from _ _ (and_from _ _ (and_from _ _ (and_from _ _ (counted.up ∙ p.up) (eq-eqb _ _ p.command)) (lt-ltb _ _ p.positive)) (le-leb _ _ p.within))
-    (some_named (slice_get (accepts es) t.taken) e.client e.ordinal (next_is t es e counted ∙ p.next))) (ap not p.first)) (eq-eqb _ _ same)) (lt-ltb _ _ (omega (arith, p.window, counted.unanswered)))
+    and_from _ _ (and_from _ _ (and_from _ _ (and_from _ _ (and_from _ _ (and_from _ _ (and_from _ _ (and_from _ _ (counted.up ∙ p.up) (eq-eqb _ _ p.command)) (lt-ltb _ _ p.positive)) (le-leb _ _ p.within))
+    (some_named (slice_get (accepts es) t.taken) e.client e.ordinal (next_is t es e counted ∙ p.next))) (ap not p.first)) (eq-eqb _ _ same)) (ap not (spaced_free (numbers es) e.number p.spaced))) (lt-ltb _ _ (omega (arith, p.window, counted.unanswered)))
 
 -- the first take of that name
 pub taken_first : (limits : Limits) (es : List Entry) (e : Entry) → Fits limits es e → e.kind ≡ kind.Take → is_taken e.client e.ordinal es ≡ false
@@ -79,8 +83,9 @@ take_from limits es e legal k fits =
       first = first;
       free = count_numbered e.number (unanswered es) (IsDistinct-end (map (λ x. x.number) (unanswered es)) e.number distinct);
       window = omega (arith, window, length-append (unanswered es) (e ∷ []));
+      spaced = subst (λ (ns : List ℕ). AreSpaced ns) (numbers_push es e k) fits.spaced;
     }
 
 pub take_iff : (limits : Limits) (t : Totals) (es : List Entry) (e : Entry) (b : Bool) → KeepsRules limits es → Counted es t → e.kind ≡ kind.Take → b ≡ take_fits limits t es e → (b ≡ true) ↔ Fits limits es e
 take_iff limits t es e b legal counted k is =
-    (λ h. take_fit limits es e legal k (passes_from limits t es e counted (sym is ∙ h)), λ fits. is ∙ passes_to limits t es e counted (take_from limits es e legal k fits))
+    (λ h. take_fit limits es e legal k (passes_from limits t es e legal counted (sym is ∙ h)), λ fits. is ∙ passes_to limits t es e counted (take_from limits es e legal k fits))

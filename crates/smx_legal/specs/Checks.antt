@@ -10,7 +10,8 @@ use Rattle.smx_legal.specs.declared.part.Part.TheVariants as part
 use Rattle.smx_legal.specs.declared.past.Past.{Past}
 use Rattle.smx_pdu.specs.Command.{is_forwarded, is_response_to}
 use Rattle.smx_history.specs.Prefixes.{last_or}
-use Rattle.smx_history.specs.Entries.{is_admit, is_accept, is_take, is_answer, is_collect, is_retire, is_settling, has_name, admits, accepts, takes, accepts_of, answers_of, collects_of, is_retired, is_admitted, is_settled, unanswered, present, is_up}
+use Rattle.smx_history.specs.Entries.{is_admit, is_accept, is_take, is_answer, is_collect, is_retire, is_settling, has_name, admits, accepts, takes, accepts_of, answers_of, collects_of, is_retired, is_admitted, is_settled, unanswered, present, is_up, numbers}
+use Rattle.smx_history.specs.Numbers.{recent}
 use Rattle.smx_history.specs.Failures.{failure_command}
 use Rattle.smx_history.specs.Shifts.{marks_in}
 use Rattle.smx_history.specs.Legal.{IsLegal, queued, waiting}
@@ -41,6 +42,7 @@ is_in part.Accepts e = is_accept e.kind
 is_in (part.AcceptsOf c) e = is_accept e.kind && (e.client == c)
 is_in (part.AnswersOf c) e = is_answer e.kind && (e.client == c)
 is_in (part.CollectsOf c) e = is_collect e.kind && (e.client == c)
+is_in part.Takes e = is_take e.kind
 is_in (part.TakesAs u) e = is_take e.kind && (e.number == u)
 is_in (part.SettlingsAs u) e = is_settling e.kind && (e.number == u)
 
@@ -50,6 +52,10 @@ takes_as u es = length (filter (λ e. is_take e.kind && (e.number == u)) es)
 
 abbrev pub settlings_as : ℕ → List Entry → ℕ
 settlings_as u es = length (filter (λ e. is_settling e.kind && (e.number == u)) es)
+
+-- one of the last 999,999 takes bears the number
+abbrev pub is_recent : ℕ → List Entry → Bool
+is_recent u es = list_any (λ n. n == u) (recent (numbers es))
 
 -- the totals are those of the list
 pub record Counted (es : List Entry) (t : Totals) : Type 0 where
@@ -109,7 +115,8 @@ abbrev pub take_fits : Limits → Totals → List Entry → Entry → Bool
 take_fits l t es e =
     t.up && (e.command == 0) && nat_lt 0 e.number && nat_le e.number 2147483644
     && is_next t es e && not (is_taken e.client e.ordinal es)
-    && (settlings_as e.number es == takes_as e.number es) && nat_lt t.unanswered l.window
+    && (settlings_as e.number es == takes_as e.number es) && not (is_recent e.number es)
+    && nat_lt t.unanswered l.window
 
 abbrev pub settle_fits : List Entry → Entry → Bool
 settle_fits es e =

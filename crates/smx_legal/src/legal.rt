@@ -4,7 +4,7 @@ ghost use Rattle.smx_history.specs.Entries.{is_retired, answers_of, collects_of}
 ghost use Rattle.smx_history.specs.Shifts.{marks_in};
 ghost use Rattle.smx_history.specs.Legal.{IsFifo, IsLegal, KeepsRules};
 ghost use Rattle.smx_history.proofs.Fitting.{Fits};
-ghost use Rattle.smx_legal.specs.Checks.{Counted, Follows, entries_before, entries_in, lists_of, is_bare, is_served, is_next, is_response, is_oldest, admit_fits, accept_fits, take_fits, settle_fits, answer_fits, late_fits, collect_fits, retire_fits, fail_fits, is_failure, link_fits, up_fits, down_fits};
+ghost use Rattle.smx_legal.specs.Checks.{Counted, Follows, entries_before, entries_in, lists_of, is_bare, is_served, is_next, is_recent, is_response, is_oldest, admit_fits, accept_fits, take_fits, settle_fits, answer_fits, late_fits, collect_fits, retire_fits, fail_fits, is_failure, link_fits, up_fits, down_fits};
 
 use crate::part::Part;
 use crate::past::Past;
@@ -68,7 +68,17 @@ fn is_next(totals: Totals, past: Past<'_>, entry: Entry) -> bool
     }
 }
 
+// Whether one of the last 999,999 takes bears the number: two takes that bear the same number
+// (sequence_number, SMPP 3.4, section 5.1.4) are at least 1,000,000 takes apart.
+fn is_recent(totals: Totals, past: Past<'_>, number: u32) -> bool
+    requires { Counted (entries_before past) totals }
+    ensures { result ≡ is_recent number (entries_before past.entry) }
+{
+    past.bears_after(number, totals.taken.saturating_sub(999_999))
+}
+
 fn take_fits(limits: Limits, totals: Totals, past: Past<'_>, entry: Entry) -> bool
+    requires { Counted (entries_before past) totals }
     ensures { result ≡ take_fits limits totals (entries_before past.entry) entry }
 {
     let Entry {
@@ -84,6 +94,7 @@ fn take_fits(limits: Limits, totals: Totals, past: Past<'_>, entry: Entry) -> bo
         && is_next(totals, past, entry)
         && !past.any(Part::Take { client, ordinal })
         && past.count(Part::SettlingsAs { number }) == past.count(Part::TakesAs { number })
+        && !is_recent(totals, past, number)
         && totals.unanswered < limits.window as u128
 }
 

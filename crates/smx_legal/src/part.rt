@@ -56,6 +56,8 @@ pub enum Part {
     CollectsOf {
         client: u64,
     },
+    /// All takes.
+    Takes,
     /// The takes under this number.
     TakesAs {
         number: u32,
@@ -118,6 +120,7 @@ impl Part {
             Part::CollectsOf { client } => {
                 matches!(entry.kind, Kind::Collect) && entry.client == client
             }
+            Part::Takes => matches!(entry.kind, Kind::Take),
             Part::TakesAs { number } => {
                 matches!(entry.kind, Kind::Take) && entry.number == number
             }

@@ -1,6 +1,7 @@
 //! The entries that stand before the one that is looked at.
-ghost use Rattle.std.specs.Prelude.{◌≡◌, ◌≤◌, ◌+◌, ◌-◌, ◌*◌, ◌^◌, length, filter, slice_get, MatchResult, Some};
+ghost use Rattle.std.specs.Prelude.{◌≡◌, ◌≤◌, ◌+◌, ◌-◌, ◌*◌, ◌^◌, ◌==◌, true, false, length, filter, drop, slice_get, MatchResult, MatchOption, Some};
 ghost use Rattle.std.specs.List.{list_any};
+ghost use Rattle.smx_history.specs.Entries.{numbers};
 ghost use Rattle.smx_legal.specs.Checks.{is_in, entries_before};
 
 use crate::part::Part;
@@ -35,6 +36,27 @@ fn nth_in(entries: &[Entry], part: Part, n: u128) -> Result<Entry, u128>
         }
     }
     Err(left)
+}
+
+// How many takes are left to pass over, or nothing where one that stands after so many others bears
+// the number.
+fn pass_over(entries: &[Entry], number: u32, n: u128) -> Option<u128>
+    ensures { MatchOption result
+        (list_any (λ u. u == number) (drop n (numbers entries.now)) ≡ true)
+        (λ left. (list_any (λ u. u == number) (drop n (numbers entries.now)) ≡ false)
+        × (left ≡ n - length (numbers entries.now))) }
+{
+    let mut left = n;
+    for entry in entries {
+        if Part::Takes.has(entry) {
+            if left > 0 {
+                left -= 1;
+            } else if entry.number == number {
+                return None;
+            }
+        }
+    }
+    Some(left)
 }
 
 impl Past<'_> {
@@ -73,5 +95,20 @@ impl Past<'_> {
             Ok(entry) => Some(entry),
             Err(_) => None,
         }
+    }
+
+    /// Whether a take that stands after so many others bears the number.
+    pub fn bears_after(self, number: u32, n: u128) -> bool
+        ensures { result
+            ≡ list_any (λ u. u == number) (drop n (numbers (entries_before self.entry))) }
+    {
+        let mut left = n;
+        for list in self.earlier {
+            match pass_over(list.as_slice(), number, left) {
+                Some(rest) => left = rest,
+                None => return true,
+            }
+        }
+        pass_over(self.since, number, left).is_none()
     }
 }
