@@ -1,5 +1,5 @@
 -- The place that a response answers, by its index.
-use Rattle.std.proofs.Common.{◌≡◌, ◌<◌, ◌==◌, ℕ, Bool, true, false, cond, List, [], ◌∷◌, length, get_or, slice_get, Some, sym, refl, ap, ◌∙◌}
+use Rattle.std.proofs.Common.{◌≡◌, ◌<◌, ◌==◌, ℕ, Bool, true, false, cond, List, [], ◌∷◌, length, get_or, slice_get, suc, Some, sym, refl, ap, ◌∙◌}
 use Rattle.std.specs.List.{find}
 use Rattle.std.proofs.lemmas.Bool.{and_parts, eqb-true}
 use Rattle.std.proofs.lemmas.Option.{slice_get_within, get_or_from_slice_get}
@@ -17,6 +17,15 @@ found-passes p (y ∷ xs) x h = head (p y) refl h (found-passes p xs x)
     head : (b : Bool) → p y ≡ b → cond b (Some y) (find p xs) ≡ Some x → (find p xs ≡ Some x → p x ≡ true) → p x ≡ true
     head true e f rest = let same : y ≡ x = cc in ap p (sym same) ∙ e
     head false e f rest = rest f
+
+-- and stands at some index
+pub found_index : {X : Type 0} (p : X → Bool) (xs : List X) (x : X) → find p xs ≡ Some x → (i : ℕ) × (slice_get xs i ≡ Some x)
+found_index p [] x h = cc
+found_index p (y ∷ xs) x h = head (p y) h (found_index p xs x)
+  where
+    head : (b : Bool) → cond b (Some y) (find p xs) ≡ Some x → (find p xs ≡ Some x → (i : ℕ) × (slice_get xs i ≡ Some x)) → (i : ℕ) × (slice_get (y ∷ xs) i ≡ Some x)
+    head true f rest = (0, f)
+    head false f rest = let r = rest f in (suc r.0, r.1)
 
 -- the place at the index is the first that the response answers
 pub record IsAnsweredAt (v : Content) (p : Pdu) (i : ℕ) (q : Place) : Type 0 where

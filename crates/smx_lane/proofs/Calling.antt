@@ -1,5 +1,5 @@
 -- What each call says of its reply, and what a list of calls leaves.
-use Rattle.std.proofs.Common.{◌≡◌, ◌++◌, ◌∷◌, [], ℕ, true, false, List, Option, Some, None, Result, Ok, Err, IsSome, is_some, IfOk, OnOk, OnErr, MatchResult, refl, sym, ap, ◌∙◌, subst, append_assoc, slice_get}
+use Rattle.std.proofs.Common.{◌≡◌, ◌++◌, ◌∷◌, [], ℕ, true, false, List, Option, Some, None, Result, Ok, Err, IsSome, is_some, IfOk, IfErr, OnOk, OnErr, MatchResult, refl, sym, ap, ◌∙◌, subst, append_assoc, slice_get}
 use Rattle.std.proofs.lemmas.List.{append-nil}
 use Rattle.smx_pdu.specs.declared.pdu.Pdu.{Pdu}
 use Rattle.smx_history.specs.declared.note.Note.{Note}
@@ -13,14 +13,15 @@ use Rattle.smx_history.specs.declared.reply.AlreadyDown.{AlreadyDown}
 use Rattle.smx_history.specs.declared.reply.UpRefusal.{UpRefusal}
 use Rattle.smx_history.specs.declared.reply.FailRefusal.{FailRefusal}
 use Rattle.smx_history.specs.declared.reply.Failed.{Failed}
+use Rattle.smx_history.specs.declared.reply.NoneExpired.{NoneExpired}
 use Rattle.smx_history.specs.declared.reply.Failed.TheVariants as failed
 use Rattle.smx_history.specs.declared.note.Event.{Event}
 use Rattle.smx_history.specs.declared.place.Place.{Place}
 use Rattle.smx_history.specs.Failures.{failure_command}
 use Rattle.smx_history.specs.History.{note, shift}
 use Rattle.smx_history.specs.Contents.{Content, AgreesWith}
-use Rattle.smx_history.specs.Replies.{admit_refusal, accept_refusal, take_refusal, fail_refusal, up_refusal, member_with}
-use Rattle.smx_history.specs.Answering.{IsAnswered, IsCollected, IsFailed, failing}
+use Rattle.smx_history.specs.Replies.{admit_refusal, accept_refusal, take_refusal, fail_refusal, up_refusal, member_with, moment_at, expired_in}
+use Rattle.smx_history.specs.Answering.{IsAnswered, IsCollected, IsFailed, IsExpired, IsGivenUp, failing}
 use Rattle.smx_lane.specs.declared.fault.AdmitFault.{AdmitFault}
 use Rattle.smx_lane.specs.declared.fault.NotAdmitted.{NotAdmitted}
 use Rattle.smx_lane.specs.declared.sent.Sent.{Sent}
@@ -34,7 +35,8 @@ use Rattle.smx_lane.specs.Turning.{IsTurned}
 use Rattle.std.specs.Option.{option_map}
 use Rattle.std.specs.Global.{Vec}
 use Rattle.smx_history.specs.declared.entry.Entry.{Entry}
-use Rattle.smx_lane.specs.Calls.{GoesOn, IsReply, Ran, HandsOut}
+use Rattle.smx_lane.specs.Taking.{taking}
+use Rattle.smx_lane.specs.Calls.{GoesOn, IsReply, Tells, Ran, HandsOut}
 use Rattle.smx_lane.proofs.Handing.{hands_nothing, hands_event, hands_list}
 
 -- a call with its reply and its notes
@@ -54,10 +56,13 @@ pub accept_made : (old new : Content) (by : ℕ) (q : Request) (r : Result (Unit
 accept_made old new by q (Ok x) kept told goes same = (note by (event.Accept q) ∷ [], (kept, told, refl), goes, hands_event old new by (event.Accept q) goes)
 accept_made old new by q (Err e) kept told goes same = ([], (kept, told.0, told.1, (refl, same)), stays old new same, λ h was. hands_nothing old new same)
 
-pub take_made : (old new : Content) (by : ℕ) (r : Result Sent TakeRefusal) → MatchResult r (λ _. take_refusal old ≡ None) (λ e. take_refusal old ≡ Some e)
-    → IfOk r (λ s. slice_get old.queue 0 ≡ Some s.request) → IfOk r (λ s. GoesOn old (note by (event.Take s.request.client s.request.ordinal s.upstream) ∷ []) new) → OnErr r (new ≡ old) → IsMade old (call.Take by) (reply.Taken r) new
-take_made old new by (Ok s) told oldest goes same = (note by (event.Take s.request.client s.request.ordinal s.upstream) ∷ [], (told, oldest, refl), goes, hands_event old new by (event.Take s.request.client s.request.ordinal s.upstream) goes)
-take_made old new by (Err e) told oldest goes same = ([], (told, (refl, same)), stays old new same, λ h was. hands_nothing old new same)
+abbrev taken_event : Content → ℕ → Sent → Event
+taken_event old now s = event.Take s.request.client s.request.ordinal s.upstream (moment_at old now)
+
+pub take_made : (old new : Content) (by now : ℕ) (r : Result Sent TakeRefusal) → MatchResult r (λ _. take_refusal old ≡ None) (λ e. take_refusal old ≡ Some e)
+    → IfOk r (λ s. slice_get old.queue 0 ≡ Some s.request) → IfOk r (λ s. GoesOn old (taking old by now s ∷ []) new) → OnErr r (new ≡ old) → IsMade old (call.Take by now) (reply.Taken r) new
+take_made old new by now (Ok s) told oldest goes same = (taking old by now s ∷ [], (told, oldest, refl), goes, hands_event old new by (taken_event old now s) goes)
+take_made old new by now (Err e) told oldest goes same = ([], (told, (refl, same)), stays old new same, λ h was. hands_nothing old new same)
 
 pub answer_made : (old new : Content) (by : ℕ) (p : Pdu) (r : Answered) → IsAnswered old by p r new → IsMade old (call.Answer by p) (reply.Answered r) new
 answer_made old new by p (answered.Queued c) told = (note by (event.Answer told.0.client told.0.ordinal p) ∷ [], (told.0, told.2, told.3, ap is_some told.4, refl), told.5, hands_event old new by (event.Answer told.0.client told.0.ordinal p) told.5)
@@ -89,10 +94,25 @@ up_made old new by (Err e) told goes same = ([], (told, (refl, same)), stays old
 abbrev failed_event : Place → Event
 failed_event q = event.Fail q.client q.ordinal q.upstream (failure_command q.command)
 
+given_up_goes : (old new : Content) (by : ℕ) (q : Place) (f : Failed) → IsGivenUp old by q f new → GoesOn old (failing by q ∷ []) new
+given_up_goes old new by q (failed.Queued c) is = is.2
+given_up_goes old new by q failed.Late is = is.1
+
+given_up_tells : (old new : Content) (by : ℕ) (q : Place) (f : Failed) → IsGivenUp old by q f new → Tells old q f
+given_up_tells old new by q (failed.Queued c) is = (is.0, is.1)
+given_up_tells old new by q failed.Late is = is.0
+
 pub fail_made : (old new : Content) (by : ℕ) (r : Result Failed FailRefusal) → MatchResult r (λ _. fail_refusal old ≡ None) (λ e. fail_refusal old ≡ Some e) → IfOk r (λ f. IsFailed old by f new) → OnErr r (new ≡ old) → IsMade old (call.Fail by) (reply.Failed r) new
-fail_made old new by (Ok (failed.Queued c)) told is same = (failing by is.0 ∷ [], (told, is.0, is.1, is.2, is.3, refl), is.4, hands_event old new by (failed_event is.0) is.4)
-fail_made old new by (Ok failed.Late) told is same = (failing by is.0 ∷ [], (told, is.0, is.1, is.2, refl), is.3, hands_event old new by (failed_event is.0) is.3)
+fail_made old new by (Ok f) told is same =
+    let goes = given_up_goes old new by is.0 f is.2 in
+    (failing by is.0 ∷ [], (told, is.0, is.1, given_up_tells old new by is.0 f is.2, refl), goes, hands_event old new by (failed_event is.0) goes)
 fail_made old new by (Err e) told is same = ([], (told, (refl, same)), stays old new same, λ h was. hands_nothing old new same)
+
+pub expiry_made : (old new : Content) (by now age : ℕ) (r : Result Failed NoneExpired) → IfOk r (λ f. IsExpired old by now age f new) → IfErr r (λ _. expired_in old now age ≡ None) → OnErr r (new ≡ old) → IsMade old (call.FailExpired by now age) (reply.Expired r) new
+expiry_made old new by now age (Ok f) is none same =
+    let goes = given_up_goes old new by is.0 f is.2 in
+    (failing by is.0 ∷ [], (is.0, is.1, given_up_tells old new by is.0 f is.2, refl), goes, hands_event old new by (failed_event is.0) goes)
+expiry_made old new by now age (Err e) is none same = ([], (none, (refl, same)), stays old new same, λ h was. hands_nothing old new same)
 
 -- nothing was called
 pub ran_none : (old : Content) → Ran old [] [] [] old

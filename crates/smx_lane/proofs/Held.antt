@@ -6,6 +6,7 @@ use Rattle.std.proofs.lemmas.Option.{slice_get_within}
 use Rattle.std.proofs.lemmas.List.{length-set}
 use Rattle.circular_buffer.proofs.Places.{slice_get-set_same, slice_get-set_other, slice_get-push, slice_get-last}
 use Rattle.smx_history.specs.declared.place.Place.{Place}
+use Rattle.smx_history.specs.Numbers.{place_in}
 use Rattle.smx_history.specs.Prefixes.{SameCounts}
 use Rattle.smx_history.proofs.Counts.{count_by-push, length-same}
 use Rattle.std.proofs.lemmas.List.Sums.{sum_by-cons}
@@ -52,56 +53,56 @@ pub length-filled : (rows : List (Option Place)) (k : ℕ) (q : Place) → slice
 length-filled rows k q at = length-same (held rows ++ q ∷ []) (held (set rows k (Some q))) (filled rows k q at) ∙ length-append (held rows) (q ∷ [])
 
 numbered-rest : (n : ℕ) (row : Option Place) (rows : List (Option Place)) → AreNumbered n (row ∷ rows) → AreNumbered (suc n) rows
-numbered-rest n row rows numbered k q at = omega (arith, numbered (suc k) q at)
+numbered-rest n row rows numbered k q at = let h = numbered (suc k) q at in (h.0, omega (arith, h.1))
 
--- the row at a number's place has the one request with the number
-pub found_at : (fits : Place → Bool) (rows : List (Option Place)) (n k u : ℕ) (q : Place) → AreNumbered n rows → slice_get rows k ≡ Some (Some q) → u ≡ n + k → fits q ≡ true → find (λ x. (x.upstream == u) && fits x) (held rows) ≡ Some q
+-- the row that a number names has the one request with the number
+pub found_at : (fits : Place → Bool) (rows : List (Option Place)) (n k u : ℕ) (q : Place) → AreNumbered n rows → slice_get rows k ≡ Some (Some q) → q.upstream ≡ u → fits q ≡ true → find (λ x. (x.upstream == u) && fits x) (held rows) ≡ Some q
 found_at fits [] n k u q numbered at is good = cc
 found_at fits (None ∷ rows) n zero u q numbered at is good = cc
-found_at fits (None ∷ rows) n (suc k) u q numbered at is good = found_at fits rows (suc n) k u q (numbered-rest n None rows numbered) at (omega (arith, is)) good
+found_at fits (None ∷ rows) n (suc k) u q numbered at is good = found_at fits rows (suc n) k u q (numbered-rest n None rows numbered) at is good
 found_at fits (Some p ∷ rows) n zero u q numbered at is good =
     let same : p ≡ q = cc in
-    let here : (p.upstream == u) ≡ true = eq-eqb p.upstream u (omega (arith, numbered 0 p refl, is)) in
+    let here : (p.upstream == u) ≡ true = eq-eqb p.upstream u (ap (λ (x : Place). x.upstream) same ∙ is) in
     let test : ((p.upstream == u) && fits p) ≡ true = and_from (p.upstream == u) (fits p) here (ap fits same ∙ good) in
     rw test (ap Some same)
 found_at fits (Some p ∷ rows) n (suc k) u q numbered at is good =
-    let other : (p.upstream == u) ≡ false = ne_eqb p.upstream u (λ e. omega (arith, numbered 0 p refl, is, e)) in
-    rw other (found_at fits rows (suc n) k u q (numbered-rest n (Some p) rows numbered) at (omega (arith, is)) good)
+    let mine = (numbered 0 p refl).1 in
+    let theirs = (numbered (suc k) q at).1 in
+    let other : (p.upstream == u) ≡ false = ne_eqb p.upstream u (λ e. omega (arith, mine, theirs, ap place_in (e ∙ sym is)))
+    in
+    rw other (found_at fits rows (suc n) k u q (numbered-rest n (Some p) rows numbered) at is good)
 
--- no request is found where the row at the number's place has none that fits
-pub not_found : (fits : Place → Bool) (rows : List (Option Place)) (n u : ℕ) → AreNumbered n rows → ((k : ℕ) (q : Place) → slice_get rows k ≡ Some (Some q) → u ≡ n + k → fits q ≡ false) → find (λ x. (x.upstream == u) && fits x) (held rows) ≡ None
-not_found fits [] n u numbered none = refl
-not_found fits (None ∷ rows) n u numbered none =
-    not_found fits rows (suc n) u (numbered-rest n None rows numbered) (λ k q at is. none (suc k) q at (omega (arith, is)))
-not_found fits (Some p ∷ rows) n u numbered none =
-    let rest = not_found fits rows (suc n) u (numbered-rest n (Some p) rows numbered) (λ k q at is. none (suc k) q at (omega (arith, is))) in
+-- no request is found where none that has the number fits
+pub not_found : (fits : Place → Bool) (rows : List (Option Place)) (u : ℕ) → ((k : ℕ) (q : Place) → slice_get rows k ≡ Some (Some q) → q.upstream ≡ u → fits q ≡ false) → find (λ x. (x.upstream == u) && fits x) (held rows) ≡ None
+not_found fits [] u none = refl
+not_found fits (None ∷ rows) u none = not_found fits rows u (λ k q at is. none (suc k) q at is)
+not_found fits (Some p ∷ rows) u none =
+    let rest = not_found fits rows u (λ k q at is. none (suc k) q at is) in
     elim (cases_eq p.upstream u) [
       | inl same ↦
-          let bad : fits p ≡ false = none 0 p refl (omega (arith, numbered 0 p refl, same)) in
+          let bad : fits p ≡ false = none 0 p refl same in
           let here : (p.upstream == u) ≡ true = eq-eqb p.upstream u same in
           rw (here, bad) rest
       | inr apart ↦ let other : (p.upstream == u) ≡ false = ne_eqb p.upstream u apart in rw other rest
     ]
 
 -- no request has the number of an empty row
-pub none_numbered : (rows : List (Option Place)) (n k u : ℕ) → AreNumbered n rows → slice_get rows k ≡ Some None → u ≡ n + k → list_any (λ q. q.upstream == u) (held rows) ≡ false
-none_numbered [] n k u numbered at is = refl
-none_numbered (None ∷ rows) n zero u numbered at is = later rows (suc n) u (numbered-rest n None rows numbered) (omega (arith, is))
+pub none_numbered : (rows : List (Option Place)) (n k u : ℕ) → AreNumbered n rows → slice_get rows k ≡ Some None → place_in u ≡ n + k → list_any (λ q. q.upstream == u) (held rows) ≡ false
+none_numbered rows n k u numbered at is = none_of rows (λ j q there e.
+    let here = (numbered j q there).1 in
+    let same : j ≡ k = omega (arith, here, is, ap place_in e) in
+    let clash : Some (Some q) ≡ Some None = sym there ∙ ap (slice_get rows) same ∙ at in
+    cc)
   where
-    later : (rows : List (Option Place)) (n u : ℕ) → AreNumbered n rows → u < n → list_any (λ q. q.upstream == u) (held rows) ≡ false
-    later [] n u numbered below = refl
-    later (None ∷ rows) n u numbered below = later rows (suc n) u (numbered-rest n None rows numbered) (omega (arith, below))
-    later (Some p ∷ rows) n u numbered below =
-        let other : (p.upstream == u) ≡ false = ne_eqb p.upstream u (λ e. omega (arith, numbered 0 p refl, below, e)) in
-        rw other (later rows (suc n) u (numbered-rest n (Some p) rows numbered) (omega (arith, below)))
-none_numbered (None ∷ rows) n (suc k) u numbered at is = none_numbered rows (suc n) k u (numbered-rest n None rows numbered) at (omega (arith, is))
-none_numbered (Some p ∷ rows) n zero u numbered at is = cc
-none_numbered (Some p ∷ rows) n (suc k) u numbered at is =
-    let other : (p.upstream == u) ≡ false = ne_eqb p.upstream u (λ e. omega (arith, numbered 0 p refl, is, e)) in
-    rw other (none_numbered rows (suc n) k u (numbered-rest n (Some p) rows numbered) at (omega (arith, is)))
+    none_of : (rs : List (Option Place)) → ((j : ℕ) (q : Place) → slice_get rs j ≡ Some (Some q) → q.upstream ≡ u → ⊥) → list_any (λ q. q.upstream == u) (held rs) ≡ false
+    none_of [] none = refl
+    none_of (None ∷ rs) none = none_of rs (λ j q there e. none (suc j) q there e)
+    none_of (Some p ∷ rs) none =
+        let other : (p.upstream == u) ≡ false = ne_eqb p.upstream u (λ e. none 0 p refl e) in
+        rw other (none_of rs (λ j q there e. none (suc j) q there e))
 
 -- what stands at an index after a write
-at-set : {X : Type 0} (xs : List X) (k j : ℕ) (w y : X) → slice_get (set xs k w) j ≡ Some y → ((j ≡ k) × (y ≡ w)) ⊎ (slice_get xs j ≡ Some y)
+pub at-set : {X : Type 0} (xs : List X) (k j : ℕ) (w y : X) → slice_get (set xs k w) j ≡ Some y → ((j ≡ k) × (y ≡ w)) ⊎ (slice_get xs j ≡ Some y)
 at-set xs k j w y at = elim (cases_eq j k) [
   | inl same ↦
       let within : k < length xs = omega (arith, same, slice_get_within (set xs k w) j y at, length-set xs k w) in
@@ -110,26 +111,29 @@ at-set xs k j w y at = elim (cases_eq j k) [
   | inr other ↦ inr (sym (slice_get-set_other xs k j w other) ∙ at)
 ]
 
-pub numbered-filled : (rows : List (Option Place)) (u : ℕ) (q : Place) → AreNumbered 1 rows → 0 < u → q.upstream ≡ u → AreNumbered 1 (set rows (u - 1) (Some q))
-numbered-filled rows u q numbered above is k p at = elim (at-set rows (u - 1) k (Some q) (Some p) at) [
-  | inl new ↦ let same : p ≡ q = (let e : Some p ≡ Some q = new.1 in cc) in omega (arith, ap (λ (x : Place). x.upstream) same, is, new.0, above)
-  | inr old ↦ numbered k p old
+pub numbered-filled : (rows : List (Option Place)) (k : ℕ) (q : Place) → AreNumbered 0 rows → 0 < q.upstream → place_in q.upstream ≡ k → AreNumbered 0 (set rows k (Some q))
+numbered-filled rows k q numbered above is j p at = elim (at-set rows k j (Some q) (Some p) at) [
+  | inl new ↦
+      let same : p ≡ q = (let e : Some p ≡ Some q = new.1 in cc) in
+      let upstream = ap (λ (x : Place). x.upstream) same in
+      (omega (arith, upstream, above), omega (arith, ap place_in upstream, is, new.0))
+  | inr old ↦ numbered j p old
 ]
 
-pub numbered-cleared : (rows : List (Option Place)) (u : ℕ) → AreNumbered 1 rows → AreNumbered 1 (set rows u None)
-numbered-cleared rows u numbered k p at = elim (at-set rows u k None (Some p) at) [
+pub numbered-cleared : (rows : List (Option Place)) (k : ℕ) → AreNumbered 0 rows → AreNumbered 0 (set rows k None)
+numbered-cleared rows k numbered j p at = elim (at-set rows k j None (Some p) at) [
   | inl new ↦ let e : Some p ≡ None = new.1 in cc
-  | inr old ↦ numbered k p old
+  | inr old ↦ numbered j p old
 ]
 
--- the numbers are those of empty rows, each once
+-- they are empty rows, each once
 abbrev pub AreEmpty : List (Option Place) → List ℕ → Type 0
 AreEmpty rows free = (j u : ℕ) → slice_get free j ≡ Some u → IsEmptyAt rows u
 
 abbrev pub AreOnce : List ℕ → Type 0
 AreOnce free = (i j u : ℕ) → slice_get free i ≡ Some u → slice_get free j ≡ Some u → i ≡ j
 
--- the last of the numbers is that of an empty row
+-- the last of them is an empty row
 pub last-empty : (rows : List (Option Place)) (free rest : List ℕ) (u : ℕ) → free ≡ rest ++ u ∷ [] → AreEmpty rows free → IsEmptyAt rows u
 last-empty rows free rest u split empty = empty (length rest) u (ap (λ xs. slice_get xs (length rest)) split ∙ slice_get-last rest u (length rest) refl)
 
@@ -139,30 +143,26 @@ front-at rest u j v at = slice_get-push rest u j (λ e. omega (arith, e, slice_g
 pub once-front : (rest : List ℕ) (u : ℕ) → AreOnce (rest ++ u ∷ []) → AreOnce rest
 once-front rest u once i j v a b = once i j v (front-at rest u i v a) (front-at rest u j v b)
 
-pub empty-filled : (rows : List (Option Place)) (rest : List ℕ) (u : ℕ) (q : Place) → AreEmpty rows (rest ++ u ∷ []) → AreOnce (rest ++ u ∷ []) → AreEmpty (set rows (u - 1) (Some q)) rest
-empty-filled rows rest u q empty once j v at =
-    let e = empty j v (front-at rest u j v at) in
-    let last : slice_get (rest ++ u ∷ []) (length rest) ≡ Some u = slice_get-last rest u (length rest) refl in
-    let f = empty (length rest) u last in
-    let other : v - 1 ≢ u - 1 = λ same.
-    let equal : u ≡ v = omega (arith, same, e.0, f.0) in
-    omega (arith, once j (length rest) v (front-at rest u j v at) (last ∙ ap Some equal), slice_get_within rest j v at) in
-    (e.0, slice_get-set_other rows (u - 1) (v - 1) (Some q) other ∙ e.1)
+pub empty-filled : (rows : List (Option Place)) (rest : List ℕ) (k : ℕ) (q : Place) → AreEmpty rows (rest ++ k ∷ []) → AreOnce (rest ++ k ∷ []) → AreEmpty (set rows k (Some q)) rest
+empty-filled rows rest k q empty once j v at =
+    let e = empty j v (front-at rest k j v at) in
+    let last : slice_get (rest ++ k ∷ []) (length rest) ≡ Some k = slice_get-last rest k (length rest) refl in
+    let other : v ≢ k = λ same.
+    omega (arith, once j (length rest) v (front-at rest k j v at) (last ∙ ap Some (sym same)), slice_get_within rest j v at) in
+    slice_get-set_other rows k v (Some q) other ∙ e
 
-pub empty-cleared : (rows : List (Option Place)) (free : List ℕ) (u : ℕ) → AreEmpty rows free → 0 < u → u - 1 < length rows → AreEmpty (set rows (u - 1) None) (free ++ u ∷ [])
-empty-cleared rows free u empty above within j v at = elim (cases_eq j (length free)) [
+pub empty-cleared : (rows : List (Option Place)) (free : List ℕ) (k : ℕ) → AreEmpty rows free → k < length rows → AreEmpty (set rows k None) (free ++ k ∷ [])
+empty-cleared rows free k empty within j v at = elim (cases_eq j (length free)) [
   | inl same ↦
-      let is : Some v ≡ Some u = sym at ∙ slice_get-last free u j same in
-      let equal : v ≡ u = cc in
-      (omega (arith, above, equal), ap (λ n. slice_get (set rows (u - 1) None) (n - 1)) equal ∙ slice_get-set_same rows (u - 1) None within)
+      let is : Some v ≡ Some k = sym at ∙ slice_get-last free k j same in
+      let equal : v ≡ k = cc in
+      ap (slice_get (set rows k None)) equal ∙ slice_get-set_same rows k None within
   | inr other ↦
-      let e = empty j v (sym (slice_get-push free u j other) ∙ at) in (
-        e.0,
-        elim (cases_eq (v - 1) (u - 1)) [
-          | inl same ↦ ap (slice_get (set rows (u - 1) None)) same ∙ slice_get-set_same rows (u - 1) None within
-          | inr apart ↦ slice_get-set_other rows (u - 1) (v - 1) None apart ∙ e.1
-        ],
-      )
+      let e = empty j v (sym (slice_get-push free k j other) ∙ at) in
+      elim (cases_eq v k) [
+        | inl same ↦ ap (slice_get (set rows k None)) same ∙ slice_get-set_same rows k None within
+        | inr apart ↦ slice_get-set_other rows k v None apart ∙ e
+      ]
 ]
 
 pub once-pushed : (free : List ℕ) (u : ℕ) → AreOnce free → ((j : ℕ) → slice_get free j ≡ Some u → j ≡ length free) → AreOnce (free ++ u ∷ [])
@@ -198,43 +198,41 @@ only-replicate zero k x y at = cc
 only-replicate (suc n) zero x y at = let e : Some x ≡ Some y = at in cc
 only-replicate (suc n) (suc k) x y at = only-replicate n k x y at
 
--- numbers that fall from n by one, the first of them n
+-- they fall by one from the one before n
 abbrev pub AreFalling : ℕ → List ℕ → Type 0
-AreFalling n free = (j u : ℕ) → slice_get free j ≡ Some u → u + j ≡ n
+AreFalling n free = (j u : ℕ) → slice_get free j ≡ Some u → u + j + 1 ≡ n
 
-pub falling-pushed : (n given : ℕ) (free : List ℕ) → AreFalling n free → length free ≡ given → given < n → AreFalling n (free ++ (n - given) ∷ [])
+pub falling-pushed : (n given : ℕ) (free : List ℕ) → AreFalling n free → length free ≡ given → given < n → AreFalling n (free ++ (n - 1 - given) ∷ [])
 falling-pushed n given free falling count lt j u at = elim (cases_eq j (length free)) [
   | inl ends ↦
-      let is : Some u ≡ Some (n - given) = sym at ∙ slice_get-last free (n - given) j ends in
-      let same : u ≡ n - given = cc in
+      let is : Some u ≡ Some (n - 1 - given) = sym at ∙ slice_get-last free (n - 1 - given) j ends in
+      let same : u ≡ n - 1 - given = cc in
       omega (arith, same, ends, count, lt)
-  | inr before ↦ falling j u (sym (slice_get-push free (n - given) j before) ∙ at)
+  | inr before ↦ falling j u (sym (slice_get-push free (n - 1 - given) j before) ∙ at)
 ]
 
 pub empty-falling : (n : ℕ) (free : List ℕ) → AreFalling n free → length free ≤ n → AreEmpty (replicate n None) free
-empty-falling n free falling count j u at =
-    let lt = slice_get_within free j u at in
-    (omega (arith, falling j u at, lt, count), slice_get-replicate n (u - 1) None (omega (arith, falling j u at, lt, count)))
+empty-falling n free falling count j u at = slice_get-replicate n u None (omega (arith, falling j u at))
 
 pub once-falling : (n : ℕ) (free : List ℕ) → AreFalling n free → AreOnce free
 once-falling n free falling i j u a b = omega (arith, falling i u a, falling j u b)
 
-pub numbered-replicate : (n : ℕ) → AreNumbered 1 (replicate n None)
+pub numbered-replicate : (n : ℕ) → AreNumbered 0 (replicate n None)
 numbered-replicate n k q at = let e : Some q ≡ None = only-replicate n k None (Some q) at in cc
 
--- a request that is there has the row of its number
-pub row_at_number : (rows : List (Option Place)) (number : ℕ) (q : Place) → AreNumbered 1 rows → IsPlaceOf (held rows) number q → (0 < number) × (slice_get rows (number - 1) ≡ Some (Some q))
+-- a request that is there has the row that its number names
+pub row_at_number : (rows : List (Option Place)) (number : ℕ) (q : Place) → AreNumbered 0 rows → IsPlaceOf (held rows) number q → slice_get rows (place_in number) ≡ Some (Some q)
 row_at_number rows number q numbered place =
     let r = row_of_held rows place.index q place.there in
-    let n : q.upstream ≡ 1 + r.0 = numbered r.0 q r.1 in
-    let k : number - 1 ≡ r.0 = omega (arith, n, place.number_is) in
-    (omega (arith, n, place.number_is), ap (slice_get rows) k ∙ r.1)
+    let named = (numbered r.0 q r.1).1 in
+    let k : place_in number ≡ r.0 = omega (arith, named, ap place_in place.number_is) in
+    ap (slice_get rows) k ∙ r.1
 
--- the request in the row of a number is there
-pub place_at_number : (rows : List (Option Place)) (number : ℕ) (q : Place) → AreNumbered 1 rows → 0 < number → slice_get rows (number - 1) ≡ Some (Some q) → IsPlaceOf (held rows) number q
-place_at_number rows number q numbered above at =
-    let r = cleared rows (number - 1) q at in
-    record { index = r.0; there = r.1; number_is = omega (arith, numbered (number - 1) q at, above) }
+-- the request in a row is there
+pub place_at_number : (rows : List (Option Place)) (number k : ℕ) (q : Place) → q.upstream ≡ number → slice_get rows k ≡ Some (Some q) → IsPlaceOf (held rows) number q
+place_at_number rows number k q is at =
+    let r = cleared rows k q at in
+    record { index = r.0; there = r.1; number_is = is }
 
 -- no row has a request
 pub none_held : (rows : List (Option Place)) → ((k : ℕ) → k < length rows → slice_get rows k ≡ Some None) → slice_get (held rows) 0 ≡ None
@@ -248,3 +246,19 @@ first_held [] k q empty at = cc
 first_held (row ∷ rows) zero q empty at = let same : row ≡ Some q = cc in ap (λ r. slice_get (held (r ∷ rows)) 0) same
 first_held (None ∷ rows) (suc k) q empty at = first_held rows k q (λ j below. empty (suc j) (omega (arith, below))) at
 first_held (Some p ∷ rows) (suc k) q empty at = let clash : Some (Some p) ≡ Some None = empty 0 (omega arith) in cc
+
+-- the first request that passes
+pub none_passes : (test : Place → Bool) (rows : List (Option Place)) → ((k : ℕ) (q : Place) → slice_get rows k ≡ Some (Some q) → test q ≡ false) → find test (held rows) ≡ None
+none_passes test [] none = refl
+none_passes test (None ∷ rows) none = none_passes test rows (λ k q at. none (suc k) q at)
+none_passes test (Some p ∷ rows) none = rw (none 0 p refl) (none_passes test rows (λ k q at. none (suc k) q at))
+
+pub first_passes : (test : Place → Bool) (rows : List (Option Place)) (k : ℕ) (q : Place) → ((j : ℕ) (p : Place) → j < k → slice_get rows j ≡ Some (Some p) → test p ≡ false) → slice_get rows k ≡ Some (Some q) → test q ≡ true → find test (held rows) ≡ Some q
+first_passes test [] k q before at good = cc
+first_passes test (None ∷ rows) zero q before at good = cc
+first_passes test (Some p ∷ rows) zero q before at good =
+    let same : p ≡ q = cc in
+    rw (ap test same ∙ good) (ap Some same)
+first_passes test (None ∷ rows) (suc k) q before at good = first_passes test rows k q (λ j p below there. before (suc j) p (omega (arith, below)) there) at good
+first_passes test (Some p ∷ rows) (suc k) q before at good =
+    rw (before 0 p (omega arith) refl) (first_passes test rows k q (λ j x below there. before (suc j) x (omega (arith, below)) there) at good)

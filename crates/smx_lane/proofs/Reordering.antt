@@ -32,6 +32,7 @@ AgreesWith-reordered h v window same a = record {
     members = a.after.members;
     greatest = a.after.greatest;
     up = a.after.up;
+    numbers = a.after.numbers;
     entries = a.after.entries;
   };
 }

@@ -7,15 +7,17 @@ use Rattle.smx_history.specs.declared.place.Place.{Place}
 use Rattle.smx_history.specs.declared.response.Response.{Response}
 use Rattle.smx_history.specs.declared.note.Event.TheVariants as event
 use Rattle.smx_history.specs.declared.reply.Answered.TheVariants as answered
+use Rattle.smx_history.specs.declared.reply.Failed.{Failed}
 use Rattle.smx_history.specs.declared.reply.Failed.TheVariants as failed
 use Rattle.smx_history.specs.History.{note, shift, marks_of, entries_of}
 use Rattle.smx_history.specs.Shifts.{marks_in}
 use Rattle.smx_history.specs.Legal.{IsLegal}
 use Rattle.smx_history.specs.Contents.{Content, AgreesWith}
-use Rattle.smx_history.specs.Replies.{admit_refusal, accept_refusal, take_refusal, fail_refusal, up_refusal, answers_place, member_with}
+use Rattle.smx_history.specs.Replies.{admit_refusal, accept_refusal, take_refusal, fail_refusal, up_refusal, answers_place, member_with, expired_in}
 use Rattle.smx_history.specs.Answering.{oldest_in, failing}
 use Rattle.smx_lane.specs.Conditions.{IsOwn, IsNext}
 use Rattle.smx_lane.specs.Faults.{IsAdmitFault}
+use Rattle.smx_lane.specs.Taking.{taking}
 use Rattle.smx_lane.specs.Turning.{IsTurned}
 use Rattle.smx_lane.specs.declared.call.Call.{Call}
 use Rattle.smx_lane.specs.declared.call.Call.TheVariants as call
@@ -37,14 +39,19 @@ Keeps old (call.Collect by c) = IsOwn old by c
 Keeps old (call.Retire by c) = IsOwn old by c
 Keeps old _ = Unit {0}
 
+-- a request that failed waits for its client to collect it, or is gone where the client has retired
+abbrev pub Tells : Content → Place → Failed → Type 0
+Tells old q (failed.Queued c) = (q.client ≡ c) × IsSome (member_with c old.members)
+Tells old q failed.Late = member_with q.client old.members ≡ None
+
 -- the reply to a call on a lane with this content, its notes, and what the lane holds then; only a call that keeps to its condition is made
 abbrev pub IsReply : Content → Call → Reply → List Note → Content → Type 0
 IsReply old (call.Admit by c) (reply.Admitted (Ok _)) own new = (admit_refusal old c ≡ None) × (own ≡ note by (event.Admit c) ∷ [])
 IsReply old (call.Admit by c) (reply.Admitted (Err e)) own new = IsAdmitFault (admit_refusal old c) e × Stays old own new
 IsReply old (call.Accept by r) (reply.Accepted (Ok _)) own new = IsNext old by r.client r.ordinal × (accept_refusal old r.client ≡ None) × (own ≡ note by (event.Accept r) ∷ [])
 IsReply old (call.Accept by r) (reply.Accepted (Err e)) own new = IsNext old by r.client r.ordinal × (e.0 ≡ r) × (accept_refusal old r.client ≡ Some e.1) × Stays old own new
-IsReply old (call.Take by) (reply.Taken (Ok s)) own new = (take_refusal old ≡ None) × (slice_get old.queue 0 ≡ Some s.request) × (own ≡ note by (event.Take s.request.client s.request.ordinal s.upstream) ∷ [])
-IsReply old (call.Take by) (reply.Taken (Err e)) own new = (take_refusal old ≡ Some e) × Stays old own new
+IsReply old (call.Take by now) (reply.Taken (Ok s)) own new = (take_refusal old ≡ None) × (slice_get old.queue 0 ≡ Some s.request) × (own ≡ taking old by now s ∷ [])
+IsReply old (call.Take by now) (reply.Taken (Err e)) own new = (take_refusal old ≡ Some e) × Stays old own new
 IsReply old (call.Answer by p) (reply.Answered (answered.Queued c)) own new = (q : Place) × (find (answers_place p) old.window ≡ Some q) × (q.client ≡ c) × IsSome (member_with c old.members) × (own ≡ note by (event.Answer q.client q.ordinal p) ∷ [])
 IsReply old (call.Answer by p) (reply.Answered answered.Late) own new = (q : Place) × (find (answers_place p) old.window ≡ Some q) × (member_with q.client old.members ≡ None) × (own ≡ note by (event.Late q.client q.ordinal p.number p.command) ∷ [])
 IsReply old (call.Answer by p) (reply.Answered (answered.Unknown back)) own new = (find (answers_place p) old.window ≡ None) × (back ≡ p) × Stays old own new
@@ -57,9 +64,10 @@ IsReply old (call.TurnOver by least) (reply.TurnedOver (Ok None)) own new = IsTu
 IsReply old (call.TurnOver by least) (reply.TurnedOver (Err _)) own new = Stays old own new
 IsReply old (call.Down by) (reply.WentDown (Ok _)) own new = (old.up ≡ true) × (own ≡ note by event.Down ∷ [])
 IsReply old (call.Down by) (reply.WentDown (Err _)) own new = (old.up ≡ false) × Stays old own new
-IsReply old (call.Fail by) (reply.Failed (Ok (failed.Queued c))) own new = (fail_refusal old ≡ None) × (q : Place) × (slice_get old.window 0 ≡ Some q) × (q.client ≡ c) × IsSome (member_with c old.members) × (own ≡ failing by q ∷ [])
-IsReply old (call.Fail by) (reply.Failed (Ok failed.Late)) own new = (fail_refusal old ≡ None) × (q : Place) × (slice_get old.window 0 ≡ Some q) × (member_with q.client old.members ≡ None) × (own ≡ failing by q ∷ [])
+IsReply old (call.Fail by) (reply.Failed (Ok f)) own new = (fail_refusal old ≡ None) × (q : Place) × (slice_get old.window 0 ≡ Some q) × Tells old q f × (own ≡ failing by q ∷ [])
 IsReply old (call.Fail by) (reply.Failed (Err e)) own new = (fail_refusal old ≡ Some e) × Stays old own new
+IsReply old (call.FailExpired by now age) (reply.Expired (Ok f)) own new = (q : Place) × (expired_in old now age ≡ Some q) × Tells old q f × (own ≡ failing by q ∷ [])
+IsReply old (call.FailExpired by now age) (reply.Expired (Err _)) own new = (expired_in old now age ≡ None) × Stays old own new
 IsReply old (call.Up by) (reply.CameUp (Ok _)) own new = (up_refusal old ≡ None) × (own ≡ note by event.Up ∷ [])
 IsReply old (call.Up by) (reply.CameUp (Err e)) own new = (up_refusal old ≡ Some e) × Stays old own new
 IsReply old made reply.Unkept own new = ¬ (Keeps old made) × Stays old own new

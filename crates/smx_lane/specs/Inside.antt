@@ -12,6 +12,8 @@ content_of a = record {
   members = a.roster.members;
   greatest = a.greatest;
   up = a.up;
+  generations = a.window.generations;
+  latest = a.window.latest;
   entries = a.entries.items;
 }
 

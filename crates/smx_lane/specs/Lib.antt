@@ -5,5 +5,6 @@ pub mod Inside
 pub mod Kept
 pub mod Members
 pub mod Roster
+pub mod Taking
 pub mod Turning
 pub mod Private

@@ -1,4 +1,5 @@
 -- What contracts of private functions, models and invariants cite: no public contract does.
+pub mod Ages
 pub mod Places
 pub mod Rows
 pub mod Window

@@ -7,7 +7,8 @@ use crate::fault::{AdmitFault, NotAdmitted};
 use crate::lane::Lane;
 use crate::sent::Sent;
 use smx_history::{
-    AlreadyDown, Answered, Entry, FailRefusal, Failed, Refusal, Request, TakeRefusal, UpRefusal,
+    AlreadyDown, Answered, Entry, FailRefusal, Failed, NoneExpired, Refusal, Request, TakeRefusal,
+    UpRefusal,
 };
 use smx_pdu::Pdu;
 use std::alloc::{AllocError, Global};
@@ -17,13 +18,14 @@ use std::alloc::{AllocError, Global};
 pub enum Call {
     Admit { by: u64, client: u64 },
     Accept { by: u64, request: Request },
-    Take { by: u64 },
+    Take { by: u64, now: u64 },
     Answer { by: u64, response: Pdu },
     Collect { by: u64, client: u64 },
     Retire { by: u64, client: u64 },
     TurnOver { by: u64, least: usize },
     Down { by: u64 },
     Fail { by: u64 },
+    FailExpired { by: u64, now: u64, age: u64 },
     Up { by: u64 },
 }
 
@@ -39,6 +41,7 @@ pub enum Reply {
     TurnedOver(Result<Option<Vec<Entry>>, AllocError>),
     WentDown(Result<(), AlreadyDown>),
     Failed(Result<Failed, FailRefusal>),
+    Expired(Result<Failed, NoneExpired>),
     CameUp(Result<(), UpRefusal>),
     /// The call did not keep to its condition, and was not made.
     Unkept,
@@ -58,7 +61,7 @@ pub fn run(lane: &mut Lane, call: Call) -> Reply
             }
             Reply::Accepted(lane.accept(by, request))
         }
-        Call::Take { by } => Reply::Taken(lane.take(by)),
+        Call::Take { by, now } => Reply::Taken(lane.take(by, now)),
         Call::Answer { by, response } => Reply::Answered(lane.answer(by, response)),
         Call::Collect { by, client } => {
             if !lane.is_own(by, client) {
@@ -75,6 +78,7 @@ pub fn run(lane: &mut Lane, call: Call) -> Reply
         Call::TurnOver { by, least } => Reply::TurnedOver(lane.turn_over(by, least)),
         Call::Down { by } => Reply::WentDown(lane.down(by)),
         Call::Fail { by } => Reply::Failed(lane.fail(by)),
+        Call::FailExpired { by, now, age } => Reply::Expired(lane.fail_expired(by, now, age)),
         Call::Up { by } => Reply::CameUp(lane.up(by)),
     }
 }

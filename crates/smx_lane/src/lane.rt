@@ -6,6 +6,7 @@ ghost use Rattle.smx_history.specs.Replies.{has_room};
 ghost use Rattle.smx_lane.specs.Faults.{IsLaneFault};
 
 mod clients;
+mod expiry;
 mod links;
 mod requests;
 mod responses;

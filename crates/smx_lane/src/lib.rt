@@ -1,10 +1,12 @@
 //! A lane: the request queue, the window and the response boxes of one upstream bind.
 #![tactic(auto)]
 
+mod ages;
 mod call;
 mod fault;
 mod kept;
 mod lane;
+mod numbers;
 mod roster;
 mod rows;
 mod sent;
@@ -15,6 +17,6 @@ pub use fault::{AdmitFault, LaneFault, NotAdmitted};
 pub use lane::Lane;
 pub use sent::Sent;
 pub use smx_history::{
-    AdmitRefusal, AlreadyDown, Answered, Entry, Event, FailRefusal, Failed, Kind, Limits, Note,
-    Place, Refusal, Request, Response, TakeRefusal, UpRefusal,
+    AdmitRefusal, AlreadyDown, Answered, Entry, Event, FailRefusal, Failed, Kind, Limits,
+    NoneExpired, Note, Place, Refusal, Request, Response, TakeRefusal, UpRefusal,
 };

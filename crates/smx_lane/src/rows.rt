@@ -1,6 +1,8 @@
 //! The rows of a window, by their places.
-ghost use Rattle.std.specs.Prelude.{◌≡◌, ◌<◌, length, replicate, slice_get, slice_set, IfOk, Some, None};
+ghost use Rattle.std.specs.Prelude.{◌≡◌, ◌<◌, ◌↔◌, length, replicate, slice_get, slice_set, IfOk, IsTrue, Some, None};
+ghost use Rattle.smx_lane.specs.Private.Places.{HasAt};
 
+use crate::numbers::place_in;
 use slab::Slab;
 use smx_history::Place;
 use std::alloc::{AllocError, Global};
@@ -52,6 +54,14 @@ impl Rows {
         ensures { slice_get self.now at ≡ Some result }
     {
         self.slab[self.keys[at]]
+    }
+
+    // Whether the request with the number is in its row.
+    pub(crate) fn has(&self, number: u32) -> bool
+        ensures { IsTrue result ↔ HasAt self.now number }
+    {
+        let at = place_in(number);
+        at < self.len() && matches!(self.get(at), Some(place) if place.upstream == number)
     }
 
     // Writes the row at the place.

@@ -4,7 +4,7 @@ use crate::model::Model;
 use crate::spoiling::Spoiling;
 use rand_core::utils::NextWord;
 use rand_pcg::Pcg32;
-use smx_lane::{Answered, Entry, Failed, Kind, Lane, LaneFault, Limits, Request};
+use smx_lane::{Answered, Entry, Failed, Kind, Lane, LaneFault, Limits, NoneExpired, Request};
 use smx_pdu::{Body, Pdu};
 use std::alloc::{AllocError, Global};
 
@@ -22,6 +22,10 @@ pub struct Driver {
     chance: Pcg32,
     lane: Lane,
     model: Model,
+    // The latest moment so far.
+    clock: u64,
+    // How many requests were too old.
+    expired: u32,
 }
 
 // One octet that tells requests and responses apart.
@@ -78,7 +82,14 @@ impl Driver {
             chance: Pcg32::new(42, 54),
             lane: Lane::new(alloc, LIMITS)?,
             model: Model::new(alloc, LIMITS),
+            clock: 0,
+            expired: 0,
         })
+    }
+
+    /// How many requests failed since they were too old.
+    pub(crate) fn expired(&self) -> u32 {
+        self.expired
     }
 
     // A number below `end`.
@@ -93,18 +104,54 @@ impl Driver {
         (client % 3, client)
     }
 
+    // The moment of a call: now and then one that is later, and sometimes one that has passed.
+    fn now(&mut self) -> u64 {
+        if self.below(4) == 0 {
+            let later = u64::from(self.below(100));
+            self.clock = self.clock.saturating_add(later);
+        }
+        let behind = match self.below(8) {
+            0 => u64::from(self.below(200)),
+            _ => 0,
+        };
+        self.clock.saturating_sub(behind)
+    }
+
+    // An age: mostly one that some requests reach, else the least or the greatest.
+    fn age(&mut self) -> u64 {
+        match self.below(16) {
+            0 => 0,
+            1 => u64::MAX,
+            _ => u64::from(self.below(1_000)),
+        }
+    }
+
+    // The number of a response: mostly one of those that were given last, else one of the same place
+    // that is not given yet, or was before, or any small one.
+    fn number(&mut self) -> u32 {
+        let others = self.below(4) as usize;
+        let number = self.model.number_before(others).unwrap_or(0);
+        match self.below(16) {
+            0 => number.saturating_add(1_024),
+            1 => number.saturating_sub(1_024),
+            2 => self.below(6),
+            _ => number,
+        }
+    }
+
     /// Makes one call, and says whether lane and model agree.
     pub(crate) fn step(&mut self) -> Result<bool, AllocError> {
         let (by, client) = self.client();
-        let same = match self.below(48) {
+        let same = match self.below(54) {
             0..=1 => self.admit()?,
             2..=13 => self.accept(by, client)?,
             14..=22 => self.take(by)?,
-            23..=30 => self.answer(by)?,
-            31..=38 => self.collect(by, client)?,
-            39 => self.retire(by, client)?,
-            40 => self.down(by)?,
-            41..=43 => self.fail(by)?,
+            23..=34 => self.answer(by)?,
+            35..=42 => self.collect(by, client)?,
+            43 => self.retire(by, client)?,
+            44 => self.down(by)?,
+            45..=47 => self.fail(by)?,
+            48..=49 => self.fail_expired(by)?,
             _ => self.up(by)?,
         };
         Ok(same && self.lane.entries() == self.model.entries())
@@ -193,19 +240,23 @@ impl Driver {
     }
 
     fn take(&mut self, by: u64) -> Result<bool, AllocError> {
-        match (self.lane.take(by), self.model.next_taken()) {
+        let now = self.now();
+        let number = self.model.next_number()?;
+        match (self.lane.take(by, now), self.model.next_taken()) {
             (Ok(sent), Ok(accept)) => {
                 let request = &sent.request;
-                let same = request.client == accept.client
+                let same = sent.upstream == number
+                    && request.client == accept.client
                     && request.ordinal == accept.ordinal
                     && request.own == accept.number
                     && request.command == accept.command
                     && tells(&request.body, accept.ordinal);
                 let is_free = self.model.answered(sent.upstream, 0x8000_0000).is_none();
-                self.model.note(Entry {
+                let take = Entry {
                     number: sent.upstream,
                     ..entry(Kind::Take, by, accept.client, accept.ordinal)
-                })?;
+                };
+                self.model.note_take(take, now)?;
                 Ok(same && is_free)
             }
             (Err(fault), Err(refusal)) => Ok(fault == refusal),
@@ -214,7 +265,7 @@ impl Driver {
     }
 
     fn answer(&mut self, by: u64) -> Result<bool, AllocError> {
-        let number = self.below(6);
+        let number = self.number();
         let command = match self.below(5) {
             0 => 0x8000_0000,
             1 => 0x8000_0003,
@@ -293,14 +344,37 @@ impl Driver {
         Ok(answer.err() == refusal)
     }
 
-    // Which request fails is the lane's choice: its newest entry names the number upstream.
     fn fail(&mut self, by: u64) -> Result<bool, AllocError> {
         let refusal = self.model.fail_refusal();
-        let failed = match self.lane.fail(by) {
-            Ok(failed) if refusal.is_none() => failed,
-            answer => return Ok(answer.err() == refusal),
-        };
-        let number = self.lane.last_entry().map_or(0, |entry| entry.number);
+        match self.lane.fail(by) {
+            Ok(failed) if refusal.is_none() => self.note_failed(by, failed),
+            answer => Ok(answer.err() == refusal),
+        }
+    }
+
+    // Which of the requests that are so old fails is the lane's choice too.
+    fn fail_expired(&mut self, by: u64) -> Result<bool, AllocError> {
+        let now = self.now();
+        let age = self.age();
+        let expired = self.model.expired(now, age)?;
+        match self.lane.fail_expired(by, now, age) {
+            Ok(failed) => {
+                self.expired = self.expired.saturating_add(1);
+                let same = expired.contains(&self.last_number());
+                Ok(self.note_failed(by, failed)? && same)
+            }
+            Err(NoneExpired) => Ok(expired.is_empty()),
+        }
+    }
+
+    // The number in the lane's newest entry.
+    fn last_number(&self) -> u32 {
+        self.lane.last_entry().map_or(0, |entry| entry.number)
+    }
+
+    // Which request fails is the lane's choice: its newest entry names the number upstream.
+    fn note_failed(&mut self, by: u64, failed: Failed) -> Result<bool, AllocError> {
+        let number = self.last_number();
         let Some(accept) = self.model.answered(number, 0x8000_0000) else {
             return Ok(false);
         };

@@ -14,6 +14,8 @@ const CALLS: u32 = 10_000;
 enum Difference {
     #[error("call {0} differs")]
     Call(u32),
+    #[error("no request was too old")]
+    Unexpired,
     #[error("the history is not legal")]
     Legal,
     #[error("there is nothing to spoil by {0:?}")]
@@ -28,6 +30,9 @@ fn compare(rt: &impl Print, driver: &mut Driver) -> anyhow::Result<()> {
         if !driver.step()? {
             return Err(Difference::Call(call).into());
         }
+    }
+    if driver.expired() == 0 {
+        return Err(Difference::Unexpired.into());
     }
     if !driver.is_legal() {
         return Err(Difference::Legal.into());

@@ -5,11 +5,14 @@ use smx_lane::{
 };
 use std::alloc::{AllocError, Global};
 
-/// What a lane stores after its calls, and nothing else.
+/// What a lane stores after its calls, and when its takes were, and nothing else.
 #[derive(Drop)]
 pub struct Model {
+    alloc: Global,
     limits: Limits,
     entries: Vec<Entry>,
+    // The moments of the takes, in order.
+    moments: Vec<u64>,
 }
 
 // How many entries are of the kind.
@@ -59,11 +62,18 @@ fn waiting(entries: &[Entry], client: u64) -> usize {
         .saturating_sub(of_client(entries, Kind::Collect, client))
 }
 
+// The place of the window that a number names.
+fn place_in(number: u32) -> u32 {
+    number.saturating_sub(1) % 1_024
+}
+
 impl Model {
     pub(crate) fn new(alloc: Global, limits: Limits) -> Model {
         Model {
+            alloc,
             limits,
             entries: Vec::new(alloc),
+            moments: Vec::new(alloc),
         }
     }
 
@@ -74,6 +84,18 @@ impl Model {
     /// Stores what happened.
     pub(crate) fn note(&mut self, entry: Entry) -> Result<(), AllocError> {
         Ok(self.entries.push(entry)?)
+    }
+
+    // The moment of the last take.
+    fn latest(&self) -> u64 {
+        self.moments.last().copied().unwrap_or(0)
+    }
+
+    /// Stores a take at the moment, or at that of the last take where that is greater.
+    pub(crate) fn note_take(&mut self, take: Entry, now: u64) -> Result<(), AllocError> {
+        let moment = now.max(self.latest());
+        self.moments.push(moment)?;
+        self.note(take)
     }
 
     /// The greatest number of a client that was admitted.
@@ -226,6 +248,61 @@ impl Model {
             return Err(TakeRefusal::Down);
         }
         Ok(*next)
+    }
+
+    // The place that the next take has: of those that are free the one that became so last, and at
+    // first the lowest.
+    fn next_place(&self) -> Result<u32, AllocError> {
+        let mut free = Vec::new(self.alloc);
+        for place in (0..self.limits.window).rev() {
+            free.push(place)?;
+        }
+        for entry in self.entries.iter() {
+            match entry.kind {
+                Kind::Take => {
+                    free.pop();
+                }
+                Kind::Answer | Kind::Late | Kind::Fail => free.push(place_in(entry.number))?,
+                _ => {}
+            }
+        }
+        Ok(free.last().copied().unwrap_or(0))
+    }
+
+    /// The number that the next take gives: its place is in the generation that counts how often it
+    /// was given before, and that goes round.
+    pub(crate) fn next_number(&self) -> Result<u32, AllocError> {
+        let place = self.next_place()?;
+        let given = self
+            .entries
+            .iter()
+            .filter(|entry| entry.kind == Kind::Take && place_in(entry.number) == place)
+            .count();
+        let generation = (given % 2_097_151) as u32;
+        Ok((generation * 1_024).saturating_add(place).saturating_add(1))
+    }
+
+    /// The number of a take that so many others came after.
+    pub(crate) fn number_before(&self, others: usize) -> Option<u32> {
+        let takes = of_kind(self.entries(), Kind::Take);
+        let at = takes.checked_sub(others)?.checked_sub(1)?;
+        let mut all = self.entries.iter().filter(|entry| entry.kind == Kind::Take);
+        all.nth(at).map(|entry| entry.number)
+    }
+
+    /// The numbers of all requests that were taken at least so long ago and neither answered nor
+    /// failed.
+    pub(crate) fn expired(&self, now: u64, age: u64) -> Result<Vec<u32>, AllocError> {
+        let now = u128::from(now.max(self.latest()));
+        let mut numbers = Vec::new(self.alloc);
+        let takes = self.entries.iter().filter(|entry| entry.kind == Kind::Take);
+        for (take, moment) in takes.zip(self.moments.iter()) {
+            let is_open = !is_settled(self.entries(), take.client, take.ordinal);
+            if is_open && u128::from(*moment) + u128::from(age) <= now {
+                numbers.push(take.number)?;
+            }
+        }
+        Ok(numbers)
     }
 
     /// The accept of the request that a response with the number and the command answers.

@@ -8,7 +8,8 @@ use std::alloc::{AllocError, Global};
 pub enum Spoiling {
     /// The first entry of the kind stands twice.
     Repeated(Kind),
-    /// The first entry of the second kind changes places with that of the first kind before it.
+    /// The first entry of the second kind that comes of one of the first kind before it changes places
+    /// with that.
     Swapped(Kind, Kind),
     /// The last entry of the second kind changes places with the last one of the first kind before it.
     Exchanged(Kind, Kind),
@@ -33,9 +34,11 @@ pub enum Spoiling {
     FailedAnswered,
     /// The request that was answered first fails after that.
     AnsweredFails,
+    /// The request that was taken last bears the number of the one that was answered first.
+    OneNumber,
 }
 
-pub const SPOILINGS: [Spoiling; 34] = [
+pub const SPOILINGS: [Spoiling; 35] = [
     Spoiling::Repeated(Kind::Admit),
     Spoiling::Repeated(Kind::Accept),
     Spoiling::Repeated(Kind::Take),
@@ -70,6 +73,7 @@ pub const SPOILINGS: [Spoiling; 34] = [
     Spoiling::OtherFailure,
     Spoiling::FailedAnswered,
     Spoiling::AnsweredFails,
+    Spoiling::OneNumber,
 ];
 
 // Of the commands that answer the request, the one that does not tell of its failure.
@@ -93,7 +97,7 @@ impl Spoiling {
             | Spoiling::Ordinal(kind)
             | Spoiling::Number(kind)
             | Spoiling::Command(kind) => kind,
-            Spoiling::Late | Spoiling::AnsweredFails => Kind::Answer,
+            Spoiling::Late | Spoiling::AnsweredFails | Spoiling::OneNumber => Kind::Answer,
             Spoiling::AfterRetire => Kind::Retire,
             Spoiling::OtherFailure | Spoiling::FailedAnswered => Kind::Fail,
         }
@@ -175,23 +179,33 @@ impl Spoiling {
             }
         }
         match self {
-            Spoiling::Swapped(before, _) => Ok(swapped(spoiled, before, at)),
+            Spoiling::Swapped(before, kind) => Ok(swapped(spoiled, before, kind)),
             Spoiling::Exchanged(before, kind) => Ok(exchanged(spoiled, before, kind)),
+            Spoiling::OneNumber => Ok(renumbered(spoiled, at)),
             _ => Ok(Some(spoiled)),
         }
     }
 }
 
-// The entry at the index in the place of the one of that kind with the same client and, but for an
-// admit, the same ordinal.
-fn swapped(entries: Vec<Entry>, before: Kind, at: usize) -> Option<Vec<Entry>> {
-    let entry = *entries.get(at)?;
-    let from = entries.iter().position(|other| {
+// Where the entry of the kind stands that has the same client and, but for an admit, the same ordinal.
+fn origin_of(entries: &[Entry], before: Kind, entry: Entry) -> Option<usize> {
+    entries.iter().position(|other| {
         other.kind == before
             && other.client == entry.client
             && (before == Kind::Admit || other.ordinal == entry.ordinal)
-    })?;
-    exchange(entries, from, at)
+    })
+}
+
+// The first entry of the second kind that has one of the first kind so, in the place of that.
+fn swapped(entries: Vec<Entry>, before: Kind, kind: Kind) -> Option<Vec<Entry>> {
+    for (at, entry) in entries.iter().enumerate() {
+        if entry.kind == kind {
+            if let Some(from) = origin_of(entries.as_slice(), before, *entry) {
+                return exchange(entries, from, at);
+            }
+        }
+    }
+    None
 }
 
 // Where the last entry of the kind stands among the first of the list.
@@ -210,6 +224,28 @@ fn exchanged(entries: Vec<Entry>, before: Kind, kind: Kind) -> Option<Vec<Entry>
     let at = last_of(entries.as_slice(), kind, entries.len())?;
     let from = last_of(entries.as_slice(), before, at)?;
     exchange(entries, from, at)
+}
+
+// The number of the answer at the index in place of the one that the last request to be taken bears,
+// where that was taken after the answer. So nothing is wrong but that two takes give one number.
+fn renumbered(entries: Vec<Entry>, at: usize) -> Option<Vec<Entry>> {
+    let answer = *entries.get(at)?;
+    let last = last_of(entries.as_slice(), Kind::Take, entries.len())?;
+    let take = *entries.get(last)?;
+    if last < at {
+        return None;
+    }
+    let mut entries = entries;
+    for entry in &mut entries {
+        let bears = matches!(
+            entry.kind,
+            Kind::Take | Kind::Answer | Kind::Late | Kind::Fail
+        );
+        if bears && entry.client == take.client && entry.ordinal == take.ordinal {
+            entry.number = answer.number;
+        }
+    }
+    Some(entries)
 }
 
 // The two entries in each other's place.

@@ -45,7 +45,12 @@ pub(crate) fn accepts(lane: &mut Lane, alloc: Global, client: u64, ordinal: u64)
 
 // The number under which the lane's next request goes upstream.
 pub(crate) fn take_number(lane: &mut Lane) -> Option<u32> {
-    lane.take(0).ok().map(|sent| sent.upstream)
+    take_at(lane, 0)
+}
+
+// The same of a take at that moment.
+pub(crate) fn take_at(lane: &mut Lane, now: u64) -> Option<u32> {
+    lane.take(0, now).ok().map(|sent| sent.upstream)
 }
 
 // The client whose box gets the response to the number.
@@ -56,12 +61,30 @@ pub(crate) fn answer_to(lane: &mut Lane, alloc: Global, number: u32) -> Option<u
     }
 }
 
+// Whether no request bears the number.
+pub(crate) fn is_unknown(lane: &mut Lane, alloc: Global, number: u32) -> bool {
+    matches!(
+        lane.answer(0, submitted(alloc, number)),
+        Answered::Unknown(_)
+    )
+}
+
 // The number of the response that waits for the client.
 pub(crate) fn collect_number(lane: &mut Lane, client: u64) -> Option<u32> {
     if !lane.is_own(0, client) {
         return None;
     }
     lane.collect(0, client).map(|pdu| pdu.number)
+}
+
+// The command, status and number of the response that waits for client 1, where it has no body.
+pub(crate) fn collected(lane: &mut Lane) -> Option<(u32, u32, u32)> {
+    if !lane.is_own(0, 1) {
+        return None;
+    }
+    let pdu = lane.collect(0, 1)?;
+    let is_empty = pdu.body.as_slice().is_empty();
+    is_empty.then_some((pdu.command, pdu.status, pdu.number))
 }
 
 // Whether the client is retired, which it is once.

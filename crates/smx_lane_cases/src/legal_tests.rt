@@ -34,18 +34,21 @@ fn session() -> [Entry; 9] {
     ]
 }
 
+// The number of an open request is not given to another, and that of an answered one not within
+// 1,000,000 takes.
 #[test]
-fn a_number_serves_again_after_its_answer(rt: HostRuntime) {
+fn a_number_does_not_serve_again_soon(rt: HostRuntime) {
     let admit = entry(Admit, 1, 0, 0, 0);
     let first = entry(Accept, 1, 1, 1, SUBMIT_SM);
     let second = entry(Accept, 1, 2, 1, SUBMIT_SM);
-    let take_first = entry(Take, 1, 1, 1, 0);
-    let take_second = entry(Take, 1, 2, 1, 0);
+    let take = entry(Take, 1, 1, 1, 0);
+    let again = entry(Take, 1, 2, 1, 0);
+    let other = entry(Take, 1, 2, 1_025, 0);
     let answer = entry(Answer, 1, 1, 1, SUBMIT_SM_RESP);
-    let after = [admit, first, take_first, answer, second, take_second];
-    let before = [admit, first, second, take_first, take_second, answer];
-    assert!(rt; is_legal(&after, LIMITS));
-    assert!(rt; !is_legal(&before, LIMITS));
+    assert!(rt; is_legal(&[admit, first, take, answer, second, other], LIMITS));
+    assert!(rt; !is_legal(&[admit, first, take, answer, second, again], LIMITS));
+    assert!(rt; is_legal(&[admit, first, second, take, other, answer], LIMITS));
+    assert!(rt; !is_legal(&[admit, first, second, take, again, answer], LIMITS));
 }
 
 // Whether the session is found illegal once these entries are swapped.

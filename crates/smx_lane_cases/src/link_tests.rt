@@ -1,8 +1,8 @@
 //! A lane whose link upstream is lost, and the histories of such lanes.
 
 use crate::lane_fixture::{
-    ROOMY, accepts, admits, answer_to, entry, lane_of, lane_with_one, refusal_of, retires,
-    take_number, turned,
+    ROOMY, accepts, admits, answer_to, collected, entry, lane_of, lane_with_one, refusal_of,
+    retires, take_number, turned,
 };
 use smx_history::Kind::{Accept, Admit, Answer, Collect, Down, Fail, Retire, Take, Up};
 use smx_lane::{Entry, FailRefusal, Failed, Lane, Refusal, Request, TakeRefusal, UpRefusal};
@@ -21,16 +21,6 @@ const QUERY_SM: u32 = 0x0000_0003;
 const QUERY_SM_RESP: u32 = 0x8000_0003;
 
 const GENERIC_NACK: u32 = 0x8000_0000;
-
-// The command, status and number of the response that waits for client 1, where it has no body.
-fn collected(lane: &mut Lane) -> Option<(u32, u32, u32)> {
-    if !lane.is_own(0, 1) {
-        return None;
-    }
-    let pdu = lane.collect(0, 1)?;
-    let is_empty = pdu.body.as_slice().is_empty();
-    is_empty.then_some((pdu.command, pdu.status, pdu.number))
-}
 
 // Whether the lane, which is up, goes down and fails one request, of client 1, and no more.
 fn loses_one(lane: &mut Lane) -> bool {
@@ -128,7 +118,7 @@ fn is_answered_down(lane: &mut Lane, alloc: Global) -> bool {
         && take_number(lane) == Some(2)
         && lane.down(0).is_ok()
         && answer_to(lane, alloc, 1) == Some(1)
-        && lane.take(0).err() == Some(TakeRefusal::Down)
+        && lane.take(0, 0).err() == Some(TakeRefusal::Down)
         && lane.up(0) == Err(UpRefusal::WindowNotEmpty)
         && retires(lane, 1)
         && lane.fail(0) == Ok(Failed::Late)

@@ -1,8 +1,8 @@
 //! A lane against replies worked out by hand.
 
 use crate::lane_fixture::{
-    ROOMY, accepts, admits, answer_to, collect_number, lane_of, lane_with_one, refusal_of, retires,
-    submit, submitted, take_number, turned,
+    ROOMY, accepts, admits, answer_to, collect_number, is_unknown, lane_of, lane_with_one,
+    refusal_of, retires, submit, submitted, take_number, turned,
 };
 use smx_lane::{
     AdmitFault, Answered, Call, Kind, Lane, LaneFault, Limits, NotAdmitted, Refusal, Reply, Sent,
@@ -12,14 +12,6 @@ use smx_pdu::Pdu;
 use std::alloc::{AllocError, Global};
 use std::process::Abort;
 use std::test::*;
-
-// Whether no request bears the number.
-fn is_unknown(lane: &mut Lane, alloc: Global, number: u32) -> bool {
-    matches!(
-        lane.answer(0, submitted(alloc, number)),
-        Answered::Unknown(_)
-    )
-}
 
 // Whether the client is retired already.
 fn has_retired(lane: &mut Lane, client: u64) -> bool {
@@ -138,34 +130,6 @@ fn retired_clients_get_nothing(rt: HostRuntime) {
     assert!(rt; retires_early(&mut lane, rt.alloc()));
 }
 
-// A window of two takes the numbers 1 and 2 and then no more: the number that is given once 1 is
-// answered.
-fn number_given_again(lane: &mut Lane, alloc: Global) -> Option<u32> {
-    for ordinal in 1..=3 {
-        if !accepts(lane, alloc, 1, ordinal) {
-            return None;
-        }
-    }
-    let taken = (take_number(lane), take_number(lane), take_number(lane));
-    if taken != (Some(1), Some(2), None) || answer_to(lane, alloc, 1) != Some(1) {
-        return None;
-    }
-    take_number(lane)
-}
-
-// A number is free again once its request is answered, and not before.
-fn gives_again(lane: &mut Lane, alloc: Global) -> bool {
-    let again = number_given_again(lane, alloc).unwrap_or(2);
-    again != 2 && answer_to(lane, alloc, 2) == Some(1) && answer_to(lane, alloc, again) == Some(1)
-}
-
-#[test]
-fn numbers_are_given_again(rt: HostRuntime) {
-    let narrow = Limits { window: 2, ..ROOMY };
-    let mut lane = lane_with_one(&rt, rt.alloc(), narrow);
-    assert!(rt; gives_again(&mut lane, rt.alloc()));
-}
-
 // Has four clients take turns to fill a window of 1,024, so the request with number n is that of
 // client (n - 1) % 4 + 1: the first number that no take bears.
 fn fill(lane: &mut Lane, alloc: Global) -> u32 {
@@ -194,14 +158,15 @@ fn answer_all(lane: &mut Lane, alloc: Global) -> u32 {
     1_024
 }
 
-// A full window takes no more, is answered, and takes the next.
+// A full window takes no more, is answered, and takes the next. Number 1,020 is answered last, since
+// 1,023 * 5 is 4 * 1,024 + 1,019, so its place is given next.
 fn fills_and_answers(lane: &mut Lane, alloc: Global) -> bool {
     admits(lane, 5)
         && fill(lane, alloc) == 1_025
         && accepts(lane, alloc, 5, 1)
-        && lane.take(0).err() == Some(TakeRefusal::WindowFull)
+        && lane.take(0, 0).err() == Some(TakeRefusal::WindowFull)
         && answer_all(lane, alloc) == 1_024
-        && take_number(lane).is_some()
+        && take_number(lane) == Some(1_024 + 1_020)
 }
 
 #[test]
@@ -228,7 +193,7 @@ fn ten_calls(rt: &impl Abort, alloc: Global) -> Vec<Call> {
             by: 3,
             request: submit(alloc, 1, 1),
         },
-        Call::Take { by: 9 },
+        Call::Take { by: 9, now: 0 },
         Call::Answer {
             by: 9,
             response: submitted(alloc, 1),

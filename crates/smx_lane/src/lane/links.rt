@@ -8,8 +8,7 @@ ghost use Rattle.smx_history.specs.Replies.{fail_refusal, up_refusal};
 ghost use Rattle.smx_history.specs.Answering.{IsFailed};
 
 use super::Lane;
-use super::responses::{facing, settling};
-use smx_history::{AlreadyDown, Entry, FailRefusal, Failed, Kind, UpRefusal, failure};
+use smx_history::{AlreadyDown, Entry, FailRefusal, Failed, Kind, UpRefusal};
 
 // The entry of what tells of the link.
 fn linking(kind: Kind, by: u64) -> Entry
@@ -59,16 +58,7 @@ impl Lane {
         let Some(place) = self.window.first() else {
             return Err(FailRefusal::WindowEmpty);
         };
-        self.window.remove(place.upstream);
-        let response = failure(self.roster.alloc(), &place);
-        let entry = settling(Kind::Fail, by, &place, &response);
-        self.entries.push_reserved(entry);
-        let client = place.client;
-        let Some(row) = self.roster.find(client) else {
-            return Ok(Failed::Late);
-        };
-        self.roster.put(row, facing(&place, response));
-        Ok(Failed::Queued { client })
+        Ok(self.give_up(by, &place))
     }
 
     /// There is a link upstream again: requests are accepted and taken as before. It takes no memory.

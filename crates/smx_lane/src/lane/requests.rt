@@ -6,7 +6,8 @@ ghost use Rattle.smx_history.specs.declared.note.Note.{Note};
 ghost use Rattle.smx_history.specs.Replies.{accept_refusal, take_refusal};
 ghost use Rattle.smx_lane.specs.Conditions.{IsNext};
 ghost use Rattle.smx_lane.specs.Members.{IsRowOf};
-ghost use Rattle.smx_history.specs.declared.note.Event.TheVariants.{Accept, Take};
+ghost use Rattle.smx_history.specs.declared.note.Event.TheVariants.{Accept};
+ghost use Rattle.smx_lane.specs.Taking.{taking};
 
 use super::Lane;
 use crate::sent::Sent;
@@ -67,12 +68,15 @@ impl Lane {
         }
     }
 
-    /// Takes the oldest request, under a number that no place of the window has.
-    pub fn take(&mut self, by: u64) -> Result<Sent, TakeRefusal>
+    /// Takes the oldest request. Its number upstream is 1,024 x generation + place + 1: a place below the window's size
+    /// that is free, and how often that place was given before, going round after 2,097,150. So a number comes again
+    /// after 2,097,151 takes at the least, and the greatest is 2,147,482,624 (SMPP 3.4, section 5.1.4). The moment is in
+    /// milliseconds, from any start; one below that of the last take counts as that. It takes no memory.
+    pub fn take(&mut self, by: u64, now: u64) -> Result<Sent, TakeRefusal>
         ensures reply { MatchResult result (λ _. take_refusal self.old ≡ None) (λ e. take_refusal self.old ≡ Some e) }
         ensures oldest { IfOk result (λ sent. slice_get self.old.queue 0 ≡ Some sent.request) }
         ensures agrees { IfOk result (λ sent. (h : List Note) → AgreesWith h self.old →
-            AgreesWith (h ++ note by (Take sent.request.client sent.request.ordinal sent.upstream) ∷ []) self.new) }
+            AgreesWith (h ++ taking self.old by now sent ∷ []) self.new) }
         ensures err { OnErr result (self.new ≡ self.old) }
         ensures limits { self.new.limits ≡ self.old.limits }
     {
@@ -86,7 +90,7 @@ impl Lane {
             return Err(TakeRefusal::Down);
         }
         let request = self.queue.pop_front().unwrap();
-        let upstream = self.window.put(&request);
+        let upstream = self.window.put(&request, now).upstream;
         self.entries.push_reserved(Entry {
             kind: Kind::Take,
             by,

@@ -1,4 +1,4 @@
-use Rattle.smx_lane.proofs.Calling.{admit_made, accept_made, take_made, answer_made, collect_made, retire_made, turn_made, down_made, fail_made, up_made}
+use Rattle.smx_lane.proofs.Calling.{admit_made, accept_made, take_made, answer_made, collect_made, retire_made, turn_made, down_made, fail_made, expiry_made, up_made}
 use Rattle.smx_lane.proofs.call.run.Goals as goal
 
 pub returns-in-Admit-clause-reply : goal.returns-in-Admit-clause-reply
@@ -8,7 +8,7 @@ pub returns-else-not-is_next-clause-reply : goal.returns-else-not-is_next-clause
 returns-else-not-is_next-clause-reply c = rw c.in-Accept.is (accept_made c.args.lane.now _ _ _ c.accept.result (c.is_next.ensures.0 c.if-not-is_next.false) c.accept.ensures.reply c.accept.ensures.agrees c.accept.ensures.err)
 
 pub returns-in-Take-clause-reply : goal.returns-in-Take-clause-reply
-returns-in-Take-clause-reply c = rw c.in-Take.is (take_made c.args.lane.now _ _ c.take.result c.take.ensures.reply c.take.ensures.oldest c.take.ensures.agrees c.take.ensures.err)
+returns-in-Take-clause-reply c = rw c.in-Take.is (take_made c.args.lane.now _ _ _ c.take.result c.take.ensures.reply c.take.ensures.oldest c.take.ensures.agrees c.take.ensures.err)
 
 pub returns-in-Answer-clause-reply : goal.returns-in-Answer-clause-reply
 returns-in-Answer-clause-reply c = rw c.in-Answer.is (answer_made c.args.lane.now _ _ _ c.answer.result c.answer.ensures.answered)
@@ -30,3 +30,6 @@ returns-in-Fail-clause-reply c = rw c.in-Fail.is (fail_made c.args.lane.now _ _ 
 
 pub returns-in-Up-clause-reply : goal.returns-in-Up-clause-reply
 returns-in-Up-clause-reply c = rw c.in-Up.is (up_made c.args.lane.now _ _ c.up.result c.up.ensures.reply c.up.ensures.agrees c.up.ensures.err)
+
+pub returns-in-FailExpired-clause-reply : goal.returns-in-FailExpired-clause-reply
+returns-in-FailExpired-clause-reply c = rw c.in-FailExpired.is (expiry_made c.args.lane.now _ _ _ _ c.fail_expired.result c.fail_expired.ensures.expired c.fail_expired.ensures.none c.fail_expired.ensures.err)

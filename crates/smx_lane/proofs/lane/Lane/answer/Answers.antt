@@ -8,6 +8,7 @@ use Rattle.smx_history.specs.Replies.{answers_place, member_with}
 use Rattle.smx_history.proofs.Settled.{KeepsRoom-settled, KeepsRoom-settled_late, box_has_room}
 use Rattle.smx_history.proofs.AnswerAgrees.{AgreesWith-answered}
 use Rattle.smx_history.proofs.LateAgrees.{AgreesWith-late}
+use Rattle.smx_lane.specs.Private.Places.{Places}
 use Rattle.smx_lane.specs.Members.{IsRowOf}
 use Rattle.smx_lane.proofs.Answering.{answered_at}
 use Rattle.smx_lane.proofs.lane.Lane.answer.Goals as goal
@@ -30,7 +31,7 @@ invariant_of-self c =
     record {
       room = rw (removed.2, c.push_reserved.ensures.items) (KeepsRoom-settled_late v _ q removed.0 c.self.invariant.room place.within place.is);
       queue = c.self.invariant.queue;
-      window = c.remove.ensures.most ∙ c.self.invariant.window;
+      window = ap (λ (p : Places). p.most) removed.2 ∙ c.self.invariant.window;
       entries = omega (arith, c.push_reserved.ensures.capacity, c.self.invariant.entries);
       places = c.self.invariant.places;
     }
@@ -47,7 +48,7 @@ invariant_of-self-2 c =
     record {
       room = rw (removed.2, c.push_reserved-2.ensures.items, c.settling-2.ensures, ms) (KeepsRoom-settled v (entry_by c.args.by (event.Answer q.client q.ordinal p)) p q removed.0 row.0 c.self.invariant.room place.within place.is row.1.found);
       queue = c.self.invariant.queue;
-      window = c.remove.ensures.most ∙ c.self.invariant.window;
+      window = ap (λ (p : Places). p.most) removed.2 ∙ c.self.invariant.window;
       entries = omega (arith, c.push_reserved-2.ensures.capacity, c.self.invariant.entries);
       places = c.put.ensures.places ∙ c.self.invariant.places;
     }

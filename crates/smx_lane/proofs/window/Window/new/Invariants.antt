@@ -6,5 +6,5 @@ abbrev pub invariant-loop-given : goal.invariant-loop-given
 invariant-loop-given l = record {
   count : length l.free.items ≡ l.given;
   room : l.most ≤ vec_capacity l.free;
-  numbers : (j u : ℕ) → slice_get l.free.items j ≡ Some u → u + j ≡ l.most;
+  numbers : (j u : ℕ) → slice_get l.free.items j ≡ Some u → u + j + 1 ≡ l.most;
 }

@@ -1,7 +1,7 @@
-use Rattle.std.proofs.Common.{arith, List, Some, ◌≡◌, get_or, refl, sym, ◌∙◌, ap, None, slice_get, is_some}
+use Rattle.std.proofs.Common.{arith, ℕ, Some, ◌≡◌, get_or, refl, sym, ◌∙◌, ap, None, slice_get, is_some}
 use Rattle.std.proofs.lemmas.Option.{slice_get_within, get_or_from_slice_get}
 use Rattle.smx_history.specs.declared.place.Place.{Place}
-use Rattle.smx_lane.specs.Private.Places.{IsPlaceOf}
+use Rattle.smx_lane.specs.Private.Places.{IsPlaceOf, Places}
 use Rattle.smx_history.specs.Contents.{Content, Member}
 use Rattle.smx_history.specs.Failures.{failure_command, failure}
 use Rattle.smx_lane.specs.Inside.{content_of}
@@ -10,34 +10,36 @@ use Rattle.smx_history.proofs.Updates.{failing_entry}
 use Rattle.smx_history.proofs.Settled.{KeepsRoom-settled, KeepsRoom-settled_late, box_has_room}
 use Rattle.smx_history.proofs.FailAgrees.{AgreesWith-failed, AgreesWith-failed_late}
 use Rattle.smx_lane.specs.Members.{IsRowOf}
-use Rattle.smx_lane.proofs.lane.Lane.fail.Goals as goal
+use Rattle.smx_lane.proofs.lane.Lane.give_up.Goals as goal
 
-first_place : (taken : List Place) (q : Place) → slice_get taken 0 ≡ Some q → IsPlaceOf taken q.upstream q
-first_place taken q at = record { index = 0; there = at; number_is = refl }
+-- the place is in the window
+in_window : (x y : Content) (q : Place) → x ≡ y → (i : ℕ) × (slice_get y.window i ≡ Some q) → IsPlaceOf x.window q.upstream q
+in_window x y q same there = record { index = there.0; there = ap (λ (v : Content). slice_get v.window there.0) same ∙ there.1; number_is = refl }
+
+pub remove-requires : goal.remove-requires
+remove-requires c = (c.args.place.now, in_window (content_of c.self.inside) c.args.self.now c.args.place.now c.self.view_is c.requires)
 
 pub put-requires-clause-room : goal.put-requires-clause-room
 put-requires-clause-room c =
     let v = content_of c.self.inside in
-    let q = c.in-Some.place in
-    let place = first_place c.self.inside.window.taken q (sym c.in-Some.ensures) in
-    let removed = c.remove.ensures.taken q place in
+    let q = c.args.place.now in
+    let removed = c.remove.ensures.taken q (in_window v c.args.self.now q c.self.view_is c.requires) in
     let within = slice_get_within v.window removed.0 q removed.1 in
     let is : q ≡ get_or v.window removed.0 q = sym (get_or_from_slice_get v.window removed.0 q q removed.1) in
-    let row : (m : Member) × IsRowOf v.members q.client c.in-Some-find.row m = c.in-Some-find.ensures in
+    let row : (m : Member) × IsRowOf v.members q.client c.in-Some.row m = c.in-Some.ensures in
     (row.0, row.1.at, omega (arith, box_has_room v q removed.0 row.0 c.self.invariant.room within is row.1.found, c.self.invariant.places))
 
 pub invariant_of-self : goal.invariant_of-self
 invariant_of-self c =
     let v = content_of c.self.inside in
-    let q = c.in-Some.place in
-    let place = first_place c.self.inside.window.taken q (sym c.in-Some.ensures) in
-    let removed = c.remove.ensures.taken q place in
+    let q = c.args.place.now in
+    let removed = c.remove.ensures.taken q (in_window v c.args.self.now q c.self.view_is c.requires) in
     let within = slice_get_within v.window removed.0 q removed.1 in
     let is : q ≡ get_or v.window removed.0 q = sym (get_or_from_slice_get v.window removed.0 q q removed.1) in
     record {
       room = rw (removed.2, c.push_reserved.ensures.items) (KeepsRoom-settled_late v _ q removed.0 c.self.invariant.room within is);
       queue = c.self.invariant.queue;
-      window = c.remove.ensures.most ∙ c.self.invariant.window;
+      window = ap (λ (p : Places). p.most) removed.2 ∙ c.self.invariant.window;
       entries = omega (arith, c.push_reserved.ensures.capacity, c.self.invariant.entries);
       places = c.self.invariant.places;
     }
@@ -45,53 +47,46 @@ invariant_of-self c =
 pub invariant_of-self-2 : goal.invariant_of-self-2
 invariant_of-self-2 c =
     let v = content_of c.self.inside in
-    let q = c.in-Some.place in
+    let q = c.args.place.now in
     let p = failure (failure_command q.command) q.upstream in
-    let place = first_place c.self.inside.window.taken q (sym c.in-Some.ensures) in
-    let removed = c.remove.ensures.taken q place in
+    let removed = c.remove.ensures.taken q (in_window v c.args.self.now q c.self.view_is c.requires) in
     let within = slice_get_within v.window removed.0 q removed.1 in
     let is : q ≡ get_or v.window removed.0 q = sym (get_or_from_slice_get v.window removed.0 q q removed.1) in
-    let row : (m : Member) × IsRowOf v.members q.client c.in-Some-find.row m = c.in-Some-find.ensures in
+    let row : (m : Member) × IsRowOf v.members q.client c.in-Some.row m = c.in-Some.ensures in
     let ms = rw (row.1.client_is, c.facing.ensures, c.failure-response.ensures) at (c.put.ensures.members row.0 row.1.at) in
     record {
       room = rw (removed.2, c.push_reserved.ensures.items, c.settling-entry.ensures, c.failure-response.ensures, ms) (KeepsRoom-settled v (failing_entry c.args.by q) p q removed.0 row.0 c.self.invariant.room within is row.1.found);
       queue = c.self.invariant.queue;
-      window = c.remove.ensures.most ∙ c.self.invariant.window;
+      window = ap (λ (x : Places). x.most) removed.2 ∙ c.self.invariant.window;
       entries = omega (arith, c.push_reserved.ensures.capacity, c.self.invariant.entries);
       places = c.put.ensures.places ∙ c.self.invariant.places;
     }
 
-pub returns-in_default-find-clause-failed : goal.returns-in_default-find-clause-failed
-returns-in_default-find-clause-failed c =
+pub returns-in_default-clause-given_up : goal.returns-in_default-clause-given_up
+returns-in_default-clause-given_up c =
     let v = content_of c.self.inside in
-    let q = c.in-Some.place in
-    let place = first_place c.self.inside.window.taken q (sym c.in-Some.ensures) in
-    let removed = c.remove.ensures.taken q place in
+    let q = c.args.place.now in
+    let removed = c.remove.ensures.taken q (in_window v c.args.self.now q c.self.view_is c.requires) in
     let within = slice_get_within v.window removed.0 q removed.1 in
     let is : q ≡ get_or v.window removed.0 q = sym (get_or_from_slice_get v.window removed.0 q q removed.1) in
-    let gone : member_with q.client v.members ≡ None = c.in_default-find.ensures in
+    let gone : member_with q.client v.members ≡ None = c.in_default.ensures in
     let room = KeepsRoom-settled_late v (failing_entry c.args.by q) q removed.0 c.self.invariant.room within is in (
-      q,
-      ap (λ (x : Content). slice_get x.window 0) (sym c.self.view_is) ∙ sym c.in-Some.ensures,
       ap (λ (x : Content). member_with q.client x.members) (sym c.self.view_is) ∙ gone,
       λ h was. rw (removed.2, c.push_reserved.ensures.items, c.settling-entry.ensures, c.failure-response.ensures)
           (AgreesWith-failed_late h v c.args.by q removed.0 (rw c.self.view_is was) within is gone room),
     )
 
-pub returns-clause-failed : goal.returns-clause-failed
-returns-clause-failed c =
+pub returns-clause-given_up : goal.returns-clause-given_up
+returns-clause-given_up c =
     let v = content_of c.self.inside in
-    let q = c.in-Some.place in
+    let q = c.args.place.now in
     let p = failure (failure_command q.command) q.upstream in
-    let place = first_place c.self.inside.window.taken q (sym c.in-Some.ensures) in
-    let removed = c.remove.ensures.taken q place in
+    let removed = c.remove.ensures.taken q (in_window v c.args.self.now q c.self.view_is c.requires) in
     let within = slice_get_within v.window removed.0 q removed.1 in
     let is : q ≡ get_or v.window removed.0 q = sym (get_or_from_slice_get v.window removed.0 q q removed.1) in
-    let row : (m : Member) × IsRowOf v.members q.client c.in-Some-find.row m = c.in-Some-find.ensures in
+    let row : (m : Member) × IsRowOf v.members q.client c.in-Some.row m = c.in-Some.ensures in
     let ms = rw (row.1.client_is, c.facing.ensures, c.failure-response.ensures) at (c.put.ensures.members row.0 row.1.at) in
     let room = KeepsRoom-settled v (failing_entry c.args.by q) p q removed.0 row.0 c.self.invariant.room within is row.1.found in (
-      q,
-      ap (λ (x : Content). slice_get x.window 0) (sym c.self.view_is) ∙ sym c.in-Some.ensures,
       refl,
       ap is_some (ap (λ (x : Content). member_with q.client x.members) (sym c.self.view_is) ∙ row.1.found),
       λ h was. rw (removed.2, c.push_reserved.ensures.items, c.settling-entry.ensures, c.failure-response.ensures, ms)
