@@ -14,13 +14,14 @@ use Rattle.smx_history.specs.declared.reply.Refusal.{Refusal}
 use Rattle.smx_history.specs.declared.reply.TakeRefusal.{TakeRefusal}
 use Rattle.smx_history.specs.declared.reply.AlreadyDown.{AlreadyDown}
 use Rattle.smx_history.specs.declared.reply.Failed.{Failed}
-use Rattle.smx_history.specs.declared.reply.Failed.TheVariants as failed
+use Rattle.smx_history.specs.declared.reply.NoneExpired.{NoneExpired}
 use Rattle.smx_history.specs.declared.reply.FailRefusal.{FailRefusal}
 use Rattle.smx_history.specs.declared.reply.UpRefusal.{UpRefusal}
 use Rattle.smx_history.specs.declared.place.Place.{Place}
 use Rattle.smx_history.specs.Failures.{failure_command}
 use Rattle.smx_history.specs.History.{note, shift}
 use Rattle.smx_history.specs.Contents.{Content}
+use Rattle.smx_history.specs.Replies.{moment_at}
 use Rattle.smx_lane.specs.declared.fault.AdmitFault.{AdmitFault}
 use Rattle.smx_lane.specs.declared.fault.NotAdmitted.{NotAdmitted}
 use Rattle.smx_lane.specs.declared.sent.Sent.{Sent}
@@ -74,10 +75,10 @@ pub accept_made : (by : ℕ) (q : Request) (old new : Content) (r : Result (Unit
 accept_made by q old new (Ok x) limits m = made by old new _ _ (λ own t. is_one by (event.Accept q) own _ t.2 refl) limits m
 accept_made by q old new (Err e) limits m = made by old new _ _ (λ own t. is_none by own t.3.0) limits m
 
-pub take_made : (by : ℕ) (old new : Content) (r : Result Sent TakeRefusal) → new.limits ≡ old.limits → lane.IsMade old (call.Take by) (reply.Taken r) new
-    → IsMade by old (call.Take by) (reply.Taken r) new
-take_made by old new (Ok s) limits m = made by old new _ _ (λ own t. is_one by (event.Take s.request.client s.request.ordinal s.upstream) own _ t.2 refl) limits m
-take_made by old new (Err e) limits m = made by old new _ _ (λ own t. is_none by own t.1.0) limits m
+pub take_made : (by now : ℕ) (old new : Content) (r : Result Sent TakeRefusal) → new.limits ≡ old.limits → lane.IsMade old (call.Take by now) (reply.Taken r) new
+    → IsMade by old (call.Take by now) (reply.Taken r) new
+take_made by now old new (Ok s) limits m = made by old new _ _ (λ own t. is_one by (event.Take s.request.client s.request.ordinal s.upstream (moment_at old now)) own _ t.2 refl) limits m
+take_made by now old new (Err e) limits m = made by old new _ _ (λ own t. is_none by own t.1.0) limits m
 
 pub answer_made : (by : ℕ) (p : Pdu) (old new : Content) (r : Answered) → new.limits ≡ old.limits → lane.IsMade old (call.Answer by p) (reply.Answered r) new
     → IsMade by old (call.Answer by p) (reply.Answered r) new
@@ -113,9 +114,13 @@ failed_event q = event.Fail q.client q.ordinal q.upstream (failure_command q.com
 
 pub fail_made : (by : ℕ) (old new : Content) (r : Result Failed FailRefusal) → new.limits ≡ old.limits → lane.IsMade old (call.Fail by) (reply.Failed r) new
     → IsMade by old (call.Fail by) (reply.Failed r) new
-fail_made by old new (Ok (failed.Queued c)) limits m = made by old new _ _ (λ own t. is_one by (failed_event t.1) own _ t.5 (ap (fail_notes by) t.2)) limits m
-fail_made by old new (Ok failed.Late) limits m = made by old new _ _ (λ own t. is_one by (failed_event t.1) own _ t.4 (ap (fail_notes by) t.2)) limits m
+fail_made by old new (Ok f) limits m = made by old new _ _ (λ own t. is_one by (failed_event t.1) own _ t.4 (ap (fail_notes by) t.2)) limits m
 fail_made by old new (Err e) limits m = made by old new _ _ (λ own t. is_none by own t.1.0) limits m
+
+pub expiry_made : (by now age : ℕ) (old new : Content) (r : Result Failed NoneExpired) → new.limits ≡ old.limits → lane.IsMade old (call.FailExpired by now age) (reply.Expired r) new
+    → IsMade by old (call.FailExpired by now age) (reply.Expired r) new
+expiry_made by now age old new (Ok f) limits m = made by old new _ _ (λ own t. is_one by (failed_event t.0) own _ t.3 (ap (fail_notes by) t.1)) limits m
+expiry_made by now age old new (Err e) limits m = made by old new _ _ (λ own t. is_none by own t.1.0) limits m
 
 pub up_made : (by : ℕ) (old new : Content) (r : Result (Unit {0}) UpRefusal) → new.limits ≡ old.limits → lane.IsMade old (call.Up by) (reply.CameUp r) new
     → IsMade by old (call.Up by) (reply.CameUp r) new

@@ -27,9 +27,11 @@ use Rattle.smx_shared.specs.declared.fault.DownFault as down_fault
 use Rattle.smx_shared.specs.declared.fault.DownFault.TheVariants as downs
 use Rattle.smx_shared.specs.declared.fault.FailFault as fail_fault
 use Rattle.smx_shared.specs.declared.fault.FailFault.TheVariants as fails
+use Rattle.smx_shared.specs.declared.fault.ExpiryFault as expiry_fault
+use Rattle.smx_shared.specs.declared.fault.ExpiryFault.TheVariants as expires
 use Rattle.smx_shared.specs.declared.fault.UpFault as up_fault
 use Rattle.smx_shared.specs.declared.fault.UpFault.TheVariants as ups
-use Rattle.smx_shared.specs.Serving.{OneHold, CallServes, Takes, TriesTake, Brings, Turns, TurnServes, StaysServes, GoesDown, Fails, ComesUp}
+use Rattle.smx_shared.specs.Serving.{OneHold, CallServes, Takes, TriesTake, Brings, Turns, TurnServes, StaysServes, GoesDown, Fails, Expires, ComesUp}
 use Rattle.std.specs.Option.{option_map}
 use Rattle.smx_history.specs.declared.entry.Entry.{Entry}
 use Rattle.smx_shared.specs.Taps.{Queued, known, known_of, known_by_take, known_by_answer}
@@ -50,16 +52,16 @@ spent_same f g s = elim s [
 called : (f g : Front Note Limits) (c : Call) (r : Reply) (ns : List Note) → (h : CallServes f g c r) → h.own ≡ ns → known_of g.mine ≡ known_of f.mine ++ known_of ns
 called f g c r ns h is = more f g ns (h.hold.serves.mine ∙ ap (λ own. f.mine ++ own) is)
 
-pub takes_known : (f g : Front Note Limits) (r : Result Sent take_fault.TakeFault) → Takes f g r → known_of g.mine ≡ known_of f.mine ++ known_by_take r
-takes_known f g (Ok sent) h = called f g _ _ _ h h.told.2
-takes_known f g (Err (takes.Refused e)) h = called f g _ _ [] h h.told.1.0
-takes_known f g (Err takes.Spent) h = spent_same f g h
+pub takes_known : (f g : Front Note Limits) (now : ℕ) (r : Result Sent take_fault.TakeFault) → Takes f g now r → known_of g.mine ≡ known_of f.mine ++ known_by_take r
+takes_known f g now (Ok sent) h = called f g _ _ _ h h.told.2
+takes_known f g now (Err (takes.Refused e)) h = called f g _ _ [] h h.told.1.0
+takes_known f g now (Err takes.Spent) h = spent_same f g h
 
-pub tries_known : (f g : Front Note Limits) (r : Result Sent try_fault.TryTakeFault) → TriesTake f g r → known_of g.mine ≡ known_of f.mine ++ known_by_take r
-tries_known f g (Ok sent) h = called f g _ _ _ h h.told.2
-tries_known f g (Err (tries.Refused e)) h = called f g _ _ [] h h.told.1.0
-tries_known f g (Err tries.Spent) h = spent_same f g h
-tries_known f g (Err tries.Busy) h = same f g (ap (λ z. z.mine) h.0)
+pub tries_known : (f g : Front Note Limits) (now : ℕ) (r : Result Sent try_fault.TryTakeFault) → TriesTake f g now r → known_of g.mine ≡ known_of f.mine ++ known_by_take r
+tries_known f g now (Ok sent) h = called f g _ _ _ h h.told.2
+tries_known f g now (Err (tries.Refused e)) h = called f g _ _ [] h h.told.1.0
+tries_known f g now (Err tries.Spent) h = spent_same f g h
+tries_known f g now (Err tries.Busy) h = same f g (ap (λ z. z.mine) h.0)
 
 pub answers_known : (f g : Front Note Limits) (p : Pdu) (r : Result Answered (Pdu × spent.Spent)) → Brings f g p r
     → known_of g.mine ≡ known_of f.mine ++ known_by_answer p r
@@ -81,10 +83,14 @@ down_known f g (Err (downs.Refused e)) h = told_nothing f g _ _ [] refl h h.told
 down_known f g (Err downs.Spent) h = spent_nothing f g h
 
 pub fail_known : (f g : Front Note Limits) (r : Result Failed fail_fault.FailFault) → Fails f g r → known_of g.mine ≡ known_of f.mine
-fail_known f g (Ok (failed.Queued c)) h = told_nothing f g _ _ _ refl h h.told.5
-fail_known f g (Ok failed.Late) h = told_nothing f g _ _ _ refl h h.told.4
+fail_known f g (Ok r) h = told_nothing f g _ _ _ refl h h.told.4
 fail_known f g (Err (fails.Refused e)) h = told_nothing f g _ _ [] refl h h.told.1.0
 fail_known f g (Err fails.Spent) h = spent_nothing f g h
+
+pub expiry_known : (f g : Front Note Limits) (now age : ℕ) (r : Result Failed expiry_fault.ExpiryFault) → Expires f g now age r → known_of g.mine ≡ known_of f.mine
+expiry_known f g now age (Ok r) h = told_nothing f g _ _ _ refl h h.told.3
+expiry_known f g now age (Err (expires.Refused e)) h = told_nothing f g _ _ [] refl h h.told.1.0
+expiry_known f g now age (Err expires.Spent) h = spent_nothing f g h
 
 pub up_known : (f g : Front Note Limits) (r : Result (Unit {0}) up_fault.UpFault) → ComesUp f g r → known_of g.mine ≡ known_of f.mine
 up_known f g (Ok done) h = told_nothing f g _ _ _ refl h h.told.1

@@ -35,7 +35,7 @@ use Rattle.smx_shared.specs.Steps.{IsBelow}
 by_is : (by : ℕ) (e : Event) → (entry_by by e).by ≡ by
 by_is by (event.Admit c) = refl
 by_is by (event.Accept r) = refl
-by_is by (event.Take c n u) = refl
+by_is by (event.Take c n u t) = refl
 by_is by (event.Answer c n p) = refl
 by_is by (event.Late c n u k) = refl
 by_is by (event.Collect c n) = refl
@@ -185,7 +185,7 @@ below_entries n (m ∷ h) all = below_at m.event all (below_entries n h)
         → AllByRecursion (λ (x : Entry). x.ordinal < n) (accepts (cons_option (option_map (entry_by m.by) e) (entries_of h)))
     below_at (Some (event.Accept r)) b later = (b.0, later b.1)
     below_at (Some (event.Admit c)) b later = later b
-    below_at (Some (event.Take c o u)) b later = later b
+    below_at (Some (event.Take c o u t)) b later = later b
     below_at (Some (event.Answer c o p)) b later = later b
     below_at (Some (event.Late c o u k)) b later = later b
     below_at (Some (event.Collect c o)) b later = later b

@@ -21,6 +21,9 @@ use Rattle.smx_shared.specs.declared.fault.DownFault as down_fault
 use Rattle.smx_shared.specs.declared.fault.DownFault.TheVariants as downs
 use Rattle.smx_shared.specs.declared.fault.FailFault as fail_fault
 use Rattle.smx_shared.specs.declared.fault.FailFault.TheVariants as fails
+use Rattle.smx_history.specs.declared.reply.NoneExpired.{NoneExpired}
+use Rattle.smx_shared.specs.declared.fault.ExpiryFault as expiry_fault
+use Rattle.smx_shared.specs.declared.fault.ExpiryFault.TheVariants as expires
 use Rattle.smx_shared.specs.declared.fault.UpFault as up_fault
 use Rattle.smx_shared.specs.declared.fault.UpFault.TheVariants as ups
 use Rattle.smx_lane.specs.declared.fault.AdmitFault.{AdmitFault}
@@ -60,8 +63,8 @@ pub record CallServes (f g : Front Note Limits) (call : Call) (reply : Reply) : 
   pub told : IsReply old call reply own new
   pub left : AgreesWith g.seen new
 
-abbrev pub TakeServes : Front Note Limits → Front Note Limits → Result Sent TakeRefusal → Type 0
-TakeServes f g r = CallServes f g (call.Take f.number) (reply.Taken r)
+abbrev pub TakeServes : Front Note Limits → Front Note Limits → ℕ → Result Sent TakeRefusal → Type 0
+TakeServes f g now r = CallServes f g (call.Take f.number now) (reply.Taken r)
 
 abbrev pub AnswerServes : Front Note Limits → Front Note Limits → Pdu → Answered → Type 0
 AnswerServes f g p r = CallServes f g (call.Answer f.number p) (reply.Answered r)
@@ -85,6 +88,9 @@ DownServes f g r = CallServes f g (call.Down f.number) (reply.WentDown r)
 abbrev pub FailServes : Front Note Limits → Front Note Limits → Result Failed FailRefusal → Type 0
 FailServes f g r = CallServes f g (call.Fail f.number) (reply.Failed r)
 
+abbrev pub ExpiryServes : Front Note Limits → Front Note Limits → ℕ → ℕ → Result Failed NoneExpired → Type 0
+ExpiryServes f g now age r = CallServes f g (call.FailExpired f.number now age) (reply.Expired r)
+
 abbrev pub UpServes : Front Note Limits → Front Note Limits → Result (Unit {0}) UpRefusal → Type 0
 UpServes f g r = CallServes f g (call.Up f.number) (reply.CameUp r)
 
@@ -104,16 +110,16 @@ Tried Serve f g (Ok x) = Serve x
 Tried Serve f g (Err e) = Refused f g e
 
 -- what a tap's calls answer
-abbrev pub Takes : Front Note Limits → Front Note Limits → Result Sent take_fault.TakeFault → Type 0
-Takes f g (Ok sent) = TakeServes f g (Ok sent)
-Takes f g (Err (takes.Refused e)) = TakeServes f g (Err e)
-Takes f g (Err takes.Spent) = IsSpent f g
+abbrev pub Takes : Front Note Limits → Front Note Limits → ℕ → Result Sent take_fault.TakeFault → Type 0
+Takes f g now (Ok sent) = TakeServes f g now (Ok sent)
+Takes f g now (Err (takes.Refused e)) = TakeServes f g now (Err e)
+Takes f g now (Err takes.Spent) = IsSpent f g
 
-abbrev pub TriesTake : Front Note Limits → Front Note Limits → Result Sent try_fault.TryTakeFault → Type 0
-TriesTake f g (Ok sent) = TakeServes f g (Ok sent)
-TriesTake f g (Err (tries.Refused e)) = TakeServes f g (Err e)
-TriesTake f g (Err tries.Spent) = IsSpent f g
-TriesTake f g (Err tries.Busy) = (g ≡ f) × (f.caller ≡ Idle)
+abbrev pub TriesTake : Front Note Limits → Front Note Limits → ℕ → Result Sent try_fault.TryTakeFault → Type 0
+TriesTake f g now (Ok sent) = TakeServes f g now (Ok sent)
+TriesTake f g now (Err (tries.Refused e)) = TakeServes f g now (Err e)
+TriesTake f g now (Err tries.Spent) = IsSpent f g
+TriesTake f g now (Err tries.Busy) = (g ≡ f) × (f.caller ≡ Idle)
 
 -- what becomes of a lane whose link upstream is lost
 abbrev pub GoesDown : Front Note Limits → Front Note Limits → Result (Unit {0}) down_fault.DownFault → Type 0
@@ -126,6 +132,12 @@ abbrev pub Fails : Front Note Limits → Front Note Limits → Result Failed fai
 Fails f g (Ok failed) = FailServes f g (Ok failed)
 Fails f g (Err (fails.Refused e)) = FailServes f g (Err e)
 Fails f g (Err fails.Spent) = IsSpent f g
+
+-- what giving up a request that is too old leaves
+abbrev pub Expires : Front Note Limits → Front Note Limits → ℕ → ℕ → Result Failed expiry_fault.ExpiryFault → Type 0
+Expires f g now age (Ok failed) = ExpiryServes f g now age (Ok failed)
+Expires f g now age (Err (expires.Refused e)) = ExpiryServes f g now age (Err e)
+Expires f g now age (Err expires.Spent) = IsSpent f g
 
 -- what becomes of a lane that has a link upstream again
 abbrev pub ComesUp : Front Note Limits → Front Note Limits → Result (Unit {0}) up_fault.UpFault → Type 0

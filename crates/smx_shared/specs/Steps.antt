@@ -13,13 +13,14 @@ use Rattle.smx_history.specs.declared.place.Place.{Place}
 use Rattle.smx_history.specs.declared.response.Response.{Response}
 use Rattle.smx_history.specs.declared.reply.Answered.TheVariants as answered
 use Rattle.smx_history.specs.Answering.{oldest_in, failing}
-use Rattle.smx_history.specs.Replies.{answers_place, member_with}
+use Rattle.smx_history.specs.Replies.{answers_place, member_with, expired_in}
 use Rattle.smx_lane.specs.declared.call.Call.TheVariants as call
 use Rattle.smx_lane.specs.declared.call.Reply.TheVariants as reply
 use Rattle.smx_history.specs.History.{note, shift, requests}
 use Rattle.smx_history.specs.Contents.{Content}
 use Rattle.smx_lane.specs.declared.call.Call.{Call}
 use Rattle.smx_lane.specs.declared.call.Reply.{Reply}
+use Rattle.smx_lane.specs.Taking.{taking}
 use Rattle.smx_lane.specs.Calls.{IsReply, GoesOn, Keeps}
 use Rattle.smx_lane.specs.Kept.{writer, limits_of, suits}
 use Rattle.smx_shared.specs.declared.offer.Offer.{Offer}
@@ -49,7 +50,7 @@ fail_notes by None = []
 abbrev pub notes_for : Content → Call → Reply → List Note
 notes_for old (call.Admit by c) (reply.Admitted (Ok _)) = note by (event.Admit c) ∷ []
 notes_for old (call.Accept by r) (reply.Accepted (Ok _)) = note by (event.Accept r) ∷ []
-notes_for old (call.Take by) (reply.Taken (Ok s)) = note by (event.Take s.request.client s.request.ordinal s.upstream) ∷ []
+notes_for old (call.Take by now) (reply.Taken (Ok s)) = taking old by now s ∷ []
 notes_for old (call.Answer by p) (reply.Answered (answered.Queued c)) = answer_notes by p (find (answers_place p) old.window)
 notes_for old (call.Answer by p) (reply.Answered answered.Late) = late_notes by p (find (answers_place p) old.window)
 notes_for old (call.Collect by c) (reply.Collected (Some p)) = collect_notes by c (oldest_in (member_with c old.members))
@@ -57,6 +58,7 @@ notes_for old (call.Retire by c) (reply.Retired (Ok _)) = note by (event.Retire 
 notes_for old (call.TurnOver by least) (reply.TurnedOver (Ok (Some list))) = shift by ∷ []
 notes_for old (call.Down by) (reply.WentDown (Ok _)) = note by event.Down ∷ []
 notes_for old (call.Fail by) (reply.Failed (Ok _)) = fail_notes by (slice_get old.window 0)
+notes_for old (call.FailExpired by now age) (reply.Expired (Ok _)) = fail_notes by (expired_in old now age)
 notes_for old (call.Up by) (reply.CameUp (Ok _)) = note by event.Up ∷ []
 notes_for old _ _ = []
 

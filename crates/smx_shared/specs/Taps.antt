@@ -15,7 +15,7 @@ pub data Known : Type 0 where
   CameLate : (upstream command : ℕ) → Known
 
 abbrev pub known : Option Event → Option Known
-known (Some (event.Take c n u)) = Some (Took c u)
+known (Some (event.Take c n u t)) = Some (Took c u)
 known (Some (event.Answer c n p)) = Some (Queued c p)
 known (Some (event.Late c n u k)) = Some (CameLate u k)
 known _ = None

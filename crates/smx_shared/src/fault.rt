@@ -1,6 +1,6 @@
 //! Why a call is refused.
 
-use smx_history::{AlreadyDown, FailRefusal, TakeRefusal, UpRefusal};
+use smx_history::{AlreadyDown, FailRefusal, NoneExpired, TakeRefusal, UpRefusal};
 use thiserror::Error;
 
 /// Why an exchange is not made: the first of these that stands.
@@ -111,6 +111,17 @@ pub enum FailFault {
     /// The lane gives no request up.
     #[error("{0}")]
     Refused(FailRefusal),
+}
+
+/// Why no request expires.
+#[derive(Clone, Copy, Debug, PartialEq, Eq, Error)]
+pub enum ExpiryFault {
+    /// Every ticket was drawn.
+    #[error("every ticket was drawn")]
+    Spent,
+    /// No request is so old.
+    #[error("{0}")]
+    Refused(NoneExpired),
 }
 
 /// Why a lane does not come up.

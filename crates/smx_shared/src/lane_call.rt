@@ -7,8 +7,8 @@ ghost use Rattle.smx_lane.specs.declared.call.Call.TheVariants as call;
 ghost use Rattle.smx_lane.specs.declared.call.Reply.TheVariants as reply;
 
 use smx_history::{
-    AlreadyDown, Answered, Entry, FailRefusal, Failed, Note, Refusal, Request, TakeRefusal,
-    UpRefusal,
+    AlreadyDown, Answered, Entry, FailRefusal, Failed, NoneExpired, Note, Refusal, Request,
+    TakeRefusal, UpRefusal,
 };
 use smx_lane::{AdmitFault, Lane, NotAdmitted, Sent};
 use smx_lock::{Held, LockSeat, TicketLock, Told};
@@ -112,17 +112,19 @@ impl LaneCall for Accepting {
 }
 
 #[derive(Drop)]
-pub(crate) struct Taking;
+pub(crate) struct Taking {
+    pub(crate) now: u64,
+}
 
 impl LaneCall for Taking {
     type Answer = Result<Sent, TakeRefusal>;
 
-    ghost call = { λ c by. call.Take by };
+    ghost call = { λ c by. call.Take by c.now };
 
     ghost reply = { reply.Taken };
 
     fn make(self, lane: &mut Lane, by: u64) -> Result<Sent, TakeRefusal> {
-        lane.take(by)
+        lane.take(by, self.now)
     }
 }
 
@@ -221,6 +223,24 @@ impl LaneCall for Failing {
 
     fn make(self, lane: &mut Lane, by: u64) -> Result<Failed, FailRefusal> {
         lane.fail(by)
+    }
+}
+
+#[derive(Drop)]
+pub(crate) struct Expiring {
+    pub(crate) now: u64,
+    pub(crate) age: u64,
+}
+
+impl LaneCall for Expiring {
+    type Answer = Result<Failed, NoneExpired>;
+
+    ghost call = { λ c by. call.FailExpired by c.now c.age };
+
+    ghost reply = { reply.Expired };
+
+    fn make(self, lane: &mut Lane, by: u64) -> Result<Failed, NoneExpired> {
+        lane.fail_expired(by, self.now, self.age)
     }
 }
 

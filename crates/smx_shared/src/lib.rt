@@ -2,7 +2,7 @@
 //!
 //! An `Exchange` keeps the lanes, each under its ticket lock. A `Door` enters clients, a `Port` is
 //! one client's right to submit, to collect and to leave, and a `Tap` takes from one lane, brings its
-//! answers, turns it over, and brings it down and up with its link. A call of a port or a tap is served by one hold of each lane that it
+//! answers, gives up requests that are too old, turns it over, and brings it down and up with its link. A call of a port or a tap is served by one hold of each lane that it
 //! uses. `Door::enter` holds each lane twice, to make a seat and by that seat, and a lane that it
 //! leaves again a third time.
 #![tactic(auto)]
@@ -28,8 +28,8 @@ pub use departed::Departed;
 pub use door::Door;
 pub use exchange::Exchange;
 pub use fault::{
-    DownFault, EnterFault, FailFault, MakeFault, StateOut, SubmitFault, TakeFault, TryTakeFault,
-    TurnFault, UpFault,
+    DownFault, EnterFault, ExpiryFault, FailFault, MakeFault, StateOut, SubmitFault, TakeFault,
+    TryTakeFault, TurnFault, UpFault,
 };
 pub use offer::Offer;
 pub use port::Port;

@@ -15,6 +15,7 @@ use std::alloc::AllocError;
 use std::marker::Model;
 use std::sync::Wait;
 
+mod expiry;
 mod links;
 
 /// The right to take from one lane and to bring its answers. It is used with the exchange that
@@ -47,14 +48,16 @@ impl Tap {
         self.lane
     }
 
-    /// Takes the lane's oldest request, which is to go upstream under the number given. It may wait.
-    pub fn take<R: Wait>(&mut self, at: &Exchange, rt: &R) -> Result<Sent, TakeFault>
+    /// Takes the lane's oldest request, which is to go upstream under the number given. The moment
+    /// is in milliseconds, from any start; one below that of the lane's last take counts as that. It
+    /// may wait.
+    pub fn take<R: Wait>(&mut self, at: &Exchange, rt: &R, now: u64) -> Result<Sent, TakeFault>
         requires { slice_get at.now self.old.lane ≡ Some self.old.front.lock }
         ensures same { (self.new.lane ≡ self.old.lane) × (self.new.front.lock ≡ self.old.front.lock) }
-        ensures served { Takes self.old.front self.new.front result }
+        ensures served { Takes self.old.front self.new.front now result }
         ensures known { known_of self.new.front.mine ≡ known_of self.old.front.mine ++ known_by_take result }
     {
-        match self.seat.hold(rt, &at.locks[self.lane], Taking) {
+        match self.seat.hold(rt, &at.locks[self.lane], Taking { now }) {
             Ok(Ok(sent)) => Ok(sent),
             Ok(Err(refusal)) => Err(TakeFault::Refused(refusal)),
             Err(_) => Err(TakeFault::Spent),
@@ -62,13 +65,13 @@ impl Tap {
     }
 
     /// The same without waiting: `Busy` where another caller has the lane.
-    pub fn try_take(&mut self, at: &Exchange) -> Result<Sent, TryTakeFault>
+    pub fn try_take(&mut self, at: &Exchange, now: u64) -> Result<Sent, TryTakeFault>
         requires { slice_get at.now self.old.lane ≡ Some self.old.front.lock }
         ensures same { (self.new.lane ≡ self.old.lane) × (self.new.front.lock ≡ self.old.front.lock) }
-        ensures served { TriesTake self.old.front self.new.front result }
+        ensures served { TriesTake self.old.front self.new.front now result }
         ensures known { known_of self.new.front.mine ≡ known_of self.old.front.mine ++ known_by_take result }
     {
-        match self.seat.try_hold(&at.locks[self.lane], Taking) {
+        match self.seat.try_hold(&at.locks[self.lane], Taking { now }) {
             Ok(Ok(sent)) => Ok(sent),
             Ok(Err(refusal)) => Err(TryTakeFault::Refused(refusal)),
             Err((_, TryFault::Spent)) => Err(TryTakeFault::Spent),

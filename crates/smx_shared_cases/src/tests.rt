@@ -1,20 +1,21 @@
 ghost use Rattle.std.specs.Prelude.{◌≡◌, slice_get, Some, All, IfOk, IfSome};
 ghost use Rattle.smx_shared.specs.Views.{locks_of};
 
-use smx_history::{Answered, Entry, Kind, Limits, TakeRefusal};
+use smx_history::{Answered, Entry, Failed, Kind, Limits, TakeRefusal};
 use smx_lane::Lane;
 use smx_lock::{Spent, TryFault};
 use smx_pdu::command::{RESPONSE, SUBMIT_SM};
 use smx_pdu::{Body, Pdu};
 use smx_shared::{
-    Door, EnterFault, Exchange, MakeFault, Offer, Port, Starts, SubmitFault, TakeFault, Tap,
-    TryTakeFault, TurnFault,
+    Door, EnterFault, Exchange, ExpiryFault, MakeFault, Offer, Port, Starts, SubmitFault,
+    TakeFault, Tap, TryTakeFault, TurnFault,
 };
 use std::alloc::Global;
 use std::sync::Wait;
 use std::test::*;
 
 mod comparing;
+mod expiry;
 mod links;
 mod spreading;
 mod turning;
@@ -119,19 +120,28 @@ struct Line<'a> {
 impl Line<'_> {
     // The client whose request it took.
     fn take<R: Wait>(&mut self, rt: &R) -> Result<u64, TakeFault> {
-        let sent = self.tap.take(self.at, rt)?;
+        self.take_at(rt, 0)
+    }
+
+    // The same of a take at that moment.
+    fn take_at<R: Wait>(&mut self, rt: &R, now: u64) -> Result<u64, TakeFault> {
+        let sent = self.tap.take(self.at, rt, now)?;
         Ok(sent.request.client)
     }
 
     // The number upstream of the request that it took.
     fn take_number<R: Wait>(&mut self, rt: &R) -> Result<u32, TakeFault> {
-        let sent = self.tap.take(self.at, rt)?;
+        let sent = self.tap.take(self.at, rt, 0)?;
         Ok(sent.upstream)
     }
 
     fn try_take(&mut self) -> Result<u64, TryTakeFault> {
-        let sent = self.tap.try_take(self.at)?;
+        let sent = self.tap.try_take(self.at, 0)?;
         Ok(sent.request.client)
+    }
+
+    fn fail_expired<R: Wait>(&mut self, rt: &R, now: u64, age: u64) -> Result<Failed, ExpiryFault> {
+        self.tap.fail_expired(self.at, rt, now, age)
     }
 
     fn turn_over<R: Wait>(
@@ -188,6 +198,7 @@ fn client_is_spent<R: Wait>(rt: &R, client: &mut Client) -> bool {
 fn line_is_spent<R: Wait>(rt: &R, line: &mut Line) -> bool {
     line.take(rt) == Err(TakeFault::Spent)
         && line.try_take() == Err(TryTakeFault::Spent)
+        && line.fail_expired(rt, 0, 0) == Err(ExpiryFault::Spent)
         && line.turn_over(rt, 0) == Err(TurnFault::Spent)
         && matches!(line.answer(rt, 1), Err(1))
 }

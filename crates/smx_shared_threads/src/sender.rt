@@ -79,7 +79,7 @@ impl Sender<'_> {
 
     // Sends the next request, where there is one. The answer is false where something went wrong.
     fn send<R: Wait>(&mut self, rt: &R, done: &mut Done) -> bool {
-        let Ok(sent) = self.tap.take(self.at, rt) else {
+        let Ok(sent) = self.tap.take(self.at, rt, 0) else {
             thread::yield_now();
             return true;
         };

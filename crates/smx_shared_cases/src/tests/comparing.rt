@@ -41,7 +41,7 @@ fn compared<R: Wait>(
         return None;
     }
     compare_all(at, door, &mut port, &mut tap);
-    let taken = tap.take(at, rt).is_ok();
+    let taken = tap.take(at, rt, 0).is_ok();
     let entered = door.enter(at, rt).is_ok();
     let left = port.leave(at, rt).is_ok();
     Some(submitted && taken && entered && left)

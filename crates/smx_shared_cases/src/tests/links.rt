@@ -3,7 +3,7 @@ ghost use Rattle.std.specs.Prelude.{◌≡◌, slice_get, Some, All};
 ghost use Rattle.smx_shared.specs.Views.{locks_of};
 
 use super::*;
-use smx_history::{AlreadyDown, FailRefusal, Failed, UpRefusal};
+use smx_history::{AlreadyDown, FailRefusal, UpRefusal};
 use smx_shared::{DownFault, FailFault, UpFault};
 
 impl Line<'_> {

@@ -8,9 +8,9 @@ pub returns-clause-known : goal.returns-clause-known
 returns-clause-known g c =
     let f = c.self.inside.seat in
     let h = c.hold.new.self in
-    let served : Takes f h c.match-hold.result = elim c.match-hold.branch [
-      | in-Ok-Ok w ↦ rw w.result-is (subst (TakeServes f h) w.in-Ok-Ok.field-0-is w.in-Ok-Ok.ensures.served)
-      | in-Ok-Err w ↦ rw w.result-is (subst (TakeServes f h) w.in-Ok-Err.field-0-is w.in-Ok-Err.ensures.served)
+    let served : Takes f h c.args.now c.match-hold.result = elim c.match-hold.branch [
+      | in-Ok-Ok w ↦ rw w.result-is (subst (TakeServes f h c.args.now) w.in-Ok-Ok.field-0-is w.in-Ok-Ok.ensures.served)
+      | in-Ok-Err w ↦ rw w.result-is (subst (TakeServes f h c.args.now) w.in-Ok-Err.field-0-is w.in-Ok-Err.ensures.served)
       | in-Err w ↦ rw w.result-is w.in-Err.ensures.served.1
     ] in
-    rw (← c.self.view_is) (takes_known f h c.match-hold.result served)
+    rw (← c.self.view_is) (takes_known f h c.args.now c.match-hold.result served)
