@@ -93,6 +93,13 @@ impl UpstreamSession {
         self.state
     }
 
+    /// The last moment that was handed in, in milliseconds.
+    pub fn latest(&self) -> u64
+        ensures { result ≡ self.now.latest }
+    {
+        self.latest
+    }
+
     /// The proxy's bind_transceiver (SMPP 3.4, section 4.1.5), which is sent first. It takes memory
     /// for its body.
     pub fn start(&self) -> Result<Pdu, AllocError>

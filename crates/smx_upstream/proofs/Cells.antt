@@ -11,8 +11,8 @@ use Rattle.smx_turns.specs.declared.step.Step.TheVariants.{Asked, Read, Marked, 
 use Rattle.smx_upstream.specs.declared.mark.Mark.{Mark}
 use Rattle.smx_upstream.specs.declared.mark.Mark.TheVariants.{Offered, Full, Part}
 use Rattle.smx_upstream.specs.declared.event.Event.{Event}
-use Rattle.smx_upstream.specs.declared.event.Event.TheVariants.{Opened, Looked, Young, Shifted, Sought, Decided, Took, Broke}
-use Rattle.smx_upstream.specs.Phases.{Phase, Opening, Ready, Written, Clogged, Watched, Clear, Sated, Brimming, MayRead, Deciding, Closing, Settled, MayTake, HasTried, Stopped, Refrained, Gone, Wrong, go, from_opening, from_ready, from_written, from_watched, from_clear, from_sated, from_may_read, from_deciding, from_closing, from_settled, from_may_take, phase_from, phase_of, after_offer, unless_left, is_last, when_looked, when_kept, when_decided, when_part, when_full, when_read, when_may_read, when_may_take, end_of, quiet_end, Waits, IsTurnEnd, IsTurn, EndsEarly, IsPart}
+use Rattle.smx_upstream.specs.declared.event.Event.TheVariants.{Opened, Looked, Expired, Young, Shifted, Sought, Decided, Took, Broke}
+use Rattle.smx_upstream.specs.Phases.{Phase, Opening, Ready, Written, Clogged, Watched, Swept, Clear, Sated, Brimming, MayRead, Deciding, Closing, Settled, MayTake, HasTried, Stopped, Refrained, Gone, Wrong, go, from_opening, from_ready, from_written, from_watched, from_swept, from_clear, from_sated, from_may_read, from_deciding, from_closing, from_settled, from_may_take, phase_from, phase_of, after_offer, unless_left, is_last, when_looked, when_kept, when_decided, when_part, when_full, when_read, when_may_read, when_may_take, end_of, quiet_end, Waits, IsTurnEnd, IsTurn, EndsEarly, IsPart}
 
 phase_append : (p : Phase) (xs ys : List (Step Mark Event)) → phase_from p (xs ++ ys) ≡ phase_from (phase_from p xs) ys
 unfolding phase_from
@@ -51,12 +51,16 @@ pub cell_opened : (n : _) → go Opening (Did (Opened n)) ≡ Ready
 unfolding go from_opening
 cell_opened n = refl
 
-pub cell_young : (left : Bool) → go (Watched left) (Did Young) ≡ when_kept left
+pub cell_expired : (left : Bool) (lane : _) (r : _) → go (Watched left) (Did (Expired lane r)) ≡ Swept left
 unfolding go from_watched
+cell_expired left lane r = refl
+
+pub cell_young : (left : Bool) → go (Swept left) (Did Young) ≡ when_kept left
+unfolding go from_swept
 cell_young left = refl
 
-pub cell_shifted : (left : Bool) (least : _) (r : _) → go (Watched left) (Did (Shifted least r)) ≡ when_kept left
-unfolding go from_watched
+pub cell_shifted : (left : Bool) (least : _) (r : _) → go (Swept left) (Did (Shifted least r)) ≡ when_kept left
+unfolding go from_swept
 cell_shifted left least r = refl
 
 pub cell_sought : (r : _) → go Clear (Did (Sought r)) ≡ Sated

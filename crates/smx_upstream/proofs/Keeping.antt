@@ -28,9 +28,12 @@ use Rattle.smx_shared.specs.declared.fault.TurnFault.TheVariants as turns
 use Rattle.smx_shared.specs.declared.fault.UpFault.{UpFault}
 use Rattle.smx_history.specs.declared.reply.UpRefusal.TheVariants as refusal
 use Rattle.smx_shared.specs.declared.fault.UpFault.TheVariants as ups
-use Rattle.smx_shared.specs.Serving.{Takes, AnswerServes, ComesUp, Turns}
+use Rattle.smx_shared.specs.Serving.{Takes, Expires, AnswerServes, ComesUp, Turns}
+use Rattle.smx_history.specs.declared.reply.Failed.{Failed}
+use Rattle.smx_shared.specs.declared.fault.ExpiryFault.{ExpiryFault}
+use Rattle.smx_shared.specs.declared.fault.ExpiryFault.TheVariants as expires
 use Rattle.smx_shared.specs.Taps.{known_of}
-use Rattle.smx_shared.proofs.Knowing.{takes_known, answers_known, turn_known, up_known}
+use Rattle.smx_shared.proofs.Knowing.{takes_known, answers_known, turn_known, up_known, expiry_known}
 use Rattle.smx_turns.specs.declared.mo_item.MoItem.{MoItem}
 use Rattle.smx_turns.specs.Puts.{AtIndex, Puts, contents, contents_in}
 use Rattle.smx_turns.specs.Runs.{Runs}
@@ -78,11 +81,12 @@ note_step : (s t : Stand) (e : Event) → Does s e t → known_of t.tap.front.mi
 note_step s t (event.Began p) d = nothing _ _ (ap (λ x. known_of x.tap.front.mine) d.1)
 note_step s t (event.Opened n) d = nothing _ _ (ap (λ x. known_of x.tap.front.mine) d.1)
 note_step s t (event.Looked now due silent) d = nothing _ _ (ap (λ x. known_of x.tap.front.mine) d.2)
+note_step s t (event.Expired lane r) d = nothing _ _ (expiry_known s.tap.front t.tap.front s.session.latest s.age.response_timer r.value d.1)
 note_step s t event.Young d = nothing _ _ (ap (λ x. known_of x.tap.front.mine) d.1)
 note_step s t (event.Shifted least r) d = nothing _ _ (shift_note s.tap.front t.tap.front least r.value d.1)
 note_step s t (event.Sought r) d = nothing _ _ (ap (λ x. known_of x.tap.front.mine) d.1)
 note_step s t (event.Decided p now a f) d = fate_note p.value a.value f s.tap s.senders t.tap t.senders d.1
-note_step s t (event.Took r) d = takes_known s.tap.front t.tap.front r.value d.0
+note_step s t (event.Took r) d = takes_known s.tap.front t.tap.front s.session.latest r.value d.0
 note_step s t event.Broke d = nothing _ _ (ap (λ x. known_of x.tap.front.mine) d)
 note_step s t (event.Unbound p) d = nothing _ _ (ap (λ x. known_of x.tap.front.mine) d.1)
 
@@ -102,10 +106,15 @@ spent_seen f g h = self _ _ (⊎_elim (λ e. ap (λ x. x.seen) e) (λ e. ap (λ 
 answer_seen : (f g : Front Note Limits) (p : Pdu) (x : Answered) → AnswerServes f g p x → IsPrefix f.seen g.seen
 answer_seen f g p x h = served_seen f g h.found h.own h.hold.serves
 
-take_seen : (f g : Front Note Limits) (r : Result Sent TakeFault) → Takes f g r → IsPrefix f.seen g.seen
-take_seen f g (Ok sent) h = served_seen f g h.found h.own h.hold.serves
-take_seen f g (Err (takes.Refused e)) h = served_seen f g h.found h.own h.hold.serves
-take_seen f g (Err takes.Spent) h = spent_seen f g h
+take_seen : (f g : Front Note Limits) (now : ℕ) (r : Result Sent TakeFault) → Takes f g now r → IsPrefix f.seen g.seen
+take_seen f g now (Ok sent) h = served_seen f g h.found h.own h.hold.serves
+take_seen f g now (Err (takes.Refused e)) h = served_seen f g h.found h.own h.hold.serves
+take_seen f g now (Err takes.Spent) h = spent_seen f g h
+
+expiry_seen : (f g : Front Note Limits) (now age : ℕ) (r : Result Failed ExpiryFault) → Expires f g now age r → IsPrefix f.seen g.seen
+expiry_seen f g now age (Ok r) h = served_seen f g h.found h.own h.hold.serves
+expiry_seen f g now age (Err (expires.Refused e)) h = served_seen f g h.found h.own h.hold.serves
+expiry_seen f g now age (Err expires.Spent) h = spent_seen f g h
 
 shift_seen : (f g : Front Note Limits) (least : ℕ) (r : Result (Option (Vec Entry Global)) TurnFault)
     → Shifts f g least r → IsPrefix f.seen g.seen
@@ -142,11 +151,12 @@ seen_step : (s t : Stand) (e : Event) → Does s e t → IsPrefix s.tap.front.se
 seen_step s t (event.Began p) d = self _ _ (ap (λ x. x.tap.front.seen) d.1)
 seen_step s t (event.Opened n) d = self _ _ (ap (λ x. x.tap.front.seen) d.1)
 seen_step s t (event.Looked now due silent) d = self _ _ (ap (λ x. x.tap.front.seen) d.2)
+seen_step s t (event.Expired lane r) d = expiry_seen s.tap.front t.tap.front s.session.latest s.age.response_timer r.value d.1
 seen_step s t event.Young d = self _ _ (ap (λ x. x.tap.front.seen) d.1)
 seen_step s t (event.Shifted least r) d = shift_seen s.tap.front t.tap.front least r.value d.1
 seen_step s t (event.Sought r) d = self _ _ (ap (λ x. x.tap.front.seen) d.1)
 seen_step s t (event.Decided p now a f) d = fate_seen p.value a.value f s.tap s.senders t.tap t.senders d.1
-seen_step s t (event.Took r) d = take_seen s.tap.front t.tap.front r.value d.0
+seen_step s t (event.Took r) d = take_seen s.tap.front t.tap.front s.session.latest r.value d.0
 seen_step s t event.Broke d = self _ _ (ap (λ x. x.tap.front.seen) d)
 seen_step s t (event.Unbound p) d = self _ _ (ap (λ x. x.tap.front.seen) d.1)
 
@@ -166,6 +176,7 @@ lane_step : (s t : Stand) (e : Event) → Does s e t → t.tap.lane ≡ s.tap.la
 lane_step s t (event.Began p) d = ap (λ x. x.tap.lane) d.1
 lane_step s t (event.Opened n) d = ap (λ x. x.tap.lane) d.1
 lane_step s t (event.Looked now due silent) d = ap (λ x. x.tap.lane) d.2
+lane_step s t (event.Expired lane r) d = d.2
 lane_step s t event.Young d = ap (λ x. x.tap.lane) d.1
 lane_step s t (event.Shifted least r) d = d.2
 lane_step s t (event.Sought r) d = ap (λ x. x.tap.lane) d.1
@@ -208,6 +219,7 @@ put_step : (slot : ℕ) (s t : Stand) (e : Event) → Does s e t → contents_in
 put_step slot s t (event.Began p) d = nothing _ _ (ap (λ x. contents_in (slice_get x.senders slot)) d.1)
 put_step slot s t (event.Opened n) d = nothing _ _ (ap (λ x. contents_in (slice_get x.senders slot)) d.1)
 put_step slot s t (event.Looked now due silent) d = nothing _ _ (ap (λ x. contents_in (slice_get x.senders slot)) d.2)
+put_step slot s t (event.Expired lane r) d = nothing _ _ (ap (λ x. contents_in (slice_get x.senders slot)) d.3)
 put_step slot s t event.Young d = nothing _ _ (ap (λ x. contents_in (slice_get x.senders slot)) d.1)
 put_step slot s t (event.Shifted least r) d = nothing _ _ (ap (λ x. contents_in (slice_get x.senders slot)) d.3)
 put_step slot s t (event.Sought r) d = nothing _ _ (ap (λ x. contents_in (slice_get x.senders slot)) d.1)

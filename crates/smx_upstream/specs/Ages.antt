@@ -7,6 +7,8 @@ use Rattle.smx_history.specs.declared.reply.Answered.{Answered}
 use Rattle.smx_history.specs.declared.reply.Answered.TheVariants as answered
 use Rattle.smx_lane.specs.declared.sent.Sent.{Sent}
 use Rattle.smx_shared.specs.declared.fault.TakeFault.{TakeFault}
+use Rattle.smx_history.specs.declared.reply.Failed.{Failed}
+use Rattle.smx_shared.specs.declared.fault.ExpiryFault.{ExpiryFault}
 use Rattle.smx_shared.specs.declared.fault.TurnFault.{TurnFault}
 use Rattle.smx_shared.specs.declared.fault.UpFault.{UpFault}
 use Rattle.smx_upstream.specs.declared.age.Age.{Age}
@@ -17,8 +19,8 @@ use Rattle.smx_upstream.specs.declared.event.Fate.{Fate}
 use Rattle.smx_upstream.specs.declared.event.Fate.TheVariants as fate
 
 -- before the first turn
-abbrev pub new_age : ℕ → Age
-new_age history = record { turns = 0; history = history; noted = 0 }
+abbrev pub new_age : ℕ → ℕ → Age
+new_age history response_timer = record { turns = 0; history = history; noted = 0; response_timer = response_timer }
 
 -- the count of turns stays at its greatest
 abbrev pub next_turn : Age → Age
@@ -66,6 +68,11 @@ fate_notes (fate.BoxSpent place) = 0
 abbrev pub take_notes : Result Sent TakeFault → ℕ
 take_notes (Ok sent) = 1
 take_notes (Err e) = 0
+
+-- a request that was given up is noted
+abbrev pub expiry_notes : Result Failed ExpiryFault → ℕ
+expiry_notes (Ok failed) = 1
+expiry_notes (Err e) = 0
 
 -- whether the lane handed its entries out
 abbrev pub has_shifted : Result (Option (Vec Entry Global)) TurnFault → Bool

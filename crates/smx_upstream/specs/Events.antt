@@ -18,10 +18,14 @@ use Rattle.smx_turns.specs.declared.directory.Query.{Query}
 use Rattle.smx_turns.specs.declared.directory.Query.TheVariants.{Found}
 use Rattle.smx_turns.specs.declared.gate.Party.{Party}
 use Rattle.smx_turns.specs.declared.gate.Party.TheVariants.{Client, Slot}
+use Rattle.smx_history.specs.declared.reply.Failed.{Failed}
+use Rattle.smx_history.specs.declared.reply.Failed.TheVariants as failed
+use Rattle.smx_shared.specs.declared.fault.ExpiryFault.{ExpiryFault}
+use Rattle.smx_shared.specs.declared.fault.ExpiryFault.TheVariants as expires
 use Rattle.smx_history.specs.declared.reply.Answered.{Answered}
 use Rattle.smx_history.specs.declared.reply.Answered.TheVariants as answered
 use Rattle.smx_upstream.specs.declared.event.Event.{Event}
-use Rattle.smx_upstream.specs.declared.event.Event.TheVariants.{Began, Opened, Looked, Young, Shifted, Sought, Decided, Took, Broke, Unbound}
+use Rattle.smx_upstream.specs.declared.event.Event.TheVariants.{Began, Opened, Looked, Expired, Young, Shifted, Sought, Decided, Took, Broke, Unbound}
 use Rattle.smx_upstream.specs.declared.event.Fate.{Fate}
 use Rattle.smx_upstream.specs.declared.event.Fate.TheVariants as fate
 
@@ -75,6 +79,7 @@ abbrev pub out_of : Event → List Pdu
 out_of (Began p) = p.value ∷ []
 out_of (Opened n) = []
 out_of (Looked now due silent) = those due.value
+out_of (Expired lane r) = []
 out_of Young = []
 out_of (Shifted least r) = []
 out_of (Sought r) = got_out r.value
@@ -104,6 +109,7 @@ abbrev pub in_of : Event → List Pdu
 in_of (Began p) = []
 in_of (Opened n) = []
 in_of (Looked now due silent) = []
+in_of (Expired lane r) = []
 in_of Young = []
 in_of (Shifted least r) = []
 in_of (Sought r) = []
@@ -141,6 +147,7 @@ abbrev pub find_of : Event → List Query
 find_of (Began p) = []
 find_of (Opened n) = []
 find_of (Looked now due silent) = []
+find_of (Expired lane r) = []
 find_of Young = []
 find_of (Shifted least r) = []
 find_of (Sought r) = []
@@ -167,11 +174,21 @@ fate_tells (fate.Put place n) = Slot place.slot ∷ []
 fate_tells (fate.Full place) = []
 fate_tells (fate.BoxSpent place) = []
 
+-- who is to hear that its request was given up
+abbrev pub failed_tells : ℕ → Failed → List Party
+failed_tells lane (failed.Queued c) = Client c lane ∷ []
+failed_tells lane failed.Late = []
+
+abbrev pub expiry_tells : ℕ → Result Failed ExpiryFault → List Party
+expiry_tells lane (Ok f) = failed_tells lane f
+expiry_tells lane (Err e) = []
+
 -- whom the gate is told of
 abbrev pub tell_of : Event → List Party
 tell_of (Began p) = []
 tell_of (Opened n) = []
 tell_of (Looked now due silent) = []
+tell_of (Expired lane r) = expiry_tells lane r.value
 tell_of Young = []
 tell_of (Shifted least r) = []
 tell_of (Sought r) = []
@@ -179,6 +196,12 @@ tell_of (Decided p now a f) = fate_tells f
 tell_of (Took r) = []
 tell_of Broke = []
 tell_of (Unbound p) = []
+
+-- whether giving up held the lane
+abbrev pub was_asked : Result Failed ExpiryFault → Bool
+was_asked (Ok f) = true
+was_asked (Err (expires.Refused e)) = true
+was_asked (Err expires.Spent) = false
 
 -- whether a take held the lane
 abbrev pub was_served : Result Sent TakeFault → Bool

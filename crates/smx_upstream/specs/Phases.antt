@@ -24,7 +24,7 @@ use Rattle.smx_upstream.specs.declared.turning.Progress.TheVariants as progress
 use Rattle.smx_upstream.specs.declared.mark.Mark.{Mark}
 use Rattle.smx_upstream.specs.declared.mark.Mark.TheVariants.{Offered, Full, Part}
 use Rattle.smx_upstream.specs.declared.event.Event.{Event}
-use Rattle.smx_upstream.specs.declared.event.Event.TheVariants.{Opened, Looked, Young, Shifted, Sought, Decided, Took, Broke}
+use Rattle.smx_upstream.specs.declared.event.Event.TheVariants.{Opened, Looked, Expired, Young, Shifted, Sought, Decided, Took, Broke}
 
 -- where a turn stands
 pub data Phase : Type 0 where
@@ -38,6 +38,8 @@ pub data Phase : Type 0 where
   Clogged : Phase
   -- the moment was handed in, and the session isn't silent; whether octets are left
   Watched : Bool → Phase
+  -- at most one request was given up; whether octets are left
+  Swept : Bool → Phase
   -- the lane was turned over, or it was too early; no octets are left
   Clear : Phase
   -- the return box was held
@@ -159,9 +161,13 @@ from_written left (Did (Looked now due silent)) = when_looked left silent
 from_written left _ = Wrong
 
 unfoldable pub from_watched : Bool → Step Mark Event → Phase
-from_watched left (Did Young) = when_kept left
-from_watched left (Did (Shifted least r)) = when_kept left
+from_watched left (Did (Expired lane r)) = Swept left
 from_watched left _ = Wrong
+
+unfoldable pub from_swept : Bool → Step Mark Event → Phase
+from_swept left (Did Young) = when_kept left
+from_swept left (Did (Shifted least r)) = when_kept left
+from_swept left _ = Wrong
 
 unfoldable pub from_clear : Step Mark Event → Phase
 from_clear (Did (Sought r)) = Sated
@@ -201,6 +207,7 @@ go Opening s = from_opening s
 go Ready s = from_ready s
 go (Written left) s = from_written left s
 go (Watched left) s = from_watched left s
+go (Swept left) s = from_swept left s
 go Clear s = from_clear s
 go Sated s = from_sated s
 go MayRead s = from_may_read s

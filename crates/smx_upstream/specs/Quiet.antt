@@ -5,13 +5,15 @@ use Rattle.smx_lane.specs.declared.sent.Sent.{Sent}
 use Rattle.smx_box.specs.declared.fault.Spent.{Spent}
 use Rattle.smx_box.specs.declared.receiver.Got.{Got}
 use Rattle.smx_box.specs.declared.receiver.Got.TheVariants.{Item, Shut, Empty}
+use Rattle.smx_history.specs.declared.reply.Failed.{Failed}
+use Rattle.smx_shared.specs.declared.fault.ExpiryFault.{ExpiryFault}
 use Rattle.smx_shared.specs.declared.fault.TakeFault.{TakeFault}
 use Rattle.smx_turns.specs.Steps.{are_quiet}
 use Rattle.smx_turns.specs.declared.step.Step.{Step}
 use Rattle.smx_upstream.specs.declared.mark.Mark.{Mark}
 use Rattle.smx_upstream.specs.declared.mark.Mark.TheVariants.{Offered, Full, Part}
 use Rattle.smx_upstream.specs.declared.event.Event.{Event}
-use Rattle.smx_upstream.specs.declared.event.Event.TheVariants.{Began, Opened, Looked, Young, Shifted, Sought, Decided, Took, Broke, Unbound}
+use Rattle.smx_upstream.specs.declared.event.Event.TheVariants.{Began, Opened, Looked, Expired, Young, Shifted, Sought, Decided, Took, Broke, Unbound}
 
 -- no octets waited
 abbrev pub is_quiet_mark : Mark → Bool
@@ -29,11 +31,16 @@ abbrev pub takes_nothing : Result Sent TakeFault → Bool
 takes_nothing (Ok sent) = false
 takes_nothing (Err e) = true
 
--- no PDU was made, got, decided or taken
+abbrev pub expires_nothing : Result Failed ExpiryFault → Bool
+expires_nothing (Ok f) = false
+expires_nothing (Err e) = true
+
+-- no PDU was made, got, decided or taken, and no request given up
 abbrev pub is_quiet_event : Event → Bool
 is_quiet_event (Began p) = false
 is_quiet_event (Opened n) = true
 is_quiet_event (Looked now due silent) = is_none due.value
+is_quiet_event (Expired lane r) = expires_nothing r.value
 is_quiet_event Young = true
 is_quiet_event (Shifted least r) = true
 is_quiet_event (Sought r) = finds_nothing r.value

@@ -12,10 +12,10 @@ use Rattle.smx_turns.specs.declared.step.Step.{Step}
 use Rattle.smx_turns.specs.declared.step.Step.TheVariants.{Did}
 use Rattle.smx_upstream.specs.declared.mark.Mark.{Mark}
 use Rattle.smx_upstream.specs.declared.event.Event.{Event}
-use Rattle.smx_upstream.specs.declared.event.Event.TheVariants.{Began, Opened, Looked, Young, Shifted, Sought, Decided, Took, Broke, Unbound}
+use Rattle.smx_upstream.specs.declared.event.Event.TheVariants.{Began, Opened, Looked, Expired, Young, Shifted, Sought, Decided, Took, Broke, Unbound}
 use Rattle.smx_upstream.specs.declared.event.Fate.{Fate}
 use Rattle.smx_upstream.specs.declared.event.Fate.TheVariants as fate
-use Rattle.smx_upstream.specs.Events.{was_served}
+use Rattle.smx_upstream.specs.Events.{was_served, was_asked}
 
 abbrev pub is_spent_fate : Fate → Bool
 is_spent_fate fate.Own = false
@@ -42,6 +42,7 @@ abbrev pub is_spent_event : Event → Bool
 is_spent_event (Began p) = false
 is_spent_event (Opened n) = false
 is_spent_event (Looked now due silent) = false
+is_spent_event (Expired lane r) = not (was_asked r.value)
 is_spent_event Young = false
 is_spent_event (Shifted least r) = is_spent_shift r.value
 is_spent_event (Sought r) = is_spent_get r.value

@@ -22,16 +22,16 @@ use Rattle.smx_session.specs.Moments.{Upstream, at, act_on, after_pdu, enquiry, 
 use Rattle.smx_session.specs.declared.up_act.UpAct.{UpAct}
 use Rattle.smx_session.specs.declared.up_act.UpAct.TheVariants as act
 use Rattle.smx_shared.specs.Views.{TapView}
-use Rattle.smx_shared.specs.Serving.{Takes, AnswerServes, TurnServes, IsTurnFault}
+use Rattle.smx_shared.specs.Serving.{Takes, Expires, AnswerServes, TurnServes, IsTurnFault}
 use Rattle.std.specs.Option.{option_map}
 use Rattle.smx_upstream.specs.declared.age.Age.{Age}
-use Rattle.smx_upstream.specs.Ages.{next_turn, noted_more, after_shift, shift_due, fate_notes, fate_shifts, take_notes, has_shifted}
+use Rattle.smx_upstream.specs.Ages.{next_turn, noted_more, after_shift, shift_due, fate_notes, fate_shifts, take_notes, expiry_notes, has_shifted}
 use Rattle.smx_upstream.specs.Rising.{Rises}
 use Rattle.smx_turns.specs.declared.directory.Place.{Place}
 use Rattle.smx_turns.specs.declared.mo_item.MoItem.{MoItem}
 use Rattle.smx_turns.specs.Puts.{AtIndex, Puts, FindsFull, FindsSpent}
 use Rattle.smx_upstream.specs.declared.event.Event.{Event}
-use Rattle.smx_upstream.specs.declared.event.Event.TheVariants.{Began, Opened, Looked, Young, Shifted, Sought, Decided, Took, Broke, Unbound}
+use Rattle.smx_upstream.specs.declared.event.Event.TheVariants.{Began, Opened, Looked, Expired, Young, Shifted, Sought, Decided, Took, Broke, Unbound}
 use Rattle.smx_upstream.specs.declared.event.Fate.{Fate}
 use Rattle.smx_upstream.specs.declared.event.Fate.TheVariants as fate
 
@@ -97,6 +97,8 @@ Does s (Began p) t = (p.value ≡ bind_of s.session) × (t ≡ s)
 Does s (Opened n) t = (n ≡ (next_turn s.age).turns) × (t ≡ record s { age = next_turn s.age })
 Does s (Looked now due silent) t = (due.value ≡ enquiry s.session now) × (silent ≡ is_silent (after_moment s.session now) now)
     × (t ≡ record s { session = at (after_moment s.session now) now })
+Does s (Expired lane r) t = (lane ≡ s.tap.lane) × Expires s.tap.front t.tap.front s.session.latest s.age.response_timer r.value × (t.tap.lane ≡ s.tap.lane)
+    × (t ≡ record s { tap = t.tap; age = noted_more (expiry_notes r.value) s.age })
 Does s Young t = (shift_due s.age ≡ None) × (t ≡ s)
 Does s (Shifted least r) t = (shift_due s.age ≡ Some least)
     × Shifts s.tap.front t.tap.front least r.value
@@ -104,7 +106,7 @@ Does s (Shifted least r) t = (shift_due s.age ≡ Some least)
 Does s (Sought r) t = Gets s.answers t.answers r.value × (t ≡ record s { answers = t.answers })
 Does s (Decided p now a f) t = (a.value ≡ act_on s.session p.value) × Becomes p.value a.value f s.tap s.senders t.tap t.senders
     × (t ≡ record s { session = after_pdu s.session p.value now; tap = t.tap; senders = t.senders; age = noted_more (fate_notes f) (after_shift (fate_shifts f) s.age) })
-Does s (Took r) t = Takes s.tap.front t.tap.front r.value × (t.tap.lane ≡ s.tap.lane) × (t ≡ record s { tap = t.tap; age = noted_more (take_notes r.value) s.age })
+Does s (Took r) t = Takes s.tap.front t.tap.front s.session.latest r.value × (t.tap.lane ≡ s.tap.lane) × (t ≡ record s { tap = t.tap; age = noted_more (take_notes r.value) s.age })
 Does s Broke t = t ≡ s
 Does s (Unbound p) t = (p.value ≡ farewell s.session.state)
     × (t ≡ record s { session = record s.session { state = stopped s.session.state } })

@@ -5,7 +5,7 @@ ghost use Rattle.smx_upstream.specs.Quiet.{finds_nothing, takes_nothing};
 ghost use Rattle.smx_upstream.specs.Spent.{EndsSpent};
 ghost use Rattle.smx_upstream.specs.Ages.{next_turn, take_notes, has_shifted};
 ghost use Rattle.smx_upstream.specs.Working.{side_of, Goes};
-ghost use Rattle.smx_upstream.specs.Phases.{phase_of, when_looked, when_kept, when_decided, LeadsTo, Opening, Ready, Written, Watched, Clear, Sated, Deciding, MayTake, HasTried};
+ghost use Rattle.smx_upstream.specs.Phases.{phase_of, when_looked, when_kept, when_decided, LeadsTo, Opening, Ready, Written, Watched, Swept, Clear, Sated, Deciding, MayTake, HasTried};
 
 use crate::carry::{Outcome, carry};
 use crate::event::Event;
@@ -143,7 +143,7 @@ impl<L: Link + Drop> UpstreamWorker<L> {
             ≡ Some self.old.stand.tap.front.lock }
         ensures lock { slice_get at.now self.new.stand.tap.lane
             ≡ Some self.new.stand.tap.front.lock }
-        ensures phase { (left : _) → phase_of log.old ≡ Watched left
+        ensures phase { (left : _) → phase_of log.old ≡ Swept left
             → phase_of log.new ≡ when_kept left }
         ensures err { OnErr result (result ≡ Err Fault.Spent) }
         ensures spent { result ≡ Err Fault.Spent → EndsSpent log.new }
@@ -232,7 +232,7 @@ impl<L: Link + Drop> UpstreamWorker<L> {
           events = self.new.events;
         } }
     {
-        let taken = self.tap.take(at, rt);
+        let taken = self.tap.take(at, rt, self.session.latest());
         let event = Event::Took(Snapshot::of(&taken));
         let served = was_served(&taken);
         let quiet = takes_nothing(&taken);

@@ -1,11 +1,11 @@
-//! How many turns a worker made, and how much its lane has noted since its last shift.
+//! How many turns a worker made, how much its lane has noted since its last shift, and how long it waits for answers.
 ghost use Rattle.std.specs.Prelude.{◌≡◌};
 ghost use Rattle.smx_upstream.specs.Ages.{new_age, next_turn, noted_more, after_shift, shift_due};
 
 /// So often a lane is turned over in any case.
 const TURNS: u64 = 1_000;
 
-/// A worker's turns, and what tells when its lane is turned over.
+/// A worker's turns, what tells when its lane is turned over, and its response timer.
 #[derive(Clone, Copy, Debug, PartialEq, Eq)]
 pub(crate) struct Age {
     // The turns made, which stay at their greatest number.
@@ -14,16 +14,19 @@ pub(crate) struct Age {
     pub history: usize,
     // How many notes the tap made since its lane was turned over by it.
     pub noted: usize,
+    // How long a request may be without an answer, in milliseconds (SMPP 3.4, section 7.2).
+    pub response_timer: u64,
 }
 
 impl Age {
-    pub(crate) fn new(history: usize) -> Age
-        ensures { result ≡ new_age history }
+    pub(crate) fn new(history: usize, response_timer: u64) -> Age
+        ensures { result ≡ new_age history response_timer }
     {
         Age {
             turns: 0,
             history,
             noted: 0,
+            response_timer,
         }
     }
 
@@ -35,6 +38,7 @@ impl Age {
             turns: self.turns.saturating_add(1),
             history: self.history,
             noted: self.noted,
+            response_timer: self.response_timer,
         }
     }
 
@@ -46,6 +50,7 @@ impl Age {
             turns: self.turns,
             history: self.history,
             noted: self.noted.saturating_add(notes),
+            response_timer: self.response_timer,
         }
     }
 
@@ -58,6 +63,7 @@ impl Age {
                 turns: self.turns,
                 history: self.history,
                 noted: 0,
+                response_timer: self.response_timer,
             };
         }
         self

@@ -2,11 +2,11 @@
 ghost use Rattle.smx_upstream.specs.Quiet.{is_quiet_event};
 
 use smx_box::{Got, Spent};
-use smx_history::{Answered, Entry};
+use smx_history::{Answered, Entry, Failed};
 use smx_lane::Sent;
 use smx_pdu::Pdu;
 use smx_session::UpAct;
-use smx_shared::{TakeFault, TurnFault, UpFault};
+use smx_shared::{ExpiryFault, TakeFault, TurnFault, UpFault};
 use smx_turns::{Deed, Place};
 use std::snapshot::Snapshot;
 
@@ -51,6 +51,8 @@ pub enum Event {
     Opened(u64),
     /// The moment was handed in: the enquiry that was due, and whether the session was silent.
     Looked(u64, Snapshot<Option<Pdu>>, bool),
+    /// The lane of this number was to give up a request that has waited for the response timer, and gave this.
+    Expired(usize, Snapshot<Result<Failed, ExpiryFault>>),
     /// It was too early to turn the lane over.
     Young,
     /// The lane was to be turned over, for at least so many entries, and gave this.

@@ -5,6 +5,7 @@ mod acting;
 mod age;
 mod carry;
 mod event;
+mod expiring;
 mod laws;
 mod losing;
 mod mark;

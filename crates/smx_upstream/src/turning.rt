@@ -165,12 +165,13 @@ impl<L: Link + Drop> UpstreamWorker<L> {
         }
     }
 
-    // Writes what waits, hands in the moment, turns the lane over where it is time, and gets at most
-    // one answer. `None` where the turn goes on.
-    pub(crate) fn open_part<R: Wait>(
+    // Writes what waits, hands in the moment, gives up at most one request that has waited for too long, turns the lane
+    // over where it is time, and gets at most one answer. `None` where the turn goes on.
+    pub(crate) fn open_part<R: Wait, G: Gate>(
         &mut self,
         at: &Exchange,
         rt: &R,
+        gate: &mut G,
         now: u64,
         log: &mut Log<Mark, Event>,
     ) -> Result<Option<TurnEnd>, Fault>
@@ -187,9 +188,9 @@ impl<L: Link + Drop> UpstreamWorker<L> {
         ensures failures { L.failures self.new.wire.link
             ≡ L.failures self.old.wire.link + link_faults result }
         ensures spent { result ≡ Err Fault.Spent → EndsSpent log.new }
-        ensures goes { (turn asked told queries : _) → Goes turn
-            (side_of L.polls asked told queries self.old)
-            (side_of L.polls asked told queries self.new) log.old log.new }
+        ensures goes { (turn queries : _) → Goes turn
+            (side_of L.polls (G.asked gate.old) (G.told gate.old) queries self.old)
+            (side_of L.polls (G.asked gate.new) (G.told gate.new) queries self.new) log.old log.new }
         ensures kept { (self.new.held ≡ self.old.held)
             × (self.new.stand.age.turns ≡ self.old.stand.age.turns)
             × (self.new.first ≡ self.old.first) }
@@ -203,6 +204,7 @@ impl<L: Link + Drop> UpstreamWorker<L> {
         if self.look(now, log) {
             return Ok(Some(TurnEnd::Done));
         }
+        self.expire(at, rt, gate, log)?;
         self.renew(at, rt, log)?;
         if left {
             return Ok(Some(TurnEnd::Worked));
@@ -384,7 +386,7 @@ impl<L: Link + Drop> UpstreamWorker<L> {
         ensures ends { self.new.ends ≡ self.old.ends }
     {
         let turn = self.open(log);
-        match self.open_part(at, rt, now, log) {
+        match self.open_part(at, rt, gate, now, log) {
             Ok(None) => {}
             Ok(Some(end)) => return Ok(end),
             Err(fault) => return Err(fault),

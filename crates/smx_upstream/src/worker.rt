@@ -178,16 +178,18 @@ pub(crate) fn note<L: Link + Drop>(
 impl<L: Link + Drop> UpstreamWorker<L> {
     /// A worker whose first PDU is the session's bind (SMPP 3.4, section 4.1.5). It takes memory
     /// for 65,536 octets; where that is wanted the parts come back. Its lane's history may have
-    /// `history` entries, an eighth of which is worth a shift.
+    /// `history` entries, an eighth of which is worth a shift. A request that is not answered within
+    /// `response_timer` milliseconds of its take is given up (section 7.2), at most one in a turn.
     pub fn new(
         alloc: Global,
         parts: Parts<L>,
         history: usize,
+        response_timer: u64,
     ) -> Result<UpstreamWorker<L>, Parts<L>>
         requires state { parts.session.state ≡ Binding }
         ensures link { IfOk result (λ w. (w.wire.link ≡ parts.link) × (w.wire.start ≡ parts.link)) }
         ensures stand { IfOk result (λ w. w.stand
-            ≡ stand parts.session parts.tap parts.answers parts.senders.items (new_age history)) }
+            ≡ stand parts.session parts.tap parts.answers parts.senders.items (new_age history response_timer)) }
         ensures first { IfOk result (λ w. w.first ≡ w.stand) }
         ensures ready { IfOk result (λ w. (w.held ≡ None) × (w.ending ≡ false)) }
         ensures err { IfErr result (λ p. p ≡ parts) }
@@ -213,7 +215,7 @@ impl<L: Link + Drop> UpstreamWorker<L> {
                 senders,
             });
         }
-        let age = Age::new(history);
+        let age = Age::new(history, response_timer);
         let origin = Origin::of(&tap, &session, &answers, &senders, &age);
         let event = Event::Began(Snapshot::of(&bind));
         wire.say(&bind);

@@ -18,6 +18,7 @@ use std::process::Abort;
 use std::sync::Wait;
 use std::test::*;
 
+mod expiring;
 mod losing;
 mod passing;
 mod rows;
@@ -49,6 +50,17 @@ const SUBMIT: [u8; 34] = [
 
 const RESPONSE: [u8; 18] = [
     0, 0, 0, 0x12, 0x80, 0, 0, 4, 0, 0, 0, 0, 0, 0, 0, 1, b'1', 0,
+];
+
+// The same submit_sm where the window's first place is given once more: its number is then
+// 1,024 x 1 + 0 + 1. Its response has the message_id `2`.
+const SECOND: [u8; 34] = [
+    0, 0, 0, 0x22, 0, 0, 0, 4, 0, 0, 0, 0, 0, 0, 4, 1, 0, 0, 0, 0, 0, 0, b'1', 0, 0, 0, 0, 0, 0, 0,
+    0, 0, 0, 0,
+];
+
+const SECOND_RESPONSE: [u8; 18] = [
+    0, 0, 0, 0x12, 0x80, 0, 0, 4, 0, 0, 0, 0, 0, 0, 4, 1, b'2', 0,
 ];
 
 // deliver_sm 3 to the address `4915`, and a client's answer.
@@ -313,7 +325,7 @@ fn line_at<'a>(
         answers,
         senders,
     };
-    let worker = UpstreamWorker::new(alloc, parts, history).ok();
+    let worker = UpstreamWorker::new(alloc, parts, history, 60_000).ok();
     Line {
         at,
         worker: worker.expect(rt, "out of memory"),
@@ -376,6 +388,11 @@ fn enter<'a, R: Wait + Abort>(rt: &R, at: &'a Exchange, door: &mut Door) -> Clie
 // The response has the client's own number.
 fn is_response(found: Option<Pdu>) -> bool {
     found.is_some_and(|pdu| pdu.number == 7 && pdu.body.as_slice() == &RESPONSE[16..])
+}
+
+// The second response, with the client's own number.
+fn is_second(found: Option<Pdu>) -> bool {
+    found.is_some_and(|pdu| pdu.number == 7 && pdu.body.as_slice() == &SECOND_RESPONSE[16..])
 }
 
 fn submit_body(rt: &impl Abort, alloc: Global) -> Body {

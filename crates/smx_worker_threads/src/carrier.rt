@@ -57,7 +57,7 @@ impl<'a> Carrier<'a> {
             answers,
             senders,
         };
-        let worker = UpstreamWorker::new(alloc, parts, 1_000).ok()?;
+        let worker = UpstreamWorker::new(alloc, parts, 1_000, 60_000).ok()?;
         Some(Carrier {
             at,
             worker,

@@ -254,7 +254,7 @@ pub fn last_line<'a>(at: &'a Exchange, taps: &mut Vec<Tap>) -> Option<Line<'a>>
 impl Line<'_> {
     /// Takes a request and answers it with submit_sm_resp and this body.
     pub fn answer<R: Wait>(&mut self, rt: &R, body: Body) -> Option<Answered> {
-        let sent = self.tap.take(self.at, rt).ok()?;
+        let sent = self.tap.take(self.at, rt, 0).ok()?;
         let response = Pdu {
             command: 0x8000_0004,
             status: 0,

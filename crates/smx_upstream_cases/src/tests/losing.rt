@@ -15,11 +15,11 @@ fn failing(alloc: Global) -> Script {
 fn answering(alloc: Global) -> Script {
     Script::new(alloc, 65_536)
         .and(30, &BOUND)
-        .and(64, &RESPONSE)
+        .and(64, &SECOND_RESPONSE)
 }
 
 // submit_sm_resp with ESME_RSUBMITFAIL, without a body (SMPP 3.4, section 5.1.3).
-fn is_failure(found: Option<Pdu>) -> bool {
+pub(super) fn is_failure(found: Option<Pdu>) -> bool {
     found.is_some_and(|pdu| {
         (pdu.command, pdu.status, pdu.number) == (0x8000_0004, 0x45, 7)
             && pdu.body.as_slice().is_empty()
@@ -69,8 +69,8 @@ fn goes_on<R: Wait + Abort>(
     let told = is_failure(client.collect(rt));
     let refused = !client.submit(rt, alloc);
     let idle = line.run(rt, 0, 1_000) == RunEnd::Idle;
-    let answered = is_response(client.collect(rt));
-    let taken = line.took(rt, &[&BIND, &SUBMIT]);
+    let answered = is_second(client.collect(rt));
+    let taken = line.took(rt, &[&BIND, &SECOND]);
     [queued, failed, sent, told, refused, idle, answered, taken] == [true; 8]
 }
 

@@ -4,7 +4,7 @@ use Rattle.smx_turns.specs.declared.step.Step.TheVariants.{Did}
 use Rattle.smx_upstream.specs.declared.event.Event.TheVariants.{Young, Shifted}
 use Rattle.smx_upstream.specs.Standing.{Shifts}
 use Rattle.smx_upstream.specs.Ages.{after_shift, has_shifted}
-use Rattle.smx_upstream.specs.Phases.{Watched}
+use Rattle.smx_upstream.specs.Phases.{Swept}
 use Rattle.smx_upstream.proofs.Eventful.{did, goes_did, stands_same}
 use Rattle.smx_upstream.proofs.Cells.{stepped, cell_young, cell_shifted}
 use Rattle.std.specs.Prelude.{Option, Result}
@@ -33,7 +33,7 @@ returns-in_default-clause-goes g c = rw (← c.self.view_is)
     (sym c.shift_due.ensures ∙ c.in_default.is, refl) refl)
 
 pub returns-in_default-clause-phase : goal.returns-in_default-clause-phase
-returns-in_default-clause-phase g c = λ left. stepped _ _ (Did (Young)) (Watched left) _ c.jot.ensures.log (cell_young left)
+returns-in_default-clause-phase g c = λ left. stepped _ _ (Did (Young)) (Swept left) _ c.jot.ensures.log (cell_young left)
 
 pub invariant_of-self-in-Ok : goal.invariant_of-self-in-Ok
 invariant_of-self-in-Ok g c =
@@ -72,7 +72,7 @@ returns-clause-goes g c = rw (← c.self.view_is)
     ) refl)
 
 pub returns-in-Ok-clause-phase : goal.returns-in-Ok-clause-phase
-returns-in-Ok-clause-phase g c = λ left. stepped _ _ (Did (Shifted c.in-Some.least c.of.result)) (Watched left) _ c.jot-2.ensures.log (cell_shifted left _ _)
+returns-in-Ok-clause-phase g c = λ left. stepped _ _ (Did (Shifted c.in-Some.least c.of.result)) (Swept left) _ c.jot-2.ensures.log (cell_shifted left _ _)
 
 pub returns-clause-phase : goal.returns-clause-phase
-returns-clause-phase g c = λ left. stepped _ _ (Did (Shifted c.in-Some.least c.of.result)) (Watched left) _ c.jot-2.ensures.log (cell_shifted left _ _)
+returns-clause-phase g c = λ left. stepped _ _ (Did (Shifted c.in-Some.least c.of.result)) (Swept left) _ c.jot-2.ensures.log (cell_shifted left _ _)

@@ -1,0 +1,35 @@
+use Rattle.std.proofs.Common.{◌++◌, refl, sym, ap, ◌∙◌, subst}
+use Rattle.std.proofs.lemmas.List.{append-nil}
+use Rattle.smx_shared.specs.Serving.{Expires}
+use Rattle.smx_turns.specs.declared.step.Step.TheVariants.{Did}
+use Rattle.smx_upstream.specs.declared.event.Event.TheVariants.{Expired}
+use Rattle.smx_upstream.specs.Ages.{noted_more, expiry_notes}
+use Rattle.smx_upstream.specs.Events.{expiry_tells}
+use Rattle.smx_upstream.specs.Phases.{Watched}
+use Rattle.smx_upstream.proofs.Eventful.{did, goes_did, stands_same}
+use Rattle.smx_upstream.proofs.Cells.{stepped, cell_expired}
+use Rattle.smx_upstream.proofs.worker.UpstreamWorker.expire.Goals as goal
+
+pub invariant_of-self : goal.invariant_of-self
+invariant_of-self g c =
+    did _ _ (Expired c.lane-lane.result c.of.result) c.self.invariant c.jot.ensures.events refl refl (sym (append-nil _)) refl (
+      c.lane-lane.ensures,
+      subst (λ r. Expires c.self.inside.tap.front c.fail_expired-failed.new.self.front c.self.inside.session.latest c.self.inside.age.response_timer r) (sym c.of.ensures)
+          (subst (λ n. Expires c.self.inside.tap.front c.fail_expired-failed.new.self.front n c.self.inside.age.response_timer c.fail_expired-failed.result) c.latest-now.ensures c.fail_expired-failed.ensures.served),
+      c.fail_expired-failed.ensures.same.0,
+      stands_same refl refl refl refl (c.noted_more-age.ensures ∙ ap (λ n. noted_more n c.self.inside.age) (c.expiry_notes.ensures ∙ ap expiry_notes (sym c.of.ensures))),
+    ) c.self.invariant.goes_on
+
+pub returns-clause-goes : goal.returns-clause-goes
+returns-clause-goes g c = rw (← c.self.view_is)
+    (λ turn queries. goes_did turn _ _ _ _ (Expired c.lane-lane.result c.of.result) c.jot.ensures.log c.tell.ensures.asked
+    (c.tell.ensures.told ∙ ap (λ r. g.G.Gate.told c.args.gate.now ++ expiry_tells c.lane-lane.result r) (sym c.of.ensures)) (sym (append-nil queries)) c.jot.ensures.events (
+      c.lane-lane.ensures,
+      subst (λ r. Expires c.self.inside.tap.front c.fail_expired-failed.new.self.front c.self.inside.session.latest c.self.inside.age.response_timer r) (sym c.of.ensures)
+          (subst (λ n. Expires c.self.inside.tap.front c.fail_expired-failed.new.self.front n c.self.inside.age.response_timer c.fail_expired-failed.result) c.latest-now.ensures c.fail_expired-failed.ensures.served),
+      c.fail_expired-failed.ensures.same.0,
+      stands_same refl refl refl refl (c.noted_more-age.ensures ∙ ap (λ n. noted_more n c.self.inside.age) (c.expiry_notes.ensures ∙ ap expiry_notes (sym c.of.ensures))),
+    ) refl)
+
+pub returns-clause-phase : goal.returns-clause-phase
+returns-clause-phase g c = λ left. stepped _ _ (Did (Expired c.lane-lane.result c.of.result)) (Watched left) _ c.jot.ensures.log (cell_expired left _ _)

@@ -1,0 +1,100 @@
+//! A request that the centre has left without an answer for too long.
+ghost use Rattle.std.specs.Prelude.{◌≡◌, ◌++◌, slice_get, Some, Err, OnErr};
+ghost use Rattle.smx_upstream.specs.Ages.{expiry_notes};
+ghost use Rattle.smx_upstream.specs.Events.{expiry_tells, was_asked};
+ghost use Rattle.smx_upstream.specs.Phases.{phase_of, Watched, Swept};
+ghost use Rattle.smx_upstream.specs.Quiet.{expires_nothing};
+ghost use Rattle.smx_upstream.specs.Spent.{EndsSpent};
+ghost use Rattle.smx_upstream.specs.Working.{side_of, Goes};
+
+use crate::event::Event;
+use crate::mark::Mark;
+use crate::worker::{UpstreamWorker, jot};
+use smx_history::Failed;
+use smx_link::Link;
+use smx_shared::{Exchange, ExpiryFault};
+use smx_turns::{Fault, Gate, Log, Party};
+use std::snapshot::Snapshot;
+use std::sync::Wait;
+
+// Whether no request was given up.
+fn expires_nothing(failed: &Result<Failed, ExpiryFault>) -> bool
+    ensures { result ≡ expires_nothing failed.now }
+{
+    failed.is_err()
+}
+
+// How many notes that left.
+fn expiry_notes(failed: &Result<Failed, ExpiryFault>) -> usize
+    ensures { result ≡ expiry_notes failed.now }
+{
+    match failed {
+        Ok(_) => 1,
+        Err(_) => 0,
+    }
+}
+
+// Whether the lane was held.
+fn was_asked(failed: &Result<Failed, ExpiryFault>) -> bool
+    ensures { result ≡ was_asked failed.now }
+{
+    !matches!(failed, Err(ExpiryFault::Spent))
+}
+
+// Tells the gate of the client that is to hear of it.
+fn tell<G: Gate>(gate: &mut G, lane: usize, failed: &Result<Failed, ExpiryFault>)
+    ensures asked { G.asked gate.new ≡ G.asked gate.old }
+    ensures told { G.told gate.new ≡ G.told gate.old ++ expiry_tells lane failed.now }
+{
+    if let Ok(Failed::Queued { client }) = failed {
+        gate.ready(Party::Client {
+            client: *client,
+            lane,
+        });
+    }
+}
+
+impl<L: Link + Drop> UpstreamWorker<L> {
+    // Gives up at most one request: one that was taken so long ago as the response timer says, as of the last moment
+    // that was handed in.
+    pub(crate) fn expire<R: Wait, G: Gate>(
+        &mut self,
+        at: &Exchange,
+        rt: &R,
+        gate: &mut G,
+        log: &mut Log<Mark, Event>,
+    ) -> Result<(), Fault>
+        requires lock { slice_get at.now self.old.stand.tap.lane
+            ≡ Some self.old.stand.tap.front.lock }
+        ensures lock { slice_get at.now self.new.stand.tap.lane
+            ≡ Some self.new.stand.tap.front.lock }
+        ensures phase { (left : _) → phase_of log.old ≡ Watched left → phase_of log.new ≡ Swept left }
+        ensures err { OnErr result (result ≡ Err Fault.Spent) }
+        ensures spent { result ≡ Err Fault.Spent → EndsSpent log.new }
+        ensures goes { (turn queries : _) → Goes turn
+            (side_of L.polls (G.asked gate.old) (G.told gate.old) queries self.old)
+            (side_of L.polls (G.asked gate.new) (G.told gate.new) queries self.new) log.old log.new }
+        ensures same { self.new ≡ record self.old {
+          stand = record self.old.stand {
+            tap = self.new.stand.tap;
+            age = record self.old.stand.age { noted = self.new.stand.age.noted };
+          };
+          events = self.new.events;
+        } }
+    {
+        let lane = self.tap.lane();
+        let now = self.session.latest();
+        let failed = self.tap.fail_expired(at, rt, now, self.age.response_timer);
+        tell(gate, lane, &failed);
+        let age = self.age.noted_more(expiry_notes(&failed));
+        self.age = age;
+        let event = Event::Expired(lane, Snapshot::of(&failed));
+        let quiet = expires_nothing(&failed);
+        jot(event, quiet, &mut self.events, log);
+        if was_asked(&failed) {
+            Ok(())
+        } else {
+            Err(Fault::Spent)
+        }
+    }
+}
