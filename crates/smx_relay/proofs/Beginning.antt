@@ -17,6 +17,7 @@ pub record IsBeginning (s : Relay) (state : State) (n : ℕ) : Type 0 where
   pub limits : state.limits ≡ s.limits
   pub count : state.count ≡ s.count
   pub started : state.started ≡ true
+  pub moment : state.moment ≡ s.moment
   pub clients : state.clients.items ≡ s.clients
   pub lanes : AllZip (OnLane s.limits s.clients) (replicate n []) state.lanes.items
   pub accounts : state.accounts.items ≡ s.accounts
@@ -32,8 +33,9 @@ none_made : (R : List Note → Content → Type 0) (hs : List (List Note)) (lane
 none_made R hs lanes e z = subst (λ xs. AllZip R xs lanes) e z
 
 pub beginning_start : (old new : State) → new.limits ≡ old.limits → new.count ≡ old.count → new.started ≡ true → new.clients.items ≡ old.clients.items → new.lanes.items ≡ old.lanes.items
-    → new.accounts.items ≡ old.accounts.items → new.links.items ≡ old.links.items → new.centres.items ≡ old.centres.items → new.places ≡ old.places → new.routes ≡ old.routes → Beginning old new 0
-beginning_start old new limits count started clients lanes accounts links centres places routes s a un = record {
+    → new.accounts.items ≡ old.accounts.items → new.links.items ≡ old.links.items → new.centres.items ≡ old.centres.items → new.places ≡ old.places → new.routes ≡ old.routes → new.moment ≡ old.moment → Beginning old new 0
+beginning_start old new limits count started clients lanes accounts links centres places routes moment s a un = record {
+  moment = moment ∙ a.moment;
   places = places ∙ a.links.places_are;
   routes = routes ∙ a.links.routes_are;
   accounts = accounts ∙ a.links.accounts_are;
@@ -47,10 +49,11 @@ beginning_start old new limits count started clients lanes accounts links centre
 }
 
 pub beginning_more : (old v new : State) (n : ℕ) (lane : Content) (centre : CentreLink) → Beginning old v n → lane.limits ≡ v.limits → AgreesWith [] lane → centre ≡ bound_centre → new.limits ≡ v.limits → new.count ≡ v.count → new.started ≡ v.started → new.clients.items ≡ v.clients.items → new.lanes.items ≡ v.lanes.items ++ lane ∷ []
-    → new.accounts.items ≡ v.accounts.items → new.links.items ≡ v.links.items → new.centres.items ≡ v.centres.items ++ centre ∷ [] → new.places ≡ v.places → new.routes ≡ v.routes → Beginning old new (n + 1)
-beginning_more old v new n lane centre b is agrees bound limits count started clients lanes accounts links centres places routes s a un =
+    → new.accounts.items ≡ v.accounts.items → new.links.items ≡ v.links.items → new.centres.items ≡ v.centres.items ++ centre ∷ [] → new.places ≡ v.places → new.routes ≡ v.routes → new.moment ≡ v.moment → Beginning old new (n + 1)
+beginning_more old v new n lane centre b is agrees bound limits count started clients lanes accounts links centres places routes moment s a un =
     let x = b s a un in
     record {
+      moment = moment ∙ x.moment;
       places = places ∙ x.places;
       routes = routes ∙ x.routes;
       accounts = accounts ∙ x.accounts;
@@ -73,6 +76,7 @@ beginning_end old new n b all un s a =
       limits = x.limits;
       count = x.count;
       started = x.started;
+      moment = x.moment;
       clients = x.clients;
       lanes = whole;
       none_yet = λ e. absurd (let z : true ≡ false = e in cc);

@@ -49,6 +49,7 @@ entered_all old new s kind c text a is enters keeps clients links e =
         limits = keeps.limits ∙ a.limits;
         count = keeps.count ∙ a.count;
         started = keeps.started ∙ a.started;
+        moment = keeps.moment ∙ a.moment;
         clients = clients ∙ ap (λ cs. cs ++ Some 0 ∷ []) a.clients;
         lanes = grown_lanes s.limits s.clients (Some 0) (map (entered (length s.clients)) s.histories) new.lanes.items here.1;
         none_yet = λ off. ap (map (entered (length s.clients))) (a.none_yet off);
@@ -83,6 +84,7 @@ entered_none old mid new s kind c i text a is enters leaves keeps clients links 
         limits = keeps.limits ∙ a.limits;
         count = keeps.count ∙ a.count;
         started = keeps.started ∙ a.started;
+        moment = keeps.moment ∙ a.moment;
         clients = clients ∙ ap (λ cs. cs ++ None ∷ []) a.clients;
         lanes = grown_lanes s.limits s.clients None (map (entered_and_left (length s.clients)) (take i s.histories) ++ drop i s.histories) new.lanes.items on';
         none_yet = λ off. none_parted (length s.clients) i s.histories (a.none_yet off);

@@ -19,6 +19,7 @@ collect_left old new s c a on keeps clients links = record {
   limits = keeps.limits ∙ a.limits;
   count = keeps.count ∙ a.count;
   started = keeps.started ∙ a.started;
+  moment = keeps.moment ∙ a.moment;
   clients = clients ∙ a.clients;
   lanes = on;
   none_yet = λ off. ap (map (collected c)) (a.none_yet off);

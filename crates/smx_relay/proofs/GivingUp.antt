@@ -1,6 +1,6 @@
 -- The link of one lane is lost, what was taken fails, and there is a link again.
-use Rattle.std.proofs.Common.{◌≡◌, ◌<◌, ◌+◌, ◌==◌, ◌&&◌, ℕ, Bool, true, false, List, [], ◌∷◌, ◌++◌, length, map, drop, get_or, refl, sym, ◌∙◌, ap, subst, arith, Option, Some, None, slice_get, append_assoc, count_by, cond, Result, Ok, Err, inl, inr}
-use Rattle.std.specs.Prelude.{MatchResult, OnOk, OnErr, nat_le, if◌then◌else◌, not}
+use Rattle.std.proofs.Common.{◌≡◌, ◌<◌, ◌==◌, true, false, List, [], ◌∷◌, ◌++◌, length, map, drop, get_or, refl, sym, ◌∙◌, ap, subst, arith, Some, None, slice_get, append_assoc, count_by, cond, Result, Ok, Err, inl, inr}
+use Rattle.std.specs.Prelude.{MatchResult, OnOk, OnErr}
 use Rattle.std.specs.List.{remove}
 use Rattle.std.proofs.lemmas.Bool.{cases_Bool, eqb-true}
 use Rattle.std.proofs.lemmas.List.{append-nil, map_push}
@@ -49,8 +49,8 @@ record FailsFirst (v new : Content) (q : Place) : Type 0 where
   pub agrees : (h : List Note) → AgreesWith h v → AgreesWith (h ++ failing 0 q ∷ []) new
 
 fails_first : (v new : Content) (r : Failed) → IsFailed v 0 r new → (q : Place) × FailsFirst v new q
-fails_first v new (failed.Queued c) x = (x.0, record { first = x.1; agrees = x.4 })
-fails_first v new failed.Late x = (x.0, record { first = x.1; agrees = x.3 })
+fails_first v new (failed.Queued c) x = (x.0, record { first = x.1; agrees = x.2.2 })
+fails_first v new failed.Late x = (x.0, record { first = x.1; agrees = x.2.1 })
 
 front_of : (ps : List Place) (q : Place) → slice_get ps 0 ≡ Some q → ps ≡ q ∷ drop 1 ps
 front_of [] q e = absurd (let x : None ≡ Some q = e in cc)
@@ -62,7 +62,7 @@ rest_left g v new q a longer front test =
     let within : 0 < length v.window = omega (arith, ap length front) in
     let is : q ≡ get_or v.window 0 q = sym (ap (λ ws. get_or ws 0 q) front) in
     let left : SameCounts (window_after (g ++ failing 0 q ∷ [])) (remove v.window 0) =
-    rw (entries_of-push g (failing 0 q) (failing_entry 0 q) refl) (window-settled g v (failing_entry 0 q) q 0 a (settles_fail kind.Fail refl) refl refl within is) in
+    window-settled g v (failing 0 q) (failing_entry 0 q) q 0 a refl (settles_fail kind.Fail refl) refl refl within is in
     let same : remove v.window 0 ≡ drop 1 v.window = ap (λ ws. remove ws 0) front in
     longer.after.window test ∙ sym (left test) ∙ ap (count_by test) same
 

@@ -11,6 +11,7 @@ pub record KeepsSettings (old new : State) : Type 0 where
   pub limits : new.limits ≡ old.limits
   pub count : new.count ≡ old.count
   pub started : new.started ≡ old.started
+  pub moment : new.moment ≡ old.moment
   pub accounts : new.accounts.items ≡ old.accounts.items
   pub centres : new.centres.items ≡ old.centres.items
   pub places : new.places ≡ old.places

@@ -1,5 +1,5 @@
 -- The turns of one lane, from what its calls say.
-use Rattle.std.proofs.Common.{◌≡◌, ◌≢◌, ◌<◌, ◌≤◌, ◌==◌, ℕ, Bool, true, false, not, List, [], ◌∷◌, ◌++◌, length, refl, sym, ◌∙◌, ap, subst, arith, Option, Some, None, nat_le, nat_lt, slice_get, codes, if◌then◌else◌, inl, inr}
+use Rattle.std.proofs.Common.{◌≡◌, ◌≢◌, ◌<◌, ◌≤◌, ◌==◌, ℕ, Bool, true, false, not, List, [], ◌∷◌, ◌++◌, length, max, refl, sym, ◌∙◌, ap, subst, arith, Option, Some, None, nat_le, nat_lt, slice_get, codes, if◌then◌else◌, inl, inr}
 use Rattle.std.specs.Fmt.{decimal}
 use Rattle.std.proofs.lemmas.Bool.{cases_lt, eqb-true, eqb-false, leb-true, le-leb, lt-ltb, le-ltb}
 use Rattle.smx_history.specs.Entries.{is_up}
@@ -14,13 +14,13 @@ use Rattle.smx_history.specs.declared.reply.TakeRefusal.TheVariants.{QueueEmpty,
 use Rattle.smx_history.specs.Legal.{IsLegal}
 use Rattle.smx_history.specs.History.{marks_of, entries_of, note}
 use Rattle.smx_history.specs.Contents.{AgreesWith, Content, queue_after, window_after}
-use Rattle.smx_history.specs.Replies.{take_refusal}
+use Rattle.smx_history.specs.Replies.{moment_at, take_refusal}
 use Rattle.smx_history.specs.Answering.{IsAnswered}
 use Rattle.smx_history.specs.Finding.{IsFree, is_present, place_answered}
 use Rattle.smx_history.proofs.Counts.{length-same}
 use Rattle.smx_history.proofs.Finding.{some_free, taken_free, place_same, absent, row_found}
 use Rattle.smx_relay.specs.Texts.{text_line, pdu_line, up_lane, upstream_of, down_line}
-use Rattle.smx_relay.specs.Relay.{take_with, take_on, back_on}
+use Rattle.smx_relay.specs.Relay.{moment_on, take_with, take_on, back_on}
 use Rattle.smx_relay.specs.Private.OnLane.{TurnsLane}
 
 window_length : (h : List Note) (v : Content) → AgreesWith h v → length v.window ≡ length (window_after h)
@@ -54,46 +54,47 @@ first_of_queue : (queue : List Request) (r : Request) → slice_get queue 0 ≡ 
 first_of_queue [] r e = absurd (let x : None ≡ Some r = e in cc)
 first_of_queue (x ∷ xs) r e = let same : x ≡ r = cc in (xs, ap (λ y. y ∷ xs) same)
 
-pub took : (h : List Note) (old new : Content) (at u : ℕ) (r : Request) (text : List ℕ) → AgreesWith h old → take_refusal old ≡ None → slice_get old.queue 0 ≡ Some r
-    → ((g : List Note) → AgreesWith g old → AgreesWith (g ++ note 0 (event.Take r.client r.ordinal u) ∷ []) new) → new.limits ≡ old.limits
-    → text ≡ pdu_line (up_lane at) (upstream_of r u) → (n : ℕ) × IsFree h n × TurnsLane (take_on old.limits n at h) old new text
+pub took : (h : List Note) (old new : Content) (at moment u : ℕ) (r : Request) (text : List ℕ) → AgreesWith h old → take_refusal old ≡ None → slice_get old.queue 0 ≡ Some r
+    → ((g : List Note) → AgreesWith g old → AgreesWith (g ++ note 0 (event.Take r.client r.ordinal u (moment_at old moment)) ∷ []) new) → new.limits ≡ old.limits
+    → text ≡ pdu_line (up_lane at) (upstream_of r u) → (n : ℕ) × IsFree h n × TurnsLane (take_on old.limits moment n at h) old new text
 unfolding take_on
-took h old new at u r text a taken front goes limits e =
-    let longer = goes h a in
-    let free = taken_free h new 0 r.client r.ordinal u (subst (λ l. IsLegal l (marks_of h)) (sym limits) a.legal) longer in
+took h old new at moment u r text a taken front goes limits e =
+    let now : moment_at old moment ≡ moment_on moment h = ap (max moment) a.after.numbers.latest in
+    let longer = subst (λ t. AgreesWith (h ++ note 0 (event.Take r.client r.ordinal u t) ∷ []) new) now (goes h a) in
+    let free = taken_free h new 0 r.client r.ordinal u (moment_on moment h) (subst (λ l. IsLegal l (marks_of h)) (sym limits) a.legal) longer in
     let there = first_of_queue old.queue r front in
     let queue : queue_after h ≡ r ∷ there.0 = sym a.after.queue ∙ there.1 in
     let room : nat_lt (length (window_after h)) old.limits.window ≡ true = lt-ltb (length (window_after h)) old.limits.window (omega (arith, window_length h old a, ((takable old).takes taken).0)) in
     let up : is_up (entries_of h) ≡ true = sym a.after.up ∙ ((takable old).takes taken).1 in
     (u, free, rw (up, queue, room) (record { text = e; agrees = longer; limits_are = limits }))
 
-pub took_none : (h : List Note) (old new : Content) (at : ℕ) (text : List ℕ) → AgreesWith h old → old.up ≡ true → take_refusal old ≡ Some QueueEmpty → new ≡ old
-    → text ≡ text_line (codes "take " ++ (decimal at ++ codes " empty")) → (n : ℕ) × IsFree h n × TurnsLane (take_on old.limits n at h) old new text
+pub took_none : (h : List Note) (old new : Content) (at moment : ℕ) (text : List ℕ) → AgreesWith h old → old.up ≡ true → take_refusal old ≡ Some QueueEmpty → new ≡ old
+    → text ≡ text_line (codes "take " ++ (decimal at ++ codes " empty")) → (n : ℕ) × IsFree h n × TurnsLane (take_on old.limits moment n at h) old new text
 unfolding take_on
-took_none h old new at text a up refused same e =
+took_none h old new at moment text a up refused same e =
     let free = some_free h in
     let queue : queue_after h ≡ [] = sym a.after.queue ∙ (takable old).empty refused in
     let up' : is_up (entries_of h) ≡ true = sym a.after.up ∙ up in
     (free.0, free.1, rw (up', queue) (record { text = e; agrees = rw same a; limits_are = ap (λ (v : Content). v.limits) same }))
 
-take_with_full : (u at : ℕ) (h : List Note) (queue : List Request) → length queue ≢ 0 → take_with u at h queue false ≡ (text_line (codes "take " ++ (decimal at ++ codes " full")), h)
-take_with_full u at h [] some = absurd (some refl)
-take_with_full u at h (r ∷ rs) some = refl
+take_with_full : (moment u at : ℕ) (h : List Note) (queue : List Request) → length queue ≢ 0 → take_with moment u at h queue false ≡ (text_line (codes "take " ++ (decimal at ++ codes " full")), h)
+take_with_full moment u at h [] some = absurd (some refl)
+take_with_full moment u at h (r ∷ rs) some = refl
 
-pub took_full : (h : List Note) (old new : Content) (at : ℕ) (text : List ℕ) → AgreesWith h old → old.up ≡ true → take_refusal old ≡ Some WindowFull → new ≡ old
-    → text ≡ text_line (codes "take " ++ (decimal at ++ codes " full")) → (n : ℕ) × IsFree h n × TurnsLane (take_on old.limits n at h) old new text
+pub took_full : (h : List Note) (old new : Content) (at moment : ℕ) (text : List ℕ) → AgreesWith h old → old.up ≡ true → take_refusal old ≡ Some WindowFull → new ≡ old
+    → text ≡ text_line (codes "take " ++ (decimal at ++ codes " full")) → (n : ℕ) × IsFree h n × TurnsLane (take_on old.limits moment n at h) old new text
 unfolding take_on
-took_full h old new at text a up refused same e =
+took_full h old new at moment text a up refused same e =
     let free = some_free h in
     let full = (takable old).full refused in
     let none : nat_lt (length (window_after h)) old.limits.window ≡ false = le-ltb (length (window_after h)) old.limits.window (omega (arith, window_length h old a, full.0)) in
     let some : length (queue_after h) ≢ 0 = λ zero. full.1 (ap length a.after.queue ∙ zero) in
     let up' : is_up (entries_of h) ≡ true = sym a.after.up ∙ up in
-    (free.0, free.1, rw (up', none, take_with_full free.0 at h (queue_after h) some) (record { text = e; agrees = rw same a; limits_are = ap (λ (v : Content). v.limits) same }))
+    (free.0, free.1, rw (up', none, take_with_full moment free.0 at h (queue_after h) some) (record { text = e; agrees = rw same a; limits_are = ap (λ (v : Content). v.limits) same }))
 
-pub took_down : (h : List Note) (v : Content) (at : ℕ) (text : List ℕ) → AgreesWith h v → v.up ≡ false → text ≡ down_line at → (n : ℕ) × IsFree h n × TurnsLane (take_on v.limits n at h) v v text
+pub took_down : (h : List Note) (v : Content) (at moment : ℕ) (text : List ℕ) → AgreesWith h v → v.up ≡ false → text ≡ down_line at → (n : ℕ) × IsFree h n × TurnsLane (take_on v.limits moment n at h) v v text
 unfolding take_on
-took_down h v at text a down e =
+took_down h v at moment text a down e =
     let free = some_free h in
     let down' : is_up (entries_of h) ≡ false = sym a.after.up ∙ down in
     (free.0, free.1, rw down' (record { text = e; agrees = a; limits_are = refl }))

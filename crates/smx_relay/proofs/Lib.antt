@@ -1,6 +1,7 @@
 pub mod Offers
 pub mod LaneTurns
 pub mod GivingUp
+pub mod Expiring
 pub mod LinkTurns
 pub mod Lanes
 pub mod Keeping

@@ -1,7 +1,7 @@
 -- From each state a line may print something.
 use Rattle.std.proofs.Common.{ℕ, Bool, true, false, List, [], ◌∷◌, Option, Some, None, refl, ap, slice_get, count_by}
 use Rattle.smx_script.specs.declared.command.Action.{Action}
-use Rattle.smx_script.specs.declared.command.Action.TheVariants.{Client, Prefix, In, Take, Back, Collect, History, Turn, Lose, Bind}
+use Rattle.smx_script.specs.declared.command.Action.TheVariants.{Client, Prefix, In, Take, Back, Collect, History, Turn, Lose, Bind, Moment, Expire}
 use Rattle.smx_script.specs.declared.command.Command.{Command}
 use Rattle.smx_script.specs.declared.command.Command.TheVariants.{Skip, Set, Run}
 use Rattle.smx_script.specs.Script.{command_of}
@@ -18,9 +18,9 @@ use Rattle.smx_relay.specs.ClientTurn.{OnOpen, OnStream, OnLink, OnClient, InTur
 use Rattle.smx_relay.specs.CentreTurn.{OnUp, OnCentre, OnIndex, BackTurn, centre_pdu, centre_end}
 use Rattle.std.proofs.lemmas.List.Sorted.{IsPermutation-refl}
 use Rattle.smx_routes.specs.Routing.{Route, route}
-use Rattle.smx_relay.specs.Turns.{AddRoute, is_bad_route, RouteAt, RouteOf, RouteTurn, TakeTurn, Acts, Does, OnCommand, Lines}
+use Rattle.smx_relay.specs.Turns.{AddRoute, is_bad_route, RouteAt, RouteOf, RouteTurn, TakeTurn, ExpireTurn, Acts, Does, OnCommand, Lines}
 use Rattle.smx_relay.proofs.Receiving.{some_received}
-use Rattle.smx_relay.proofs.StateTurns.{some_free_on}
+use Rattle.smx_relay.proofs.StateTurns.{some_expired_on, some_free_on}
 
 abbrev Some_of : (Option (List ℕ × Relay) → Type 0) → Type 0
 Some_of May = (x : Option (List ℕ × Relay)) × May x
@@ -87,6 +87,11 @@ some_take s i =
     let u = some_free_on s i in
     (_, (u.0, u.1, refl))
 
+some_expired : (s : Relay) (i age : ℕ) → Some_of (ExpireTurn s i age)
+some_expired s i age =
+    let qs = some_expired_on s i age in
+    (_, (qs.0, qs.1, refl))
+
 some_added : (s : Relay) (r : Route) (b : Bool) → Some_of (AddRoute s r b)
 some_added s r true = (None, refl)
 some_added s r false = (_, (r ∷ s.routes, IsPermutation-refl (r ∷ s.routes), refl))
@@ -115,6 +120,8 @@ some_act s (History i) = (_, refl)
 some_act s (Turn i) = (_, refl)
 some_act s (Lose i) = some_lost s i
 some_act s (Bind i) = (_, refl)
+some_act s (Moment moment) = (_, refl)
+some_act s (Expire i age) = some_expired s i age
 
 some_does : (s : Relay) (command : Command) → Some_of (Does s command)
 unfolding Does

@@ -1,9 +1,8 @@
 -- The link of a lane is lost, and there is one again: turns of the whole state.
-use Rattle.std.proofs.Common.{◌≡◌, ◌<◌, ◌≤◌, ◌+◌, ◌==◌, ◌&&◌, ◌++◌, ◌∷◌, ℕ, Bool, true, false, List, [], length, set, get_or, refl, sym, ◌∙◌, ap, subst, arith, Option, Some, None, slice_get, inl, inr}
+use Rattle.std.proofs.Common.{◌≡◌, ◌<◌, ◌≤◌, ◌+◌, ◌==◌, ◌&&◌, ◌++◌, ◌∷◌, ℕ, Bool, true, false, List, [], length, set, get_or, refl, sym, ◌∙◌, ap, subst, arith, Option, Some, None, slice_get}
 use Rattle.std.specs.Prelude.{nat_le, not, if◌then◌else◌}
 use Rattle.std.specs.Global.{Vec}
 use Rattle.std.specs.List.{AllZip}
-use Rattle.std.proofs.lemmas.Bool.{cases_Bool}
 use Rattle.std.proofs.lemmas.Option.{slice_get_past}
 use Rattle.smx_history.specs.declared.note.Note.{Note}
 use Rattle.smx_history.specs.declared.note.Event.TheVariants as event
@@ -22,7 +21,7 @@ use Rattle.smx_relay.specs.declared.state.State.{State}
 use Rattle.smx_relay.specs.Texts.{bound_line, down_line, unbound_line}
 use Rattle.smx_relay.specs.Links.{CentreLink, bound_centre}
 use Rattle.smx_relay.specs.Relay.{Relay}
-use Rattle.smx_relay.specs.LaneLinks.{AreTakenOn, GivesUp, LosesAt, LosesLink, LoseTurn, bind_at, bind_turn, bind_where, going_on, given_up, lowered, may_rise, raised, with_centre}
+use Rattle.smx_relay.specs.LaneLinks.{AreTakenOn, LosesAt, LosesLink, LoseTurn, bind_at, bind_turn, bind_where, going_on, given_up, lowered, may_rise, raised, with_centre}
 use Rattle.smx_relay.specs.Private.OnLane.{OnLane, AreOwn}
 use Rattle.smx_relay.specs.Private.Agrees.{Agrees, MayPrint, Prints}
 use Rattle.smx_relay.proofs.GivingUp.{GivenUp}
@@ -43,6 +42,7 @@ goes_on old new s i f h lane after a is at on agrees limits own =
       limits = is.keeps.limits ∙ a.limits;
       count = is.keeps.count ∙ a.count;
       started = is.keeps.started ∙ a.started;
+      moment = is.keeps.moment ∙ a.moment;
       clients = is.clients ∙ a.clients;
       lanes = lanes;
       none_yet = λ off. ap (λ hs. set hs i (f h)) (a.none_yet off);
@@ -64,6 +64,7 @@ lane_untouched old new s i lane after a is same =
       limits = is.keeps.limits ∙ a.limits;
       count = is.keeps.count ∙ a.count;
       started = is.keeps.started ∙ a.started;
+      moment = is.keeps.moment ∙ a.moment;
       clients = is.clients ∙ a.clients;
       lanes = rw lanes a.lanes;
       none_yet = a.none_yet;

@@ -32,6 +32,7 @@ linked old new s c after a is = record {
   limits = is.keeps.limits ∙ a.limits;
   count = is.keeps.count ∙ a.count;
   started = is.keeps.started ∙ a.started;
+  moment = is.keeps.moment ∙ a.moment;
   clients = is.clients ∙ a.clients;
   lanes = rw is.lanes a.lanes;
   none_yet = a.none_yet;
@@ -87,6 +88,7 @@ left_by_all old new s c a leaves keeps clients links routes = record {
   limits = keeps.limits ∙ a.limits;
   count = keeps.count ∙ a.count;
   started = keeps.started ∙ a.started;
+  moment = keeps.moment ∙ a.moment;
   clients = clients ∙ a.clients;
   lanes = leaves s.limits s.clients s.histories a.lanes;
   none_yet = λ off. ap (map (left c)) (a.none_yet off);
@@ -120,6 +122,7 @@ pub record IsCentre (old new : State) (i : ℕ) (after : CentreLink) : Type 0 wh
   pub limits : new.limits ≡ old.limits
   pub count : new.count ≡ old.count
   pub started : new.started ≡ old.started
+  pub moment : new.moment ≡ old.moment
   pub accounts : new.accounts.items ≡ old.accounts.items
   pub places : new.places ≡ old.places
   pub routes : new.routes ≡ old.routes
@@ -129,6 +132,7 @@ centred old new s i after a is = record {
   limits = is.limits ∙ a.limits;
   count = is.count ∙ a.count;
   started = is.started ∙ a.started;
+  moment = is.moment ∙ a.moment;
   clients = is.clients ∙ a.clients;
   lanes = rw is.lanes a.lanes;
   none_yet = a.none_yet;

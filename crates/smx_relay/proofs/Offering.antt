@@ -73,6 +73,7 @@ pub record IsAccepted (old new : State) (c last at : ℕ) (r : Request) (lane af
   pub limits : new.limits ≡ old.limits
   pub count : new.count ≡ old.count
   pub started : new.started ≡ old.started
+  pub moment : new.moment ≡ old.moment
   pub accounts : new.accounts.items ≡ old.accounts.items
   pub centres : new.centres.items ≡ old.centres.items
   pub places : new.places ≡ old.places
@@ -102,10 +103,11 @@ offered_some old new s c last at o lane after text a known is e =
         limits = is.limits ∙ a.limits;
         count = is.count ∙ a.count;
         started = is.started ∙ a.started;
+        moment = is.moment ∙ a.moment;
         clients = is.clients ∙ ap (λ cs. set cs c (Some (last + 1))) a.clients;
         lanes = zipped;
         none_yet = λ off. ap (λ hs. set hs at longer) (a.none_yet off);
-        links = kept_links old new s.accounts s.links s.centres s.started s.places s.routes (record { limits = is.limits; count = is.count; started = is.started; accounts = is.accounts; centres = is.centres; places = is.places; routes = is.routes }) is.links a.links;
+        links = kept_links old new s.accounts s.links s.centres s.started s.places s.routes (record { limits = is.limits; count = is.count; started = is.started; accounts = is.accounts; centres = is.centres; places = is.places; routes = is.routes; moment = is.moment }) is.links a.links;
       };
     })
 
@@ -120,6 +122,7 @@ offered_none old new s c last o p text a none lanes clients keeps links is e =
         limits = keeps.limits ∙ a.limits;
         count = keeps.count ∙ a.count;
         started = keeps.started ∙ a.started;
+        moment = keeps.moment ∙ a.moment;
         clients = clients ∙ a.clients;
         lanes = rw lanes a.lanes;
         none_yet = a.none_yet;

@@ -6,6 +6,7 @@ use Rattle.std.specs.Fmt.{decimal}
 use Rattle.smx_history.specs.declared.note.Event.TheVariants as event
 use Rattle.smx_relay.specs.Texts.{text_line, down_line}
 use Rattle.smx_relay.specs.LaneLinks.{given_up, lowered, raised}
+use Rattle.smx_relay.specs.Expiring.{expire_on}
 use Rattle.smx_history.specs.Answering.{failing}
 use Rattle.std.proofs.lemmas.List.{append-nil}
 use Rattle.smx_pdu.specs.declared.pdu.Pdu.{Pdu}
@@ -33,22 +34,26 @@ own_push clients h n e entry own is = subst (AllByRecursion (IsOwn clients)) (sy
 pub own_other : (clients : List (Option ℕ)) (e : Entry) → e.by ≡ 0 → is_accept e.kind ≡ false → IsOwn clients e
 own_other clients e by other = record { by = by; known = λ accept. absurd (let z : true ≡ false = sym accept ∙ other in cc) }
 
-own_take_with : (clients : List (Option ℕ)) (u i : ℕ) (h : List Note) (queue : List Request) (room : Bool) → AreOwn clients h → AreOwn clients (take_with u i h queue room).1
-own_take_with clients u i h [] room own = own
-own_take_with clients u i h (r ∷ rs) true own = own_push clients h _ _ refl own (own_other clients _ refl refl)
-own_take_with clients u i h (r ∷ rs) false own = own
+own_take_with : (clients : List (Option ℕ)) (moment u i : ℕ) (h : List Note) (queue : List Request) (room : Bool) → AreOwn clients h → AreOwn clients (take_with moment u i h queue room).1
+own_take_with clients moment u i h [] room own = own
+own_take_with clients moment u i h (r ∷ rs) true own = own_push clients h _ _ refl own (own_other clients _ refl refl)
+own_take_with clients moment u i h (r ∷ rs) false own = own
 
-pub own_take : (clients : List (Option ℕ)) (limits : Limits) (u i : ℕ) (h : List Note) → AreOwn clients h → AreOwn clients (take_on limits u i h).1
+pub own_take : (clients : List (Option ℕ)) (limits : Limits) (moment u i : ℕ) (h : List Note) → AreOwn clients h → AreOwn clients (take_on limits moment u i h).1
 unfolding take_on
-own_take clients limits u i h own = at (is_up (entries_of h))
+own_take clients limits moment u i h own = at (is_up (entries_of h))
   where
-    at : (b : Bool) → AreOwn clients (cond {A = List ℕ × List Note} b (take_with u i h (queue_after h) (nat_lt (length (window_after h)) limits.window)) (down_line i, h)).1
-    at true = own_take_with clients u i h (queue_after h) _ own
+    at : (b : Bool) → AreOwn clients (cond {A = List ℕ × List Note} b (take_with moment u i h (queue_after h) (nat_lt (length (window_after h)) limits.window)) (down_line i, h)).1
+    at true = own_take_with clients moment u i h (queue_after h) _ own
     at false = own
 
 own_failing : (clients : List (Option ℕ)) (h : List Note) (qs : List Place) → AreOwn clients h → AreOwn clients (h ++ map (failing 0) qs)
 own_failing clients h [] own = subst (AreOwn clients) (sym (append-nil h)) own
 own_failing clients h (q ∷ qs) own = subst (AreOwn clients) (append_assoc h (failing 0 q ∷ []) (map (failing 0) qs)) (own_failing clients (h ++ failing 0 q ∷ []) qs (own_push clients h _ _ refl own (own_other clients _ refl refl)))
+
+pub own_expired : (clients : List (Option ℕ)) (i : ℕ) (qs : List Place) (h : List Note) → AreOwn clients h → AreOwn clients (expire_on i qs h).1
+unfolding expire_on
+own_expired clients i qs h own = own_failing clients h qs own
 
 pub own_given_up : (clients : List (Option ℕ)) (qs : List Place) (h : List Note) → AreOwn clients h → AreOwn clients (given_up qs h)
 unfolding given_up

@@ -55,6 +55,7 @@ routed_on old new s c prefix a is = record {
   limits = is.keeps.limits ∙ a.limits;
   count = is.keeps.count ∙ a.count;
   started = is.keeps.started ∙ a.started;
+  moment = is.keeps.moment ∙ a.moment;
   clients = is.clients ∙ a.clients;
   lanes = rw is.lanes a.lanes;
   none_yet = a.none_yet;

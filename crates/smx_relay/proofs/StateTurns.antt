@@ -1,21 +1,25 @@
 -- Turns of one lane, as turns of the whole state.
-use Rattle.std.proofs.Common.{◌≡◌, ◌<◌, ◌≤◌, ℕ, List, [], length, set, get_or, refl, sym, ◌∙◌, ap, subst, arith, Option, Some, None, slice_get, Result, Ok, Err, IfOk}
+use Rattle.std.proofs.Common.{◌≡◌, ◌<◌, ◌≤◌, ℕ, List, [], length, set, get_or, refl, sym, ◌∙◌, ap, subst, arith, Option, Some, None, slice_get, Result, Ok, Err, IfOk, count_by}
 use Rattle.std.specs.Prelude.{unwrap_or}
 use Rattle.std.specs.Global.{Vec}
 use Rattle.std.specs.List.{AllZip}
 use Rattle.std.proofs.lemmas.Option.{slice_get_past}
 use Rattle.smx_pdu.specs.declared.pdu.Pdu.{Pdu}
 use Rattle.smx_history.specs.declared.note.Note.{Note}
+use Rattle.smx_history.specs.declared.place.Place.{Place}
+use Rattle.smx_history.specs.Prefixes.{SameCounts}
 use Rattle.smx_history.specs.Contents.{AgreesWith, Content}
 use Rattle.smx_history.specs.Finding.{IsFree}
 use Rattle.smx_history.proofs.Finding.{some_free}
 use Rattle.smx_relay.specs.declared.state.State.{State}
 use Rattle.smx_relay.specs.Relay.{Relay, on_lane, take_on, back_on, history_on, turn_on}
-use Rattle.smx_relay.specs.Turns.{IsFreeOn, TakeTurn}
+use Rattle.smx_relay.specs.Turns.{AreExpiredOn, ExpireTurn, IsFreeOn, TakeTurn}
+use Rattle.smx_relay.specs.Expiring.{expire_on, expired_after}
 use Rattle.smx_relay.specs.Private.OnLane.{OnLane, AreOwn, TurnsLane}
 use Rattle.smx_relay.specs.Private.Agrees.{Agrees, MayPrint, Prints, Turned}
 use Rattle.smx_relay.proofs.Lanes.{zip-length, zip-get, zip-set}
-use Rattle.smx_relay.proofs.OwnNotes.{own_take, own_back, own_turn}
+use Rattle.smx_relay.proofs.OwnNotes.{own_take, own_back, own_expired, own_turn}
+use Rattle.smx_relay.proofs.Expiring.{Expires}
 use Rattle.smx_relay.proofs.ActTurns.{some_printed}
 use Rattle.smx_relay.proofs.Keeping.{KeepsSettings, kept_links}
 
@@ -51,6 +55,7 @@ lane_turned old new s i f h lane after text a is at on turns own =
         limits = is.keeps.limits ∙ a.limits;
         count = is.keeps.count ∙ a.count;
         started = is.keeps.started ∙ a.started;
+        moment = is.keeps.moment ∙ a.moment;
         clients = is.clients ∙ a.clients;
         lanes = lanes;
         none_yet = λ off. ap (λ hs. set hs i (f h).1) (a.none_yet off);
@@ -71,25 +76,54 @@ free_here s i u h at free g there =
 
 -- a request is taken
 abbrev pub Takes : Relay → ℕ → State → Option (Vec ℕ) → Type 0
-Takes s i new text = (u : ℕ) × IsFreeOn s i u × Prints (on_lane s i (take_on s.limits u i)) new text
+Takes s i new text = (u : ℕ) × IsFreeOn s i u × Prints (on_lane s i (take_on s.limits s.moment u i)) new text
 
 pub take_turns : (s : Relay) (i : ℕ) (new : State) (text : Option (Vec ℕ)) → Takes s i new text → MayPrint (TakeTurn s i) new text
-take_turns s i new text takes = (on_lane s i (take_on s.limits takes.0 i), (takes.0, takes.1, refl), takes.2)
+take_turns s i new text takes = (on_lane s i (take_on s.limits s.moment takes.0 i), (takes.0, takes.1, refl), takes.2)
 
 pub takes_none : (old new : State) (s : Relay) (i : ℕ) → Agrees old s → length old.lanes.items ≤ i → Takes s i new None
 takes_none old new s i a past =
     let u = some_free_on s i in
-    (u.0, u.1, no_lane old new s i (take_on s.limits u.0 i) a past)
+    (u.0, u.1, no_lane old new s i (take_on s.limits s.moment u.0 i) a past)
 
 -- the lane gave some free number
 pub takes_some : (old new : State) (s : Relay) (i : ℕ) (lane after : Content) (text : Vec ℕ) → Agrees old s → IsTurned old new i lane after
-    → ((h : List Note) → AgreesWith h lane → (n : ℕ) × IsFree h n × TurnsLane (take_on lane.limits n i h) lane after text.items) → Takes s i new (Some text)
+    → ((h : List Note) → AgreesWith h lane → (n : ℕ) × IsFree h n × TurnsLane (take_on lane.limits old.moment n i h) lane after text.items) → Takes s i new (Some text)
 takes_some old new s i lane after text a is goes =
     let x = history_at old s i lane a is.within is.here in
     let h = x.0 in
     let t = goes h x.2.agrees in
-    let turns : TurnsLane (take_on s.limits t.0 i h) lane after text.items = subst (λ l. TurnsLane (take_on l t.0 i h) lane after text.items) x.2.limits_are t.2 in
-    (t.0, free_here s i t.0 h x.1 t.1, lane_turned old new s i (take_on s.limits t.0 i) h lane after text a is x.1 x.2 turns (own_take s.clients s.limits t.0 i h x.2.own))
+    let here : TurnsLane (take_on s.limits old.moment t.0 i h) lane after text.items = subst (λ l. TurnsLane (take_on l old.moment t.0 i h) lane after text.items) x.2.limits_are t.2 in
+    let turns : TurnsLane (take_on s.limits s.moment t.0 i h) lane after text.items = subst (λ m. TurnsLane (take_on s.limits m t.0 i h) lane after text.items) a.moment here in
+    (t.0, free_here s i t.0 h x.1 t.1, lane_turned old new s i (take_on s.limits s.moment t.0 i) h lane after text a is x.1 x.2 turns (own_take s.clients s.limits s.moment t.0 i h x.2.own))
+
+-- what was taken so long ago has failed
+abbrev pub ExpiresOn : Relay → ℕ → ℕ → State → Option (Vec ℕ) → Type 0
+ExpiresOn s i age new text = (qs : List Place) × AreExpiredOn s i age qs × Prints (on_lane s i (expire_on i qs)) new text
+
+pub expire_turns : (s : Relay) (i age : ℕ) (new : State) (text : Option (Vec ℕ)) → ExpiresOn s i age new text → MayPrint (ExpireTurn s i age) new text
+expire_turns s i age new text expires = (on_lane s i (expire_on i expires.0), (expires.0, expires.1, refl), expires.2)
+
+-- some requests are all those that fail
+pub some_expired_on : (s : Relay) (i age : ℕ) → (qs : List Place) × AreExpiredOn s i age qs
+some_expired_on s i age =
+    (expired_after s.moment age (unwrap_or (slice_get s.histories i) []), λ h here test. ap (λ (o : Option (List Note)). count_by test (expired_after s.moment age (unwrap_or o []))) here)
+
+pub expires_nowhere : (old new : State) (s : Relay) (i age : ℕ) → Agrees old s → length old.lanes.items ≤ i → ExpiresOn s i age new None
+expires_nowhere old new s i age a past =
+    let qs = some_expired_on s i age in
+    (qs.0, qs.1, no_lane old new s i (expire_on i qs.0) a past)
+
+pub expires_on : (old new : State) (s : Relay) (i age : ℕ) (lane after : Content) (text : Vec ℕ) → Agrees old s → IsTurned old new i lane after → Expires i old.moment age lane after text.items → ExpiresOn s i age new (Some text)
+expires_on old new s i age lane after text a is goes =
+    let x = history_at old s i lane a is.within is.here in
+    let h = x.0 in
+    let t = goes h x.2.agrees in
+    let counts : SameCounts (expired_after s.moment age h) t.0 = subst (λ m. SameCounts (expired_after m age h) t.0) a.moment t.1 in (
+      t.0,
+      λ g there. subst (λ (k : List Note). SameCounts (expired_after s.moment age k) t.0) (let e : Some h ≡ Some g = sym x.1 ∙ there in let z : h ≡ g = cc in z) counts,
+      lane_turned old new s i (expire_on i t.0) h lane after text a is x.1 x.2 t.2 (own_expired s.clients i t.0 h x.2.own),
+    )
 
 pub backs_some : (old new : State) (s : Relay) (i : ℕ) (p : Pdu) (lane after : Content) (text : Vec ℕ) → Agrees old s → IsTurned old new i lane after
     → ((h : List Note) → AgreesWith h lane → TurnsLane (back_on p h) lane after text.items) → Prints (on_lane s i (back_on p)) new (Some text)

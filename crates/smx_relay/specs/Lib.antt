@@ -2,6 +2,7 @@ pub mod Texts
 pub mod Links
 pub mod Relay
 pub mod LaneLinks
+pub mod Expiring
 pub mod Messages
 pub mod ClientTurn
 pub mod CentreTurn

@@ -1,5 +1,5 @@
 -- What each line of a script does and prints, over the histories of the lanes.
-use Rattle.std.specs.Prelude.{ℕ, ◌+◌, ◌%◌, Bool, true, false, List, [], ◌∷◌, ◌++◌, length, map, filter, not, ◌==◌, take, drop, set, replicate, position, codes, Option, Some, None, is_none, is_some, ◌||◌, nat_lt, nat_le, slice_get, if◌then◌else◌}
+use Rattle.std.specs.Prelude.{ℕ, ◌+◌, ◌%◌, Bool, true, false, List, [], ◌∷◌, ◌++◌, length, map, filter, not, ◌==◌, take, drop, set, replicate, position, codes, Option, Some, None, is_none, is_some, ◌||◌, max, nat_lt, nat_le, slice_get, if◌then◌else◌}
 use Rattle.std.specs.List.{flat_map, find, range_with_len}
 use Rattle.std.specs.Fmt.{decimal}
 use Rattle.smx_pdu.specs.declared.pdu.Pdu.{Pdu}
@@ -10,7 +10,7 @@ use Rattle.smx_history.specs.declared.request.Request.{Request}
 use Rattle.smx_history.specs.declared.place.Place.{Place}
 use Rattle.smx_history.specs.declared.note.Note.{Note}
 use Rattle.smx_history.specs.declared.note.Event.TheVariants as event
-use Rattle.smx_history.specs.History.{note, shift, stored_of, entries_of}
+use Rattle.smx_history.specs.History.{note, shift, stored_of, entries_of, latest_after}
 use Rattle.smx_history.specs.Entries.{is_up}
 use Rattle.smx_history.specs.Contents.{queue_after, window_after}
 use Rattle.smx_history.specs.Finding.{is_present, admit_refusal_after, refusal_after, place_answered, waiting_after}
@@ -31,6 +31,8 @@ pub record Relay : Type 0 where
   pub accounts : List Login
   -- a line other than a setting was run
   pub started : Bool
+  -- the moment, in milliseconds
+  pub moment : ℕ
   -- what happened on each lane since
   pub histories : List (List Note)
   -- the link of each lane
@@ -49,6 +51,7 @@ start = record {
   places = 16;
   accounts = [];
   started = false;
+  moment = 0;
   histories = [];
   centres = [];
   clients = None ∷ [];
@@ -141,16 +144,21 @@ in_turn_at s c last o None = (pdu_line (to_client c) (refusal_of o), s)
 in_turn_at s c last o (Some i) =
     (text_line (codes "accepted " ++ (decimal c ++ (codes " " ++ decimal i))), accepted s c last o i (slice_get s.histories i))
 
-abbrev pub take_with : ℕ → ℕ → List Note → List Request → Bool → List ℕ × List Note
-take_with u i h [] room = (text_line (codes "take " ++ (decimal i ++ codes " empty")), h)
-take_with u i h (r ∷ rs) false = (text_line (codes "take " ++ (decimal i ++ codes " full")), h)
-take_with u i h (r ∷ rs) true = (pdu_line (up_lane i) (upstream_of r u), h ++ note 0 (event.Take r.client r.ordinal u) ∷ [])
+-- the moment on a lane: since a script's moments never fall, no take there was later and it is the script's
+abbrev pub moment_on : ℕ → List Note → ℕ
+moment_on moment h = max moment (latest_after h)
 
--- the oldest request goes upstream as u, on a lane that is up
-unfoldable pub take_on : Limits → ℕ → ℕ → List Note → List ℕ × List Note
-take_on limits u i h =
+abbrev pub take_with : ℕ → ℕ → ℕ → List Note → List Request → Bool → List ℕ × List Note
+take_with moment u i h [] room = (text_line (codes "take " ++ (decimal i ++ codes " empty")), h)
+take_with moment u i h (r ∷ rs) false = (text_line (codes "take " ++ (decimal i ++ codes " full")), h)
+take_with moment u i h (r ∷ rs) true =
+    (pdu_line (up_lane i) (upstream_of r u), h ++ note 0 (event.Take r.client r.ordinal u (moment_on moment h)) ∷ [])
+
+-- at this moment the oldest request goes upstream as u, on a lane that is up
+unfoldable pub take_on : Limits → ℕ → ℕ → ℕ → List Note → List ℕ × List Note
+take_on limits moment u i h =
     if is_up (entries_of h)
-    then take_with u i h (queue_after h) (nat_lt (length (window_after h)) limits.window)
+    then take_with moment u i h (queue_after h) (nat_lt (length (window_after h)) limits.window)
     else (down_line i, h)
 
 abbrev pub back_to : Pdu → List Note → Option Place → List ℕ × List Note

@@ -11,6 +11,8 @@ use Rattle.smx_history.specs.declared.entry.Kind.{Kind}
 use Rattle.smx_history.specs.declared.entry.Kind.TheVariants.{Admit, Accept, Take, Answer, Late, Collect, Retire, Fail, Down, Up}
 use Rattle.smx_history.specs.declared.entry.Entry.{Entry}
 use Rattle.smx_history.specs.declared.request.Request.{Request}
+use Rattle.smx_history.specs.declared.reply.Failed.{Failed}
+use Rattle.smx_history.specs.declared.reply.Failed.TheVariants as failed
 use Rattle.smx_relay.specs.declared.offer.Offer.{Offer}
 
 -- each line ends with a line feed
@@ -43,6 +45,15 @@ bound_line lane = text_line (codes "bound " ++ decimal lane)
 -- it isn't, for want of room
 abbrev pub unbound_line : ℕ → List ℕ
 unbound_line lane = text_line (codes "full " ++ decimal lane)
+
+-- a request failed: its client is told when it collects, or has left
+abbrev pub failed_line : Failed → List ℕ
+failed_line (failed.Queued c) = text_line (codes "failed " ++ decimal c)
+failed_line failed.Late = text_line (codes "late")
+
+-- no request failed
+abbrev pub kept_line : ℕ → List ℕ
+kept_line lane = text_line (codes "kept " ++ decimal lane)
 
 -- a lane goes on without so many entries
 abbrev pub turned_line : ℕ → ℕ → List ℕ

@@ -1,13 +1,15 @@
 -- What a line may print and leave; none at a bad line.
-use Rattle.std.specs.Prelude.{◌≡◌, ◌++◌, ◌||◌, ℕ, Bool, true, false, not, nat_lt, List, [], ◌∷◌, length, IsPermutation, codes, Option, Some, None, slice_get}
+use Rattle.std.specs.Prelude.{◌≡◌, ◌++◌, ◌||◌, ℕ, Bool, true, false, not, nat_lt, List, [], ◌∷◌, length, IsPermutation, codes, Option, Some, None, slice_get, if◌then◌else◌}
 use Rattle.std.specs.Fmt.{decimal}
 use Rattle.smx_routes.specs.Routing.{Route, route, has_route}
 use Rattle.smx_history.specs.declared.note.Note.{Note}
+use Rattle.smx_history.specs.declared.place.Place.{Place}
+use Rattle.smx_history.specs.Prefixes.{SameCounts}
 use Rattle.smx_history.specs.Finding.{IsFree}
 use Rattle.smx_script.specs.declared.command.Command.{Command}
 use Rattle.smx_script.specs.declared.command.Command.TheVariants.{Skip, Set, Run}
 use Rattle.smx_script.specs.declared.command.Action.{Action}
-use Rattle.smx_script.specs.declared.command.Action.TheVariants.{Client, Prefix, In, Take, Back, Collect, History, Turn, Lose, Bind}
+use Rattle.smx_script.specs.declared.command.Action.TheVariants.{Client, Prefix, In, Take, Back, Collect, History, Turn, Lose, Bind, Moment, Expire}
 use Rattle.smx_script.specs.Script.{command_of}
 use Rattle.smx_relay.specs.Texts.{text_line}
 use Rattle.smx_relay.specs.Links.{ClientLink, may_receive}
@@ -16,6 +18,7 @@ use Rattle.smx_relay.specs.Messages.{send_turn}
 use Rattle.smx_relay.specs.ClientTurn.{InTurn, followed_by}
 use Rattle.smx_relay.specs.CentreTurn.{BackTurn}
 use Rattle.smx_relay.specs.LaneLinks.{LoseTurn, bind_turn}
+use Rattle.smx_relay.specs.Expiring.{expired_after, expire_on}
 
 -- the number is free on the lane, where there is such a lane
 abbrev pub IsFreeOn : Relay → ℕ → ℕ → Type 0
@@ -23,7 +26,19 @@ IsFreeOn s i u = (h : List Note) → slice_get s.histories i ≡ Some h → IsFr
 
 -- a request that is taken gets some free number
 abbrev pub TakeTurn : Relay → ℕ → Option (List ℕ × Relay) → Type 0
-TakeTurn s i x = (u : ℕ) × IsFreeOn s i u × (x ≡ on_lane s i (take_on s.limits u i))
+TakeTurn s i x = (u : ℕ) × IsFreeOn s i u × (x ≡ on_lane s i (take_on s.limits s.moment u i))
+
+-- these are all the requests that fail on the lane, in any order
+abbrev pub AreExpiredOn : Relay → ℕ → ℕ → List Place → Type 0
+AreExpiredOn s i age qs = (h : List Note) → slice_get s.histories i ≡ Some h → SameCounts (expired_after s.moment age h) qs
+
+-- each request fails that was taken so long ago; which of them first, isn't said
+abbrev pub ExpireTurn : Relay → ℕ → ℕ → Option (List ℕ × Relay) → Type 0
+ExpireTurn s i age x = (qs : List Place) × AreExpiredOn s i age qs × (x ≡ on_lane s i (expire_on i qs))
+
+-- the moment never falls
+abbrev pub moment_turn : Relay → ℕ → Option (List ℕ × Relay)
+moment_turn s moment = if nat_lt moment s.moment then None else Some ([], record s { moment = moment })
 
 abbrev pub AddRoute : Relay → Route → Bool → Option (List ℕ × Relay) → Type 0
 AddRoute s r true x = x ≡ None
@@ -68,6 +83,8 @@ Acts s (History i) x = x ≡ on_lane s i history_on
 Acts s (Turn i) x = x ≡ on_lane s i (turn_on i)
 Acts s (Lose i) x = LoseTurn s i x
 Acts s (Bind i) x = x ≡ bind_turn s i
+Acts s (Moment moment) x = x ≡ moment_turn s moment
+Acts s (Expire i age) x = ExpireTurn s i age x
 
 unfoldable pub Does : Relay → Command → Option (List ℕ × Relay) → Type 0
 Does s Skip x = x ≡ Some ([], s)

@@ -1,7 +1,7 @@
 //! One line of a script, run on the lanes.
 ghost use Rattle.std.specs.Prelude.{◌≡◌, ℕ, List, Option, IfOk};
 ghost use Rattle.smx_relay.specs.Relay.{Relay, history_on, on_lane, turn_on};
-ghost use Rattle.smx_relay.specs.Turns.{Acts, Does, Lines, TakeTurn};
+ghost use Rattle.smx_relay.specs.Turns.{Acts, Does, ExpireTurn, Lines, TakeTurn, moment_turn};
 ghost use Rattle.smx_relay.specs.Private.Agrees.{Agrees, IsReached, MayPrint, Prints};
 
 use crate::centre_turn::receive_back;
@@ -9,7 +9,7 @@ use crate::client_turn::receive_in;
 use crate::clients::{collect, enter};
 use crate::lane_link::{bind, lose};
 use crate::messages::route;
-use crate::on_lane::{history_on, take_on, turn_on};
+use crate::on_lane::{expire_on, history_on, take_on, turn_on};
 use crate::settings::{begin, set};
 use crate::state::State;
 use smx_script::{Action, Command, read_command};
@@ -23,7 +23,37 @@ fn take(alloc: Global, state: &mut State, lane: u64) -> Result<Option<Vec<u8>>, 
     if at >= state.lanes.len() {
         return Ok(None);
     }
-    Ok(Some(take_on(alloc, &mut state.lanes[at], lane)?))
+    let text = take_on(alloc, &mut state.lanes[at], lane, state.moment)?;
+    Ok(Some(text))
+}
+
+// What was taken on a lane so long ago fails. There is no text where there is no such lane.
+fn expire(
+    alloc: Global,
+    state: &mut State,
+    lane: u64,
+    age: u64,
+) -> Result<Option<Vec<u8>>, AllocError>
+    requires { IsReached state.old }
+    ensures { (s : Relay) → Agrees state.old s → IfOk result (λ text. MayPrint (ExpireTurn s lane age) state.new text) }
+{
+    let at = lane as usize;
+    if at >= state.lanes.len() {
+        return Ok(None);
+    }
+    let text = expire_on(alloc, &mut state.lanes[at], lane, state.moment, age)?;
+    Ok(Some(text))
+}
+
+// Sets the moment. There is no text where it would fall.
+fn set_moment(alloc: Global, state: &mut State, moment: u64) -> Option<Vec<u8>>
+    ensures { (s : Relay) → Agrees state.old s → Prints (moment_turn s moment) state.new result }
+{
+    if moment < state.moment {
+        return None;
+    }
+    state.moment = moment;
+    Some(Vec::new(alloc))
 }
 
 // Lists the stored entries of a lane. There is no text where there is no such lane.
@@ -72,6 +102,8 @@ fn run_action(
         Action::Turn { lane } => turn(alloc, state, lane),
         Action::Lose { lane } => lose(alloc, state, lane),
         Action::Bind { lane } => bind(alloc, state, lane),
+        Action::Moment { moment } => Ok(set_moment(alloc, state, moment)),
+        Action::Expire { lane, age } => expire(alloc, state, lane, age),
     }
 }
 

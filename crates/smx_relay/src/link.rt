@@ -204,7 +204,7 @@ impl CentreLink {
         receive(alloc, &mut self.framer, octets)
     }
 
-    /// Decides a PDU. No script has moments.
+    /// Decides a PDU. The moments of a script are the lanes' alone, and the session is told of none.
     #[tactic(auto, unfolding(crate::specs::CentreTurn::act_of, crate::specs::CentreTurn::session_after))]
     pub(crate) fn decide(&mut self, pdu: &Pdu) -> UpAct
         ensures act { result ≡ act_of self.old.session pdu.now }

@@ -7,8 +7,8 @@ ghost use Rattle.smx_relay.specs.Relay.{take_on, back_on, history_on, turn_on};
 ghost use Rattle.smx_relay.specs.Private.OnLane.{TurnsLane};
 
 use crate::texts::{
-    down_line, empty_line, entry_lines, full_line, push_to_client, queued_line, turned_line,
-    up_line,
+    down_line, empty_line, entry_lines, failed_line, full_line, kept_line, push_to_client,
+    queued_line, turned_line, up_line,
 };
 use smx_history::{Answered, Request, TakeRefusal};
 use smx_lane::{Lane, Sent};
@@ -18,16 +18,16 @@ use std::alloc::{AllocError, Global};
 /// The number of the one caller of all lanes.
 pub const CALLER: u64 = 0;
 
-/// Takes the oldest request of a lane that is up.
+/// Takes the oldest request of a lane that is up, at this moment.
 #[tactic(auto, unfolding(crate::specs::Relay::take_on))]
-pub fn take_on(alloc: Global, lane: &mut Lane, at: u64) -> Result<Vec<u8>, AllocError>
+pub fn take_on(alloc: Global, lane: &mut Lane, at: u64, moment: u64) -> Result<Vec<u8>, AllocError>
     ensures { (h : List Note) → AgreesWith h lane.old → IfOk result (λ text. (u : ℕ) × IsFree h u
-        × TurnsLane (take_on lane.old.limits u at h) lane.old lane.new text.items) }
+        × TurnsLane (take_on lane.old.limits moment u at h) lane.old lane.new text.items) }
 {
     if !lane.is_up() {
         return down_line(alloc, at);
     }
-    match lane.take(CALLER) {
+    match lane.take(CALLER, moment) {
         Ok(sent) => {
             let Sent { request, upstream } = sent;
             let Request {
@@ -105,6 +105,36 @@ pub fn give_up_on(lane: &mut Lane)
         return;
     }
     while let Ok(_failed) = lane.fail(CALLER) {}
+}
+
+ghost use Rattle.smx_relay.specs.Expiring.{expire_on, expired_after};
+
+/// Each request that was taken at least `age` milliseconds before the moment and not answered fails,
+/// on a lane that is up. Which of them first, isn't said.
+#[tactic(auto, unfolding(crate::specs::Expiring::expire_on))]
+pub fn expire_on(
+    alloc: Global,
+    lane: &mut Lane,
+    at: u64,
+    moment: u64,
+    age: u64,
+) -> Result<Vec<u8>, AllocError>
+    requires { (h : List Note) × AgreesWith h lane.old }
+    ensures { (h : List Note) → AgreesWith h lane.old → IfOk result (λ text. (qs : List Place)
+        × SameCounts (expired_after moment age h) qs
+        × TurnsLane (expire_on at qs h) lane.old lane.new text.items) }
+{
+    if !lane.is_up() {
+        return kept_line(alloc, at);
+    }
+    let mut text = Vec::new(alloc);
+    while let Ok(failed) = lane.fail_expired(CALLER, moment, age) {
+        text.extend_from_slice(&failed_line(alloc, failed)?)?;
+    }
+    if text.is_empty() {
+        return kept_line(alloc, at);
+    }
+    Ok(text)
 }
 
 ghost use Rattle.smx_relay.specs.Relay.{collect_text, collected};

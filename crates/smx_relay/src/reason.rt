@@ -2,7 +2,7 @@
 
 use crate::clients::last_of;
 use crate::state::State;
-use smx_script::{Reason, Subject, Wrong, subject_of};
+use smx_script::{Action, Command, Reason, Subject, Wrong, read_command, subject_of};
 use std::alloc::Global;
 
 // Why a prefix isn't added for a client.
@@ -21,6 +21,16 @@ fn prefix_reason(state: &State, client: u64) -> Reason {
     }
 }
 
+// Why a moment isn't set: it lies before that of the state.
+fn moment_reason(alloc: Global, state: &State, line: &[u8]) -> Reason {
+    match read_command(alloc, line) {
+        Ok(Some(Command::Run(Action::Moment { moment }))) => {
+            Reason::Low("moment", moment, state.moment)
+        }
+        _ => Reason::Plain(Wrong::Unsaid),
+    }
+}
+
 /// Why a line is bad that gave no text in this state. Of the reason no clause says anything.
 pub(crate) fn reason(alloc: Global, state: &State, line: &[u8]) -> Reason {
     match subject_of(alloc, line) {
@@ -30,6 +40,6 @@ pub(crate) fn reason(alloc: Global, state: &State, line: &[u8]) -> Reason {
         Ok(Subject::Client(client)) => Reason::Client(client),
         Ok(Subject::Receiver(client)) => prefix_reason(state, client),
         Ok(Subject::Lane(lane)) => Reason::Lane(lane, state.lanes.len()),
-        Ok(Subject::Nothing) => Reason::Plain(Wrong::Unsaid),
+        Ok(Subject::Nothing) => moment_reason(alloc, state, line),
     }
 }

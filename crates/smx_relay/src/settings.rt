@@ -33,6 +33,7 @@ pub fn new_state(alloc: Global) -> Result<State, AllocError>
         places: PLACES,
         accounts: Vec::new(alloc),
         started: false,
+        moment: 0,
         lanes: Vec::new(alloc),
         centres: Vec::new(alloc),
         clients,

@@ -19,6 +19,8 @@ pub struct State {
     pub accounts: Vec<Account>,
     /// A line other than a setting was run, so the lanes are made.
     pub started: bool,
+    /// The moment, in milliseconds. It never falls.
+    pub moment: u64,
     pub lanes: Vec<Lane>,
     /// The link of each lane.
     pub centres: Vec<CentreLink>,

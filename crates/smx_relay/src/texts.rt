@@ -1,10 +1,10 @@
 //! The lines that a run prints.
 ghost use Rattle.std.specs.Prelude.{◌≡◌, ◌++◌, IfOk, OnOk, string_bytes, codes};
-ghost use Rattle.smx_relay.specs.Texts.{bad_line, bound_line, closed_line, down_line, entry_line, kind_name, pdu_line, text_line, to_client, turned_line, unbound_line, up_lane};
+ghost use Rattle.smx_relay.specs.Texts.{bad_line, bound_line, closed_line, down_line, entry_line, failed_line, kept_line, kind_name, pdu_line, text_line, to_client, turned_line, unbound_line, up_lane};
 ghost use Rattle.std.specs.Fmt.{decimal};
 ghost use Rattle.std.specs.List.{flat_map};
 
-use smx_history::{Entry, Kind};
+use smx_history::{Entry, Failed, Kind};
 use smx_pdu::{Pdu, encode};
 use std::alloc::{AllocError, Global};
 
@@ -143,6 +143,23 @@ pub fn unbound_line(alloc: Global, lane: u64) -> Result<Vec<u8>, AllocError>
     ensures { IfOk result (λ line. line.items ≡ unbound_line lane) }
 {
     Ok(format!(in alloc; "full {lane}\n")?.into_bytes())
+}
+
+/// What is printed of a request that fails on a lane that is up.
+pub fn failed_line(alloc: Global, failed: Failed) -> Result<Vec<u8>, AllocError>
+    ensures { IfOk result (λ line. line.items ≡ failed_line failed) }
+{
+    match failed {
+        Failed::Queued { client } => Ok(format!(in alloc; "failed {client}\n")?.into_bytes()),
+        Failed::Late => Vec::from_slice(alloc, b"late\n"),
+    }
+}
+
+/// What is printed of a lane on which nothing fails.
+pub fn kept_line(alloc: Global, lane: u64) -> Result<Vec<u8>, AllocError>
+    ensures { IfOk result (λ line. line.items ≡ kept_line lane) }
+{
+    Ok(format!(in alloc; "kept {lane}\n")?.into_bytes())
 }
 
 /// What a client gets last, and that it is hung up.

@@ -6,6 +6,8 @@
 #[cfg(test)]
 mod config_tests;
 #[cfg(test)]
+mod expiry_tests;
+#[cfg(test)]
 mod fakes;
 #[cfg(test)]
 mod link_tests;

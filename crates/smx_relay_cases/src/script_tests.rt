@@ -5,7 +5,7 @@ use std::process::Abort;
 use std::test::*;
 
 // Lines that say something to a run, whether or not there is such a client or lane.
-const GOOD: [&str; 18] = [
+const GOOD: [&str; 20] = [
     "",
     "# \r\0",
     "limits 65535 1024 256 1000000",
@@ -24,10 +24,12 @@ const GOOD: [&str; 18] = [
     "turn 16",
     "lose 0",
     "bind 16",
+    "moment 18446744073709551615",
+    "expire 16 0",
 ];
 
 // Lines that say nothing to any run.
-const BAD: [&str; 20] = [
+const BAD: [&str; 23] = [
     "account a",
     "account aaaaaaaaaaaaaaaa p",
     "account a ppppppppp",
@@ -48,6 +50,9 @@ const BAD: [&str; 20] = [
     "turns 1",
     "lose",
     "bind 0 1",
+    "moment",
+    "moment 18446744073709551616",
+    "expire 0",
 ];
 
 // What the line says.

@@ -100,7 +100,7 @@ const ROWS: [(&str, &str, &str); 13] = [
 ];
 
 // Lines that are bad after one client entered, and why.
-const BAD_LINES: [(&str, &str); 28] = [
+const BAD_LINES: [(&str, &str); 32] = [
     ("take 1", "lane 1 is unknown; lanes 1, from 0"),
     (
         "take 00",
@@ -155,6 +155,16 @@ const BAD_LINES: [(&str, &str); 28] = [
     ("lose 1", "lane 1 is unknown; lanes 1, from 0"),
     ("bind 1", "lane 1 is unknown; lanes 1, from 0"),
     ("bind", "its form is bind LANE"),
+    ("expire 1 0", "lane 1 is unknown; lanes 1, from 0"),
+    ("expire 0", "its form is expire LANE AGE"),
+    (
+        "expire 0 -1",
+        "age is no number below 2^64; digits alone, no leading zeros",
+    ),
+    (
+        "moment 01",
+        "moment is no number below 2^64; digits alone, no leading zeros",
+    ),
     (
         "limits 1 1 3 1000",
         "a setting; settings stand before the first other line",

@@ -1,17 +1,16 @@
 -- What the lines of a script say.
-use Rattle.std.specs.Prelude.{◌≡◌, ℕ, ◌==◌, ◌&&◌, ◌||◌, ◌+◌, ◌-◌, ◌*◌, ◌^◌, Bool, true, false, List, [], ◌∷◌, length, slice_index, codes, nat_lt, nat_le, Option, Some, None, Result, Ok, Err, if◌then◌else◌}
+use Rattle.std.specs.Prelude.{ℕ, ◌==◌, ◌&&◌, ◌||◌, ◌+◌, ◌-◌, ◌*◌, ◌^◌, Bool, List, [], ◌∷◌, length, slice_index, codes, nat_lt, nat_le, Option, Some, None, Result, Ok, Err, if◌then◌else◌}
 use Rattle.std.specs.Char.{is_ascii_digit}
 use Rattle.std.specs.List.{list_all, slice_split}
 use Rattle.std.specs.Str.{bytes_eq}
 use Rattle.hex.specs.Hex.{decode_of}
 use Rattle.hex.specs.declared.error.FromHexError.{FromHexError}
-use Rattle.smx_session.specs.Login.{Login}
 use Rattle.smx_session.specs.declared.kind.Kind.{Kind}
 use Rattle.smx_session.specs.declared.kind.Kind.TheVariants.{Tx, Rx, Trx}
 use Rattle.smx_script.specs.declared.command.Command.{Command}
 use Rattle.smx_script.specs.declared.command.Command.TheVariants.{Skip, Set, Run}
 use Rattle.smx_script.specs.declared.command.Setting.TheVariants.{Sizes, Lanes, Places, Account}
-use Rattle.smx_script.specs.declared.command.Action.TheVariants.{Client, Prefix, In, Take, Back, Collect, History, Turn, Lose, Bind}
+use Rattle.smx_script.specs.declared.command.Action.TheVariants.{Client, Prefix, In, Take, Back, Collect, History, Turn, Lose, Bind, Moment, Expire}
 
 -- lines end with a line feed, which the last may lack
 abbrev pub lines_of : List ℕ → List (List ℕ)
@@ -66,18 +65,25 @@ entry_of word =
     else if bytes_eq word (codes "trx") then Some (Some Trx)
     else None
 
+-- a command that names a lane alone
+unfoldable pub lane_command : List ℕ → Option ℕ → Option Command
+lane_command word None = None
+lane_command word (Some lane) =
+    if bytes_eq word (codes "take") then Some (Run (Take lane))
+    else if bytes_eq word (codes "history") then Some (Run (History lane))
+    else if bytes_eq word (codes "turn") then Some (Run (Turn lane))
+    else if bytes_eq word (codes "lose") then Some (Run (Lose lane))
+    else if bytes_eq word (codes "bind") then Some (Run (Bind lane))
+    else None
+
 unfoldable pub pair_command : List ℕ → List ℕ → Option Command
 pair_command word what =
     if bytes_eq word (codes "client") then client_command (entry_of what)
     else if bytes_eq word (codes "lanes") then lanes_command (number_within 1 16 what)
     else if bytes_eq word (codes "box") then places_command (number_within 1 256 what)
-    else if bytes_eq word (codes "take") then take_command (number_of what)
     else if bytes_eq word (codes "collect") then collect_command (number_of what)
-    else if bytes_eq word (codes "history") then history_command (number_of what)
-    else if bytes_eq word (codes "turn") then turn_command (number_of what)
-    else if bytes_eq word (codes "lose") then lose_command (number_of what)
-    else if bytes_eq word (codes "bind") then bind_command (number_of what)
-    else None
+    else if bytes_eq word (codes "moment") then moment_command (number_of what)
+    else lane_command word (number_of what)
   where
     client_command : Option (Option Kind) → Option Command
     client_command None = None
@@ -91,29 +97,13 @@ pair_command word what =
     places_command None = None
     places_command (Some n) = Some (Set (Places n))
 
-    take_command : Option ℕ → Option Command
-    take_command None = None
-    take_command (Some lane) = Some (Run (Take lane))
-
     collect_command : Option ℕ → Option Command
     collect_command None = None
     collect_command (Some client) = Some (Run (Collect client))
 
-    history_command : Option ℕ → Option Command
-    history_command None = None
-    history_command (Some lane) = Some (Run (History lane))
-
-    turn_command : Option ℕ → Option Command
-    turn_command None = None
-    turn_command (Some lane) = Some (Run (Turn lane))
-
-    lose_command : Option ℕ → Option Command
-    lose_command None = None
-    lose_command (Some lane) = Some (Run (Lose lane))
-
-    bind_command : Option ℕ → Option Command
-    bind_command None = None
-    bind_command (Some lane) = Some (Run (Bind lane))
+    moment_command : Option ℕ → Option Command
+    moment_command None = None
+    moment_command (Some moment) = Some (Run (Moment moment))
 
 abbrev pub in_command : Option ℕ → Option (List ℕ) → Option Command
 in_command (Some client) (Some octets) = Some (Run (In client octets))
@@ -134,12 +124,18 @@ abbrev pub route_command : Option ℕ → Option (List ℕ) → Option Command
 route_command (Some client) (Some prefix) = Some (Run (Prefix client prefix))
 route_command _ _ = None
 
+-- the age is in milliseconds
+abbrev pub expire_command : Option ℕ → Option ℕ → Option Command
+expire_command (Some lane) (Some age) = Some (Run (Expire lane age))
+expire_command _ _ = None
+
 unfoldable pub triple_command : List ℕ → List ℕ → List ℕ → Option Command
 triple_command word what other =
     if bytes_eq word (codes "account") then account_command what other
     else if bytes_eq word (codes "route") then route_command (number_of what) (prefix_of other)
     else if bytes_eq word (codes "in") then in_command (number_of what) (octets_in other)
     else if bytes_eq word (codes "back") then back_command (number_of what) (octets_in other)
+    else if bytes_eq word (codes "expire") then expire_command (number_of what) (number_of other)
     else None
 
 abbrev pub sizes : Option ℕ → Option ℕ → Option ℕ → Option ℕ → Option Command

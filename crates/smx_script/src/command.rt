@@ -40,6 +40,10 @@ pub enum Action {
     Lose { lane: u64 },
     /// A lane is bound to the centre again.
     Bind { lane: u64 },
+    /// The moment, in milliseconds, becomes this.
+    Moment { moment: u64 },
+    /// What was taken on a lane at least so many milliseconds ago, and not answered, fails.
+    Expire { lane: u64, age: u64 },
 }
 
 /// What a line asks for.

@@ -1,6 +1,6 @@
 //! The lines of a script, and the command of a line.
 ghost use Rattle.std.specs.Prelude.{◌≡◌, IfOk, map};
-ghost use Rattle.smx_script.specs.Script.{account_command, command_of, entry_of, limits_command, lines_of, number_of, pair_command, prefix_of, route_command, triple_command};
+ghost use Rattle.smx_script.specs.Script.{account_command, command_of, entry_of, expire_command, lane_command, limits_command, lines_of, number_of, pair_command, prefix_of, route_command, triple_command};
 
 use crate::command::{Action, Command, Setting};
 use crate::words::{is_text, number, number_within, octets_in, parts_of, prefix_of};
@@ -25,6 +25,28 @@ pub(crate) fn entry_of(word: &[u8]) -> Option<Option<Kind>>
     }
 }
 
+// A command that names a lane alone.
+#[tactic(auto, unfolding(crate::specs::Script::lane_command))]
+fn lane_command(word: &[u8], lane: &[u8]) -> Option<Command>
+    ensures { result ≡ lane_command word.now (number_of lane.now) }
+{
+    let lane = number(lane)?;
+    let action = if word == "take".as_bytes() {
+        Action::Take { lane }
+    } else if word == "history".as_bytes() {
+        Action::History { lane }
+    } else if word == "turn".as_bytes() {
+        Action::Turn { lane }
+    } else if word == "lose".as_bytes() {
+        Action::Lose { lane }
+    } else if word == "bind".as_bytes() {
+        Action::Bind { lane }
+    } else {
+        return None;
+    };
+    Some(Command::Run(action))
+}
+
 // A command of two words.
 #[tactic(auto, unfolding(crate::specs::Script::pair_command))]
 fn pair_command(word: &[u8], what: &[u8]) -> Option<Command>
@@ -42,31 +64,15 @@ fn pair_command(word: &[u8], what: &[u8]) -> Option<Command>
         let places = number_within(1, 256, what)?;
         return Some(Command::Set(Setting::Places(places)));
     }
-    if word == "take".as_bytes() {
-        let lane = number(what)?;
-        return Some(Command::Run(Action::Take { lane }));
-    }
     if word == "collect".as_bytes() {
         let client = number(what)?;
         return Some(Command::Run(Action::Collect { client }));
     }
-    if word == "history".as_bytes() {
-        let lane = number(what)?;
-        return Some(Command::Run(Action::History { lane }));
+    if word == "moment".as_bytes() {
+        let moment = number(what)?;
+        return Some(Command::Run(Action::Moment { moment }));
     }
-    if word == "turn".as_bytes() {
-        let lane = number(what)?;
-        return Some(Command::Run(Action::Turn { lane }));
-    }
-    if word == "lose".as_bytes() {
-        let lane = number(what)?;
-        return Some(Command::Run(Action::Lose { lane }));
-    }
-    if word == "bind".as_bytes() {
-        let lane = number(what)?;
-        return Some(Command::Run(Action::Bind { lane }));
-    }
-    None
+    lane_command(word, what)
 }
 
 // A client that may bind.
@@ -96,6 +102,15 @@ fn route_command(alloc: Global, client: &[u8], word: &[u8]) -> Result<Option<Com
     Ok(Some(Command::Run(Action::Prefix { client, prefix })))
 }
 
+// A lane, and an age in milliseconds.
+fn expire_command(lane: &[u8], age: &[u8]) -> Option<Command>
+    ensures { result ≡ expire_command (number_of lane.now) (number_of age.now) }
+{
+    let lane = number(lane)?;
+    let age = number(age)?;
+    Some(Command::Run(Action::Expire { lane, age }))
+}
+
 // A command of three words.
 #[tactic(auto, unfolding(crate::specs::Script::triple_command))]
 fn triple_command(
@@ -111,6 +126,9 @@ fn triple_command(
     }
     if word == "route".as_bytes() {
         return route_command(alloc, what, other);
+    }
+    if word == "expire".as_bytes() {
+        return Ok(expire_command(what, other));
     }
     let Some(place) = number(what) else {
         return Ok(None);

@@ -40,7 +40,7 @@ pub enum Reason {
     /// This field is no number.
     Number(&'static str),
     /// The number of this field is this, below the least that it may be.
-    Low(&'static str, u64, u32),
+    Low(&'static str, u64, u64),
     /// The number of this field is this, above the most that it may be.
     High(&'static str, u64, u32),
     /// This field is longer than so many octets.

@@ -20,7 +20,7 @@ pub enum Subject {
 }
 
 /// The commands as they are written.
-const FORMS: [&str; 14] = [
+const FORMS: [&str; 16] = [
     "limits Q W C H",
     "lanes L",
     "box N",
@@ -35,6 +35,8 @@ const FORMS: [&str; 14] = [
     "turn LANE",
     "lose LANE",
     "bind LANE",
+    "moment N",
+    "expire LANE AGE",
 ];
 
 // The form of the command with this name.
@@ -81,11 +83,21 @@ fn digits_wrong(digits: &[u8]) -> Option<Reason> {
     None
 }
 
+// What is wrong with a number that may be any.
+fn number_wrong(field: &'static str, word: &[u8]) -> Option<Reason> {
+    match number(word) {
+        None => Some(Reason::Number(field)),
+        Some(_) => None,
+    }
+}
+
 // What is wrong with a number that has to be in a range.
 fn range_wrong(field: &'static str, least: u32, most: u32, word: &[u8]) -> Option<Reason> {
     match number(word) {
         None => Some(Reason::Number(field)),
-        Some(found) if found < u64::from(least) => Some(Reason::Low(field, found, least)),
+        Some(found) if found < u64::from(least) => {
+            Some(Reason::Low(field, found, u64::from(least)))
+        }
         Some(found) if found > u64::from(most) => Some(Reason::High(field, found, most)),
         Some(_) => None,
     }
@@ -124,6 +136,9 @@ fn pair_subject(word: &[u8], what: &[u8]) -> Result<Subject, Reason> {
     if word == "box".as_bytes() {
         return unless(range_wrong("box", 1, 256, what), Subject::Setting);
     }
+    if word == "moment".as_bytes() {
+        return unless(number_wrong("moment", what), Subject::Nothing);
+    }
     let client = word == "collect".as_bytes();
     match number(what) {
         Some(client_number) if client => Ok(Subject::Client(client_number)),
@@ -141,6 +156,12 @@ fn triple_subject(word: &[u8], what: &[u8], other: &[u8]) -> Result<Subject, Rea
     if word == "back".as_bytes() {
         return match number(what) {
             Some(lane) => unless(digits_wrong(other), Subject::Lane(lane)),
+            None => Err(Reason::Number("lane")),
+        };
+    }
+    if word == "expire".as_bytes() {
+        return match number(what) {
+            Some(lane) => unless(number_wrong("age", other), Subject::Lane(lane)),
             None => Err(Reason::Number("lane")),
         };
     }

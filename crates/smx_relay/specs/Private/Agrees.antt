@@ -27,6 +27,7 @@ pub record Agrees (state : State) (s : Relay) : Type 0 where
   pub limits : state.limits ≡ s.limits
   pub count : state.count ≡ s.count
   pub started : state.started ≡ s.started
+  pub moment : state.moment ≡ s.moment
   pub clients : state.clients.items ≡ s.clients
   pub lanes : AllZip (OnLane s.limits s.clients) s.histories state.lanes.items
   pub none_yet : s.started ≡ false → s.histories ≡ []

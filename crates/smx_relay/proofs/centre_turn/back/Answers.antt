@@ -10,4 +10,4 @@ returns-then-at-len c = λ s a. none_printed (on_lane s c.args.lane (back_on c.a
 
 pub returns : goal.returns
 returns c = λ s a. backs_one c.args.state.now _ s c.args.lane c.args.response c.index_mut.result.now c.back_on.new.lane c.back_on.result a
-    (record { within = omega arith; here = c.index_mut.ensures.value; lanes = refl; clients = refl; links = refl; keeps = record { limits = refl; count = refl; started = refl; accounts = refl; centres = refl; places = refl; routes = refl } }) c.back_on.ensures
+    (record { within = omega arith; here = c.index_mut.ensures.value; lanes = refl; clients = refl; links = refl; keeps = record { limits = refl; count = refl; started = refl; accounts = refl; centres = refl; places = refl; routes = refl; moment = refl } }) c.back_on.ensures

@@ -28,7 +28,7 @@ give_up-requires c =
     let k = c.index_mut-link.result.now in
     let after = c.receive.new.self in
     let mid = record old { centres = with_item old.centres c.args.lane after } in
-    let here = streamed_up old mid s c.args.lane k after a (record { centres = refl; lanes = refl; clients = refl; links = refl; limits = refl; count = refl; started = refl; accounts = refl; places = refl; routes = refl }) c.receive.ensures.session in
+    let here = streamed_up old mid s c.args.lane k after a (record { centres = refl; lanes = refl; clients = refl; links = refl; limits = refl; count = refl; started = refl; accounts = refl; places = refl; routes = refl; moment = refl }) c.receive.ensures.session in
     let turns = back_turns (with_centre s c.args.lane (record k { stream = after.stream })) c.args.lane c.in_ok-pdus.pdus.items c.has_failed-has_failed.result _ mid c.each_centre_pdu.new.state c.centre_end.new.state
     c.in_ok-text.text.items c.in_ok-centre_end.field-0.items c.extend_from_slice.new.self.items here c.in_ok-text.ensures c.in_ok-centre_end.ensures c.has_failed-has_failed.ensures (search rules) in
     (_, turns.left)
@@ -40,7 +40,7 @@ returns c = λ s a.
     let k = c.index_mut-link.result.now in
     let after = c.receive.new.self in
     let mid = record old { centres = with_item old.centres c.args.lane after } in
-    let here = streamed_up old mid s c.args.lane k after a (record { centres = refl; lanes = refl; clients = refl; links = refl; limits = refl; count = refl; started = refl; accounts = refl; places = refl; routes = refl }) c.receive.ensures.session in
+    let here = streamed_up old mid s c.args.lane k after a (record { centres = refl; lanes = refl; clients = refl; links = refl; limits = refl; count = refl; started = refl; accounts = refl; places = refl; routes = refl; moment = refl }) c.receive.ensures.session in
     let turns = back_turns (with_centre s c.args.lane (record k { stream = after.stream })) c.args.lane c.in_ok-pdus.pdus.items c.has_failed-has_failed.result _ mid c.each_centre_pdu.new.state c.centre_end.new.state
     c.in_ok-text.text.items c.in_ok-centre_end.field-0.items c.extend_from_slice.new.self.items here c.in_ok-text.ensures c.in_ok-centre_end.ensures c.has_failed-has_failed.ensures (search rules) in
     let at = centre_at old s c.args.lane k a (omega arith) c.index_mut-link.ensures.value in

@@ -10,5 +10,5 @@ returns-then-at-len c = λ s a. nowhere c.args.state.now s c.args.lane lowered a
 pub returns : goal.returns
 returns c = λ s a.
     lowered_at c.args.state.now _ s c.args.lane c.index_mut.result.now c.down-was_down.new.self a
-    (record { within = omega arith; here = c.index_mut.ensures.value; lanes = refl; clients = refl; links = refl; keeps = record { limits = refl; count = refl; started = refl; accounts = refl; centres = refl; places = refl; routes = refl } })
+    (record { within = omega arith; here = c.index_mut.ensures.value; lanes = refl; clients = refl; links = refl; keeps = record { limits = refl; count = refl; started = refl; accounts = refl; centres = refl; places = refl; routes = refl; moment = refl } })
     (lowers c.index_mut.result.now c.down-was_down.new.self c.down-was_down.result c.down-was_down.ensures.reply c.down-was_down.ensures.agrees c.down-was_down.ensures.err) c.down-was_down.ensures.limits

@@ -19,7 +19,7 @@ returns-in-Ok c = λ s a.
     let new = record old { links = with_item old.links c.args.client after } in
     let at = link_at old s c.args.client k a (omega arith) c.index_mut.ensures.value in
     let room = rw c.in-Ok.is at c.in_ok-put.ensures.ok in
-    IfOk-weaker c.message_line.result _ _ (λ text e. put_there old new s c.args.lane c.args.pdu c.args.client k after text.items a at room.0 (record { links = refl; lanes = refl; clients = refl; keeps = record { limits = refl; count = refl; started = refl; accounts = refl; centres = refl; places = refl; routes = refl } }) room.1 e) c.message_line.ensures
+    IfOk-weaker c.message_line.result _ _ (λ text e. put_there old new s c.args.lane c.args.pdu c.args.client k after text.items a at room.0 (record { links = refl; lanes = refl; clients = refl; keeps = record { limits = refl; count = refl; started = refl; accounts = refl; centres = refl; places = refl; routes = refl; moment = refl } }) room.1 e) c.message_line.ensures
 
 pub returns-in-Err : goal.returns-in-Err
 returns-in-Err c = λ s a.
@@ -29,6 +29,6 @@ returns-in-Err c = λ s a.
     let new = record old { links = with_item old.links c.args.client after } in
     let at = link_at old s c.args.client k a (omega arith) c.index_mut.ensures.value in
     let back = rw c.in-Err.is at c.in_ok-put.ensures.full in
-    let here = link_same old new s c.args.client k after a c.index_mut.ensures.value (record { links = refl; lanes = refl; clients = refl; keeps = record { limits = refl; count = refl; started = refl; accounts = refl; centres = refl; places = refl; routes = refl } }) back.2 in
+    let here = link_same old new s c.args.client k after a c.index_mut.ensures.value (record { links = refl; lanes = refl; clients = refl; keeps = record { limits = refl; count = refl; started = refl; accounts = refl; centres = refl; places = refl; routes = refl; moment = refl } }) back.2 in
     IfOk-weaker c.refuse-in-Err.result _ _ (λ text e. put_full s c.args.lane c.args.pdu c.args.client k new text.items at back.0 here
     (subst (λ (m : Message). text.items ≡ pdu_line (up_lane c.args.lane) (refusal m.pdu.command m.pdu.number ESME_RMSGQFUL)) back.1 e)) c.refuse-in-Err.ensures
