@@ -112,7 +112,7 @@ fn take_one(alloc: Global, lane: &mut Lane, ordinal: u64) -> Result<(), Refused>
     if !lane.is_next(0, client, ordinal) {
         return Err(Refused);
     }
-    if lane.accept(0, submit(alloc, client, ordinal)).is_err() || lane.take(0).is_err() {
+    if lane.accept(0, submit(alloc, client, ordinal)).is_err() || lane.take(0, 0).is_err() {
         return Err(Refused);
     }
     Ok(())
@@ -201,7 +201,7 @@ fn round(alloc: Global, lane: &mut Lane, client: u64, ordinal: u64) -> Result<()
     }
     let request = submit(alloc, client, ordinal);
     lane.accept(0, request).map_err(|_| Refused)?;
-    let sent = lane.take(0).map_err(|_| Refused)?;
+    let sent = lane.take(0, 0).map_err(|_| Refused)?;
     let response = Pdu {
         command: 0x8000_0004,
         status: 0,

@@ -223,7 +223,7 @@ fn upstreams_of<'a>(
 impl Upstream<'_> {
     // Takes a request and answers it, and tells whether the response was queued.
     fn serve<R: Wait>(&mut self, rt: &R) -> Result<bool, TakeFault> {
-        let sent = self.tap.take(&self.at, rt)?;
+        let sent = self.tap.take(&self.at, rt, 0)?;
         let response = Pdu {
             command: RESPONSE | SUBMIT_SM,
             status: 0,

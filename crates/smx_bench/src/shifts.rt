@@ -164,7 +164,7 @@ impl Pair<'_> {
 
     // Takes a request and answers it.
     fn bring<R: Wait>(&mut self, rt: &R) -> Result<(), Stopped> {
-        let sent = match self.tap.take(self.at, rt) {
+        let sent = match self.tap.take(self.at, rt, 0) {
             Ok(sent) => sent,
             Err(_) => return Err(Stopped::Refused),
         };

@@ -16,6 +16,9 @@ use smx_upstream::{Closed as Ended, Parts, UpstreamWorker, run_upstream};
 use std::alloc::Global;
 use std::sync::{Arc, Wait};
 
+// A request that the centre has not answered after so many milliseconds is given up (SMPP 3.4, section 7.2).
+const RESPONSE_TIMER: u64 = 60_000;
+
 /// A lane's tap.
 #[derive(Drop)]
 pub(crate) struct Drawer {
@@ -185,7 +188,7 @@ impl Carrier {
             answers,
             senders,
         };
-        match UpstreamWorker::new(alloc, parts, history) {
+        match UpstreamWorker::new(alloc, parts, history, RESPONSE_TIMER) {
             Ok(worker) => Ok(Carrier {
                 at,
                 worker,

@@ -71,7 +71,7 @@ impl<'a> Carrier<'a> {
             answers,
             senders,
         };
-        match UpstreamWorker::new(alloc, parts, history) {
+        match UpstreamWorker::new(alloc, parts, history, 60_000) {
             Ok(worker) => Some(Carrier {
                 at,
                 worker,
