@@ -30,14 +30,14 @@ pub enum FileFault {
 /// The text that a reader has.
 pub fn read_text<R: Read>(alloc: Global, reader: &mut R) -> Result<String, FileFault>
     ensures ok { IfOk result (λ text. IfSome (R.remaining reader.old) (λ file. string_bytes text ≡ file)) }
-    ensures short { IfOk result (λ text. length (string_bytes text) ≤ MAX_FILE) }
+    ensures short { IfOk result (λ text. length (string_bytes text) ≤ 1048576) }
     ensures too_long { IsErrOf result FileFault.TooLong
-        → IfSome (R.remaining reader.old) (λ file. MAX_FILE < length file) }
+        → IfSome (R.remaining reader.old) (λ file. 1048576 < length file) }
     ensures not_utf8 { IsErrOf result FileFault.NotUtf8
         → IfSome (R.remaining reader.old) (λ file. ¬ (IsUtf8 file)) }
 
     // Where reading failed, no more was read before than a file may have.
-    ensures failed { IsErrOf result FileFault.Failed → (front : List ℕ) × (length front ≤ MAX_FILE)
+    ensures failed { IsErrOf result FileFault.Failed → (front : List ℕ) × (length front ≤ 1048576)
         × Consumes (R.remaining reader.old) (R.remaining reader.new) front }
 {
     let octets = match read_octets(alloc, reader, MAX_FILE) {

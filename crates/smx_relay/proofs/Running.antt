@@ -60,8 +60,8 @@ so_far_front n s lines all written so_far =
     (others.0, others.1, so_far.goes_on others.0 others.1 others.2)
 
 -- so it is with a front of what the next line prints
-pub so_far_part : (front back text : List ℕ) (n : ℕ) (s : Relay) (lines all : List (List ℕ)) (written : List ℕ) → text ≡ front ++ back → SoFar n s lines all (written ++ text) → (more : List ℕ) × (stop : Option ℕ) × Runs 1 start all ((written ++ front) ++ more) stop
-so_far_part front back text n s lines all written e so_far =
+pub so_far_part : (front : List ℕ) (octet : ℕ) (back text : List ℕ) (n : ℕ) (s : Relay) (lines all : List (List ℕ)) (written : List ℕ) → text ≡ front ++ octet ∷ back → SoFar n s lines all (written ++ text) → (more : List ℕ) × (stop : Option ℕ) × Runs 1 start all ((written ++ front) ++ octet ∷ more) stop
+so_far_part front octet back text n s lines all written e so_far =
     let whole = so_far_front n s lines all (written ++ text) so_far in
     let P : List ℕ → Type 0 = λ w. Runs 1 start all w whole.1 in
     (back ++ whole.0, whole.1, subst P (ap (λ (t : List ℕ). (written ++ t) ++ whole.0) e ∙ simp append_assoc) whole.2)

@@ -14,7 +14,7 @@ use Rattle.smx_relay.specs.Relay.{Relay, start}
 use Rattle.smx_relay.specs.Turns.{Lines}
 use Rattle.smx_relay.specs.Runs.{Runs, Relays}
 use Rattle.smx_relay.specs.Private.Agrees.{Agrees, Turned, MayPrint}
-use Rattle.smx_relay.specs.Ends.{BeginsRelay}
+use Rattle.smx_relay.specs.Ends.{BeginsRelay, BreaksOff}
 use Rattle.smx_relay.proofs.Running.{SoFar, so_far_start, so_far_more, so_far_end, so_far_bad, so_far_front, so_far_part, runs_on}
 
 -- the state stands for some history, and what was written goes before what the lines from the i-th on print
@@ -56,14 +56,14 @@ stands_front a b state i lines script same stands =
 
 -- a part of what the line prints was written
 pub stands_part : (a b c : Option (List ℕ)) (old new : State) (i : ℕ) (lines : List (List ℕ)) (script line : List ℕ) (text : Vec ℕ) → lines ≡ lines_of script → drop i lines ≡ line ∷ drop (i + 1) lines → Stands a b old i lines → Turns old line new (Some text)
-    → (front : List ℕ) × (back : List ℕ) × (text.items ≡ front ++ back) × Appends b c front → (out : List ℕ) × Appends a c out × BeginsRelay script out
+    → (front : List ℕ) × (octet : ℕ) × (back : List ℕ) × (text.items ≡ front ++ octet ∷ back) × Appends b c front → (out : List ℕ) × Appends a c out × BreaksOff script out
 stands_part a b c old new i lines script line text same at stands turns wrote =
     let s = stands.0 in
     let found = prints_some (Lines s line) new text (turns s stands.1) in
     let here : SoFar (i + 1) s (line ∷ drop (i + 1) lines) lines stands.2 = subst (λ (ls : List (List ℕ)). SoFar (i + 1) s ls lines stands.2) at stands.4 in
     let next = so_far_more (i + 1) s line (drop (i + 1) lines) lines stands.2 found.0 here found.1 in
-    let whole = so_far_part wrote.0 wrote.1 found.0.0 (i + 1 + 1) found.0.1 (drop (i + 1) lines) lines stands.2 (sym found.2.text ∙ wrote.2) next in
-    (stands.2 ++ wrote.0, Appends-trans a b c stands.2 wrote.0 stands.3 wrote.3, (whole.0, whole.1, subst (λ (ls : List (List ℕ)). Runs 1 start ls ((stands.2 ++ wrote.0) ++ whole.0) whole.1) same whole.2))
+    let whole = so_far_part wrote.0 wrote.1 wrote.2 found.0.0 (i + 1 + 1) found.0.1 (drop (i + 1) lines) lines stands.2 (sym found.2.text ∙ wrote.3) next in
+    (stands.2 ++ wrote.0, Appends-trans a b c stands.2 wrote.0 stands.3 wrote.4, (wrote.1, whole.0, whole.1, subst (λ (ls : List (List ℕ)). Runs 1 start ls ((stands.2 ++ wrote.0) ++ wrote.1 ∷ whole.0) whole.1) same whole.2))
 
 pub stands_bad : (a b c : Option (List ℕ)) (old new : State) (i : ℕ) (lines : List (List ℕ)) (script line text : List ℕ) → lines ≡ lines_of script → drop i lines ≡ line ∷ drop (i + 1) lines → Stands a b old i lines → Turns old line new None → text ≡ bad_line (i + 1) → Appends b c text
     → (out : List ℕ) × Appends a c out × Relays script out (Some (i + 1))
@@ -74,13 +74,13 @@ stands_bad a b c old new i lines script line text same at stands turns e wrote =
     (stands.2 ++ text, Appends-trans a b c stands.2 text stands.3 wrote, subst (λ (t : List ℕ). Relays script (stands.2 ++ t) (Some (i + 1))) (sym e) (subst (λ (ls : List (List ℕ)). Runs 1 start ls (stands.2 ++ bad_line (i + 1)) (Some (i + 1))) same whole))
 
 pub stands_bad_part : (a b c : Option (List ℕ)) (old new : State) (i : ℕ) (lines : List (List ℕ)) (script line text : List ℕ) → lines ≡ lines_of script → drop i lines ≡ line ∷ drop (i + 1) lines → Stands a b old i lines → Turns old line new None → text ≡ bad_line (i + 1)
-    → (front : List ℕ) × (back : List ℕ) × (text ≡ front ++ back) × Appends b c front → (out : List ℕ) × Appends a c out × BeginsRelay script out
+    → (front : List ℕ) × (octet : ℕ) × (back : List ℕ) × (text ≡ front ++ octet ∷ back) × Appends b c front → (out : List ℕ) × Appends a c out × BreaksOff script out
 stands_bad_part a b c old new i lines script line text same at stands turns e wrote =
     let s = stands.0 in
     let here : SoFar (i + 1) s (line ∷ drop (i + 1) lines) lines stands.2 = subst (λ (ls : List (List ℕ)). SoFar (i + 1) s ls lines stands.2) at stands.4 in
     let whole = so_far_bad (i + 1) s line (drop (i + 1) lines) lines stands.2 here (prints_none (Lines s line) new (turns s stands.1)) in
-    let parts : stands.2 ++ bad_line (i + 1) ≡ (stands.2 ++ wrote.0) ++ wrote.1 = ap (λ (t : List ℕ). stands.2 ++ t) (sym e ∙ wrote.2) ∙ sym (append_assoc stands.2 wrote.0 wrote.1) in
-    (stands.2 ++ wrote.0, Appends-trans a b c stands.2 wrote.0 stands.3 wrote.3, (wrote.1, Some (i + 1), subst (λ (ls : List (List ℕ)). Runs 1 start ls ((stands.2 ++ wrote.0) ++ wrote.1) (Some (i + 1))) same (subst (λ (t : List ℕ). Runs 1 start lines t (Some (i + 1))) parts whole)))
+    let parts : stands.2 ++ bad_line (i + 1) ≡ (stands.2 ++ wrote.0) ++ wrote.1 ∷ wrote.2 = ap (λ (t : List ℕ). stands.2 ++ t) (sym e ∙ wrote.3) ∙ sym (append_assoc stands.2 wrote.0 (wrote.1 ∷ wrote.2)) in
+    (stands.2 ++ wrote.0, Appends-trans a b c stands.2 wrote.0 stands.3 wrote.4, (wrote.1, wrote.2, Some (i + 1), subst (λ (ls : List (List ℕ)). Runs 1 start ls ((stands.2 ++ wrote.0) ++ wrote.1) (Some (i + 1))) same (subst (λ (t : List ℕ). Runs 1 start lines t (Some (i + 1))) parts whole)))
 
 -- nothing was written
 pub stands_nothing : (known : Option (List ℕ)) (script : List ℕ) → (out : List ℕ) × Appends known known out × BeginsRelay script out

@@ -38,7 +38,7 @@ returns-in-Err-write_text g c =
     let turns : Turns c.loop-i.state line c.run_line.new.state (Some c.in-Ok-Some.text) = subst (λ (t : Option (Vec ℕ)). Turns c.loop-i.state line c.run_line.new.state t) c.in-Ok-Some.field-0-is c.in-Ok-Some.ensures in
     let wrote = c.in-Err-write_text.ensures.err in
     stands_part _ _ (g.W.Write.contents c.write_text.new.writer) c.loop-i.state c.run_line.new.state c.loop-i.i _ c.args.script.now line c.in-Ok-Some.text (search rules) (line_at xs c.loop-i.i nowhere (omega arith)) c.loop-i.invariant turns
-    (wrote.0, wrote.1, sym c.deref.ensures.value ∙ wrote.2, wrote.3)
+    (wrote.0, wrote.1, wrote.2, sym c.deref.ensures.value ∙ wrote.3, wrote.4)
 
 pub returns-in_default-bad_line : goal.returns-in_default-bad_line
 returns-in_default-bad_line g c = stands_front _ _ c.loop-i.state c.loop-i.i _ c.args.script.now (search rules) c.loop-i.invariant
