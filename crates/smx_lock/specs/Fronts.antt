@@ -134,6 +134,15 @@ module _ {S N F : Type 0} where
     pub agrees : suits h.value (h.found ++ new)
     pub fixed : fixed_of h.value ≡ h.lock.fixed
 
+  module _ {A : Type 0} where
+    -- whatever a hold finds, what is done in it leaves a value that may be put back with these notes
+    abbrev pub Leaves : (N → ℕ) → (S → F) → (S → List N → Type 0) → Front N F → (ℕ → S → A → S → Type 0) → (ℕ → S → A → List N) → Type 0
+    Leaves writer fixed_of suits f does notes = (h : Hold S N F) (answer : A) (w : S) → Finds writer fixed_of suits f h → does h.number h.value answer w → MayLeave writer fixed_of suits (holding h w) (notes h.number h.value answer)
+
+    -- it was done in one hold, whatever that found, and gave this answer
+    abbrev pub Runs : (N → ℕ) → (S → F) → (S → List N → Type 0) → Front N F → Front N F → (ℕ → S → A → S → Type 0) → (ℕ → S → A → List N) → A → Type 0
+    Runs writer fixed_of suits f g does notes answer = (h : Hold S N F) × (w : S) × Finds writer fixed_of suits f h × does h.number h.value answer w × (g ≡ after_hold (holding h w) (notes h.number h.value answer))
+
 -- a try that failed: every ticket was drawn, or another caller was there and nothing changed; a seat that was spent before is spent
 abbrev pub Refused : {N F : Type 0} → Front N F → Front N F → TryFault → Type 0
 Refused f g Spent = IsSpent f g

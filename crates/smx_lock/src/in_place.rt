@@ -2,14 +2,15 @@
 ghost use Rattle.std.specs.Prelude.{◌≡◌, ◌⊎◌, IsSome, IfOk, IfErr};
 ghost use mathlib.Core.List.{IsPrefix};
 ghost use Rattle.smx_ticket_core.specs.declared.callers.Caller.TheVariants.{Idle};
-ghost use Rattle.smx_lock.specs.Fronts.{IsSpent, Refused, MakesSeat, MakesNoSeat, front_in};
+ghost use Rattle.smx_lock.specs.Fronts.{Hold, Finds, MayLeave, Leaves, Runs, IsSpent, Refused, MakesSeat, MakesNoSeat, after_hold, front_in, holding};
 
 use crate::faults::{Spent, TryFault};
 use crate::lock::TicketLock;
-use crate::section::CriticalSection;
-use crate::tokens::LockSeat;
+use crate::section::{CriticalSection, Done};
+use crate::tokens::{Held, LockSeat};
 use smx_kept::Kept;
 use std::marker::Model;
+use std::snapshot::Snapshot;
 use std::sync::Wait;
 
 /// A seat for a caller that keeps it: each call takes it out for one hold and puts it back.
@@ -45,25 +46,26 @@ impl<S: Kept> SeatInPlace<S> {
         standing(seat)
     }
 
-    /// Does the section in one hold, for which it may wait. At a refusal the section comes back.
-    pub fn hold<R: Wait, C: CriticalSection<S>>(
+    /// Runs the section in one hold, for which it may wait. At a refusal the section comes back.
+    pub fn hold<R: Wait, C: CriticalSection<S, S::Note>>(
         &mut self,
         rt: &R,
         lock: &TicketLock<S>,
         section: C,
     ) -> Result<C::Answer, (C, Spent)>
         requires lock { self.old.lock ≡ lock.now }
-        requires may { C.may section self.old }
+        requires may { (h : Hold S S.Note S.Fixed) → Finds S.writer S.fixed S.agrees self.old h → C.may section h.number h.value }
+        requires leaves { Leaves S.writer S.fixed S.agrees self.old (C.does section) (C.notes section) }
         ensures lock { self.new.lock ≡ self.old.lock }
         ensures idle { IfOk result (λ _. self.old.caller ≡ Idle) }
-        ensures done { IfOk result (λ answer. C.does section self.old answer self.new) }
+        ensures done { IfOk result (λ answer. Runs S.writer S.fixed S.agrees self.old self.new (C.does section) (C.notes section) answer) }
         ensures back { IfErr result (λ e. e.0 ≡ section) }
         ensures spent { IfErr result (λ _. IsSpent self.old self.new) }
         ensures stays { IfErr result (λ _. (self.old.caller ≡ Idle) ⊎ (self.new ≡ self.old)) }
     {
         match lock.acquire(rt, standing(self.seat.take())) {
             Ok(held) => {
-                let (seat, answer) = section.run(lock, held);
+                let (seat, answer) = run(lock, held, section);
                 self.seat = Some(seat);
                 Ok(answer)
             }
@@ -75,23 +77,24 @@ impl<S: Kept> SeatInPlace<S> {
     }
 
     /// The same without waiting: `Busy` where another caller has the lock.
-    pub fn try_hold<C: CriticalSection<S>>(
+    pub fn try_hold<C: CriticalSection<S, S::Note>>(
         &mut self,
         lock: &TicketLock<S>,
         section: C,
     ) -> Result<C::Answer, (C, TryFault)>
         requires lock { self.old.lock ≡ lock.now }
-        requires may { C.may section self.old }
+        requires may { (h : Hold S S.Note S.Fixed) → Finds S.writer S.fixed S.agrees self.old h → C.may section h.number h.value }
+        requires leaves { Leaves S.writer S.fixed S.agrees self.old (C.does section) (C.notes section) }
         ensures lock { self.new.lock ≡ self.old.lock }
         ensures idle { IfOk result (λ _. self.old.caller ≡ Idle) }
-        ensures done { IfOk result (λ answer. C.does section self.old answer self.new) }
+        ensures done { IfOk result (λ answer. Runs S.writer S.fixed S.agrees self.old self.new (C.does section) (C.notes section) answer) }
         ensures back { IfErr result (λ e. e.0 ≡ section) }
         ensures refused { IfErr result (λ e. Refused self.old self.new e.1) }
         ensures stays { IfErr result (λ _. (self.old.caller ≡ Idle) ⊎ (self.new ≡ self.old)) }
     {
         match lock.try_acquire(standing(self.seat.take())) {
             Ok(held) => {
-                let (seat, answer) = section.run(lock, held);
+                let (seat, answer) = run(lock, held, section);
                 self.seat = Some(seat);
                 Ok(answer)
             }
@@ -152,4 +155,30 @@ fn standing<S: Kept>(seat: Option<LockSeat<S>>) -> LockSeat<S>
         Some(seat) => seat,
         None => unreachable!(),
     }
+}
+
+// Runs the section in a hold, and ends it.
+fn run<S: Kept, C: CriticalSection<S, S::Note>>(
+    lock: &TicketLock<S>,
+    from: Held<S>,
+    section: C,
+) -> (LockSeat<S>, C::Answer)
+    requires lock { from.lock ≡ lock.now }
+    requires may { C.may section from.number from.value }
+    requires leaves { (answer : C.Answer) (w : S) → C.does section from.number from.value answer w
+        → MayLeave S.writer S.fixed S.agrees (holding from w) (C.notes section from.number from.value answer) }
+    ensures { (w : S) × C.does section from.number from.value result.1 w
+        × (result.0 ≡ after_hold (holding from w) (C.notes section from.number from.value result.1)) }
+{
+    let mut held = from;
+    let number = held.number();
+    let began = Snapshot::of(&section);
+    let found = Snapshot::of(held.value());
+    let answer = section.run(held.value_mut(), number);
+    let done = Done {
+        section: began,
+        found,
+        answer: Snapshot::of(&answer),
+    };
+    (lock.release_told(held, &done), answer)
 }

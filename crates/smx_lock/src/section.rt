@@ -1,23 +1,33 @@
 //! What is done in one hold.
-ghost use Rattle.std.specs.Prelude.{◌≡◌};
-ghost use Rattle.smx_lock.specs.Fronts.{Front, Finds};
+ghost use Rattle.std.specs.Prelude.{ℕ, List};
 
-use crate::lock::TicketLock;
-use crate::tokens::{Held, LockSeat};
-use smx_kept::Kept;
+use smx_kept::Told;
+use std::snapshot::Snapshot;
 
-/// What is done in one hold of a lock, from the moment when it has the value to its release.
-pub trait CriticalSection<S: Kept> {
+/// What is done with a value in one hold of its lock.
+pub trait CriticalSection<S, N> {
     type Answer;
 
-    // At which front of its seat it may begin.
-    ghost may: { Self → Front S.Note S.Fixed → Type 0 };
-    // What it answers, and the front that it leaves.
-    ghost does: { Self → Front S.Note S.Fixed → Self.Answer → Front S.Note S.Fixed → Type 0 };
+    // Of which values the seat with a number may do it.
+    ghost may: { Self → ℕ → S → Type 0 };
+    // What it answers of the value that it finds, and the value that it leaves.
+    ghost does: { Self → ℕ → S → Self.Answer → S → Type 0 };
+    // The notes that it leaves of the value that it finds, by its answer.
+    ghost notes: { Self → ℕ → S → Self.Answer → List N };
 
-    fn run(self, lock: &TicketLock<S>, held: Held<S>) -> (LockSeat<S>, Self::Answer)
-        requires lock { held.lock ≡ lock.now }
-        requires may { (f : Front S.Note S.Fixed) × Finds S.writer S.fixed S.agrees f held × may self f }
-        ensures lock { result.0.lock ≡ held.lock }
-        ensures does { (f : Front S.Note S.Fixed) → Finds S.writer S.fixed S.agrees f held → does self f result.1 result.0 };
+    fn run(self, value: &mut S, number: u64) -> Self::Answer
+        requires { may self number value.old }
+        ensures { does self number value.old result value.new };
+}
+
+// A section that was run, for the notes that it leaves.
+#[derive(Drop)]
+pub(crate) struct Done<S, C, A> {
+    pub(crate) section: Snapshot<C>,
+    pub(crate) found: Snapshot<S>,
+    pub(crate) answer: Snapshot<A>,
+}
+
+impl<S, N, C: CriticalSection<S, N>> Told<N> for Done<S, C, C::Answer> {
+    ghost notes = { λ d number. C.notes d.section.value number d.found.value d.answer.value };
 }
