@@ -1,5 +1,5 @@
 -- What clauses see of a lock, of a seat and of a hold.
-use Rattle.std.specs.Prelude.{◌≡◌, ℕ, ◌+◌, ◌<◌, ◌≤◌, ◌⊎◌, List, [], ◌++◌, All}
+use Rattle.std.specs.Prelude.{◌≡◌, ℕ, ◌+◌, ◌<◌, ◌≤◌, ◌⊎◌, List, [], ◌++◌, All, Option, Some, None}
 use mathlib.Core.List.{IsPrefix}
 use Rattle.atomic_table.specs.Seated.{TableId}
 use Rattle.smx_ticket_core.specs.declared.callers.Caller.{Caller}
@@ -44,9 +44,18 @@ module _ {N F : Type 0} where
   abbrev pub first_front : LockId F → Front N F
   first_front l = record { lock = l; caller = Idle; number = 0; seen = []; mine = []; last = 0; seats = 1 }
 
+  -- a front that is no seat's
+  abbrev nobody : F → Front N F
+  nobody fixed = first_front record { table = record { words = 0; slots = 0; views_name = 0; atom = 0; block = 0; offset = 0; slot_names = [] }; fixed = fixed }
+
   -- every ticket was drawn, and nothing else changed
   abbrev pub IsSpent : Front N F → Front N F → Type 0
   IsSpent f g = ((g ≡ record f { caller = Read most }) ⊎ (g ≡ record f { caller = Saw most }))
+
+  -- the front of a place that has a seat
+  abbrev pub front_in : F → Option (Front N F) → Front N F
+  front_in fixed (Some f) = f
+  front_in fixed None = nobody fixed
 
 -- One hold served a call: it found a history that begins with all that the seat had seen and has just the seat's own notes under its number, and it left these new notes
 pub record Serves {N F : Type 0} (writer : N → ℕ) (f g : Front N F) (found new : List N) : Type 0 where
@@ -99,6 +108,18 @@ module _ {S N F : Type 0} where
   abbrev pub guest_front : Hold S N F → Front N F
   guest_front h = record { lock = h.lock; caller = Idle; number = h.seats; seen = h.found; mine = []; last = 0; seats = h.seats + 1 }
 
+  -- one hold, whatever it found, made this seat and no note
+  abbrev pub MakesSeat : (N → ℕ) → (S → F) → (S → List N → Type 0) → Front N F → Front N F → Front N F → Type 0
+  MakesSeat writer fixed_of suits f g s = (h : Hold S N F) × Finds writer fixed_of suits f h × (h.seats < most) × (g ≡ after_hold (host_hold h) []) × (s ≡ guest_front h)
+
+  -- one hold found that 2^62 seats were made, and changed nothing
+  abbrev pub HasNoRoom : (N → ℕ) → (S → F) → (S → List N → Type 0) → Front N F → Front N F → Type 0
+  HasNoRoom writer fixed_of suits f g = (h : Hold S N F) × Finds writer fixed_of suits f h × (h.seats ≡ most) × (g ≡ after_hold h [])
+
+  -- no seat was made: every ticket was drawn, or there is no room for one
+  abbrev pub MakesNoSeat : (N → ℕ) → (S → F) → (S → List N → Type 0) → Front N F → Front N F → Type 0
+  MakesNoSeat writer fixed_of suits f g = IsSpent f g ⊎ HasNoRoom writer fixed_of suits f g
+
   -- a value that agrees with a history which begins with what the seat has seen and has just the seat's own notes under its number
   abbrev pub IsLast : (N → ℕ) → (S → F) → (S → List N → Type 0) → Front N F → S → Type 0
   IsLast writer fixed_of suits f x = ((h : List N) × IsPrefix f.seen h × (notes_of writer f.number h ≡ f.mine) × suits x h) × (fixed_of x ≡ f.lock.fixed)
@@ -112,6 +133,15 @@ module _ {S N F : Type 0} where
     pub own : All (λ n. writer n ≡ h.number) new
     pub agrees : suits h.value (h.found ++ new)
     pub fixed : fixed_of h.value ≡ h.lock.fixed
+
+  module _ {A : Type 0} where
+    -- whatever a hold finds, what is done in it leaves a value that may be put back with these notes
+    abbrev pub Leaves : (N → ℕ) → (S → F) → (S → List N → Type 0) → Front N F → (ℕ → S → A → S → Type 0) → (ℕ → S → A → List N) → Type 0
+    Leaves writer fixed_of suits f does notes = (h : Hold S N F) (answer : A) (w : S) → Finds writer fixed_of suits f h → does h.number h.value answer w → MayLeave writer fixed_of suits (holding h w) (notes h.number h.value answer)
+
+    -- it was done in one hold, whatever that found, and gave this answer
+    abbrev pub Runs : (N → ℕ) → (S → F) → (S → List N → Type 0) → Front N F → Front N F → (ℕ → S → A → S → Type 0) → (ℕ → S → A → List N) → A → Type 0
+    Runs writer fixed_of suits f g does notes answer = (h : Hold S N F) × (w : S) × Finds writer fixed_of suits f h × does h.number h.value answer w × (g ≡ after_hold (holding h w) (notes h.number h.value answer))
 
 -- a try that failed: every ticket was drawn, or another caller was there and nothing changed; a seat that was spent before is spent
 abbrev pub Refused : {N F : Type 0} → Front N F → Front N F → TryFault → Type 0

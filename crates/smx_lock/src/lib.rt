@@ -11,13 +11,17 @@
 #![tactic(auto)]
 
 mod faults;
+mod in_place;
 mod lock;
 mod noted;
 mod plays;
+mod section;
 mod tokens;
 mod views;
 
 pub use faults::{Spent, StateOut, TryFault};
+pub use in_place::SeatInPlace;
 pub use lock::TicketLock;
+pub use section::CriticalSection;
 pub use smx_kept::{Kept, Told};
 pub use tokens::{Held, LockSeat};

@@ -1,6 +1,5 @@
 -- What a counter's history says, and how one hold serves a call.
-use Rattle.std.specs.Prelude.{◌≡◌, ℕ, ◌+◌, ◌≤◌, ◌<◌, Bool, true, false, List, [], ◌∷◌, Option, Some, None}
-use Rattle.smx_ticket_core.specs.declared.callers.Caller.TheVariants.{Idle}
+use Rattle.std.specs.Prelude.{◌≡◌, ℕ, ◌+◌, ◌≤◌, ◌<◌, Bool, MatchBool, true, false, List, [], ◌∷◌}
 use Rattle.smx_lock.specs.Fronts.{Front, Serves}
 use Rattle.smx_lock_counter.specs.declared.counter.Added.{Added}
 use Rattle.smx_lock_counter.specs.declared.counter.Counter.{Counter}
@@ -34,13 +33,9 @@ abbrev pub deed_of : Bool → ℕ → Deed
 deed_of true amount = Addition amount
 deed_of false amount = Nothing
 
--- the front of no seat; an adder never shows it between two calls
-abbrev pub blank : Front Added ℕ
-blank = record { lock = record { table = record { words = 0; slots = 0; views_name = 0; atom = 0; block = 0; offset = 0; slot_names = [] }; fixed = 0 }; caller = Idle; number = 0; seen = []; mine = []; last = 0; seats = 0 }
-
-abbrev pub front_in : Option (Front Added ℕ) → Front Added ℕ
-front_in (Some f) = f
-front_in None = blank
+-- what an addition makes of a counter: the sum, where that keeps the limit
+abbrev pub DidAdd : Counter → Counter → ℕ → Bool → Type 0
+DidAdd old new n done = (new.limit ≡ old.limit) × MatchBool done ((new.count ≡ old.count + n) × (old.count + n ≤ old.limit)) ((new.count ≡ old.count) × (old.limit < old.count + n))
 
 -- one hold served an addition: it was noted exactly where it kept the limit
 abbrev pub AddServes : Front Added ℕ → Front Added ℕ → ℕ → Bool → Type 0

@@ -1,46 +1,43 @@
 //! A caller with one seat.
 ghost use Rattle.std.specs.Prelude.{◌≡◌, IfOk, IfErr};
 ghost use Rattle.smx_lock.specs.Fronts.{IsSpent, IsLast};
-ghost use Rattle.smx_lock_counter.specs.Counting.{AddServes, ReadServes, by, deed_of, limit, agrees};
+ghost use Rattle.smx_lock_counter.specs.Counting.{AddServes, ReadServes, by, limit, agrees};
 
-use crate::{Counter, Deed};
-use smx_lock::{LockSeat, Spent, StateOut, TicketLock};
+use crate::{Added, Counter};
+use smx_lock::{CriticalSection, LockSeat, SeatInPlace, Spent, StateOut, TicketLock};
 use std::marker::Model;
 use std::sync::Wait;
 
 /// Contracts see an adder as its seat.
 #[derive(Drop)]
 pub struct Adder {
-    // In place between two calls.
-    seat: Option<LockSeat<Counter>>,
+    seat: SeatInPlace<Counter>,
 }
 
 impl Model for Adder {
-    ghost use Rattle.std.specs.Prelude.{IsSome, ℕ};
+    ghost use Rattle.std.specs.Prelude.{ℕ};
     ghost use Rattle.smx_lock.specs.Fronts.{Front};
     ghost use Rattle.smx_lock_counter.specs.declared.counter.Added.{Added};
-    ghost use Rattle.smx_lock_counter.specs.Counting.{front_in};
 
     ghost Value = { Front Added ℕ };
 
-    ghost view = { λ t. front_in t.seat };
-
-    ghost invariant = { λ t. IsSome t.seat };
+    ghost view = { λ t. t.seat };
 }
 
 impl Adder {
     pub fn new(seat: LockSeat<Counter>) -> Adder
         ensures { result ≡ seat }
     {
-        Adder { seat: Some(seat) }
+        Adder {
+            seat: SeatInPlace::new(seat),
+        }
     }
 
     pub fn into_seat(self) -> LockSeat<Counter>
         ensures { result ≡ self }
     {
         let Adder { seat } = self;
-        let Some(seat) = seat else { unreachable!() };
-        seat
+        seat.into_seat()
     }
 
     /// Adds under one hold, and answers whether the sum kept the counter's limit.
@@ -55,19 +52,9 @@ impl Adder {
         ensures served { IfOk result (AddServes self.old self.new amount) }
         ensures spent { IfErr result (λ _. IsSpent self.old self.new) }
     {
-        let Some(seat) = self.seat.take() else {
-            unreachable!()
-        };
-        match lock.acquire(rt, seat) {
-            Ok(mut held) => {
-                let done = held.value_mut().add(amount);
-                self.seat = Some(lock.release_told(held, &deed(done, amount)));
-                Ok(done)
-            }
-            Err((seat, spent)) => {
-                self.seat = Some(seat);
-                Err(spent)
-            }
+        match self.seat.hold(rt, lock, Adding { amount }) {
+            Ok(done) => Ok(done),
+            Err((_, spent)) => Err(spent),
         }
     }
 
@@ -78,19 +65,9 @@ impl Adder {
         ensures served { IfOk result (ReadServes self.old self.new) }
         ensures spent { IfErr result (λ _. IsSpent self.old self.new) }
     {
-        let Some(seat) = self.seat.take() else {
-            unreachable!()
-        };
-        match lock.acquire(rt, seat) {
-            Ok(held) => {
-                let count = held.value().count;
-                self.seat = Some(lock.release(held));
-                Ok(count)
-            }
-            Err((seat, spent)) => {
-                self.seat = Some(seat);
-                Err(spent)
-            }
+        match self.seat.hold(rt, lock, Reading) {
+            Ok(count) => Ok(count),
+            Err((_, spent)) => Err(spent),
         }
     }
 
@@ -105,12 +82,44 @@ impl Adder {
     }
 }
 
-fn deed(done: bool, amount: u64) -> Deed
-    ensures { result ≡ deed_of done amount }
-{
-    if done {
-        Deed::Addition(amount)
-    } else {
-        Deed::Nothing
+// Adds, and answers whether the sum kept the counter's limit.
+#[derive(Drop)]
+struct Adding {
+    amount: u64,
+}
+
+impl CriticalSection<Counter, Added> for Adding {
+    ghost use Rattle.smx_lock_counter.specs.Counting.{DidAdd, deed_of, notes_told};
+
+    type Answer = bool;
+
+    ghost may = { λ _ _ _. Unit {0} };
+
+    ghost does = { λ s _ old done new. DidAdd old new s.amount done };
+
+    ghost notes = { λ s number _ done. notes_told (deed_of done s.amount) number };
+
+    fn run(self, value: &mut Counter, _number: u64) -> bool {
+        value.add(self.amount)
+    }
+}
+
+// Reads the count.
+#[derive(Drop)]
+struct Reading;
+
+impl CriticalSection<Counter, Added> for Reading {
+    ghost use Rattle.std.specs.Prelude.{◌≡◌, []};
+
+    type Answer = u64;
+
+    ghost may = { λ _ _ _. Unit {0} };
+
+    ghost does = { λ _ _ old count new. (new ≡ old) × (count ≡ old.count) };
+
+    ghost notes = { λ _ _ _ _. [] };
+
+    fn run(self, value: &mut Counter, _number: u64) -> u64 {
+        value.count
     }
 }

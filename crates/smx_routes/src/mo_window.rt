@@ -4,6 +4,7 @@ ghost use Rattle.smx_pdu.specs.Command.{is_response_to};
 ghost use Rattle.smx_routes.specs.Window.{IsSize, IsWindowFault, greatest, waits, without, answered, AreApart, IsNext, IsFirst};
 
 use crate::fault::WindowFault;
+use smx_pdu::is_response_to;
 use std::alloc::{AllocError, Global};
 use std::marker::Model;
 
@@ -48,19 +49,12 @@ impl Model for MoWindow {
     ghost invariant = { HasPlaces };
 }
 
-// Whether a response's command is the request's with the top bit, or generic_nack.
-fn answers(request: u32, command: u32) -> bool
-    ensures { result ≡ is_response_to request command }
-{
-    (command >= 0x8000_0000 && command - 0x8000_0000 == request) || command == 0x8000_0000
-}
-
 // The message that a response with the number and the command answers.
 fn answered(waiting: &[Waiting], number: u32, command: u32) -> Option<Waiting>
     ensures { result ≡ answered number command waiting.now }
 {
     waiting.iter().copied().find(|message| message.given == number
-        && answers(message.command, command))
+        && is_response_to(message.command, command))
 }
 
 impl MoWindow {

@@ -1,7 +1,8 @@
 -- One hold serves a call.
-use Rattle.std.proofs.Common.{◌≡◌, ℕ, List, [], ◌++◌, sym, refl, ap, ◌∙◌, subst}
+use Rattle.std.proofs.Common.{◌≡◌, ℕ, ◌+◌, ◌<◌, List, [], ◌++◌, sym, refl, ap, ◌∙◌, subst, inl, inr, arith}
 use Rattle.std.proofs.lemmas.List.{append-nil}
-use Rattle.smx_lock.specs.Fronts.{Front, Hold, MayLeave, Finds, Serves, after_hold, host_hold, holding}
+use Rattle.smx_lock.specs.Fronts.{Front, Hold, MayLeave, Finds, Serves, Runs, MakesSeat, MakesNoSeat, after_hold, host_hold, holding}
+use Rattle.smx_lock.specs.Notes.{notes_of}
 use Rattle.smx_lock.proofs.Serving.{serves_hold, serves_split}
 use Rattle.smx_history.specs.declared.limits.Limits.{Limits}
 use Rattle.smx_history.specs.declared.note.Note.{Note}
@@ -12,7 +13,7 @@ use Rattle.smx_lane.specs.Kept.{writer, limits_of, suits}
 use Rattle.smx_lane.specs.declared.call.Call.{Call}
 use Rattle.smx_lane.specs.declared.call.Reply.{Reply}
 use Rattle.smx_lane.specs.Calls.{IsReply}
-use Rattle.smx_shared.specs.Serving.{OneHold, CallServes}
+use Rattle.smx_shared.specs.Serving.{OneHold, CallServes, SplitServes, SplitFails}
 use Rattle.smx_shared.specs.Steps.{IsMade, notes_for}
 
 one_hold : (f g : Front Note Limits) (h : Hold Content Note Limits) (w : Content) (new : List Note) → Finds writer limits_of suits f h
@@ -55,3 +56,40 @@ made_serves f g h w call r found m after =
       told = subst (λ k. IsReply h.value (call k) r own w) found.number m.told;
       left = subst (λ l. AgreesWith l w) (sym hold.serves.seen) agrees;
     }
+
+-- the same of a seat that ran the call
+pub ran_serves : (f g : Front Note Limits) (call : ℕ → Call) {A : Type 0} (reply : A → Reply) (a : A)
+    → Runs writer limits_of suits f g (λ by old a new. IsMade by old (call by) (reply a) new) (λ by old a. notes_for old (call by) (reply a)) a
+    → CallServes f g (call f.number) (reply a)
+ran_serves f g call reply a ran = made_serves f g ran.0 ran.1 call (reply a) ran.2 ran.3 ran.4
+
+-- one hold made a seat
+pub made_seat : (f g s : Front Note Limits) → MakesSeat writer limits_of suits f g s → SplitServes f g s
+made_seat f g s made =
+    let h = made.0 in
+    let found = made.1 in
+    let left = made.3 in
+    let guest = made.4 in
+    record {
+      found = h.found;
+      content = h.value;
+      hold = served_split f g h found left;
+      lock = ap (λ z. z.lock) guest ∙ found.lock;
+      caller = ap (λ z. z.caller) guest;
+      seen = ap (λ z. z.seen) guest;
+      mine = ap (λ z. z.mine) guest;
+      last = ap (λ z. z.last) guest;
+      number = ap (λ z. z.number + 1) guest ∙ sym (ap (λ z. z.seats) left);
+      seats = ap (λ z. z.seats) guest ∙ sym (ap (λ z. z.seats) left);
+      above = subst (λ k. f.number < k) (sym (ap (λ z. z.number) guest)) (subst (λ k. k < h.seats) found.number found.one_seat);
+      unused = ap (λ z. notes_of writer z.number h.found) guest ∙ found.no_others h.seats (omega arith);
+      second = λ alone. ap (λ z. z.seats) left ∙ ap (λ n. n + 1) (found.stays_alone alone);
+    }
+
+-- or none
+pub made_no_seat : (f g : Front Note Limits) → MakesNoSeat writer limits_of suits f g → SplitFails f g
+made_no_seat f g (inl spent) = inl spent
+made_no_seat f g (inr full) =
+    let h = full.0 in
+    let left : g ≡ after_hold (holding h h.value) [] = full.3 in
+    inr (h.found, h.value, served f g h h.value [] full.1 refl (subst (λ l. AgreesWith l h.value) (sym (append-nil h.found)) full.1.agrees) left, ap (λ z. z.seats) full.3 ∙ full.2)

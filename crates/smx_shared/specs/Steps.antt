@@ -26,7 +26,7 @@ use Rattle.smx_lane.specs.Kept.{writer, limits_of, suits}
 use Rattle.smx_shared.specs.declared.offer.Offer.{Offer}
 use Rattle.smx_shared.specs.declared.fault.SubmitFault.{SubmitFault}
 use Rattle.smx_shared.specs.declared.fault.SubmitFault.TheVariants as fault
-use Rattle.smx_shared.specs.Serving.{CallServes, AcceptServes}
+use Rattle.smx_shared.specs.Serving.{AcceptServes}
 use Rattle.smx_shared.specs.Ports.{IsMemberBy}
 use Rattle.smx_shared.specs.Submits.{OnLane, Passed}
 
@@ -72,10 +72,6 @@ pub record IsMade (by : ℕ) (old : Content) (call : Call) (reply : Reply) (new 
 -- whatever the seat finds in a hold, the call keeps to its condition there
 abbrev pub MayCall : Front Note Limits → (ℕ → Call) → Type 0
 MayCall f call = (h : Hold Content Note Limits) → Finds writer limits_of suits f h → Keeps h.value (call h.number)
-
--- whatever front the hold belongs to, the call was served
-abbrev pub IsServed : Hold Content Note Limits → Front Note Limits → (ℕ → Call) → Reply → Type 0
-IsServed h g call reply = (f : Front Note Limits) → Finds writer limits_of suits f h → CallServes f g (call f.number) reply
 
 -- a request without its client and its ordinal
 abbrev pub offer_of : Request → Offer

@@ -1,6 +1,5 @@
 -- What contracts see of a tap, a port, a door, and what a call noted.
-use Rattle.std.specs.Prelude.{ℕ, List, [], map, Option, Some, None}
-use Rattle.smx_ticket_core.specs.declared.callers.Caller.TheVariants.{Idle}
+use Rattle.std.specs.Prelude.{ℕ, List, map, Option}
 use Rattle.smx_lock.specs.Fronts.{LockId, Front}
 use Rattle.smx_history.specs.declared.limits.Limits.{Limits}
 use Rattle.smx_history.specs.declared.note.Note.{Note}
@@ -20,13 +19,6 @@ pub record PortView : Type 0 where
 
 abbrev pub locks_of : List (Front Note Limits) → List (LockId Limits)
 locks_of fs = map (λ f. f.lock) fs
-
-abbrev pub blank : Front Note Limits
-blank = record { lock = record { table = record { words = 0; slots = 0; views_name = 0; atom = 0; block = 0; offset = 0; slot_names = [] }; fixed = record { queue = 0; window = 0; client = 0; history = 0 } }; caller = Idle; number = 0; seen = []; mine = []; last = 0; seats = 0 }
-
-abbrev pub front_in : Option (Front Note Limits) → Front Note Limits
-front_in (Some f) = f
-front_in None = blank
 
 -- what is left of a client that is gone: its number, the fronts of its seats on the lanes that it entered, from the first lane on, and that on the lane that barred it
 pub record DepartedView : Type 0 where

@@ -150,7 +150,7 @@ fn finish_all(
         let Some(lock) = rest.next() else {
             unreachable!()
         };
-        match lock.finish(seat.into_seat()) {
+        match lock.finish(seat.seat.into_seat()) {
             Ok(lane) => lanes.push_reserved(lane),
             Err(_) => return Err((StateOut { lane: lanes.len() }, lanes)),
         }

@@ -1,8 +1,4 @@
 //! The calls of a lane, each a type of its own: what a hold of the lane's lock may do.
-ghost use Rattle.std.specs.Prelude.{◌≡◌};
-ghost use Rattle.smx_history.specs.Contents.{AgreesWith};
-ghost use Rattle.smx_lane.specs.Calls.{Keeps};
-ghost use Rattle.smx_shared.specs.Steps.{IsServed};
 ghost use Rattle.smx_lane.specs.declared.call.Call.TheVariants as call;
 ghost use Rattle.smx_lane.specs.declared.call.Reply.TheVariants as reply;
 
@@ -11,10 +7,9 @@ use smx_history::{
     TakeRefusal, UpRefusal,
 };
 use smx_lane::{AdmitFault, Lane, NotAdmitted, Sent};
-use smx_lock::{Held, LockSeat, TicketLock, Told};
+use smx_lock::CriticalSection;
 use smx_pdu::Pdu;
 use std::alloc::AllocError;
-use std::snapshot::Snapshot;
 
 // A call of a lane, made in one hold.
 pub(crate) trait LaneCall {
@@ -37,44 +32,28 @@ pub(crate) trait LaneCall {
         ensures { IsMade by lane.old (call self by) (reply result) lane.new };
 }
 
-// Makes the call in a hold, and ends it.
-pub(crate) fn serve<C: LaneCall>(
-    lock: &TicketLock<Lane>,
-    from: Held<Lane>,
-    made: C,
-) -> (LockSeat<Lane>, C::Answer)
-    requires lock { from.lock ≡ lock.now }
-    requires agrees { AgreesWith from.found from.value }
-    requires limits { from.value.limits ≡ from.lock.fixed }
-    requires keeps { Keeps from.value (C.call made from.number) }
-    ensures lock { result.0.lock ≡ from.lock }
-    ensures served { IsServed from result.0 (C.call made) (C.reply result.1) }
-{
-    let mut held = from;
-    let by = held.number();
-    let call = Snapshot::of(&made);
-    let old = Snapshot::of(held.value());
-    let answer = made.make(held.value_mut(), by);
-    let made = Made {
-        call,
-        old,
-        answer: Snapshot::of(&answer),
-    };
-    (lock.release_told(held, &made), answer)
-}
-
-// A call that was made, for the notes that it leaves.
+// A call that is made in one hold.
 #[derive(Drop)]
-struct Made<C: LaneCall> {
-    call: Snapshot<C>,
-    old: Snapshot<Lane>,
-    answer: Snapshot<C::Answer>,
+pub(crate) struct Calling<C: LaneCall> {
+    pub(crate) made: C,
 }
 
-impl<C: LaneCall> Told<Note> for Made<C> {
-    ghost use Rattle.smx_shared.specs.Steps.{notes_for};
+impl<C: LaneCall> CriticalSection<Lane, Note> for Calling<C> {
+    ghost use Rattle.smx_lane.specs.Calls.{Keeps};
+    ghost use Rattle.smx_shared.specs.Steps.{IsMade, notes_for};
 
-    ghost notes = { λ m by. notes_for m.old.value (C.call m.call.value by) (C.reply m.answer.value) };
+    type Answer = C::Answer;
+
+    ghost may = { λ s by lane. Keeps lane (C.call s.made by) };
+
+    ghost does = { λ s by old answer new. IsMade by old (C.call s.made by) (C.reply answer) new };
+
+    ghost notes = { λ s by old answer. notes_for old (C.call s.made by) (C.reply answer) };
+
+    fn run(self, value: &mut Lane, number: u64) -> C::Answer {
+        let Calling { made } = self;
+        made.make(value, number)
+    }
 }
 
 #[derive(Drop)]

@@ -11,7 +11,7 @@ use crate::lane_seat::LaneSeat;
 use crate::tap::Tap;
 use smx_history::Limits;
 use smx_lane::{Lane, LaneFault};
-use smx_lock::TicketLock;
+use smx_lock::{SeatInPlace, TicketLock};
 use std::alloc::Global;
 use std::sync::Wait;
 
@@ -29,7 +29,12 @@ fn make_lock(
 {
     let lane = Lane::new(alloc, limits)?;
     match TicketLock::new_at(alloc, lane, ticket) {
-        Ok((lock, seat)) => Ok((lock, LaneSeat::new(seat))),
+        Ok((lock, seat)) => Ok((
+            lock,
+            LaneSeat {
+                seat: SeatInPlace::new(seat),
+            },
+        )),
         Err(_) => Err(LaneFault::NoMemory),
     }
 }

@@ -42,7 +42,9 @@ impl HasSeat for Door {
     ghost front_on = { λ d. slice_get d.fronts };
 
     fn compare_seat(&mut self, at: &Exchange, lane: usize, seat: &mut LaneSeat) {
-        self.seats[lane].compare(&at.locks[lane], seat);
+        self.seats[lane]
+            .seat
+            .compare(&at.locks[lane], &mut seat.seat);
     }
 }
 
@@ -58,7 +60,9 @@ impl HasSeat for Port {
     ghost front_on = { λ p. slice_get p.fronts };
 
     fn compare_seat(&mut self, at: &Exchange, lane: usize, seat: &mut LaneSeat) {
-        self.seats[lane].compare(&at.locks[lane], seat);
+        self.seats[lane]
+            .seat
+            .compare(&at.locks[lane], &mut seat.seat);
     }
 }
 
@@ -74,7 +78,7 @@ impl HasSeat for Tap {
     ghost front_on = { λ t _. Some t.front };
 
     fn compare_seat(&mut self, at: &Exchange, lane: usize, seat: &mut LaneSeat) {
-        self.seat.compare(&at.locks[lane], seat);
+        self.seat.seat.compare(&at.locks[lane], &mut seat.seat);
     }
 }
 

@@ -29,7 +29,7 @@ loop-seat-preserved c =
     let next = c.in-Some.ensures.steps.0 in
     let lock : c.loop-seat.rest.rest.items ≡ c.in-Some-next.lock ∷ c.next-in-loop-seat.new.self.rest.items = c.in-Some-next.ensures.items in
     let pushed = c.push_reserved.ensures.items in
-    let last = subst (λ (f : Front Note Limits). IsLast writer limits_of suits f c.in-Ok.lane) c.into_seat.ensures c.in-Ok.ensures in
+    let last = subst (λ (f : Front Note Limits). IsLast writer limits_of suits f c.in-Ok.lane) (c.into_seat.ensures ∙ c.seat.view_is) c.in-Ok.ensures in
     let heads_here = heads c.in-Some.seat c.next.new.self.rest.items c.in-Some-next.lock c.next-in-loop-seat.new.self.rest.items (ap locks_of (sym next) ∙ c.loop-seat.invariant.locks ∙ lock) in
     record {
       done = subst (AllZip (IsLast writer limits_of suits) (c.loop-seat.yielded ++ c.in-Some.seat ∷ [])) (sym pushed)

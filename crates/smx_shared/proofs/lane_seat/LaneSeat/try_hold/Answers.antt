@@ -1,0 +1,6 @@
+use Rattle.smx_shared.proofs.Holding.{made_may}
+use Rattle.smx_shared.proofs.lane_seat.LaneSeat.try_hold.Goals as goal
+
+pub try_hold-requires-clause-leaves : goal.try_hold-requires-clause-leaves
+try_hold-requires-clause-leaves g c h answer w found did =
+    made_may h w (g.C.LaneCall.call c.args.made h.number) (g.C.LaneCall.reply answer) did found.fixed found.agrees
