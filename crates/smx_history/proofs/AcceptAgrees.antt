@@ -77,7 +77,7 @@ AgreesWith-accepted h v by r m a found ok above own =
     let push = entries_of-push h n e refl in
     record {
       legal = rw (marks_of-push h n e refl) (IsLegal-next v.limits (marks_of h) e a.legal (accept_fit v.limits es e a.legal.rules refl (may_accept h v by r m a found ok above own)) (omega (arith, owed-accepted es by r (takes-le-accepts es fifo), size_agrees h v a.after, ok.history)));
-      turns = rw (numbers_of-other h n e refl refl) a.turns;
+      numbered = rw (numbers_of-other h n e refl refl) a.numbered;
       after = record {
         limits = refl;
         queue = rw (push, takes-other es e refl, requests-push h by r, drop-append-le (length (takes es)) (requests h) (r ∷ []) (omega (arith, takes-le-accepts es fifo, length-requests h))) (ap (λ q. q ++ r ∷ []) a.after.queue);

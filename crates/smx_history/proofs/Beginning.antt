@@ -54,7 +54,7 @@ zeros n = ext_get_or 0 (replicate n 0) (generations_after n []) (length-replicat
 pub AgreesWith-new : (limits : Limits) → AreLimits limits → AgreesWith [] (empty limits)
 AgreesWith-new limits are = record {
   legal = IsLegal-empty limits (omega (arith, are.history.0));
-  turns = record { within = tt; placed = AtEach-empty (λ before u. generation_in u ≡ generation_after (place_in u) before) };
+  numbered = record { within = tt; placed = AtEach-empty (λ before u. generation_in u ≡ generation_after (place_in u) before) };
   after = record { limits = refl; queue = refl; window = λ test. refl; members = refl; greatest = refl; up = refl; generations = zeros limits.window; latest = refl; entries = refl };
 }
 

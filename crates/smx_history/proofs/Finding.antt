@@ -18,6 +18,7 @@ use Rattle.smx_history.specs.Numbers.{AreSpaced, recent}
 use Rattle.smx_history.specs.Legal.{AreApart, IsLegal, KeepsRules, IsPaired}
 use Rattle.smx_history.specs.History.{entries_of, entry_by, note, marks_of}
 use Rattle.smx_history.specs.Contents.{AgreesWith, Content, IsReordered, Member, content_after, members_after, place_of, window_after}
+use Rattle.smx_history.specs.Answering.{oldest_in}
 use Rattle.smx_history.specs.Replies.{member_with, waiting_in, accept_refusal, refusal_for, admit_refusal, answers_place, has_room}
 use Rattle.smx_history.specs.Finding.{is_present, has_room_after, admit_refusal_after, refusal_after, place_answered, waiting_after, IsFree}
 use Rattle.smx_history.proofs.Updates.{with_row}
@@ -59,6 +60,9 @@ present_same h v c a = ap (λ ms. is_some (member_with c ms)) (sym a.after.membe
 pub absent : (h : List Note) (v : Content) (c : ℕ) → AgreesWith h v → member_with c v.members ≡ None → is_present c h ≡ false
 absent h v c a none = present_same h v c a ∙ ap is_some none
 
+pub found_present : (h : List Note) (v : Content) (c : ℕ) (m : Member) → AgreesWith h v → member_with c v.members ≡ Some m → is_present c h ≡ true
+found_present h v c m a found = present_same h v c a ∙ ap is_some found
+
 pub is_present-any : (h : List Note) (c : ℕ) → is_present c h ≡ list_any (λ a. a.client == c) (present (entries_of h))
 unfolding is_present
 is_present-any h c = row_present h c (present (entries_of h))
@@ -66,6 +70,9 @@ is_present-any h c = row_present h c (present (entries_of h))
 pub waiting_same : (h : List Note) (v : Content) (c : ℕ) → AgreesWith h v → waiting_in (member_with c v.members) ≡ waiting_after h c
 unfolding waiting_after
 waiting_same h v c a = ap (λ ms. waiting_in (member_with c ms)) a.after.members
+
+pub oldest_same : (h : List Note) (v : Content) (c : ℕ) → AgreesWith h v → oldest_in (member_with c v.members) ≡ slice_get (waiting_after h c) 0
+oldest_same h v c a = ap (λ rs. slice_get rs 0) (waiting_same h v c a)
 
 -- a collect takes the oldest response off what waits
 pub waiting-collected : (h : List Note) (v : Content) (by c n : ℕ) → AgreesWith h v → waiting_after (h ++ note by (Collect c n) ∷ []) c ≡ drop 1 (waiting_after h c)

@@ -15,7 +15,7 @@ use Rattle.smx_history.specs.declared.entry.Entry.{Entry}
 use Rattle.smx_history.specs.declared.note.Note.{Note}
 use Rattle.smx_history.specs.Prefixes.{last_or}
 use Rattle.smx_history.specs.Entries.{is_take, numbers}
-use Rattle.smx_history.specs.Numbers.{place_in, generation_in, generation_after, generations_after, AreTurns}
+use Rattle.smx_history.specs.Numbers.{place_in, generation_in, generation_after, generations_after, AreNumbered}
 use Rattle.smx_history.specs.History.{entry_by, entry_in, note, entries_of, moment_in, latest_after}
 use Rattle.smx_history.specs.Contents.{Content, IsAfter}
 use Rattle.smx_history.proofs.Updates.{following}
@@ -101,8 +101,8 @@ generation_is : (window u : ℕ) (ns : List ℕ) → IsNext window (generations_
 generation_is window u ns next = let same : Some (generation_in u) ≡ Some (generation_after (place_in u) ns) = sym next.generation ∙ generation_at window (place_in u) ns next.within in cc
 
 -- a take that bears such a number
-pub turns_taken : (window u : ℕ) (ns : List ℕ) → AreTurns window ns → IsNext window (generations_after window ns) u → AreTurns window (ns ++ u ∷ [])
-turns_taken window u ns before next = record {
+pub numbered_taken : (window u : ℕ) (ns : List ℕ) → AreNumbered window ns → IsNext window (generations_after window ns) u → AreNumbered window (ns ++ u ∷ [])
+numbered_taken window u ns before next = record {
   within = All-push (λ m. place_in m < window) ns u before.within next.within;
   placed = AtEach-push (λ earlier m. generation_in m ≡ generation_after (place_in m) earlier) ns u before.placed (generation_is window u ns next);
 }

@@ -13,7 +13,7 @@ use Rattle.smx_history.specs.Contents.{IsAfter, Content, Member, shown, member_a
 use Rattle.smx_history.specs.Replies.{member_with}
 use Rattle.smx_history.proofs.Updates.{with_row}
 use Rattle.smx_history.proofs.Frames.{accepts_of-other, collects_of-other, present-other}
-use Rattle.smx_history.proofs.Reading.{entries_of-push, responses-other, shown-kept}
+use Rattle.smx_history.proofs.Reading.{entries_of-push, responses-other, shown-kept, All-to_map, All-each}
 use Rattle.smx_history.proofs.Sizes.{present_served}
 
 -- what the row of a client has, and what the history says of the client
@@ -37,6 +37,11 @@ row_found_in h c m (a ∷ us) served found = at (a.client == c) refl found (row_
 
 pub row_found : (h : List Note) (v : Content) (c : ℕ) (m : Member) → IsAfter h v → member_with c v.members ≡ Some m → IsRow h c m
 row_found h v c m a found = row_found_in h c m (present (entries_of h)) (present_served (entries_of h)) (ap (member_with c) (sym a.members) ∙ found)
+
+-- what holds of the row of each admit that is present holds of each row
+pub each_row : (P : Entry → Type 0) (Q : Member → Type 0) (h : List Note) (v : Content) → ((a : Entry) → P a → Q (member_after h a)) → AllByRecursion P (present (entries_of h)) → IsAfter h v → AllByRecursion Q v.members
+each_row P Q h v each all a =
+    subst (λ ms. AllByRecursion Q ms) (sym a.members) (All-to_map Q (member_after h) (present (entries_of h)) (All-each P (λ x. Q (member_after h x)) each (present (entries_of h)) all))
 
 -- a client has a row where it is present
 pub row_present : (h : List Note) (c : ℕ) (us : List Entry) → is_some (member_with c (map (member_after h) us)) ≡ list_any (λ a. a.client == c) us

@@ -35,7 +35,7 @@ row-shifted h by a = rw (entries_of-shift h by, responses-shift a.client h by) r
 pub AgreesWith-turned : (h : List Note) (v : Content) (by : ℕ) → AgreesWith h v → AgreesWith (h ++ shift by ∷ []) (turned v)
 AgreesWith-turned h v by a = record {
   legal = rw (marks_of-shift h by) (IsLegal-shift v.limits (marks_of h) a.legal);
-  turns = rw (entries_of-shift h by) a.turns;
+  numbered = rw (entries_of-shift h by) a.numbered;
   after = record {
     limits = refl;
     queue = rw (entries_of-shift h by, requests-shift h by) a.after.queue;

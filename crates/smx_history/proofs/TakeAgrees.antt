@@ -28,7 +28,7 @@ use Rattle.smx_history.proofs.Reading.{requests_are_accepts, unsigned, entries_o
 use Rattle.smx_history.proofs.Sizes.{length-window}
 use Rattle.smx_history.proofs.Places.{places-kept}
 use Rattle.smx_history.proofs.Moments.{moment_of-taken}
-use Rattle.smx_history.proofs.Numbering.{turns_taken, generations_taken, latest_taken, IsNext as IsNextNumber}
+use Rattle.smx_history.proofs.Numbering.{numbered_taken, generations_taken, latest_taken, IsNext as IsNextNumber}
 use Rattle.smx_history.proofs.Spacing.{spaced_placed}
 use Rattle.smx_history.proofs.Rows.{row-other, rows-kept}
 use Rattle.smx_history.specs.Numbers.{place_in, generation_in, generations_after}
@@ -168,7 +168,7 @@ AgreesWith-taken_at h v by r rest u t y zs next a front may_be =
     ap (list_any (λ k. nat_eq k u)) (sym (places_numbers h (unanswered es))) ∙ any-map (λ k. nat_eq k u) (λ (p : Place). p.upstream) (window_after h)
     ∙ any-same (λ (p : Place). p.upstream == u) (window_after h) v.window a.after.window may_be.free in
     let here : IsNextNumber v.limits.window (generations_after v.limits.window (numbers es)) u = subst (λ gs. IsNextNumber v.limits.window gs u) a.after.generations may_be.next in
-    let turns = turns_taken v.limits.window u (numbers es) a.turns here in
+    let numbered = numbered_taken v.limits.window u (numbers es) a.numbered here in
     let grown : numbers (entries_of (h ++ n ∷ [])) ≡ numbers es ++ u ∷ [] = ap numbers push ∙ numbers_push es e refl in
     let may : MayTake v.limits es e = record {
       command = refl;
@@ -179,14 +179,14 @@ AgreesWith-taken_at h v by r rest u t y zs next a front may_be =
       free = count_numbered u (unanswered es) (free_numbers u (map (λ x. x.number) (unanswered es)) unused);
       window = omega (arith, length-window h v a.after, may_be.room);
       up = sym a.after.up ∙ may_be.up;
-      spaced = spaced_placed (numbers es ++ u ∷ []) turns.placed;
+      spaced = spaced_placed (numbers es ++ u ∷ []) numbered.placed;
     } in
     let window : window_after (h ++ n ∷ []) ≡ window_after h ++ place_for r u t ∷ [] =
     ap (map (place_of (h ++ n ∷ []))) (ap unanswered push ∙ unanswered_taken es e refl unsettled)
     ∙ map-append (place_of (h ++ n ∷ [])) (unanswered es) (e ∷ []) ∙ ap (λ xs. xs ++ place_of (h ++ n ∷ []) e ∷ []) (places-kept h (n ∷ []) fifo) ∙ ap (λ x. window_after h ++ x ∷ []) place in
     record {
       legal = rw (marks_of-push h n e refl) (IsLegal-next v.limits (marks_of h) e a.legal (take_fit v.limits es e a.legal.rules refl may) (let was = IsLegal-within v.limits (marks_of h) a.legal in omega (arith, owed-taken es by r u t unsettled (next-lt es r y zs next), was)));
-      turns = rw grown turns;
+      numbered = rw grown numbered;
       after = record {
         limits = refl;
         queue = rw (push, takes_push es e refl, requests-other h n refl) (queue_taken (length (takes es)) (takes es) e v.queue (requests h) r rest refl front a.after.queue);

@@ -47,6 +47,6 @@ entries-pushed h n e v is a = rw (marks_of-push h n e is, stored-push (marks_of 
 pub agrees-next : (h : List Note) (n : Note) (e : Entry) (v new : Content) → entry_in n ≡ Some e → is_take e.kind ≡ false → new.limits ≡ v.limits → AgreesWith h v → Fits new.limits (entries_of h) e → IsAfter (h ++ n ∷ []) new → KeepsRoom new → AgreesWith (h ++ n ∷ []) new
 agrees-next h n e v new is take same a fits after room = record {
   legal = rw (marks_of-push h n e is) (IsLegal-next new.limits (marks_of h) e (rw same a.legal) fits (within-after h n e new is after room));
-  turns = rw (numbers_of-other h n e is take, same) a.turns;
+  numbered = rw (numbers_of-other h n e is take, same) a.numbered;
   after = after;
 }

@@ -6,7 +6,7 @@ use Rattle.smx_history.specs.declared.request.Request.{Request}
 use Rattle.smx_history.specs.declared.note.Note.{Note}
 use Rattle.smx_history.specs.Prefixes.{last_or, SameCounts}
 use Rattle.smx_history.specs.Entries.{admits, takes, accepts_of, collects_of, unanswered, own_of, command_of, present, is_up, numbers}
-use Rattle.smx_history.specs.Numbers.{generations_after, AreTurns}
+use Rattle.smx_history.specs.Numbers.{generations_after, AreNumbered}
 use Rattle.smx_history.specs.Legal.{IsLegal}
 use Rattle.smx_history.specs.declared.place.Place.{Place}
 use Rattle.smx_history.specs.declared.response.Response.{Response}
@@ -117,7 +117,7 @@ IsAfter h content = IsReordered (content_after content.limits h) content
 -- the history is legal, its takes bear the places of the window in turn, and the content is what it leaves
 pub record AgreesWith (h : List Note) (content : Content) : Type 0 where
   pub legal : IsLegal content.limits (marks_of h)
-  pub turns : AreTurns content.limits.window (numbers (entries_of h))
+  pub numbered : AreNumbered content.limits.window (numbers (entries_of h))
   pub after : IsAfter h content
 
 -- entries, and what may still follow from what is there

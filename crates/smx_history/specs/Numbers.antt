@@ -19,7 +19,7 @@ abbrev pub ArePlaced : List ℕ → Type 0
 ArePlaced ns = AtEach (λ before u. generation_in u ≡ generation_after (place_in u) before) ns
 
 -- so they do, and no place is at or past the window's size
-pub record AreTurns (window : ℕ) (ns : List ℕ) : Type 0 where
+pub record AreNumbered (window : ℕ) (ns : List ℕ) : Type 0 where
   pub within : AllByRecursion (λ u. place_in u < window) ns
   pub placed : ArePlaced ns
 
