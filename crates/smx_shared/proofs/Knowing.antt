@@ -22,7 +22,6 @@ use Rattle.std.specs.Global.{Vec}
 use Rattle.smx_shared.specs.declared.fault.TurnFault as turn_fault
 use Rattle.smx_shared.specs.declared.fault.TurnFault.TheVariants as turns
 use Rattle.smx_history.specs.declared.reply.Failed.{Failed}
-use Rattle.smx_history.specs.declared.reply.Failed.TheVariants as failed
 use Rattle.smx_shared.specs.declared.fault.DownFault as down_fault
 use Rattle.smx_shared.specs.declared.fault.DownFault.TheVariants as downs
 use Rattle.smx_shared.specs.declared.fault.FailFault as fail_fault
