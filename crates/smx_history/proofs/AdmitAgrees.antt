@@ -1,10 +1,8 @@
 -- An admit takes a lane that agrees with a history to one that agrees with the longer history.
 use Rattle.smx_history.proofs.FitsAdmit.{admit_fit}
 use Rattle.smx_history.proofs.Presence.{present_admitted}
-use Rattle.smx_history.proofs.Shifting.{IsLegal-next, stored-push}
-use Rattle.smx_history.proofs.SettleAgrees.{within-after}
-use Rattle.std.proofs.Common.{◌≡◌, ◌<◌, ◌≤◌, ◌+◌, ℕ, true, false, List, [], ◌∷◌, ◌++◌, length, map, refl, sym, ◌∙◌, ap, arith, sum_by, length-append, inl, inr, Some, None, count_by}
-use Rattle.std.specs.List.{AllByRecursion, AllZip}
+use Rattle.std.proofs.Common.{◌≡◌, ◌<◌, ◌≤◌, ◌+◌, ℕ, true, false, List, [], ◌∷◌, ◌++◌, length, map, refl, sym, ◌∙◌, ap, arith, sum_by, length-append, inl, inr, Some, None}
+use Rattle.std.specs.List.{AllByRecursion}
 use Rattle.std.proofs.lemmas.List.{map-append}
 use Rattle.std.proofs.lemmas.List.Sums.{sum_by-append}
 use Rattle.std.proofs.lemmas.Bool.{le-leb, lt-leb, leb-true, cases_lt, cases_Bool}
@@ -14,17 +12,17 @@ use Rattle.smx_history.specs.declared.reply.AdmitRefusal.TheVariants.{Known, His
 use Rattle.smx_history.specs.Prefixes.{last_or}
 use Rattle.smx_history.specs.Entries.{is_admit, admits, present}
 use Rattle.smx_history.specs.Legal.{IsFifo}
-use Rattle.smx_history.specs.History.{entry_by, note, entries_of, responses, marks_of}
-use Rattle.smx_history.specs.Contents.{AgreesWith, IsAfter, IsMemberAfter, Content, Member, size_of}
+use Rattle.smx_history.specs.History.{entry_by, note, entries_of, responses}
+use Rattle.smx_history.specs.Contents.{AgreesWith, IsAfter, Content, Member, size_of, member_after}
 use Rattle.smx_history.proofs.Room.{KeepsRoom, FitsBox}
 use Rattle.smx_history.specs.Replies.{admit_refusal, has_room}
 use Rattle.smx_history.proofs.Updates.{admitted, new_row}
-use Rattle.smx_history.proofs.Places.{window_after-other}
-use Rattle.smx_history.proofs.Numbering.{IsNumbered-other}
-use Rattle.smx_history.proofs.Reading.{marks_of-push, entries_of-push, length-responses, responses-other, All-each}
+use Rattle.smx_history.proofs.Numbering.{generations-kept, latest-kept}
+use Rattle.smx_history.proofs.Rows.{row-other, rows_each}
+use Rattle.smx_history.proofs.Unchanged.{queue-kept, window-kept, up-kept, entries-pushed, agrees-next}
+use Rattle.smx_history.proofs.Reading.{entries_of-push, length-responses, responses-other, All-each}
 use Rattle.smx_history.proofs.Growing.{filter_push, AtEachPrefix-whole, RiseAbove-push, last_or-push, All-push}
-use Rattle.smx_history.proofs.Frames.{takes-other, accepts_of-other, collects_of-other, is_up-other}
-use Rattle.smx_history.proofs.TakeAgrees.{IsMemberAfter-other, zip-each, requests-other}
+use Rattle.smx_history.proofs.Frames.{accepts_of-other, collects_of-other}
 use Rattle.smx_history.proofs.Unseen.{none_admitted, unseen, IsUnseen}
 
 -- what an admit that is not refused meets
@@ -76,50 +74,38 @@ KeepsRoom-admitted v by c k allowed =
           (RiseAbove-push 0 (map (λ m. m.client) v.members) c k.clients (let l = last_within 0 v.greatest v.members (omega arith) k.members_known in omega (arith, l, fresh.above)));
     }
 
-pub zip-push : {X Y : Type 0} (R : X → Y → Type 0) (xs : List X) (ys : List Y) (x : X) (y : Y) → AllZip R xs ys → R x y → AllZip R (xs ++ x ∷ []) (ys ++ y ∷ [])
-zip-push R [] [] x y z new = (new, tt)
-zip-push R [] (b ∷ ys) x y z new = absurd z
-zip-push R (a ∷ xs) [] x y z new = absurd z
-zip-push R (a ∷ xs) (b ∷ ys) x y z new = (z.0, zip-push R xs ys x y z.1 new)
-
 pub empty_of : {X : Type 0} (xs : List X) → length xs ≡ 0 → xs ≡ []
 empty_of [] h = refl
 empty_of (x ∷ xs) h = absurd (omega (arith, h))
 
-member-admitted : (h : List Note) (by c : ℕ) → IsUnseen c (entries_of h) → IsMemberAfter (h ++ note by (Admit c) ∷ []) (entry_by by (Admit c)) (new_row by c)
-member-admitted h by c none =
+row-admitted : (h : List Note) (by c : ℕ) → IsUnseen c (entries_of h) → new_row by c ≡ member_after (h ++ note by (Admit c) ∷ []) (entry_by by (Admit c))
+row-admitted h by c none =
     let es = entries_of h in
     let e = entry_by by (Admit c) in
     let n = note by (Admit c) in
-    let push = entries_of-push h n e refl in
     let came : responses c (h ++ n ∷ []) ≡ [] =
     responses-other c h n refl ∙ empty_of (responses c h) (length-responses c h ∙ ap length none.answers) in
-    record {
-      client = refl;
-      by = refl;
-      last = rw (push, accepts_of-other c es e refl, none.accepts) refl;
-      pending = rw (push, accepts_of-other c es e refl, collects_of-other c es e refl, none.accepts, none.collects) refl;
-      waiting = rw (came, push, collects_of-other c es e refl, none.collects) refl;
-    }
+    rw (came, entries_of-push h n e refl, accepts_of-other c es e refl, collects_of-other c es e refl, none.accepts, none.collects) refl
 
 pub IsAfter-admitted : (h : List Note) (v : Content) (by c : ℕ) → AgreesWith h v → IsUnseen c (entries_of h) → IsAfter (h ++ note by (Admit c) ∷ []) (admitted v by c)
 IsAfter-admitted h v by c a none =
     let es = entries_of h in
     let e = entry_by by (Admit c) in
     let n = note by (Admit c) in
-    let fifo = AtEachPrefix-whole IsFifo es a.legal.rules.fifo in
     let push = entries_of-push h n e refl in
     record {
-      queue = rw (push, takes-other es e refl, requests-other h n refl) a.after.queue;
-      window = λ test. a.after.window test ∙ ap (count_by test) (sym (window_after-other h n e refl refl refl fifo));
-      members = rw (push, present_admitted es e refl none.retired)
-          (zip-push (IsMemberAfter (h ++ n ∷ [])) (present es) v.members e (new_row by c)
-          (zip-each (IsMemberAfter h) (IsMemberAfter (h ++ n ∷ [])) (λ x m is. IsMemberAfter-other h n e x m refl refl refl refl a.legal.rules.pairing is) (present es) v.members a.after.members)
-          (member-admitted h by c none));
+      limits = refl;
+      queue = queue-kept h n e v refl refl refl a.after;
+      window = window-kept h n e v refl refl refl (AtEachPrefix-whole IsFifo es a.legal.rules.fifo) a.after;
+      members = ap (λ ms. ms ++ new_row by c ∷ []) a.after.members
+          ∙ ap (λ ms. ms ++ new_row by c ∷ []) (rows_each (member_after h) (member_after (h ++ n ∷ [])) (λ x. sym (row-other h n e x refl refl refl refl a.legal.rules.pairing)) (present es))
+          ∙ ap (λ m. map (member_after (h ++ n ∷ [])) (present es) ++ m ∷ []) (row-admitted h by c none)
+          ∙ sym (map-append (member_after (h ++ n ∷ [])) (present es) (e ∷ [])) ∙ ap (map (member_after (h ++ n ∷ []))) (sym (ap present push ∙ present_admitted es e refl none.retired));
       greatest = rw (push, filter_push (λ x. is_admit x.kind) es e refl, map-append (λ x. x.client) (admits es) (e ∷ []), last_or-push 0 (map (λ x. x.client) (admits es)) c) refl;
-      up = rw (push, is_up-other es e refl) a.after.up;
-      numbers = IsNumbered-other h n e v.limits.window v.generations v.latest refl refl a.after.numbers;
-      entries = rw (marks_of-push h n e refl, stored-push (marks_of h) e) (ap (λ xs. xs ++ e ∷ []) a.after.entries);
+      up = up-kept h n e v refl refl a.after;
+      generations = generations-kept h n e v refl refl a.after;
+      latest = latest-kept h n e v refl refl a.after;
+      entries = entries-pushed h n e v refl a.after;
     }
 
 -- an admit takes a lane that agrees with a history to one that agrees with the longer one
@@ -128,12 +114,7 @@ AgreesWith-admitted h v by c a k allowed =
     let es = entries_of h in
     let e = entry_by by (Admit c) in
     let n = note by (Admit c) in
-    let push = entries_of-push h n e refl in
     let fresh = admit_fresh v c allowed in
     let above : last_or 0 (map (λ x. x.client) (admits es)) < c = omega (arith, fresh.above, a.after.greatest) in
     let none = unseen c es a.legal.rules.standing a.legal.rules.pairing (none_admitted es c a.legal.rules.membership.clients above) in
-    let after = IsAfter-admitted h v by c a none in
-    record {
-      legal = rw (marks_of-push h n e refl) (IsLegal-next v.limits (marks_of h) e a.legal (admit_fit v.limits es e a.legal.rules refl (refl, refl, refl) above) (within-after h n e (admitted v by c) refl after (KeepsRoom-admitted v by c k allowed)));
-      after = after;
-    }
+    agrees-next h n e v (admitted v by c) refl refl refl a (admit_fit v.limits es e a.legal.rules refl (refl, refl, refl) above) (IsAfter-admitted h v by c a none) (KeepsRoom-admitted v by c k allowed)

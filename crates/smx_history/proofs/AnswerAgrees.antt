@@ -1,6 +1,6 @@
 -- An answer takes a lane that agrees with a history to one that agrees with the longer history.
 use Rattle.std.proofs.Common.{◌≡◌, ◌<◌, ◌≤◌, ℕ, true, false, cond, List, [], ◌∷◌, ◌++◌, length, map, get_or, refl, sym, ◌∙◌, ap, arith, Some, None}
-use Rattle.std.specs.List.{cons_option}
+use Rattle.std.specs.List.{cons_option, remove}
 use Rattle.std.proofs.lemmas.List.{length-map, map-append, drop-append-le}
 use Rattle.std.proofs.lemmas.List.Elements.{filter_map-append}
 use Rattle.std.proofs.lemmas.Bool.{eq-eqb, ne_eqb}
@@ -13,34 +13,31 @@ use Rattle.smx_history.specs.declared.response.Response.{Response}
 use Rattle.smx_history.specs.declared.note.Note.{Note}
 use Rattle.smx_pdu.specs.Command.{is_response_to}
 use Rattle.smx_history.specs.Prefixes.{AtEach}
-use Rattle.smx_history.specs.Entries.{is_admitted, is_accept, is_collect, is_link, answers_of, collects_of, is_retired, own_of, present}
+use Rattle.smx_history.specs.Entries.{is_accept, is_collect, is_link, answers_of, collects_of, own_of}
 use Rattle.smx_history.specs.Legal.{IsFifo, IsPaired}
-use Rattle.smx_history.specs.History.{entry_by, entry_in, note, entries_of, responses, response_in, request_in, marks_of}
-use Rattle.smx_history.specs.Contents.{AgreesWith, IsAfter, IsMemberAfter, Content, Member, shown}
+use Rattle.smx_history.specs.History.{entry_by, entry_in, note, entries_of, responses, response_in, request_in}
+use Rattle.smx_history.specs.Contents.{AgreesWith, IsAfter, Content, Member, shown, member_after, members_after}
 use Rattle.smx_history.proofs.Room.{KeepsRoom}
 use Rattle.smx_history.specs.Replies.{member_with}
-use Rattle.smx_history.proofs.Updates.{settled, answered, response_for}
+use Rattle.smx_history.proofs.Updates.{settled, settled_late, answered, response_for, with_row}
 use Rattle.smx_history.proofs.Growing.{AtEachPrefix-whole, StartsWith-length}
-use Rattle.smx_history.proofs.Frames.{takes-other, accepts_of-other, collects_of-other, admits-other, present-other, is_up-other}
-use Rattle.smx_history.proofs.Numbering.{IsNumbered-other}
-use Rattle.smx_history.proofs.Reading.{marks_of-push, entries_of-push, shown-kept, own_of-kept, length-responses}
-use Rattle.smx_history.proofs.Sizes.{found_admit, present_served}
-use Rattle.smx_history.proofs.AcceptAgrees.{zip-with_row}
-use Rattle.smx_history.proofs.TakeAgrees.{IsMemberAfter-other, requests-other}
+use Rattle.smx_history.proofs.Frames.{accepts_of-other, collects_of-other}
+use Rattle.smx_history.proofs.Numbering.{generations-kept, latest-kept}
+use Rattle.smx_history.proofs.Rows.{row-other, row_found, rows-changed, rows-beside}
+use Rattle.smx_history.proofs.Unchanged.{queue-kept, greatest-kept, up-kept, entries-pushed, agrees-next}
+use Rattle.smx_history.proofs.Reading.{entries_of-push, shown-kept, own_of-kept, length-responses}
 use Rattle.smx_history.proofs.FitsSettle.{Settles, settles_answer, answer_fit}
-use Rattle.smx_history.proofs.Shifting.{IsLegal-next, stored-push}
-use Rattle.smx_history.proofs.SettleAgrees.{IsTaken, place_taken, place_answers, window-settled, within-after}
+use Rattle.smx_history.proofs.SettleAgrees.{IsTaken, place_taken, place_answers, window-settled}
 
 responses-push : (c : ℕ) (h : List Note) (n : Note) (r : Response) → response_in c n.event ≡ Some r → responses c (h ++ n ∷ []) ≡ responses c h ++ r ∷ []
 responses-push c h n r brings = filter_map-append (λ x. response_in c x.event) h (n ∷ []) ∙ ap (λ o. responses c h ++ cons_option o []) brings
 
 -- the client of the place has one more response that waits
-member-settled : (h : List Note) (n : Note) (e : Entry) (p : Pdu) (q : Place) (a : Entry) (m : Member) → entry_in n ≡ Some e → is_accept e.kind ≡ false → is_collect e.kind ≡ false → response_in q.client n.event ≡ Some (record { ordinal = q.ordinal; pdu = p })
-    → IsFifo (entries_of h) → AtEach (λ before e. IsPaired e.kind before e) (entries_of h) → IsTaken (entries_of h) q → m.client ≡ q.client → IsMemberAfter h a m → IsMemberAfter (h ++ n ∷ []) a (record m { waiting = m.waiting ++ response_for q p ∷ [] })
-member-settled h n e p q a m entry accept collect brings fifo paired place same is =
+row-settled : (h : List Note) (n : Note) (e : Entry) (p : Pdu) (q : Place) (a : Entry) → entry_in n ≡ Some e → is_accept e.kind ≡ false → is_collect e.kind ≡ false → response_in q.client n.event ≡ Some (record { ordinal = q.ordinal; pdu = p })
+    → IsFifo (entries_of h) → AtEach (λ before e. IsPaired e.kind before e) (entries_of h) → IsTaken (entries_of h) q → a.client ≡ q.client → record (member_after h a) { waiting = (member_after h a).waiting ++ response_for q p ∷ [] } ≡ member_after (h ++ n ∷ []) a
+row-settled h n e p q a entry accept collect brings fifo paired place same =
     let es = entries_of h in
-    let push = entries_of-push h n e entry in
-    let of : q.client ≡ a.client = sym same ∙ is.client in
+    let of : q.client ≡ a.client = sym same in
     let k = length (collects_of a.client es) in
     let le : k ≤ length (answers_of a.client es) =
     let l = StartsWith-length (map (λ x. x.ordinal) (answers_of a.client es)) (map (λ x. x.ordinal) (collects_of a.client es)) (fifo.collected a.client) in
@@ -57,13 +54,7 @@ member-settled h n e p q a m entry accept collect brings fifo paired place same 
     map-append (shown (es ++ e ∷ []) a.client) (responses a.client h) (record { ordinal = q.ordinal; pdu = p } ∷ [])
     ∙ ap (λ xs. xs ++ shown (es ++ e ∷ []) a.client (record { ordinal = q.ordinal; pdu = p }) ∷ []) (shown-kept a.client h (e ∷ []) paired)
     ∙ ap (λ x. old ++ x ∷ []) last in
-    record {
-      client = is.client;
-      by = is.by;
-      last = rw (push, accepts_of-other a.client es e accept) is.last;
-      pending = rw (push, accepts_of-other a.client es e accept, collects_of-other a.client es e collect) is.pending;
-      waiting = rw (push, collects_of-other a.client es e collect, came, all, drop-append-le k old (response_for q p ∷ []) (omega (arith, le, long))) (ap (λ xs. xs ++ response_for q p ∷ []) is.waiting);
-    }
+    rw (entries_of-push h n e entry, accepts_of-other a.client es e accept, collects_of-other a.client es e collect, came, all, drop-append-le k old (response_for q p ∷ []) (omega (arith, le, long))) refl
 
 -- a note that settles a place, and brings no other client a response
 pub record SettlesPlace (n : Note) (e : Entry) (q : Place) : Type 0 where
@@ -80,28 +71,41 @@ pub record Brings (n : Note) (e : Entry) (p : Pdu) (q : Place) : Type 0 where
   pub place : SettlesPlace n e q
   pub response : response_in q.client n.event ≡ Some (record { ordinal = q.ordinal; pdu = p })
 
--- what the lane holds is what the longer history leaves
+-- what the lane holds is what the longer history leaves, where the rows are
+after_settled : (h : List Note) (v : Content) (n : Note) (e : Entry) (q : Place) (i : ℕ) (ms : List Member) → SettlesPlace n e q → AgreesWith h v → i < length v.window → q ≡ get_or v.window i q → ms ≡ members_after (h ++ n ∷ [])
+    → IsAfter (h ++ n ∷ []) (record v { window = remove v.window i; members = ms; entries = v.entries ++ e ∷ [] })
+after_settled h v n e q i ms b a within is rows =
+    let s = b.settles in
+    record {
+      limits = refl;
+      queue = queue-kept h n e v b.entry s.take b.request a.after;
+      window = window-settled h v n e q i a b.entry s b.client b.ordinal within is;
+      members = rows;
+      greatest = greatest-kept h n e v b.entry s.admit a.after;
+      up = up-kept h n e v b.entry b.link a.after;
+      generations = generations-kept h n e v b.entry s.take a.after;
+      latest = latest-kept h n e v b.entry s.take a.after;
+      entries = entries-pushed h n e v b.entry a.after;
+    }
+
+-- the other clients keep their rows
+others_kept : (h : List Note) (v : Content) (n : Note) (e : Entry) (q : Place) → SettlesPlace n e q → AgreesWith h v → (x : Entry) → (x.client ≡ q.client → ⊥) → member_after (h ++ n ∷ []) x ≡ member_after h x
+others_kept h v n e q b a x apart = row-other h n e x b.entry b.settles.accept b.settles.collect (b.others x.client (λ of. apart (sym of))) a.legal.rules.pairing
+
 pub IsAfter-settled : (h : List Note) (v : Content) (n : Note) (e : Entry) (p : Pdu) (q : Place) (i : ℕ) → Brings n e p q → AgreesWith h v → i < length v.window → q ≡ get_or v.window i q → IsAfter (h ++ n ∷ []) (settled v e p q i)
 IsAfter-settled h v n e p q i brings a within is =
     let b = brings.place in
-    let es = entries_of h in
-    let fifo = AtEachPrefix-whole IsFifo es a.legal.rules.fifo in
-    let push = entries_of-push h n e b.entry in
-    let place = place_taken h v i q a within is in
     let s = b.settles in
-    record {
-      queue = rw (push, takes-other es e s.take, requests-other h n b.request) a.after.queue;
-      window = window-settled h v n e q i a b.entry s b.client b.ordinal within is;
-      members = rw (push, present-other es e s.admit s.retire)
-          (zip-with_row (IsMemberAfter h) (IsMemberAfter (h ++ n ∷ [])) q.client (λ m. record m { waiting = m.waiting ++ response_for q p ∷ [] })
-          (λ x m same is. member-settled h n e p q x m b.entry s.accept s.collect brings.response fifo a.legal.rules.pairing place same is)
-          (λ x m apart is. IsMemberAfter-other h n e x m b.entry s.accept s.collect (b.others x.client (λ of. apart (is.client ∙ sym of))) a.legal.rules.pairing is)
-          (present es) v.members a.after.members);
-      greatest = rw (push, admits-other es e s.admit) a.after.greatest;
-      up = rw (push, is_up-other es e b.link) a.after.up;
-      numbers = IsNumbered-other h n e v.limits.window v.generations v.latest b.entry s.take a.after.numbers;
-      entries = rw (marks_of-push h n e b.entry, stored-push (marks_of h) e) (ap (λ xs. xs ++ e ∷ []) a.after.entries);
-    }
+    let fifo = AtEachPrefix-whole IsFifo (entries_of h) a.legal.rules.fifo in
+    after_settled h v n e q i (with_row q.client (λ m. record m { waiting = m.waiting ++ response_for q p ∷ [] }) v.members) b a within is
+    (rows-changed h n e v b.entry s.admit s.retire a.after q.client (λ m. record m { waiting = m.waiting ++ response_for q p ∷ [] })
+    (λ x same. row-settled h n e p q x b.entry s.accept s.collect brings.response fifo a.legal.rules.pairing (place_taken h v i q a within is) same)
+    (others_kept h v n e q b a))
+
+-- and where the client has retired
+pub IsAfter-settled_late : (h : List Note) (v : Content) (n : Note) (e : Entry) (q : Place) (i : ℕ) → SettlesPlace n e q → AgreesWith h v → i < length v.window → q ≡ get_or v.window i q → member_with q.client v.members ≡ None → IsAfter (h ++ n ∷ []) (settled_late v e i)
+IsAfter-settled_late h v n e q i b a within is gone =
+    after_settled h v n e q i v.members b a within is (rows-beside h n e v b.entry b.settles.admit b.settles.retire a.after q.client gone (others_kept h v n e q b a))
 
 answer_brings : (by : ℕ) (p : Pdu) (q : Place) → Brings (note by (Answer q.client q.ordinal p)) (entry_by by (Answer q.client q.ordinal p)) p q
 answer_brings by p q = record {
@@ -123,11 +127,5 @@ AgreesWith-answered h v by p q i m a within is number command found room =
     let es = entries_of h in
     let e = entry_by by (Answer q.client q.ordinal p) in
     let n = note by (Answer q.client q.ordinal p) in
-    let after = IsAfter-settled h v n e p q i (answer_brings by p q) a within is in
-    let w = found_admit (λ x. (is_admitted x.by x.client es ≡ true) × (is_retired x.client es ≡ false)) h q.client m (present es) v.members a.after.members (present_served es) found in
-    let here : is_retired q.client es ≡ false = ap (λ c. is_retired c es) (sym w.3) ∙ w.2.1 in
-    let p' = place_answers es q e (place_taken h v i q a within is) refl refl number command in
-    record {
-      legal = rw (marks_of-push h n e refl) (IsLegal-next v.limits (marks_of h) e a.legal (answer_fit v.limits es e a.legal.rules refl p' here) (within-after h n e (answered v by p q i) refl after room));
-      after = after;
-    }
+    let answers = place_answers es q e (place_taken h v i q a within is) refl refl number command in
+    agrees-next h n e v (answered v by p q i) refl refl refl a (answer_fit v.limits es e a.legal.rules refl answers (row_found h v q.client m a.after found).stays) (IsAfter-settled h v n e p q i (answer_brings by p q) a within is) room

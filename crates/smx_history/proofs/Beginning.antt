@@ -1,12 +1,14 @@
 -- A new lane agrees with the empty history.
-use Rattle.std.proofs.Common.{◌≡◌, ◌<◌, ◌≤◌, ℕ, List, [], ◌∷◌, refl, arith, zero, suc, replicate, slice_get, Some, Option}
+use Rattle.std.proofs.Common.{◌≡◌, ◌≤◌, ℕ, List, [], ◌∷◌, refl, sym, ◌∙◌, arith, zero, suc, replicate, Option}
 use Rattle.std.specs.List.{IsDistinct}
+use Rattle.std.proofs.lemmas.List.{ext_get_or, get_or-replicate, length-replicate}
+use Rattle.std.proofs.lemmas.List.FromFn.{get_or-map-range_with_len, length-map-range_with_len}
 use Rattle.smx_history.specs.declared.entry.Entry.{Entry}
 use Rattle.smx_history.specs.declared.limits.Limits.{Limits}
 use Rattle.smx_history.specs.Prefixes.{AtEachPrefix, AtEach}
 use Rattle.smx_history.specs.Legal.{IsLegal, KeepsRules, IsFifo, AreApart, IsBounded, IsWithin, HasForm, StandsWell, IsPaired}
-use Rattle.smx_history.specs.Contents.{AgreesWith, IsNumbered}
-use Rattle.smx_history.specs.Numbers.{place_in, generation_in, generation_after}
+use Rattle.smx_history.specs.Contents.{AgreesWith}
+use Rattle.smx_history.specs.Numbers.{place_in, generation_in, generation_after, generations_after}
 use Rattle.smx_history.specs.Room.{AreLimits}
 use Rattle.smx_history.proofs.Room.{KeepsRoom}
 use Rattle.smx_history.proofs.Updates.{empty}
@@ -45,23 +47,15 @@ pub IsLegal-some : (limits : Limits) (marks : List (Option Entry)) → IsLegal l
 IsLegal-some limits [] h = omega (arith, h.size 0)
 IsLegal-some limits (mark ∷ marks) h = omega (arith, h.size 0)
 
-zeros : (n k : ℕ) → k < n → slice_get {X = ℕ} (replicate n 0) k ≡ Some 0
-zeros zero k lt = absurd (omega arith)
-zeros (suc n) zero lt = refl
-zeros (suc n) (suc k) lt = zeros n k (omega (arith, lt))
-
-numbered_new : (window : ℕ) → IsNumbered [] window (replicate window 0) 0
-numbered_new window = record {
-  within = tt;
-  placed = AtEach-empty (λ before u. generation_in u ≡ generation_after (place_in u) before);
-  next = λ k lt. zeros window k lt;
-  latest = refl;
-}
+zeros : (n : ℕ) → replicate n 0 ≡ generations_after n []
+zeros n = ext_get_or 0 (replicate n 0) (generations_after n []) (length-replicate {A = ℕ} n 0 ∙ sym (length-map-range_with_len (λ k. generation_after k []) 0 n))
+    (λ i lt. get_or-replicate n i 0 0 (omega (arith, lt, length-replicate {A = ℕ} n 0)) ∙ sym (get_or-map-range_with_len (λ k. generation_after k []) 0 n i i 0 (omega (arith, lt, length-replicate {A = ℕ} n 0)) (omega arith)))
 
 pub AgreesWith-new : (limits : Limits) → AreLimits limits → AgreesWith [] (empty limits)
 AgreesWith-new limits are = record {
   legal = IsLegal-empty limits (omega (arith, are.history.0));
-  after = record { queue = refl; window = λ test. refl; members = tt; greatest = refl; up = refl; numbers = numbered_new limits.window; entries = refl };
+  numbered = record { within = tt; placed = AtEach-empty (λ before u. generation_in u ≡ generation_after (place_in u) before) };
+  after = record { limits = refl; queue = refl; window = λ test. refl; members = refl; greatest = refl; up = refl; generations = zeros limits.window; latest = refl; entries = refl };
 }
 
 pub KeepsRoom-new : (limits : Limits) → AreLimits limits → KeepsRoom (empty limits)

@@ -10,17 +10,15 @@ use Rattle.smx_history.specs.declared.note.Note.{Note}
 use Rattle.smx_history.specs.declared.place.Place.{Place}
 use Rattle.smx_history.specs.Failures.{submissions, failure_command, failure}
 use Rattle.smx_history.specs.Answering.{failing}
-use Rattle.smx_history.specs.History.{entries_of, marks_of}
+use Rattle.smx_history.specs.History.{entries_of}
 use Rattle.smx_history.specs.Contents.{AgreesWith, IsAfter, Content}
 use Rattle.smx_history.specs.Replies.{member_with}
 use Rattle.smx_history.proofs.Room.{KeepsRoom}
 use Rattle.smx_history.proofs.Updates.{failing_entry, failed, failed_late}
-use Rattle.smx_history.proofs.Reading.{marks_of-push}
-use Rattle.smx_history.proofs.Shifting.{IsLegal-next}
 use Rattle.smx_history.proofs.FitsSettle.{settles_fail, fail_fit}
-use Rattle.smx_history.proofs.SettleAgrees.{place_taken, place_answers, within-after}
-use Rattle.smx_history.proofs.AnswerAgrees.{SettlesPlace, Brings, IsAfter-settled}
-use Rattle.smx_history.proofs.LateAgrees.{IsAfter-settled_late}
+use Rattle.smx_history.proofs.SettleAgrees.{place_taken, place_answers}
+use Rattle.smx_history.proofs.Unchanged.{agrees-next}
+use Rattle.smx_history.proofs.AnswerAgrees.{SettlesPlace, Brings, IsAfter-settled, IsAfter-settled_late}
 
 -- what tells a client of a failure answers its request
 failure_answers : (request : ℕ) → is_response_to request (failure_command request) ≡ true
@@ -57,13 +55,7 @@ fails h v new by q i a same within is room after =
     let e = failing_entry by q in
     let place = place_taken h v i q a within is in
     let answers = place_answers es q e place refl refl refl (failure_answers q.command) in
-    record {
-      legal = rw (marks_of-push h (failing by q) e refl)
-          (IsLegal-next new.limits (marks_of h) e (rw same a.legal)
-          (fail_fit new.limits es e (rw same a.legal.rules) refl answers (ap failure_command (sym place.command)))
-          (within-after h (failing by q) e new refl after room));
-      after = after;
-    }
+    agrees-next h (failing by q) e v new refl refl same a (fail_fit new.limits es e (rw same a.legal.rules) refl answers (ap failure_command (sym place.command))) after room
 
 -- the client of the place is present, and is told
 pub AgreesWith-failed : (h : List Note) (v : Content) (by : ℕ) (q : Place) (i : ℕ) → AgreesWith h v → i < length v.window → q ≡ get_or v.window i q → KeepsRoom (failed v by q i) → AgreesWith (h ++ failing by q ∷ []) (failed v by q i)

@@ -38,6 +38,8 @@ pub mod FitsSettle
 pub mod FitsCollect
 pub mod Presence
 pub mod Finding
+pub mod Rows
+pub mod Pending
 pub mod Shifting
 pub mod ShiftAgrees
 pub mod Joining

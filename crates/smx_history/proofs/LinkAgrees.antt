@@ -18,7 +18,7 @@ use Rattle.smx_history.proofs.Growing.{AtEachPrefix-whole}
 use Rattle.smx_history.proofs.Frames.{is_up-push}
 use Rattle.smx_history.proofs.FitsAdmit.{bounds_kept}
 use Rattle.smx_history.proofs.Kept.{fifo_kept, once_kept, membership_kept, apart_kept, spaced_kept}
-use Rattle.smx_history.proofs.Numbering.{IsNumbered-other}
+use Rattle.smx_history.proofs.Numbering.{generations-kept, latest-kept}
 use Rattle.smx_history.proofs.Reading.{entries_of-push}
 use Rattle.smx_history.proofs.Sizes.{length-window}
 use Rattle.smx_history.proofs.AdmitAgrees.{empty_of}
@@ -78,12 +78,14 @@ linked : (h : List Note) (v : Content) (n : Note) (e : Entry) → entry_in n ≡
 linked h v n e is link request response a =
     let k = link_alone e.kind link in
     record {
+      limits = refl;
       queue = queue-kept h n e v is k.take request a.after;
       window = window-kept h n e v is k.take k.settling (AtEachPrefix-whole IsFifo (entries_of h) a.legal.rules.fifo) a.after;
       members = members-kept h n e v is k.admit k.retire k.accept k.collect response a;
       greatest = greatest-kept h n e v is k.admit a.after;
       up = rw (entries_of-push h n e is) (sym (is_up-push (entries_of h) e link));
-      numbers = IsNumbered-other h n e v.limits.window v.generations v.latest is k.take a.after.numbers;
+      generations = generations-kept h n e v is k.take a.after;
+      latest = latest-kept h n e v is k.take a.after;
       entries = entries-pushed h n e v is a.after;
     }
 
@@ -118,7 +120,7 @@ KeepsRoom-raised v by k room = record {
 pub AgreesWith-lowered : (h : List Note) (v : Content) (by : ℕ) → AgreesWith h v → v.up ≡ true → KeepsRoom (lowered v by) → AgreesWith (h ++ note by Down ∷ []) (lowered v by)
 AgreesWith-lowered h v by a up room =
     let e = entry_by by Down in
-    agrees-next h (note by Down) e v (lowered v by) refl refl a
+    agrees-next h (note by Down) e v (lowered v by) refl refl refl a
     (link_fit v.limits (entries_of h) e a.legal.rules refl (refl, refl, refl, refl) (sym a.after.up ∙ up))
     (linked h v (note by Down) e refl refl refl (λ c. refl) a) room
 
@@ -126,6 +128,6 @@ AgreesWith-lowered h v by a up room =
 pub AgreesWith-raised : (h : List Note) (v : Content) (by : ℕ) → AgreesWith h v → v.up ≡ false → length v.window ≡ 0 → KeepsRoom (raised v by) → AgreesWith (h ++ note by Up ∷ []) (raised v by)
 AgreesWith-raised h v by a down none room =
     let e = entry_by by Up in
-    agrees-next h (note by Up) e v (raised v by) refl refl a
+    agrees-next h (note by Up) e v (raised v by) refl refl refl a
     (link_fit v.limits (entries_of h) e a.legal.rules refl (refl, refl, refl, refl) (sym a.after.up ∙ down, empty_of (unanswered (entries_of h)) (sym (length-window h v a.after) ∙ none)))
     (linked h v (note by Up) e refl refl refl (λ c. refl) a) room

@@ -1,30 +1,24 @@
 -- A retire takes a lane that agrees with a history to one that agrees with the longer history.
 use Rattle.smx_history.proofs.FitsCollect.{retire_fit}
 use Rattle.smx_history.proofs.Presence.{present_retired}
-use Rattle.smx_history.proofs.Shifting.{IsLegal-next, stored-push}
-use Rattle.smx_history.proofs.SettleAgrees.{within-after}
-use Rattle.smx_history.proofs.Counts.{length_part}
-use Rattle.std.proofs.Common.{◌≡◌, ◌<◌, ◌≤◌, ◌+◌, ◌==◌, ℕ, Bool, true, false, cond, not, List, [], ◌∷◌, ◌++◌, length, map, refl, sym, ◌∙◌, ap, arith, filter, sum_by, length-append, Some, count_by}
-use Rattle.std.specs.List.{AllZip}
+use Rattle.smx_history.proofs.Counts.{length_part, filter-map}
+use Rattle.std.proofs.Common.{◌≡◌, ◌<◌, ◌≤◌, ◌+◌, ◌==◌, ℕ, Bool, true, false, cond, not, List, [], ◌∷◌, ◌++◌, length, map, refl, sym, ◌∙◌, ap, arith, filter, sum_by, length-append, Some}
 use Rattle.std.proofs.lemmas.List.Sums.{sum_by-cons}
 use Rattle.smx_history.specs.declared.note.Event.TheVariants.{Retire}
-use Rattle.smx_history.specs.declared.entry.Entry.{Entry}
 use Rattle.smx_history.specs.declared.note.Note.{Note}
 use Rattle.smx_history.specs.Prefixes.{RiseAbove}
-use Rattle.smx_history.specs.Entries.{is_retired, is_admitted, present}
+use Rattle.smx_history.specs.Entries.{is_admitted, present}
 use Rattle.smx_history.specs.Legal.{IsFifo, IsServed}
-use Rattle.smx_history.specs.History.{entry_by, note, entries_of, marks_of}
-use Rattle.smx_history.specs.Contents.{AgreesWith, IsAfter, IsMemberAfter, Content, Member}
+use Rattle.smx_history.specs.History.{entry_by, note, entries_of}
+use Rattle.smx_history.specs.Contents.{AgreesWith, IsAfter, Content, Member, member_after}
 use Rattle.smx_history.proofs.Room.{KeepsRoom, FitsBox}
 use Rattle.smx_history.specs.Replies.{member_with}
 use Rattle.smx_history.proofs.Updates.{retired, without}
-use Rattle.smx_history.proofs.Places.{window_after-other}
-use Rattle.smx_history.proofs.Numbering.{IsNumbered-other}
-use Rattle.smx_history.proofs.Reading.{marks_of-push, entries_of-push, All-kept}
-use Rattle.smx_history.proofs.Sizes.{found_admit, present_served}
+use Rattle.smx_history.proofs.Numbering.{generations-kept, latest-kept}
+use Rattle.smx_history.proofs.Rows.{row-other, row_found, rows_each}
+use Rattle.smx_history.proofs.Unchanged.{queue-kept, window-kept, greatest-kept, up-kept, entries-pushed, agrees-next}
+use Rattle.smx_history.proofs.Reading.{entries_of-push, All-kept}
 use Rattle.smx_history.proofs.Growing.{AtEachPrefix-whole}
-use Rattle.smx_history.proofs.Frames.{takes-other, admits-other, is_up-other}
-use Rattle.smx_history.proofs.TakeAgrees.{IsMemberAfter-other, zip-each, requests-other}
 
 -- part of what rises rises
 rise_lower : (low x : ℕ) (xs : List ℕ) → low < x → RiseAbove x xs → RiseAbove low xs
@@ -75,55 +69,31 @@ KeepsRoom-retired v by c m k found =
       clients = rise_part (λ x. x.client) stays 0 v.members k.clients;
     }
 
-zip-without : (h : List Note) (c : ℕ) (us : List Entry) (ms : List Member) → AllZip (IsMemberAfter h) us ms → AllZip (IsMemberAfter h) (filter (λ a. not (a.client == c)) us) (without c ms)
-zip-without h c [] [] z = z
-zip-without h c [] (m ∷ ms) z = absurd z
-zip-without h c (a ∷ us) [] z = absurd z
-zip-without h c (a ∷ us) (m ∷ ms) z =
-    zip-without_at (a.client == c) (m.client == c) (ap (λ d. d == c) (sym z.0.client)) (zip-without h c us ms z.1)
-  where
-    zip-without_at : (b d : Bool) → b ≡ d → AllZip (IsMemberAfter h) (filter (λ x. not (x.client == c)) us) (without c ms) → AllZip (IsMemberAfter h) (cond (not b) (a ∷ filter (λ x. not (x.client == c)) us) (filter (λ x. not (x.client == c)) us)) (cond (not d) (m ∷ without c ms) (without c ms))
-    zip-without_at true true e rest = rest
-    zip-without_at true false e rest = cc
-    zip-without_at false true e rest = cc
-    zip-without_at false false e rest = (z.0, rest)
-
-pub IsAfter-retired : (h : List Note) (v : Content) (by c : ℕ) → AgreesWith h v → IsAfter (h ++ note by (Retire c) ∷ []) (retired v by c)
+IsAfter-retired : (h : List Note) (v : Content) (by c : ℕ) → AgreesWith h v → IsAfter (h ++ note by (Retire c) ∷ []) (retired v by c)
 IsAfter-retired h v by c a =
     let es = entries_of h in
     let e = entry_by by (Retire c) in
     let n = note by (Retire c) in
-    let fifo = AtEachPrefix-whole IsFifo es a.legal.rules.fifo in
-    let push = entries_of-push h n e refl in
+    let others = filter (λ x. not (x.client == c)) (present es) in
     record {
-      queue = rw (push, takes-other es e refl, requests-other h n refl) a.after.queue;
-      window = λ test. a.after.window test ∙ ap (count_by test) (sym (window_after-other h n e refl refl refl fifo));
-      members = rw (push, present_retired es e refl)
-          (zip-each (IsMemberAfter h) (IsMemberAfter (h ++ n ∷ [])) (λ x y is. IsMemberAfter-other h n e x y refl refl refl refl a.legal.rules.pairing is)
-          (filter (λ x. not (x.client == c)) (present es)) (without c v.members) (zip-without h c (present es) v.members a.after.members));
-      greatest = rw (push, admits-other es e refl) a.after.greatest;
-      up = rw (push, is_up-other es e refl) a.after.up;
-      numbers = IsNumbered-other h n e v.limits.window v.generations v.latest refl refl a.after.numbers;
-      entries = rw (marks_of-push h n e refl, stored-push (marks_of h) e) (ap (λ xs. xs ++ e ∷ []) a.after.entries);
-    }
-
-AgreesWith-retired_at : (h : List Note) (v : Content) (by c : ℕ) (m : Member) (admit : Entry) → AgreesWith h v → IsMemberAfter h admit m → is_admitted admit.by admit.client (entries_of h) ≡ true → is_retired admit.client (entries_of h) ≡ false → admit.client ≡ c → m.by ≡ by → KeepsRoom (retired v by c) → AgreesWith (h ++ note by (Retire c) ∷ []) (retired v by c)
-AgreesWith-retired_at h v by c m admit a is admitted here of own room =
-    let es = entries_of h in
-    let e = entry_by by (Retire c) in
-    let n = note by (Retire c) in
-    let push = entries_of-push h n e refl in
-    let after = IsAfter-retired h v by c a in
-    let not_yet : is_retired c es ≡ false = ap (λ d. is_retired d es) (sym of) ∙ here in
-    let served : IsServed es e = (sym (ap (λ b. is_admitted b admit.client es) (sym is.by ∙ own) ∙ ap (λ d. is_admitted by d es) of) ∙ admitted, not_yet) in
-    record {
-      legal = rw (marks_of-push h n e refl) (IsLegal-next v.limits (marks_of h) e a.legal (retire_fit v.limits es e a.legal.rules refl (refl, refl, refl) served) (within-after h n e (retired v by c) refl after room));
-      after = after;
+      limits = refl;
+      queue = queue-kept h n e v refl refl refl a.after;
+      window = window-kept h n e v refl refl refl (AtEachPrefix-whole IsFifo es a.legal.rules.fifo) a.after;
+      members = ap (without c) a.after.members ∙ filter-map (λ (m : Member). not (m.client == c)) (member_after h) (present es)
+          ∙ rows_each (member_after h) (member_after (h ++ n ∷ [])) (λ x. sym (row-other h n e x refl refl refl refl a.legal.rules.pairing)) others
+          ∙ ap (map (member_after (h ++ n ∷ []))) (sym (ap present (entries_of-push h n e refl) ∙ present_retired es e refl));
+      greatest = greatest-kept h n e v refl refl a.after;
+      up = up-kept h n e v refl refl a.after;
+      generations = generations-kept h n e v refl refl a.after;
+      latest = latest-kept h n e v refl refl a.after;
+      entries = entries-pushed h n e v refl a.after;
     }
 
 -- a retire takes a lane that agrees with a history to one that agrees with the longer one
 pub AgreesWith-retired : (h : List Note) (v : Content) (by c : ℕ) (m : Member) → AgreesWith h v → KeepsRoom v → member_with c v.members ≡ Some m → m.by ≡ by → AgreesWith (h ++ note by (Retire c) ∷ []) (retired v by c)
 AgreesWith-retired h v by c m a k found own =
     let es = entries_of h in
-    let w = found_admit (λ x. (is_admitted x.by x.client es ≡ true) × (is_retired x.client es ≡ false)) h c m (present es) v.members a.after.members (present_served es) found in
-    AgreesWith-retired_at h v by c m w.0 a w.1 w.2.0 w.2.1 w.3 own (KeepsRoom-retired v by c m k found)
+    let e = entry_by by (Retire c) in
+    let row = row_found h v c m a.after found in
+    let served : IsServed es e = (ap (λ b. is_admitted b c es) (sym own) ∙ row.admitted, row.stays) in
+    agrees-next h (note by (Retire c)) e v (retired v by c) refl refl refl a (retire_fit v.limits es e a.legal.rules refl (refl, refl, refl) served) (IsAfter-retired h v by c a) (KeepsRoom-retired v by c m k found)

@@ -128,9 +128,3 @@ KeepsRoom-collected v by c r m k found some =
       members_known = All-with_row (λ x. x.client ≤ v.greatest) (λ x. x.client ≤ v.greatest) f c (λ x _ h. h) (λ x _ h. h) v.members k.members_known;
       clients = let P : List ℕ → Type 0 = λ cs. RiseAbove 0 cs in subst P (sym (map-with_row (λ x. x.client) f c (λ _. refl) v.members)) k.clients;
     }
-
--- where a response waits its request is pending
-pub waiting_pending : (v : Content) (c : ℕ) (m : Member) → KeepsRoom v → member_with c v.members ≡ Some m → 0 < length m.waiting → 1 ≤ m.pending
-waiting_pending v c m k found some =
-    let fits = found_meets (FitsBox v) c m v.members (All-each (FitsBox v) (λ x. x.client ≡ c → FitsBox v x) (λ x h _. h) v.members k.boxes) found in
-    omega (arith, fits.0, some)

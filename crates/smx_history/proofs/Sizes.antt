@@ -1,17 +1,16 @@
 -- What a lane that agrees with a history has in its lists.
-use Rattle.std.proofs.Common.{◌≡◌, ◌≤◌, ◌+◌, ◌-◌, ◌==◌, ℕ, Bool, true, false, cond, not, ◌&&◌, List, [], ◌∷◌, length, map, refl, sym, ◌∙◌, ap, subst, arith, sum_by, length-drop, Some, suc}
-use Rattle.std.specs.List.{AllByRecursion, AllZip}
+use Rattle.std.proofs.Common.{◌≡◌, ◌≤◌, ◌+◌, ◌-◌, ◌==◌, true, false, not, ◌&&◌, List, [], ◌∷◌, length, map, refl, sym, ◌∙◌, ap, arith, sum_by, length-drop}
+use Rattle.std.specs.List.{AllByRecursion}
 use Rattle.std.proofs.lemmas.List.{length-map}
 use Rattle.std.proofs.lemmas.List.Sums.{sum_by-cons}
 use Rattle.smx_history.proofs.Counts.{length-same}
-use Rattle.std.proofs.lemmas.Bool.{and_from, eq-eqb, eqb-true, not-true}
+use Rattle.std.proofs.lemmas.Bool.{and_from, eq-eqb, not-true}
 use Rattle.smx_history.specs.declared.entry.Entry.{Entry}
 use Rattle.smx_history.specs.declared.note.Note.{Note}
 use Rattle.smx_history.specs.Entries.{is_admit, admits, accepts, takes, answers_of, collects_of, is_admitted, is_retired, unanswered, present, name_of}
 use Rattle.smx_history.specs.Legal.{IsFifo, size}
 use Rattle.smx_history.specs.History.{entries_of, marks_of, requests, responses}
-use Rattle.smx_history.specs.Contents.{IsAfter, IsMemberAfter, Content, Member, size_of, shown, place_of, window_after}
-use Rattle.smx_history.specs.Replies.{member_with}
+use Rattle.smx_history.specs.Contents.{IsAfter, Content, Member, size_of, shown, place_of, window_after, member_after}
 use Rattle.smx_history.proofs.Growing.{StartsWith-length}
 use Rattle.smx_history.proofs.Reading.{length-requests, length-responses, All-filtered, All-from_get, any_at}
 
@@ -26,49 +25,27 @@ takes-le-accepts es fifo =
 pub length-window : (h : List Note) (v : Content) → IsAfter h v → length v.window ≡ length (unanswered (entries_of h))
 length-window h v a = length-same (window_after h) v.window a.window ∙ length-map (unanswered (entries_of h)) (place_of h)
 
-zip-length : {X Y : Type 0} (R : X → Y → Type 0) (xs : List X) (ys : List Y) → AllZip R xs ys → length xs ≡ length ys
-zip-length R [] [] z = refl
-zip-length R [] (y ∷ ys) z = absurd z
-zip-length R (x ∷ xs) [] z = absurd z
-zip-length R (x ∷ xs) (y ∷ ys) z = ap suc (zip-length R xs ys z.1)
-
 pub length-members : (h : List Note) (v : Content) → IsAfter h v → length v.members ≡ length (present (entries_of h))
-length-members h v a = sym (zip-length (IsMemberAfter h) (present (entries_of h)) v.members a.members)
+length-members h v a = ap length a.members ∙ length-map (present (entries_of h)) (member_after h)
 
-length-waiting : (h : List Note) (a : Entry) (m : Member) → IsMemberAfter h a m → length m.waiting ≡ length (answers_of a.client (entries_of h)) - length (collects_of a.client (entries_of h))
-length-waiting h a m is =
+length-waiting : (h : List Note) (a : Entry) → length (member_after h a).waiting ≡ length (answers_of a.client (entries_of h)) - length (collects_of a.client (entries_of h))
+length-waiting h a =
     let k = length (collects_of a.client (entries_of h)) in
-    ap length is.waiting ∙ length-drop k (map (shown (entries_of h) a.client) (responses a.client h))
+    length-drop k (map (shown (entries_of h) a.client) (responses a.client h))
     ∙ ap (λ n. n - k) (length-map (responses a.client h) (shown (entries_of h) a.client) ∙ length-responses a.client h)
 
-waiting-zip : (h : List Note) (us : List Entry) (ms : List Member) → AllZip (IsMemberAfter h) us ms → sum_by (λ m. length m.waiting) ms ≡ sum_by (λ a. length (answers_of a.client (entries_of h)) - length (collects_of a.client (entries_of h))) us
-waiting-zip h [] [] z = refl
-waiting-zip h [] (m ∷ ms) z = absurd z
-waiting-zip h (a ∷ us) [] z = absurd z
-waiting-zip h (a ∷ us) (m ∷ ms) z =
-    sum_by-cons (λ m. length m.waiting) m ms ∙ ap (λ n. n + sum_by (λ m. length m.waiting) ms) (length-waiting h a m z.0)
-    ∙ ap (λ n. (length (answers_of a.client (entries_of h)) - length (collects_of a.client (entries_of h))) + n) (waiting-zip h us ms z.1)
+waiting-rows : (h : List Note) (us : List Entry) → sum_by (λ m. length m.waiting) (map (member_after h) us) ≡ sum_by (λ a. length (answers_of a.client (entries_of h)) - length (collects_of a.client (entries_of h))) us
+waiting-rows h [] = refl
+waiting-rows h (a ∷ us) =
+    sum_by-cons (λ (m : Member). length m.waiting) (member_after h a) (map (member_after h) us) ∙ ap (λ n. n + sum_by (λ m. length m.waiting) (map (member_after h) us)) (length-waiting h a)
+    ∙ ap (λ n. (length (answers_of a.client (entries_of h)) - length (collects_of a.client (entries_of h))) + n) (waiting-rows h us)
     ∙ sym (sum_by-cons (λ a. length (answers_of a.client (entries_of h)) - length (collects_of a.client (entries_of h))) a us)
 
 -- the size of a history is that of what the lane holds
 pub size_agrees : (h : List Note) (v : Content) → IsAfter h v → size (marks_of h) ≡ size_of v
 size_agrees h v a =
-    let w = waiting-zip h (present (entries_of h)) v.members a.members in
+    let w = ap (sum_by (λ m. length m.waiting)) a.members ∙ waiting-rows h (present (entries_of h)) in
     rw (← length-queue h v a, ← length-window h v a, ← length-members h v a, ← ap length a.entries, ← w, ← a.up) (omega arith)
-
--- the admit of a row that was found
-pub found_admit : (P : Entry → Type 0) (h : List Note) (c : ℕ) (m : Member) (us : List Entry) (ms : List Member) → AllZip (IsMemberAfter h) us ms → AllByRecursion P us → member_with c ms ≡ Some m → (a : Entry) × IsMemberAfter h a m × P a × (a.client ≡ c)
-found_admit P h c m [] [] z all found = cc
-found_admit P h c m [] (n ∷ ms) z all found = absurd z
-found_admit P h c m (a ∷ us) [] z all found = absurd z
-found_admit P h c m (a ∷ us) (n ∷ ms) z all found = found_admit_at (n.client == c) refl found (found_admit P h c m us ms z.1 all.1)
-  where
-    found_admit_at : (b : Bool) → (n.client == c) ≡ b → cond b (Some n) (member_with c ms) ≡ Some m → (member_with c ms ≡ Some m → (a : Entry) × IsMemberAfter h a m × P a × (a.client ≡ c)) → (a : Entry) × IsMemberAfter h a m × P a × (a.client ≡ c)
-    found_admit_at true e f later =
-        let same : n ≡ m = cc in
-        let Q : Member → Type 0 = λ x. IsMemberAfter h a x in
-        (a, subst Q same z.0, all.0, sym z.0.client ∙ eqb-true n.client c e)
-    found_admit_at false e f later = later f
 
 -- a client that is present was admitted and has not retired
 pub present_served : (es : List Entry) → AllByRecursion (λ a. (is_admitted a.by a.client es ≡ true) × (is_retired a.client es ≡ false)) (present es)

@@ -1,12 +1,12 @@
 -- A take takes a lane that agrees with a history to one that agrees with the longer history.
 use Rattle.std.specs.Option.{option_map}
 use Rattle.std.proofs.lemmas.Option.{slice_get-map}
-use Rattle.smx_history.proofs.FitsTake.{MayTake, takes_push, unanswered_taken, take_fit}
+use Rattle.smx_history.proofs.FitsTake.{MayTake, takes_push, unanswered_taken, take_fit, numbers_push}
 use Rattle.smx_history.proofs.Shifting.{IsLegal-next, IsLegal-within, stored-push}
 use Rattle.smx_history.proofs.Parts.{count_numbered}
 use Rattle.smx_history.proofs.Taking.{any-and, drop-split, drop-next, filter-and, none_before, filter_none, not_settled}
-use Rattle.std.proofs.Common.{slice_get, zero, ◌≡◌, ◌<◌, ◌≤◌, ◌+◌, ◌==◌, ℕ, Bool, true, false, cond, ◌||◌, ◌&&◌, List, [], ◌∷◌, ◌++◌, length, map, take, drop, refl, sym, ◌∙◌, ap, subst, arith, filter, count_by, length-append, length-drop, nat_eq, Some, None, suc}
-use Rattle.std.specs.List.{list_any, AllByRecursion, AllZip, cons_option}
+use Rattle.std.proofs.Common.{slice_get, zero, ◌≡◌, ◌<◌, ◌≤◌, ◌+◌, ◌==◌, ℕ, Bool, true, false, cond, ◌||◌, ◌&&◌, List, [], ◌∷◌, ◌++◌, length, map, take, drop, refl, sym, ◌∙◌, ap, subst, set, arith, filter, count_by, length-append, length-drop, nat_eq, Some, None, suc}
+use Rattle.std.specs.List.{list_any, AllByRecursion, cons_option}
 use Rattle.std.proofs.lemmas.List.{append-nil, length-map, map-append, take-map, drop-map}
 use Rattle.std.proofs.lemmas.List.Elements.{filter-append, filter_map-append}
 use Rattle.smx_history.proofs.Counts.{SameCounts-push, any-same}
@@ -16,19 +16,22 @@ use Rattle.smx_history.specs.declared.entry.Entry.{Entry}
 use Rattle.smx_history.specs.declared.request.Request.{Request}
 use Rattle.smx_history.specs.declared.place.Place.{Place}
 use Rattle.smx_history.specs.declared.note.Note.{Note}
-use Rattle.smx_history.specs.Prefixes.{AtEach, RiseAbove, first_or}
-use Rattle.smx_history.specs.Entries.{is_accept, is_collect, has_name, name_of, Name, accepts, takes, unanswered, own_of, command_of, is_settled, present}
-use Rattle.smx_history.specs.Legal.{IsFifo, IsOnce, IsPaired, owed}
-use Rattle.smx_history.specs.History.{entry_by, entry_in, note, marks_of, entries_of, requests, request_in, response_in}
-use Rattle.smx_history.specs.Contents.{AgreesWith, IsMemberAfter, Content, Member, place_of, window_after}
-use Rattle.smx_history.proofs.Updates.{taken, place_for}
+use Rattle.smx_history.specs.Prefixes.{RiseAbove, first_or}
+use Rattle.smx_history.specs.Entries.{is_accept, has_name, name_of, Name, accepts, takes, unanswered, own_of, command_of, is_settled, numbers}
+use Rattle.smx_history.specs.Legal.{IsFifo, IsOnce, owed}
+use Rattle.smx_history.specs.History.{entry_by, note, marks_of, entries_of, requests, request_in}
+use Rattle.smx_history.specs.Contents.{AgreesWith, Content, place_of, window_after}
+use Rattle.smx_history.proofs.Updates.{taken, place_for, following}
 use Rattle.smx_history.proofs.Growing.{filter_other, AtEachPrefix-whole}
-use Rattle.smx_history.proofs.Frames.{accepts-other, accepts_of-other, collects_of-other, admits-other, present-other, waiting-other, is_up-other}
-use Rattle.smx_history.proofs.Reading.{requests_are_accepts, unsigned, entries_of-push, marks_of-push, shown-kept, responses-other, All-to_map, All-of_map}
+use Rattle.smx_history.proofs.Frames.{accepts-other, admits-other, present-other, waiting-other, is_up-other}
+use Rattle.smx_history.proofs.Reading.{requests_are_accepts, unsigned, entries_of-push, marks_of-push, All-to_map, All-of_map}
 use Rattle.smx_history.proofs.Sizes.{length-window}
 use Rattle.smx_history.proofs.Places.{places-kept}
 use Rattle.smx_history.proofs.Moments.{moment_of-taken}
-use Rattle.smx_history.proofs.Numbering.{IsNumbered-taken, spaced_taken, IsNext as IsNextNumber}
+use Rattle.smx_history.proofs.Numbering.{numbered_taken, generations_taken, latest_taken, IsNext as IsNextNumber}
+use Rattle.smx_history.proofs.Spacing.{spaced_placed}
+use Rattle.smx_history.proofs.Rows.{row-other, rows-kept}
+use Rattle.smx_history.specs.Numbers.{place_in, generation_in, generations_after}
 
 -- the entry of the accept that is next to be taken
 pub record IsNext (es : List Entry) (r : Request) (y : Entry) (zs : List Entry) : Type 0 where
@@ -112,24 +115,6 @@ named_next es r y zs next once =
     ∙ ap (λ xs. xs ++ filter (has_name r.client r.ordinal) (y ∷ zs)) (filter_none (has_name r.client r.ordinal) (take n (accepts es)) (before_next es r y zs next once))
     ∙ ap (λ b. cond b (y ∷ filter (has_name r.client r.ordinal) zs) (filter (has_name r.client r.ordinal) zs)) here
 
-pub IsMemberAfter-other : (h : List Note) (n : Note) (e a : Entry) (m : Member) → entry_in n ≡ Some e → is_accept e.kind ≡ false → is_collect e.kind ≡ false → response_in a.client n.event ≡ None → AtEach (λ before e. IsPaired e.kind before e) (entries_of h) → IsMemberAfter h a m → IsMemberAfter (h ++ n ∷ []) a m
-IsMemberAfter-other h n e a m entry accept collect none paired is =
-    let es = entries_of h in
-    let push = entries_of-push h n e entry in
-    record {
-      client = is.client;
-      by = is.by;
-      last = rw (push, accepts_of-other a.client es e accept) is.last;
-      pending = rw (push, accepts_of-other a.client es e accept, collects_of-other a.client es e collect) is.pending;
-      waiting = rw (push, collects_of-other a.client es e collect, responses-other a.client h n none, shown-kept a.client h (e ∷ []) paired) is.waiting;
-    }
-
-pub zip-each : {X Y : Type 0} (R S : X → Y → Type 0) → ((x : X) (y : Y) → R x y → S x y) → (xs : List X) (ys : List Y) → AllZip R xs ys → AllZip S xs ys
-zip-each R S f [] [] z = z
-zip-each R S f [] (y ∷ ys) z = z
-zip-each R S f (x ∷ xs) [] z = z
-zip-each R S f (x ∷ xs) (y ∷ ys) z = (f x y z.0, zip-each R S f xs ys z.1)
-
 -- the numbers of the places are those of the unanswered takes
 places_numbers : (h : List Note) (us : List Entry) → map (λ (p : Place). p.upstream) (map (place_of h) us) ≡ map (λ e. e.number) us
 places_numbers h [] = refl
@@ -139,7 +124,7 @@ free_numbers : (u : ℕ) (xs : List ℕ) → list_any (λ k. nat_eq k u) xs ≡ 
 free_numbers u [] h = tt
 free_numbers u (x ∷ xs) h = let w = or_parts (nat_eq x u) (list_any (λ k. nat_eq k u) xs) h in (w.0, free_numbers u xs w.1)
 
-any-map : {X Y : Type 0} (p : Y → Bool) (f : X → Y) (xs : List X) → list_any p (map f xs) ≡ list_any (λ x. p (f x)) xs
+pub any-map : {X Y : Type 0} (p : Y → Bool) (f : X → Y) (xs : List X) → list_any p (map f xs) ≡ list_any (λ x. p (f x)) xs
 any-map p f [] = refl
 any-map p f (x ∷ xs) = ap (λ b. p (f x) || b) (any-map p f xs)
 
@@ -179,33 +164,38 @@ AgreesWith-taken_at h v by r rest u t y zs next a front may_be =
     let command : command_of r.client r.ordinal (entries_of (h ++ n ∷ [])) ≡ r.command =
     ap (command_of r.client r.ordinal) push ∙ ap (λ xs. first_or 0 (map (λ x. x.command) xs)) (filter_other (λ x. is_accept x.kind && has_name r.client r.ordinal x) es e refl ∙ named) ∙ next.command in
     let place : place_of (h ++ n ∷ []) e ≡ place_for r u t = cong_place own command (moment_of-taken r.client r.ordinal u t by h untaken) in
-    let numbers : list_any (λ k. nat_eq k u) (map (λ x. x.number) (unanswered es)) ≡ false =
+    let unused : list_any (λ k. nat_eq k u) (map (λ x. x.number) (unanswered es)) ≡ false =
     ap (list_any (λ k. nat_eq k u)) (sym (places_numbers h (unanswered es))) ∙ any-map (λ k. nat_eq k u) (λ (p : Place). p.upstream) (window_after h)
     ∙ any-same (λ (p : Place). p.upstream == u) (window_after h) v.window a.after.window may_be.free in
+    let here : IsNextNumber v.limits.window (generations_after v.limits.window (numbers es)) u = subst (λ gs. IsNextNumber v.limits.window gs u) a.after.generations may_be.next in
+    let numbered = numbered_taken v.limits.window u (numbers es) a.numbered here in
+    let grown : numbers (entries_of (h ++ n ∷ [])) ≡ numbers es ++ u ∷ [] = ap numbers push ∙ numbers_push es e refl in
     let may : MayTake v.limits es e = record {
       command = refl;
       positive = may_be.positive;
       within = may_be.within;
       next = next_name es r y zs next;
       first = untaken;
-      free = count_numbered u (unanswered es) (free_numbers u (map (λ x. x.number) (unanswered es)) numbers);
+      free = count_numbered u (unanswered es) (free_numbers u (map (λ x. x.number) (unanswered es)) unused);
       window = omega (arith, length-window h v a.after, may_be.room);
       up = sym a.after.up ∙ may_be.up;
-      spaced = spaced_taken h by r.client r.ordinal u t v.limits.window v.generations v.latest a.after.numbers may_be.next;
+      spaced = spaced_placed (numbers es ++ u ∷ []) numbered.placed;
     } in
     let window : window_after (h ++ n ∷ []) ≡ window_after h ++ place_for r u t ∷ [] =
     ap (map (place_of (h ++ n ∷ []))) (ap unanswered push ∙ unanswered_taken es e refl unsettled)
     ∙ map-append (place_of (h ++ n ∷ [])) (unanswered es) (e ∷ []) ∙ ap (λ xs. xs ++ place_of (h ++ n ∷ []) e ∷ []) (places-kept h (n ∷ []) fifo) ∙ ap (λ x. window_after h ++ x ∷ []) place in
     record {
       legal = rw (marks_of-push h n e refl) (IsLegal-next v.limits (marks_of h) e a.legal (take_fit v.limits es e a.legal.rules refl may) (let was = IsLegal-within v.limits (marks_of h) a.legal in omega (arith, owed-taken es by r u t unsettled (next-lt es r y zs next), was)));
+      numbered = rw grown numbered;
       after = record {
+        limits = refl;
         queue = rw (push, takes_push es e refl, requests-other h n refl) (queue_taken (length (takes es)) (takes es) e v.queue (requests h) r rest refl front a.after.queue);
         window = λ test. SameCounts-push (window_after h) v.window (place_for r u t) a.after.window test ∙ ap (count_by test) (sym window);
-        members = rw (push, present-other es e refl refl)
-            (zip-each (IsMemberAfter h) (IsMemberAfter (h ++ n ∷ [])) (λ x m is. IsMemberAfter-other h n e x m refl refl refl refl a.legal.rules.pairing is) (present es) v.members a.after.members);
+        members = rows-kept h n e v refl refl refl a.after (λ x. row-other h n e x refl refl refl refl a.legal.rules.pairing);
         greatest = rw (push, admits-other es e refl) a.after.greatest;
         up = rw (push, is_up-other es e refl) a.after.up;
-        numbers = IsNumbered-taken h by r.client r.ordinal u t v.limits.window v.generations v.latest a.after.numbers may_be.next;
+        generations = ap (λ gs. set gs (place_in u) (following (generation_in u))) a.after.generations ∙ generations_taken v.limits.window u (numbers es) here ∙ ap (generations_after v.limits.window) (sym grown);
+        latest = sym (latest_taken h by r.client r.ordinal u t);
         entries = rw (marks_of-push h n e refl, stored-push (marks_of h) e) (ap (λ xs. xs ++ e ∷ []) a.after.entries);
       };
     }

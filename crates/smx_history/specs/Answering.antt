@@ -13,7 +13,7 @@ use Rattle.smx_history.specs.Contents.{Content, Member, AgreesWith}
 use Rattle.smx_history.specs.declared.reply.Failed.{Failed}
 use Rattle.smx_history.specs.declared.reply.Failed.TheVariants as failed
 use Rattle.smx_history.specs.Failures.{failure_command}
-use Rattle.smx_history.specs.Replies.{answers_place, member_with, expired_in}
+use Rattle.smx_history.specs.Replies.{answers_place, member_with, waiting_in, expired_in}
 
 -- queued where the client of the place is present, late where it has retired, unknown where no place is answered
 abbrev pub IsAnswered : Content → ℕ → Pdu → Answered → Content → Type 0
@@ -27,8 +27,7 @@ IsAnswered old by p (Unknown back) new = (find (answers_place p) old.window ≡ 
 
 -- the response that a row gives next
 abbrev pub oldest_in : Option Member → Option Response
-oldest_in None = None
-oldest_in (Some m) = slice_get m.waiting 0
+oldest_in row = slice_get (waiting_in row) 0
 
 -- the oldest response, or none where none waits or there is no row
 abbrev pub IsCollected : Content → ℕ → ℕ → Option Pdu → Content → Type 0

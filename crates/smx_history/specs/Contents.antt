@@ -1,13 +1,12 @@
 -- What a lane holds, and what it holds after a history.
-use Rattle.std.specs.Prelude.{◌≡◌, ◌+◌, ◌*◌, ◌<◌, ℕ, slice_get, Some, List, map, drop, length, sum_by, Bool, if◌then◌else◌}
-use Rattle.std.specs.List.{AllZip, AllByRecursion}
+use Rattle.std.specs.Prelude.{◌≡◌, ◌+◌, ◌-◌, ◌*◌, ℕ, List, map, drop, length, sum_by, Bool, if◌then◌else◌}
 use Rattle.smx_history.specs.declared.entry.Entry.{Entry}
 use Rattle.smx_history.specs.declared.limits.Limits.{Limits}
 use Rattle.smx_history.specs.declared.request.Request.{Request}
 use Rattle.smx_history.specs.declared.note.Note.{Note}
 use Rattle.smx_history.specs.Prefixes.{last_or, SameCounts}
 use Rattle.smx_history.specs.Entries.{admits, takes, accepts_of, collects_of, unanswered, own_of, command_of, present, is_up, numbers}
-use Rattle.smx_history.specs.Numbers.{place_in, generation_after, ArePlaced}
+use Rattle.smx_history.specs.Numbers.{generations_after, AreNumbered}
 use Rattle.smx_history.specs.Legal.{IsLegal}
 use Rattle.smx_history.specs.declared.place.Place.{Place}
 use Rattle.smx_history.specs.declared.response.Response.{Response}
@@ -58,12 +57,19 @@ place_of h t =
     }
 
 -- the row of a client after a history, which has this admit
-pub record IsMemberAfter (h : List Note) (admit : Entry) (m : Member) : Type 0 where
-  pub client : m.client ≡ admit.client
-  pub by : m.by ≡ admit.by
-  pub last : m.last ≡ last_or 0 (map (λ e. e.ordinal) (accepts_of admit.client (entries_of h)))
-  pub pending : length (accepts_of admit.client (entries_of h)) ≡ length (collects_of admit.client (entries_of h)) + m.pending
-  pub waiting : m.waiting ≡ drop (length (collects_of admit.client (entries_of h))) (map (shown (entries_of h) admit.client) (responses admit.client h))
+abbrev pub member_after : List Note → Entry → Member
+member_after h admit =
+    record {
+      client = admit.client;
+      by = admit.by;
+      last = last_or 0 (map (λ e. e.ordinal) (accepts_of admit.client (entries_of h)));
+      pending = length (accepts_of admit.client (entries_of h)) - length (collects_of admit.client (entries_of h));
+      waiting = drop (length (collects_of admit.client (entries_of h))) (map (shown (entries_of h) admit.client) (responses admit.client h));
+    }
+
+-- the rows of the clients that are present
+abbrev pub members_after : List Note → List Member
+members_after h = map (member_after h) (present (entries_of h))
 
 -- what is queued after a history: the requests accepted, without those taken
 abbrev pub queue_after : List Note → List Request
@@ -77,26 +83,41 @@ window_after h = map (place_of h) (unanswered (entries_of h))
 abbrev pub greatest_after : List Note → ℕ
 greatest_after h = last_or 0 (map (λ e. e.client) (admits (entries_of h)))
 
--- the takes bear a place below the window's size and its generation in turn; the content has each place's next generation, and the last take's moment
-pub record IsNumbered (h : List Note) (window : ℕ) (generations : List ℕ) (last : ℕ) : Type 0 where
-  pub within : AllByRecursion (λ u. place_in u < window) (numbers (entries_of h))
-  pub placed : ArePlaced (numbers (entries_of h))
-  pub next : (k : ℕ) → k < window → slice_get generations k ≡ Some (generation_after k (numbers (entries_of h)))
-  pub latest : last ≡ latest_after h
+-- what a lane of these limits holds after a history, its window in the order of the takes
+abbrev pub content_after : Limits → List Note → Content
+content_after limits h =
+    record {
+      limits = limits;
+      queue = queue_after h;
+      window = window_after h;
+      members = members_after h;
+      greatest = greatest_after h;
+      up = is_up (entries_of h);
+      generations = generations_after limits.window (numbers (entries_of h));
+      latest = latest_after h;
+      entries = stored_of h;
+    }
 
--- the content is what the history leaves
-pub record IsAfter (h : List Note) (content : Content) : Type 0 where
-  pub queue : content.queue ≡ queue_after h
-  pub window : SameCounts (window_after h) content.window
-  pub members : AllZip (IsMemberAfter h) (present (entries_of h)) content.members
-  pub greatest : content.greatest ≡ greatest_after h
-  pub up : content.up ≡ is_up (entries_of h)
-  pub numbers : IsNumbered h content.limits.window content.generations content.latest
-  pub entries : content.entries ≡ stored_of h
+-- the same content, but for the order of the window
+pub record IsReordered (one other : Content) : Type 0 where
+  pub limits : other.limits ≡ one.limits
+  pub queue : other.queue ≡ one.queue
+  pub window : SameCounts one.window other.window
+  pub members : other.members ≡ one.members
+  pub greatest : other.greatest ≡ one.greatest
+  pub up : other.up ≡ one.up
+  pub generations : other.generations ≡ one.generations
+  pub latest : other.latest ≡ one.latest
+  pub entries : other.entries ≡ one.entries
 
--- the history is legal, and the content is what it leaves
+-- the content is what the history leaves, but for the order of the window
+abbrev pub IsAfter : List Note → Content → Type 0
+IsAfter h content = IsReordered (content_after content.limits h) content
+
+-- the history is legal, its takes bear the places of the window in turn, and the content is what it leaves
 pub record AgreesWith (h : List Note) (content : Content) : Type 0 where
   pub legal : IsLegal content.limits (marks_of h)
+  pub numbered : AreNumbered content.limits.window (numbers (entries_of h))
   pub after : IsAfter h content
 
 -- entries, and what may still follow from what is there

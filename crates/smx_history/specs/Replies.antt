@@ -8,6 +8,7 @@ use Rattle.smx_history.specs.declared.reply.Refusal.TheVariants.{NotAdmitted, Cl
 use Rattle.smx_pdu.specs.declared.pdu.Pdu.{Pdu}
 use Rattle.smx_pdu.specs.Command.{is_response_to}
 use Rattle.smx_history.specs.declared.place.Place.{Place}
+use Rattle.smx_history.specs.declared.response.Response.{Response}
 use Rattle.smx_history.specs.declared.reply.TakeRefusal.{TakeRefusal}
 use Rattle.smx_history.specs.declared.reply.TakeRefusal.TheVariants.{QueueEmpty, WindowFull, Down as TakeDown}
 use Rattle.smx_history.specs.declared.reply.FailRefusal.{FailRefusal}
@@ -19,6 +20,11 @@ use Rattle.smx_history.specs.Contents.{Content, Member, size_of}
 -- the client's row
 abbrev pub member_with : ℕ → List Member → Option Member
 member_with c ms = find (λ m. m.client == c) ms
+
+-- the responses that wait in a row, the oldest first; none where there is no row
+abbrev pub waiting_in : Option Member → List Response
+waiting_in None = []
+waiting_in (Some m) = m.waiting
 
 -- there is room for one more accept or admit, and all that follows from it
 abbrev pub has_room : Content → Bool

@@ -1,5 +1,5 @@
 -- A window in another order: what a lane keeps and what it agrees with stays.
-use Rattle.std.proofs.Common.{◌==◌, List, ◌∙◌, arith}
+use Rattle.std.proofs.Common.{◌==◌, List, refl, ◌∙◌, arith}
 use Rattle.smx_history.specs.declared.place.Place.{Place}
 use Rattle.smx_history.specs.declared.note.Note.{Note}
 use Rattle.smx_history.specs.Prefixes.{SameCounts}
@@ -26,13 +26,16 @@ KeepsRoom-reordered v window same k =
 pub AgreesWith-reordered : (h : List Note) (v : Content) (window : List Place) → SameCounts v.window window → AgreesWith h v → AgreesWith h (record v { window = window })
 AgreesWith-reordered h v window same a = record {
   legal = a.legal;
+  numbered = a.numbered;
   after = record {
+    limits = refl;
     queue = a.after.queue;
     window = λ test. same test ∙ a.after.window test;
     members = a.after.members;
     greatest = a.after.greatest;
     up = a.after.up;
-    numbers = a.after.numbers;
+    generations = a.after.generations;
+    latest = a.after.latest;
     entries = a.after.entries;
   };
 }

@@ -1,5 +1,5 @@
 -- Collecting what waits on a lane, one response after another.
-use Rattle.std.proofs.Common.{◌≡◌, ◌<◌, ℕ, List, [], ◌∷◌, ◌++◌, length, map, drop, refl, sym, ◌∙◌, ap, subst, arith, Option, Some, None, slice_get, append_assoc}
+use Rattle.std.proofs.Common.{◌≡◌, ◌<◌, ℕ, List, [], ◌∷◌, ◌++◌, length, map, drop, refl, sym, ◌∙◌, ap, subst, arith, Some, None, slice_get, append_assoc}
 use Rattle.std.specs.List.{flat_map, AllByRecursion}
 use Rattle.std.proofs.lemmas.List.{append-nil, map_push}
 use Rattle.std.proofs.lemmas.Grind.{flat_map-append}
@@ -8,13 +8,13 @@ use Rattle.smx_history.specs.declared.note.Note.{Note}
 use Rattle.smx_history.specs.declared.note.Event.TheVariants.{Collect}
 use Rattle.smx_history.specs.declared.response.Response.{Response}
 use Rattle.smx_history.specs.History.{note, entries_of, entry_by}
-use Rattle.smx_history.specs.Contents.{AgreesWith, Content, Member}
-use Rattle.smx_history.specs.Replies.{member_with}
+use Rattle.smx_history.specs.Contents.{AgreesWith, Content}
+use Rattle.smx_history.specs.Replies.{member_with, waiting_in}
 use Rattle.smx_history.specs.Answering.{IsCollected}
 use Rattle.smx_history.specs.Finding.{waiting_after}
 use Rattle.smx_history.proofs.Growing.{All-push}
 use Rattle.smx_history.proofs.Reading.{entries_of-push}
-use Rattle.smx_history.proofs.Finding.{waiting-collected, oldest_same, row_found, absent, waiting_absent}
+use Rattle.smx_history.proofs.Finding.{waiting-collected, waiting_same, oldest_same}
 use Rattle.smx_relay.specs.Texts.{pdu_line, to_client}
 use Rattle.smx_relay.specs.Relay.{collect_text, collected}
 use Rattle.smx_relay.specs.Private.OnLane.{TurnsLane, AreOurs}
@@ -25,18 +25,6 @@ collects c rs = map (λ (r : Response). note 0 (Collect c r.ordinal)) rs
 
 unfoldable pub lines : ℕ → List Response → List ℕ
 lines c rs = flat_map (λ (r : Response). pdu_line (to_client c) r.pdu) rs
-
--- what waits for the client in a lane
-abbrev pub box_of : Option Member → List Response
-box_of None = []
-box_of (Some m) = m.waiting
-
-pub box_same : (h : List Note) (v : Content) (c : ℕ) → AgreesWith h v → box_of (member_with c v.members) ≡ waiting_after h c
-box_same h v c a =
-    (elim (member_with c v.members) as (λ o. member_with c v.members ≡ o → box_of o ≡ waiting_after h c) [
-      | None ↦ λ found. sym (waiting_absent h c (absent h v c a found))
-      | Some m ↦ λ found. (row_found h v c m a found).waiting
-    ]) refl
 
 -- some responses were collected and printed, and the rest waits
 pub record IsCollecting (c : ℕ) (h : List Note) (v : Content) (text : List ℕ) (done rest : List Response) : Type 0 where
@@ -104,11 +92,11 @@ fed_more c v new p got fed =
     let n = note 0 (Collect c got.0.ordinal) in
     (fed.0 ++ n ∷ [], got.3 fed.0 fed.1, subst (AllByRecursion (λ e. e.by ≡ 0)) (sym (entries_of-push fed.0 n (entry_by 0 (Collect c got.0.ordinal)) refl)) (All-push (λ e. e.by ≡ 0) (entries_of fed.0) (entry_by 0 (Collect c got.0.ordinal)) fed.2 refl))
 
-pub box_smaller : (c : ℕ) (v new : Content) (p : Pdu) → IsCollected v 0 c (Some p) new → IsFed v → length (box_of (member_with c new.members)) < length (box_of (member_with c v.members))
+pub box_smaller : (c : ℕ) (v new : Content) (p : Pdu) → IsCollected v 0 c (Some p) new → IsFed v → length (waiting_in (member_with c new.members)) < length (waiting_in (member_with c v.members))
 box_smaller c v new p got fed =
     let h = fed.0 in
     let longer = got.3 h fed.1 in
-    let was = box_same h v c fed.1 in
+    let was = waiting_same h v c fed.1 in
     let front = first_of (waiting_after h c) got.0 (sym (oldest_same h v c fed.1) ∙ got.1) in
-    let is : box_of (member_with c new.members) ≡ drop 1 (waiting_after h c) = box_same (h ++ note 0 (Collect c got.0.ordinal) ∷ []) new c longer ∙ waiting-collected h v 0 c got.0.ordinal fed.1 in
+    let is : waiting_in (member_with c new.members) ≡ drop 1 (waiting_after h c) = waiting_same (h ++ note 0 (Collect c got.0.ordinal) ∷ []) new c longer ∙ waiting-collected h v 0 c got.0.ordinal fed.1 in
     omega (arith, ap length is, ap length was, ap length front)

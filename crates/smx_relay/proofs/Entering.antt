@@ -22,7 +22,7 @@ use Rattle.smx_history.proofs.Growing.{AtEach-init, any_push, any_other, filter_
 use Rattle.smx_history.proofs.Reading.{entries_of-push}
 use Rattle.smx_history.proofs.Unseen.{none_admitted, unseen}
 use Rattle.smx_history.proofs.Presence.{present_admitted}
-use Rattle.smx_history.proofs.Finding.{admit_refusal_same, absent}
+use Rattle.smx_history.proofs.Finding.{admit_refusal_same, absent, is_present-any}
 use Rattle.smx_relay.specs.Relay.{entered, entered_and_left, collect_text, collected}
 use Rattle.smx_relay.specs.Private.OnLane.{OnLane, TurnsLane, AreOurs}
 use Rattle.smx_relay.specs.Private.Agrees.{AreOn, AreReached, Enters, HaveEntered}
@@ -164,7 +164,7 @@ entered_present h v c a =
     let rise = rise_split 0 (map (λ x. x.client) (admits es)) c (subst (RiseAbove 0) grown legal.membership.clients) in
     let none = none_admitted es c rise.0 rise.1 in
     let new = unseen c es (AtEach-init (λ before x. StandsWell x.kind before x) es e legal.standing) (AtEach-init (λ before x. IsPaired x.kind before x) es e legal.pairing) none in
-    ap (λ xs. list_any (λ x. x.client == c) (present xs)) push ∙ ap (list_any (λ x. x.client == c)) (present_admitted es e refl new.retired) ∙ any_push (λ (x : Entry). x.client == c) (present es) e (eq-eqb c c refl)
+    is_present-any (entered c h) c ∙ ap (λ xs. list_any (λ x. x.client == c) (present xs)) push ∙ ap (list_any (λ x. x.client == c)) (present_admitted es e refl new.retired) ∙ any_push (λ (x : Entry). x.client == c) (present es) e (eq-eqb c c refl)
 
 member_there : (c : ℕ) (h : List Note) (lane : Content) → AgreesWith (entered c h) lane → (o : Option Member) → member_with c lane.members ≡ o → IsSome o
 member_there c h lane a (Some m) e = search rules

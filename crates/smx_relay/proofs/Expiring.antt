@@ -19,7 +19,7 @@ use Rattle.smx_history.specs.Finding.{is_present}
 use Rattle.smx_history.specs.Replies.{expired_in, is_expired, member_with, moment_at}
 use Rattle.smx_history.proofs.AdmitAgrees.{empty_of}
 use Rattle.smx_history.proofs.Counts.{count_and-le, count_by-filter, count_by-push, count_by-remove}
-use Rattle.smx_history.proofs.Finding.{absent, row_found}
+use Rattle.smx_history.proofs.Finding.{absent, found_present, is_present-any}
 use Rattle.smx_history.proofs.FitsSettle.{settles_fail}
 use Rattle.smx_history.proofs.Frames.{present-other}
 use Rattle.smx_history.proofs.Growing.{All-push}
@@ -38,7 +38,7 @@ present_failing h [] c = ap (is_present c) (append-nil h)
 present_failing h (q ∷ qs) c =
     ap (is_present c) (sym (append_assoc h (failing 0 q ∷ []) (map (failing 0) qs)))
     ∙ present_failing (h ++ failing 0 q ∷ []) qs c
-    ∙ ap (list_any (λ a. a.client == c)) (ap present (entries_of-push h (failing 0 q) (failing_entry 0 q) refl) ∙ present-other (entries_of h) (failing_entry 0 q) refl refl)
+    ∙ is_present-any (h ++ failing 0 q ∷ []) c ∙ ap (list_any (λ a. a.client == c)) (ap present (entries_of-push h (failing 0 q) (failing_entry 0 q) refl) ∙ present-other (entries_of h) (failing_entry 0 q) refl refl) ∙ sym (is_present-any h c)
 
 latest_failing : (h : List Note) (qs : List Place) → latest_after (h ++ map (failing 0) qs) ≡ latest_after h
 latest_failing h [] = ap latest_after (append-nil h)
@@ -100,7 +100,7 @@ record Fails (v new : Content) (q : Place) (r : Failed) : Type 0 where
 
 here_told : (v : Content) (q : Place) (g : List Note) (o : Option Member) → AgreesWith g v → member_with q.client v.members ≡ o → is_some o ≡ true → Queued q.client ≡ failed_to g q
 here_told v q g None a found some = absurd (let z : false ≡ true = some in cc)
-here_told v q g (Some m) a found some = rw (row_found g v q.client m a found).present refl
+here_told v q g (Some m) a found some = rw (found_present g v q.client m a found) refl
 
 fails_of : (moment age : ℕ) (v new : Content) (r : Failed) (x : IsExpired v 0 moment age r new) → Fails v new x.0 r
 fails_of moment age v new (Queued c) x = record {
@@ -120,7 +120,7 @@ expiring_more moment age old v new r text more all x line e so_far h a =
     let f = fails_of moment age v new r x in
     let longer = f.agrees g is.agrees in
     let left = window-settled g v (failing 0 q) (failing_entry 0 q) q at.0 is.agrees refl (settles_fail kind.Fail refl) refl refl at.1.within at.1.is in
-    let now : moment_at v moment ≡ moment_on moment h = ap (max moment) (is.agrees.after.numbers.latest ∙ latest_failing h qs) in
+    let now : moment_at v moment ≡ moment_on moment h = ap (max moment) (is.agrees.after.latest ∙ latest_failing h qs) in
     let told : r ≡ failed_to h q = f.told g is.agrees ∙ ap (λ b. if b then Queued q.client else Late) (present_failing h qs q.client) in
     let history : h ++ map (failing 0) (qs ++ q ∷ []) ≡ g ++ failing 0 q ∷ [] =
     ap (λ ns. h ++ ns) (map_push (failing 0) qs q) ∙ sym (append_assoc h (map (failing 0) qs) (failing 0 q ∷ [])) in
@@ -172,7 +172,7 @@ expiring_end at moment age old now new text printed up none same limits so_far e
     let is = y.1 in
     let aged = is_expired (moment_on moment h) age in
     let up' : is_up (entries_of h) ≡ true = sym a.after.up ∙ up in
-    let at_now : moment_at now moment ≡ moment_on moment h = ap (max moment) (is.agrees.after.numbers.latest ∙ latest_failing h qs) in
+    let at_now : moment_at now moment ≡ moment_on moment h = ap (max moment) (is.agrees.after.latest ∙ latest_failing h qs) in
     let rest : count_by aged now.window ≡ 0 = none_found aged now.window (subst (λ m. find (is_expired m age) now.window ≡ None) at_now none) in
     let counts : SameCounts (filter aged (window_after h)) qs = λ test. omega (
       arith,

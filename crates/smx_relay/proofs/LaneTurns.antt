@@ -18,7 +18,7 @@ use Rattle.smx_history.specs.Replies.{moment_at, take_refusal}
 use Rattle.smx_history.specs.Answering.{IsAnswered}
 use Rattle.smx_history.specs.Finding.{IsFree, is_present, place_answered}
 use Rattle.smx_history.proofs.Counts.{length-same}
-use Rattle.smx_history.proofs.Finding.{some_free, taken_free, place_same, absent, row_found}
+use Rattle.smx_history.proofs.Finding.{some_free, taken_free, place_same, absent, found_present}
 use Rattle.smx_relay.specs.Texts.{text_line, pdu_line, up_lane, upstream_of, down_line}
 use Rattle.smx_relay.specs.Relay.{moment_on, take_with, take_on, back_on}
 use Rattle.smx_relay.specs.Private.OnLane.{TurnsLane}
@@ -59,7 +59,7 @@ pub took : (h : List Note) (old new : Content) (at moment u : ℕ) (r : Request)
     → text ≡ pdu_line (up_lane at) (upstream_of r u) → (n : ℕ) × IsFree h n × TurnsLane (take_on old.limits moment n at h) old new text
 unfolding take_on
 took h old new at moment u r text a taken front goes limits e =
-    let now : moment_at old moment ≡ moment_on moment h = ap (max moment) a.after.numbers.latest in
+    let now : moment_at old moment ≡ moment_on moment h = ap (max moment) a.after.latest in
     let longer = subst (λ t. AgreesWith (h ++ note 0 (event.Take r.client r.ordinal u t) ∷ []) new) now (goes h a) in
     let free = taken_free h new 0 r.client r.ordinal u (moment_on moment h) (subst (λ l. IsLegal l (marks_of h)) (sym limits) a.legal) longer in
     let there = first_of_queue old.queue r front in
@@ -104,7 +104,7 @@ pub answered_queued : (h : List Note) (old new : Content) (p : Pdu) (c : ℕ) (t
 unfolding back_on
 answered_queued h old new p c text a x limits e =
     let found : place_answered h p ≡ Some x.0 = sym (place_same h old p a) ∙ x.2 in
-    let here : is_present x.0.client h ≡ true = subst (λ d. is_present d h ≡ true) (sym x.3) (row_found h old c x.1 a x.4).present in
+    let here : is_present x.0.client h ≡ true = subst (λ d. is_present d h ≡ true) (sym x.3) (found_present h old c x.1 a x.4) in
     rw (found, here) (record { text = e ∙ ap (λ d. text_line (codes "queued " ++ decimal d)) (sym x.3); agrees = x.5 h a; limits_are = limits })
 
 pub answered_late : (h : List Note) (old new : Content) (p : Pdu) (text : List ℕ) → AgreesWith h old → IsAnswered old 0 p Late new → new.limits ≡ old.limits

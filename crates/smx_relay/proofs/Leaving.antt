@@ -6,7 +6,7 @@ use Rattle.smx_history.specs.declared.note.Event.TheVariants.{Retire}
 use Rattle.smx_history.specs.History.{note}
 use Rattle.smx_history.specs.Contents.{AgreesWith, Content, Member}
 use Rattle.smx_history.specs.Replies.{member_with}
-use Rattle.smx_history.proofs.Finding.{absent, row_found}
+use Rattle.smx_history.proofs.Finding.{absent, found_present}
 use Rattle.smx_lane.specs.declared.fault.NotAdmitted.{NotAdmitted}
 use Rattle.smx_relay.specs.Relay.{left}
 use Rattle.smx_relay.specs.Private.OnLane.{OnLane}
@@ -22,8 +22,7 @@ Leaves c lane after = (limits : Limits) (clients : List (Option ℕ)) (h : List 
 leaves_found : (c : ℕ) (lane after : Content) (o : Option Member) → member_with c lane.members ≡ o → IsSome o → ((h : List Note) → AgreesWith h lane → AgreesWith (h ++ note 0 (Retire c) ∷ []) after) → after.limits ≡ lane.limits → Leaves c lane after
 leaves_found c lane after None found some goes kept limits clients h on = absurd (search rules)
 leaves_found c lane after (Some m) found some goes kept limits clients h on =
-    let row = row_found h lane c m on.agrees found in
-    rw row.present (record { agrees = goes h on.agrees; limits_are = kept ∙ on.limits_are; own = own_retired clients c h on.own })
+    rw (found_present h lane c m on.agrees found) (record { agrees = goes h on.agrees; limits_are = kept ∙ on.limits_are; own = own_retired clients c h on.own })
 
 leaves_absent : (c : ℕ) (lane after : Content) → member_with c lane.members ≡ None → after ≡ lane → Leaves c lane after
 leaves_absent c lane after none same limits clients h on = rw (absent h lane c on.agrees none) (subst (OnLane limits clients h) (sym same) on)

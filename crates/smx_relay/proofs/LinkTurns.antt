@@ -1,6 +1,6 @@
 -- The link of a lane is lost, and there is one again: turns of the whole state.
-use Rattle.std.proofs.Common.{◌≡◌, ◌<◌, ◌≤◌, ◌+◌, ◌==◌, ◌&&◌, ◌++◌, ◌∷◌, ℕ, Bool, true, false, List, [], length, set, get_or, refl, sym, ◌∙◌, ap, subst, arith, Option, Some, None, slice_get}
-use Rattle.std.specs.Prelude.{nat_le, not, if◌then◌else◌}
+use Rattle.std.proofs.Common.{◌≡◌, ◌<◌, ◌≤◌, ◌==◌, ◌&&◌, ◌++◌, ◌∷◌, ℕ, Bool, true, false, List, [], length, set, get_or, refl, sym, ◌∙◌, ap, subst, arith, Option, Some, None, slice_get}
+use Rattle.std.specs.Prelude.{not, if◌then◌else◌}
 use Rattle.std.specs.Global.{Vec}
 use Rattle.std.specs.List.{AllZip}
 use Rattle.std.proofs.lemmas.Option.{slice_get_past}
@@ -13,10 +13,10 @@ use Rattle.smx_history.specs.Prefixes.{SameCounts}
 use Rattle.smx_history.specs.Entries.{is_up}
 use Rattle.smx_history.specs.History.{entries_of, note}
 use Rattle.smx_history.specs.Contents.{AgreesWith, Content, window_after}
+use Rattle.smx_history.proofs.Finding.{has_room_same}
 use Rattle.smx_history.specs.Finding.{has_room_after}
 use Rattle.smx_history.specs.Replies.{has_room, up_refusal}
 use Rattle.smx_history.proofs.Counts.{length-same}
-use Rattle.smx_history.proofs.Sizes.{size_agrees}
 use Rattle.smx_relay.specs.declared.state.State.{State}
 use Rattle.smx_relay.specs.Texts.{bound_line, down_line, unbound_line}
 use Rattle.smx_relay.specs.Links.{CentreLink, bound_centre}
@@ -117,7 +117,7 @@ bound_nowhere old new s i a past = rw (no_history old s i a past) tt
 
 may_rise_same : (h : List Note) (v : Content) → AgreesWith h v → may_rise v.limits h ≡ ((length v.window == 0) && has_room v)
 may_rise_same h v a =
-    let room : has_room_after v.limits h ≡ has_room v = ap (λ n. nat_le (n + 4) v.limits.history) (size_agrees h v a.after) in
+    let room : has_room_after v.limits h ≡ has_room v = sym (has_room_same h v a) in
     ap (λ n. (n == 0) && has_room_after v.limits h) (sym (length-same (window_after h) v.window a.after.window)) ∙ ap (λ b. (length v.window == 0) && b) room
 
 -- by the three tests

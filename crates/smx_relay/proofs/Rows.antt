@@ -1,27 +1,21 @@
 -- The rows of a lane that only the one caller fed.
-use Rattle.std.proofs.Common.{◌≡◌, ◌<◌, ◌≤◌, ◌+◌, ◌==◌, ◌&&◌, ℕ, Bool, true, false, cond, not, List, [], ◌∷◌, map, refl, sym, ◌∙◌, ap, subst, arith, Option, Some}
+use Rattle.std.proofs.Common.{◌≡◌, ◌<◌, ◌≤◌, ◌+◌, ◌==◌, ◌&&◌, ℕ, Bool, true, false, cond, not, List, [], ◌∷◌, map, refl, ◌∙◌, ap, subst, arith, Option, Some}
 use Rattle.std.specs.Prelude.{unwrap_or}
-use Rattle.std.specs.List.{AllByRecursion, AllZip}
+use Rattle.std.specs.List.{AllByRecursion}
 use Rattle.std.proofs.lemmas.Bool.{eqb-true, and_parts}
 use Rattle.smx_history.specs.declared.entry.Entry.{Entry}
 use Rattle.smx_history.specs.declared.note.Note.{Note}
 use Rattle.smx_history.specs.Prefixes.{last_or}
 use Rattle.smx_history.specs.Entries.{is_accept, is_admit, is_retired, accepts_of, admits, present}
 use Rattle.smx_history.specs.History.{entries_of}
-use Rattle.smx_history.specs.Contents.{AgreesWith, Content, IsMemberAfter, Member}
+use Rattle.smx_history.specs.Contents.{AgreesWith, Content}
 use Rattle.smx_history.proofs.Reading.{All-kept, All-each}
+use Rattle.smx_history.proofs.Rows.{each_row}
 use Rattle.smx_relay.specs.Relay.{last_of}
 use Rattle.smx_relay.specs.Private.OnLane.{IsOwn, AreOwn, AreOurs}
 
 pub ours_of_own : (clients : List (Option ℕ)) (h : List Note) → AreOwn clients h → AreOurs h
 ours_of_own clients h own = All-each (IsOwn clients) (λ e. e.by ≡ 0) (λ e is. is.by) (entries_of h) own
-
--- what holds of each admit, and of each row by its admit, holds of each row
-zip-rows : (P : Entry → Type 0) (Q : Member → Type 0) (h : List Note) (us : List Entry) (ms : List Member) → ((a : Entry) (m : Member) → P a → IsMemberAfter h a m → Q m) → AllByRecursion P us → AllZip (IsMemberAfter h) us ms → AllByRecursion Q ms
-zip-rows P Q h [] [] each all z = tt
-zip-rows P Q h [] (m ∷ ms) each all z = absurd z
-zip-rows P Q h (a ∷ us) [] each all z = absurd z
-zip-rows P Q h (a ∷ us) (m ∷ ms) each all z = (each a m all.0 z.0, zip-rows P Q h us ms each all.1 z.1)
 
 ours_present : (h : List Note) → AreOurs h → AllByRecursion (λ e. e.by ≡ 0) (present (entries_of h))
 ours_present h ours =
@@ -30,7 +24,7 @@ ours_present h ours =
 -- each row is the one caller's
 pub rows_ours : (h : List Note) (v : Content) (c : ℕ) → AgreesWith h v → AreOurs h → AllByRecursion (λ m. m.client ≡ c → m.by ≡ 0) v.members
 rows_ours h v c a ours =
-    zip-rows (λ e. e.by ≡ 0) (λ m. m.client ≡ c → m.by ≡ 0) h (present (entries_of h)) v.members (λ e m by row. λ _. row.by ∙ by) (ours_present h ours) a.after.members
+    each_row (λ e. e.by ≡ 0) (λ m. m.client ≡ c → m.by ≡ 0) h v (λ e by _. by) (ours_present h ours) a.after
 
 -- the last of numbers up to n is up to n
 last_up_to : (low n : ℕ) (xs : List ℕ) → low ≤ n → AllByRecursion (λ x. x ≤ n) xs → last_or low xs ≤ n
@@ -51,9 +45,9 @@ accepts_up_to clients c n (e ∷ es) last own = at (is_accept e.kind && (e.clien
 -- the next ordinal of a client is above its last one on each lane
 pub rows_below : (clients : List (Option ℕ)) (h : List Note) (v : Content) (c n : ℕ) → AgreesWith h v → AreOwn clients h → last_of clients c ≡ Some n → AllByRecursion (λ m. m.client ≡ c → (m.last < n + 1) × (m.by ≡ 0)) v.members
 rows_below clients h v c n a own last =
-    zip-rows (λ e. e.by ≡ 0) (λ m. m.client ≡ c → (m.last < n + 1) × (m.by ≡ 0)) h (present (entries_of h)) v.members
-    (λ e m by row. λ is.
+    each_row (λ e. e.by ≡ 0) (λ m. m.client ≡ c → (m.last < n + 1) × (m.by ≡ 0)) h v
+    (λ e by is.
     let most = last_up_to 0 n (map (λ x. x.ordinal) (accepts_of c (entries_of h))) (omega arith) (accepts_up_to clients c n (entries_of h) last own) in
-    let here : m.last ≡ last_or 0 (map (λ x. x.ordinal) (accepts_of c (entries_of h))) = row.last ∙ ap (λ d. last_or 0 (map (λ x. x.ordinal) (accepts_of d (entries_of h)))) (sym row.client ∙ is) in
-    (omega (arith, most, here), row.by ∙ by))
-    (ours_present h (ours_of_own clients h own)) a.after.members
+    let here : last_or 0 (map (λ x. x.ordinal) (accepts_of e.client (entries_of h))) ≡ last_or 0 (map (λ x. x.ordinal) (accepts_of c (entries_of h))) = ap (λ d. last_or 0 (map (λ x. x.ordinal) (accepts_of d (entries_of h)))) is in
+    (omega (arith, most, here), by))
+    (ours_present h (ours_of_own clients h own)) a.after

@@ -1,7 +1,7 @@
 -- A seat's own notes tell what the lane has of the client that it admitted.
 use Rattle.std.proofs.Common.{◌≡◌, ◌<◌, ◌≤◌, ◌==◌, ℕ, Bool, true, false, cond, not, ◌||◌, ◌&&◌, List, [], ◌∷◌, ◌++◌, map, take, drop, refl, sym, ◌∙◌, ap, subst, arith, filter, slice_get, Option, Some, None, nat_le, length, if◌then◌else◌}
 use Rattle.std.specs.Option.{option_map}
-use Rattle.std.specs.List.{list_any, AllByRecursion, AllZip, cons_option}
+use Rattle.std.specs.List.{list_any, AllByRecursion, cons_option}
 use Rattle.std.proofs.lemmas.List.{take-append-drop}
 use Rattle.std.proofs.lemmas.Bool.{eq-eqb, eqb-true, ne_eqb, and_parts, and_from, both_ways, false_from_ne_true}
 use Rattle.smx_lock.specs.Rule.{notes_of}
@@ -18,14 +18,15 @@ use Rattle.smx_history.specs.Prefixes.{AtEach, RiseAbove, last_or}
 use Rattle.smx_history.specs.Entries.{is_admit, is_accept, is_retire, admits, accepts, accepts_of, is_admitted, is_retired, present}
 use Rattle.smx_history.specs.Legal.{IsMembership, StandsWell}
 use Rattle.smx_history.specs.History.{entry_by, entries_of, request_in, requests}
-use Rattle.smx_history.specs.Contents.{Content, Member, AgreesWith, IsMemberAfter}
+use Rattle.smx_history.specs.Contents.{Content, Member, AgreesWith}
 use Rattle.smx_lane.specs.Kept.{writer, limits_of, suits}
 use Rattle.smx_history.specs.Replies.{member_with, refusal_for, accept_refusal, has_room}
 use Rattle.smx_history.proofs.Growing.{any_kept}
 use Rattle.smx_history.proofs.Reading.{All-from_get, All-filtered, any_at}
 use Rattle.smx_history.proofs.Sizes.{present_served}
+use Rattle.smx_history.proofs.Rows.{each_row}
 use Rattle.smx_history.proofs.Taking.{any_none}
-use Rattle.smx_history.proofs.Finding.{absent}
+use Rattle.smx_history.proofs.Finding.{absent, is_present-any}
 use Rattle.smx_history.specs.Finding.{is_present}
 use Rattle.smx_shared.proofs.Lists.{All-in_filter, All-at, any_weaken}
 use Rattle.smx_shared.specs.Serving.{OneHold}
@@ -169,13 +170,6 @@ last_below : (n low : ℕ) (es : List Entry) → low < n → AllByRecursion (λ 
 last_below n low [] h all = h
 last_below n low (e ∷ es) h all = last_below n e.ordinal es all.0 all.1
 
-zip_rows : (P : Entry → Type 0) (Q : Member → Type 0) (h : List Note) → ((a : Entry) (m : Member) → P a → IsMemberAfter h a m → Q m)
-    → (us : List Entry) (ms : List Member) → AllByRecursion P us → AllZip (IsMemberAfter h) us ms → AllByRecursion Q ms
-zip_rows P Q h each [] [] all z = tt
-zip_rows P Q h each [] (m ∷ ms) all z = absurd z
-zip_rows P Q h each (a ∷ us) [] all z = absurd z
-zip_rows P Q h each (a ∷ us) (m ∷ ms) all z = (each a m all.0 z.0, zip_rows P Q h each us ms all.1 z.1)
-
 -- the requests of a history have the ordinals of its accepts
 below_entries : (n : ℕ) (h : List Note) → AllByRecursion (λ r. r.ordinal < n) (requests h) → AllByRecursion (λ (e : Entry). e.ordinal < n) (accepts (entries_of h))
 below_entries n [] all = tt
@@ -206,13 +200,12 @@ own_rows f h c n found member below pos =
     (ap (is_admitted h.number c) mine ∙ ap (λ k. is_admitted k c (entries_of f.mine)) found.number ∙ member.admitted) in
     let all : AllByRecursion (λ (e : Entry). e.ordinal < n) (accepts_of c es) = accepts_own (λ e. e.ordinal < n) es c h.number a.legal.rules.membership a.legal.rules.standing admitted
     (subst (λ xs. AllByRecursion (λ (e : Entry). e.ordinal < n) (accepts xs)) (sym mine) (below_entries n f.mine below)) in
-    zip_rows (λ e. (is_admitted e.by e.client es ≡ true) × (is_retired e.client es ≡ false)) (λ m. m.client ≡ c → (m.last < n) × (m.by ≡ h.number)) h.found
-    (λ e m served after of.
-    let same : e.client ≡ c = sym after.client ∙ of in (
-      subst (λ l. l < n) (sym (after.last ∙ ap (λ d. last_or 0 (map (λ x. x.ordinal) (accepts_of d es))) same)) (last_below n 0 (accepts_of c es) pos all),
-      after.by ∙ server es c h.number e.by a.legal.rules.membership admitted (ap (λ d. is_admitted e.by d es) (sym same) ∙ served.0),
+    each_row (λ e. (is_admitted e.by e.client es ≡ true) × (is_retired e.client es ≡ false)) (λ m. m.client ≡ c → (m.last < n) × (m.by ≡ h.number)) h.found h.value
+    (λ e served same. (
+      subst (λ l. l < n) (sym (ap (λ d. last_or 0 (map (λ x. x.ordinal) (accepts_of d es))) same)) (last_below n 0 (accepts_of c es) pos all),
+      server es c h.number e.by a.legal.rules.membership admitted (ap (λ d. is_admitted e.by d es) (sym same) ∙ served.0),
     ))
-    (present es) h.value.members (present_served es) a.after.members
+    (present_served es) a.after
 
 -- the client's row is of the seat that admitted it
 pub own_rows_by : (f : Front Note Limits) (h : Hold Content Note Limits) (c : ℕ) → Finds writer limits_of suits f h → IsMemberBy c f
@@ -223,9 +216,9 @@ own_rows_by f h c found member =
     let mine : filter (λ e. e.by == h.number) es ≡ entries_of f.mine = own_entries h.number h.found ∙ ap entries_of (found.own ∙ found.mine) in
     let admitted : is_admitted h.number c es ≡ true = any_in_filter (λ e. e.by == h.number) (λ e. is_admit e.kind && ((e.client == c) && (e.by == h.number))) es
     (ap (is_admitted h.number c) mine ∙ ap (λ k. is_admitted k c (entries_of f.mine)) found.number ∙ member.admitted) in
-    zip_rows (λ e. (is_admitted e.by e.client es ≡ true) × (is_retired e.client es ≡ false)) (λ m. m.client ≡ c → m.by ≡ h.number) h.found
-    (λ e m served after of. after.by ∙ server es c h.number e.by a.legal.rules.membership admitted (ap (λ d. is_admitted e.by d es) (sym (sym after.client ∙ of)) ∙ served.0))
-    (present es) h.value.members (present_served es) a.after.members
+    each_row (λ e. (is_admitted e.by e.client es ≡ true) × (is_retired e.client es ≡ false)) (λ m. m.client ≡ c → m.by ≡ h.number) h.found h.value
+    (λ e served same. server es c h.number e.by a.legal.rules.membership admitted (ap (λ d. is_admitted e.by d es) (sym same) ∙ served.0))
+    (present_served es) a.after
 
 not_admitted : (v : Content) (m : Member) → refusal_for v (Some m) ≡ Some NotAdmitted → ⊥
 not_admitted v m = refused (nat_le v.limits.client m.pending) (nat_le v.limits.queue (length v.queue)) (has_room v) v.up
@@ -255,7 +248,7 @@ row_there f g c found own v hold member none =
     let admitted : is_admitted f.number c es ≡ true = any_in_filter (λ e. e.by == f.number) (λ e. is_admit e.kind && ((e.client == c) && (e.by == f.number))) es
     (ap (is_admitted f.number c) mine ∙ member.admitted) in
     let here : is_retired c es ≡ false = stays_own es c f.number hold.agrees.legal.rules.membership hold.agrees.legal.rules.standing admitted (ap (is_retired c) mine ∙ member.stays) in
-    both_ways (is_present c found) (absent found v c hold.agrees none) (present_in es c f.number admitted here)
+    both_ways (is_present c found) (absent found v c hold.agrees none) (is_present-any found c ∙ present_in es c f.number admitted here)
 
 -- so a request of the client isn't refused for want of one
 pub has_row : (f g : Front Note Limits) (c : ℕ) (found own : List Note) (v : Content) → OneHold f g found own v → IsMemberBy c f → accept_refusal v c ≡ Some NotAdmitted → ⊥

@@ -1,6 +1,6 @@
 use Rattle.std.proofs.Common.{◌≡◌, length}
-use Rattle.smx_history.specs.Replies.{member_with}
-use Rattle.smx_relay.proofs.Collecting.{Collecting, IsFed, box_of}
+use Rattle.smx_history.specs.Replies.{member_with, waiting_in}
+use Rattle.smx_relay.proofs.Collecting.{Collecting, IsFed}
 use Rattle.smx_relay.proofs.on_lane.collect_on.Given as goal
 
 abbrev pub invariant-loop-response : goal.invariant-loop-response
@@ -11,4 +11,4 @@ invariant-loop-response l = record {
 }
 
 abbrev pub decreases-loop-response : goal.decreases-loop-response
-decreases-loop-response l = length (box_of (member_with l.client l.lane.members))
+decreases-loop-response l = length (waiting_in (member_with l.client l.lane.members))

@@ -4,7 +4,7 @@ use Rattle.smx_lane.specs.Inside.{content_of}
 use Rattle.smx_history.specs.Replies.{member_with}
 use Rattle.smx_history.specs.Answering.{oldest_in}
 use Rattle.smx_history.proofs.Keeping.{found_meets}
-use Rattle.smx_history.proofs.Settled.{KeepsRoom-collected, waiting_pending}
+use Rattle.smx_history.proofs.Settled.{KeepsRoom-collected}
 use Rattle.smx_history.proofs.CollectAgrees.{AgreesWith-collected}
 use Rattle.smx_lane.specs.Members.{IsRowOf}
 use Rattle.smx_lane.proofs.lane.Lane.collect.Goals as goal
@@ -36,11 +36,10 @@ returns-clause-collected c =
     let front = c.get-response.ensures.oldest m is.at in
     let some : 0 < length m.waiting = omega (arith, ap length front) in
     let room = KeepsRoom-collected v c.args.by c.args.client r m c.self.invariant.room is.found some in
-    let pend = waiting_pending v c.args.client m c.self.invariant.room is.found some in
     let own = found_meets (λ x. x.by ≡ c.args.by) c.args.client m v.members (rw (← c.self.view_is) at c.requires) is.found in (
       r,
       ap (λ (x : Content). oldest_in (member_with c.args.client x.members)) (sym c.self.view_is) ∙ ap oldest_in is.found ∙ ap (λ xs. slice_get xs 0) front,
       refl,
       λ h was. rw (c.push_reserved.ensures.items, ms)
-          (AgreesWith-collected h v c.args.by c.args.client r (drop 1 m.waiting) m (rw c.self.view_is was) c.self.invariant.room is.found own front pend room),
+          (AgreesWith-collected h v c.args.by c.args.client r (drop 1 m.waiting) m (rw c.self.view_is was) is.found own front room),
     )
