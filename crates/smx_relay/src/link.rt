@@ -6,17 +6,12 @@ use crate::inbox::Inbox;
 use crate::receive::receive;
 use smx_frame::Framer;
 use smx_mailbox::{Message, Unanswered};
-use smx_pdu::command::{BIND_TRANSCEIVER, RESPONSE};
-use smx_pdu::status::ESME_ROK;
-use smx_pdu::{Body, Pdu};
+use smx_pdu::{MAX_PDU, Pdu};
 use smx_session::{
     Account, Act, ClientSession, ClientState, Kind, UpAct, UpstreamSession, UpstreamState,
 };
 use std::alloc::{AllocError, Global};
 use std::marker::Model;
-
-/// The most octets that a PDU has, its header included.
-const MAX_PDU: u32 = 65_536;
 
 /// A client's link. Contracts see it as the state of its session and the stream of its octets.
 #[derive(Drop)]
@@ -53,7 +48,7 @@ impl ClientLink {
         };
         ClientLink {
             session,
-            framer: Framer::new(alloc, MAX_PDU),
+            framer: Framer::new(alloc, MAX_PDU as u32),
             mailbox: Inbox::new(alloc, places),
         }
     }
@@ -157,9 +152,6 @@ impl Model for CentreLink {
     ghost view = { λ l. record { session = l.session; stream = l.framer.stream } };
 }
 
-/// The number of the proxy's own bind, which the centre answers.
-const BIND_NUMBER: u32 = 0x7FFF_FFFD;
-
 impl CentreLink {
     ghost use Rattle.smx_relay.specs.CentreTurn.{act_of, session_after};
 
@@ -168,17 +160,9 @@ impl CentreLink {
         ensures { IfOk result (λ link. link ≡ bound_centre) }
     {
         let system_id = Vec::from_slice(alloc, b"smx")?;
-        let mut session = UpstreamSession::new(alloc, system_id, Vec::new(alloc), 0, 0);
-        let answer = Pdu {
-            command: RESPONSE + BIND_TRANSCEIVER,
-            status: ESME_ROK,
-            number: BIND_NUMBER,
-            body: Body::empty(alloc),
-        };
-        let _ = session.on_pdu(&answer, 0);
         Ok(CentreLink {
-            session,
-            framer: Framer::new(alloc, MAX_PDU),
+            session: UpstreamSession::bound(alloc, system_id, Vec::new(alloc), 0, 0),
+            framer: Framer::new(alloc, MAX_PDU as u32),
         })
     }
 
