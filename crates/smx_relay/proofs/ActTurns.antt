@@ -1,7 +1,5 @@
 -- What comes of a session's act, by its kind.
-use Rattle.std.proofs.Common.{◌≡◌, ◌++◌, ℕ, List, [], Option, Some, None, sym, subst}
-use Rattle.std.specs.Prelude.{unwrap_or}
-use Rattle.std.specs.Global.{Vec}
+use Rattle.std.proofs.Common.{◌≡◌, ◌++◌, ℕ, List, [], sym, subst}
 use Rattle.smx_pdu.specs.declared.pdu.Pdu.{Pdu}
 use Rattle.smx_session.specs.declared.kind.Kind.{Kind}
 use Rattle.smx_session.specs.declared.act.Act.{Act}
@@ -10,12 +8,12 @@ use Rattle.smx_session.specs.declared.up_act.UpAct.{UpAct}
 use Rattle.smx_session.specs.declared.up_act.UpAct.TheVariants as up
 use Rattle.smx_relay.specs.declared.state.State.{State}
 use Rattle.smx_relay.specs.Texts.{pdu_line, to_client, down_line, up_lane}
-use Rattle.smx_relay.specs.Relay.{Relay}
+use Rattle.smx_relay.specs.Relay.{Relay, going_on}
 use Rattle.smx_relay.specs.Messages.{answer_turn, leave_turn, message_turn}
 use Rattle.smx_relay.specs.ClientTurn.{client_act, followed_by, forward, hang_up}
-use Rattle.smx_relay.specs.LaneLinks.{going_on, lowered}
+use Rattle.smx_relay.specs.LaneLinks.{lower_lane}
 use Rattle.smx_relay.specs.CentreTurn.{centre_act, to_lane}
-use Rattle.smx_relay.specs.Private.Agrees.{Agrees, Turned, Prints}
+use Rattle.smx_relay.specs.Private.Agrees.{Agrees, Turned}
 
 -- ---- clients
 
@@ -59,7 +57,7 @@ pub centre_answers : (i : ℕ) (p : Pdu) (a : UpAct) (answer : Pdu) (s : Relay) 
 unfolding centre_act
 centre_answers i p a answer s state text is agrees e = centre_by i p a (up.Answer answer) s state text is (record { text = e; left = agrees })
 
-pub centre_leaves : (i : ℕ) (p : Pdu) (a : UpAct) (answer : Pdu) (s : Relay) (state : State) (text : List ℕ) → a ≡ up.Leave answer → Agrees state (going_on s i lowered) → text ≡ pdu_line (up_lane i) answer ++ down_line i → Turned (centre_act i p a s) state text
+pub centre_leaves : (i : ℕ) (p : Pdu) (a : UpAct) (answer : Pdu) (s : Relay) (state : State) (text : List ℕ) → a ≡ up.Leave answer → Agrees state (going_on s i lower_lane) → text ≡ pdu_line (up_lane i) answer ++ down_line i → Turned (centre_act i p a s) state text
 unfolding centre_act
 centre_leaves i p a answer s state text is agrees e = centre_by i p a (up.Leave answer) s state text is (record { text = e; left = agrees })
 
@@ -71,26 +69,17 @@ pub centre_up : (i : ℕ) (p : Pdu) (a : UpAct) (s : Relay) (state : State) (tex
 unfolding centre_act
 centre_up i p a s state text is agrees e = centre_by i p a up.Up s state text is (record { text = e; left = agrees })
 
-pub centre_failed : (i : ℕ) (p : Pdu) (a : UpAct) (status : ℕ) (s : Relay) (state : State) (text : List ℕ) → a ≡ up.Failed status → Agrees state (going_on s i lowered) → text ≡ down_line i → Turned (centre_act i p a s) state text
+pub centre_failed : (i : ℕ) (p : Pdu) (a : UpAct) (status : ℕ) (s : Relay) (state : State) (text : List ℕ) → a ≡ up.Failed status → Agrees state (going_on s i lower_lane) → text ≡ down_line i → Turned (centre_act i p a s) state text
 unfolding centre_act
 centre_failed i p a status s state text is agrees e = centre_by i p a (up.Failed status) s state text is (record { text = e; left = agrees })
 
-pub centre_closed : (i : ℕ) (p : Pdu) (a : UpAct) (s : Relay) (state : State) (text : List ℕ) → a ≡ up.Closed → Agrees state (going_on s i lowered) → text ≡ down_line i → Turned (centre_act i p a s) state text
+pub centre_closed : (i : ℕ) (p : Pdu) (a : UpAct) (s : Relay) (state : State) (text : List ℕ) → a ≡ up.Closed → Agrees state (going_on s i lower_lane) → text ≡ down_line i → Turned (centre_act i p a s) state text
 unfolding centre_act
 centre_closed i p a s state text is agrees e = centre_by i p a up.Closed s state text is (record { text = e; left = agrees })
 
 pub centre_ignored : (i : ℕ) (p : Pdu) (a : UpAct) (s : Relay) (state : State) (text : List ℕ) → a ≡ up.Ignore → Agrees state s → text ≡ [] → Turned (centre_act i p a s) state text
 unfolding centre_act
 centre_ignored i p a s state text is agrees e = centre_by i p a up.Ignore s state text is (record { text = e; left = agrees })
-
--- a response for the lane
-pub some_printed : (o : Option (List ℕ × Relay)) (d : List ℕ × Relay) (state : State) (text : Vec ℕ) → Prints o state (Some text) → Turned (unwrap_or o d) state text.items
-some_printed None d state text p = absurd p
-some_printed (Some x) d state text p = p
-
-pub none_printed : (o : Option (List ℕ × Relay)) (d : List ℕ × Relay) (state : State) (text : List ℕ) → Prints o state None → Turned d state text → Turned (unwrap_or o d) state text
-none_printed None d state text p turned = turned
-none_printed (Some x) d state text p turned = absurd p
 
 pub centre_to_lane : (i : ℕ) (p : Pdu) (a : UpAct) (s : Relay) (state : State) (text : List ℕ) → a ≡ up.ToLane → Turned (to_lane i p s) state text → Turned (centre_act i p a s) state text
 unfolding centre_act

@@ -6,43 +6,40 @@ use Rattle.std.specs.Fmt.{decimal}
 use Rattle.std.proofs.lemmas.List.{length-take-le}
 use Rattle.std.proofs.lemmas.List.Quantifiers.{position-Some}
 use Rattle.smx_history.specs.declared.limits.Limits.{Limits}
-use Rattle.smx_history.specs.declared.note.Note.{Note}
-use Rattle.smx_history.specs.Contents.{Content}
 use Rattle.smx_session.specs.declared.kind.Kind.{Kind}
 use Rattle.smx_relay.specs.declared.state.State.{State}
 use Rattle.smx_relay.specs.Links.{ClientLink, new_link}
 use Rattle.smx_relay.specs.Texts.{text_line}
-use Rattle.smx_relay.specs.Relay.{Relay, last_of, entered, entered_and_left, client_turn}
-use Rattle.smx_relay.specs.Private.OnLane.{OnLane}
+use Rattle.smx_relay.specs.declared.state.LinkedLane.{LinkedLane}
+use Rattle.smx_relay.specs.Relay.{Relay, RelayLane, last_of, enter_lane, enter_and_leave_lane, client_turn, lane_after, new_lane}
+use Rattle.smx_relay.specs.Private.OnLane.{IsLane}
 use Rattle.smx_relay.specs.Private.Agrees.{Agrees, HasLinks, Turned, AreOn, Enters, HaveEntered}
 use Rattle.smx_relay.proofs.Lanes.{zip-weaker}
 use Rattle.smx_relay.proofs.Entering.{refuses}
 use Rattle.smx_relay.proofs.Keeping.{KeepsSettings}
 use Rattle.smx_relay.proofs.OwnNotes.{own_grows, grows_push}
 
-grown_lanes : (limits : Limits) (clients : List (Option ℕ)) (o : Option ℕ) (hs : List (List Note)) (lanes : List Content) → AreOn limits clients hs lanes → AreOn limits (clients ++ o ∷ []) hs lanes
-grown_lanes limits clients o hs lanes on =
-    zip-weaker (OnLane limits clients) (OnLane limits (clients ++ o ∷ [])) (λ h v x. record { agrees = x.agrees; limits_are = x.limits_are; own = own_grows clients (clients ++ o ∷ []) h (grows_push clients o) x.own }) hs lanes on
+grown_lanes : (limits : Limits) (clients : List (Option ℕ)) (o : Option ℕ) (ls : List RelayLane) (lanes : List LinkedLane) → AreOn limits clients ls lanes → AreOn limits (clients ++ o ∷ []) ls lanes
+grown_lanes limits clients o ls lanes on =
+    zip-weaker (IsLane limits clients) (IsLane limits (clients ++ o ∷ [])) (λ l k x. record { on = record { agrees = x.on.agrees; limits_are = x.on.limits_are; own = own_grows clients (clients ++ o ∷ []) l.history (grows_push clients o) x.on.own }; link_is = x.link_is }) ls lanes on
 
-place_within : (limits : Limits) (c i : ℕ) (hs : List (List Note)) → position (refuses limits c) hs ≡ Some i → i < length hs
-place_within limits c i hs e = let w = position-Some (refuses limits c) hs i [] e in w.0
+place_within : (limits : Limits) (c i : ℕ) (ls : List RelayLane) → position (refuses limits c) ls ≡ Some i → i < length ls
+place_within limits c i ls e = let w = position-Some (refuses limits c) ls i new_lane e in w.0
 
 -- one link more
-more_links : (old new : State) (s : Relay) (kind : Option Kind) → Agrees old s → KeepsSettings old new → new.links.items ≡ old.links.items ++ new_link old.places kind ∷ [] → HasLinks new s.accounts (s.links ++ new_link s.places kind ∷ []) s.centres s.started s.places s.routes
+more_links : (old new : State) (s : Relay) (kind : Option Kind) → Agrees old s → KeepsSettings old new → new.links.items ≡ old.links.items ++ new_link old.places kind ∷ [] → HasLinks new s.accounts (s.links ++ new_link s.places kind ∷ []) s.places s.routes
 more_links old new s kind a keeps links = record {
   accounts_are = keeps.accounts ∙ a.links.accounts_are;
   links_are = links ∙ ap (λ (ls : List ClientLink). ls ++ new_link old.places kind ∷ []) a.links.links_are ∙ ap (λ n. s.links ++ new_link n kind ∷ []) a.links.places_are;
-  centres_are = keeps.centres ∙ a.links.centres_are;
-  none_yet = a.links.none_yet;
   places_are = keeps.places ∙ a.links.places_are;
   routes_are = keeps.routes ∙ a.links.routes_are;
 }
 
-pub entered_all : (old new : State) (s : Relay) (kind : Option Kind) (c : ℕ) (text : List ℕ) → Agrees old s → c ≡ length old.clients.items → Enters s.limits s.clients s.histories c None new.lanes.items → KeepsSettings old new → new.clients.items ≡ old.clients.items ++ Some 0 ∷ [] → new.links.items ≡ old.links.items ++ new_link old.places kind ∷ []
+pub entered_all : (old new : State) (s : Relay) (kind : Option Kind) (c : ℕ) (text : List ℕ) → Agrees old s → c ≡ length old.clients.items → Enters s.limits s.clients s.lanes c None new.lanes.items → KeepsSettings old new → new.clients.items ≡ old.clients.items ++ Some 0 ∷ [] → new.links.items ≡ old.links.items ++ new_link old.places kind ∷ []
     → text ≡ text_line (codes "client " ++ decimal c) → Turned (client_turn s kind) new text
 entered_all old new s kind c text a is enters keeps clients links e =
     let c_is : c ≡ length s.clients = is ∙ ap length a.clients in
-    let here : Enters s.limits s.clients s.histories (length s.clients) None new.lanes.items = subst (λ n. Enters s.limits s.clients s.histories n None new.lanes.items) c_is enters in
+    let here : Enters s.limits s.clients s.lanes (length s.clients) None new.lanes.items = subst (λ n. Enters s.limits s.clients s.lanes n None new.lanes.items) c_is enters in
     rw here.0 (record {
       text = e ∙ ap (λ n. text_line (codes "client " ++ decimal n)) c_is;
       left = record {
@@ -51,33 +48,33 @@ entered_all old new s kind c text a is enters keeps clients links e =
         started = keeps.started ∙ a.started;
         moment = keeps.moment ∙ a.moment;
         clients = clients ∙ ap (λ cs. cs ++ Some 0 ∷ []) a.clients;
-        lanes = grown_lanes s.limits s.clients (Some 0) (map (entered (length s.clients)) s.histories) new.lanes.items here.1;
-        none_yet = λ off. ap (map (entered (length s.clients))) (a.none_yet off);
+        lanes = grown_lanes s.limits s.clients (Some 0) (map (lane_after (enter_lane (length s.clients))) s.lanes) new.lanes.items here.1;
+        none_yet = λ off. ap (map (lane_after (enter_lane (length s.clients)))) (a.none_yet off);
         links = more_links old new s kind a keeps links;
       };
     })
 
-pub have_entered : (old : State) (s : Relay) (c i : ℕ) (lanes : List Content) → Agrees old s → Enters s.limits s.clients s.histories c (Some i) lanes → HaveEntered c i lanes
+pub have_entered : (old : State) (s : Relay) (c i : ℕ) (lanes : List LinkedLane) → Agrees old s → Enters s.limits s.clients s.lanes c (Some i) lanes → HaveEntered c i lanes
 have_entered old s c i lanes a enters =
-    let within = place_within s.limits c i s.histories enters.0 in
-    (s.limits, s.clients, take i s.histories, drop i s.histories, length-take-le i s.histories (omega arith), enters.1)
+    let within = place_within s.limits c i s.lanes enters.0 in
+    (s.limits, s.clients, take i s.lanes, drop i s.lanes, length-take-le i s.lanes (omega arith), enters.1)
 
-none_parted : (c i : ℕ) (hs : List (List Note)) → hs ≡ [] → map (entered_and_left c) (take i hs) ++ drop i hs ≡ []
-none_parted c i hs e = ap (λ xs. map (entered_and_left c) (take i xs) ++ drop i xs) e ∙ none_left i
+none_parted : (c i : ℕ) (ls : List RelayLane) → ls ≡ [] → map (lane_after (enter_and_leave_lane c)) (take i ls) ++ drop i ls ≡ []
+none_parted c i ls e = ap (λ xs. map (lane_after (enter_and_leave_lane c)) (take i xs) ++ drop i xs) e ∙ none_left i
   where
-    none_left : (i : ℕ) → map (entered_and_left c) (take {A = List Note} i []) ++ drop i [] ≡ []
+    none_left : (i : ℕ) → map (lane_after (enter_and_leave_lane c)) (take {A = RelayLane} i []) ++ drop i [] ≡ []
     none_left zero = refl
     none_left (suc i) = refl
 
-pub entered_none : (old : State) (mid : List Content) (new : State) (s : Relay) (kind : Option Kind) (c i : ℕ) (text : List ℕ) → Agrees old s → c ≡ length old.clients.items → Enters s.limits s.clients s.histories c (Some i) mid
-    → ((limits : Limits) (clients : List (Option ℕ)) (some : List (List Note)) (others : List (List Note)) → length some ≡ i → AreOn limits clients (map (entered c) some ++ others) mid → AreOn limits clients (map (entered_and_left c) some ++ others) new.lanes.items)
+pub entered_none : (old : State) (mid : List LinkedLane) (new : State) (s : Relay) (kind : Option Kind) (c i : ℕ) (text : List ℕ) → Agrees old s → c ≡ length old.clients.items → Enters s.limits s.clients s.lanes c (Some i) mid
+    → ((limits : Limits) (clients : List (Option ℕ)) (some : List RelayLane) (others : List RelayLane) → length some ≡ i → AreOn limits clients (map (lane_after (enter_lane c)) some ++ others) mid → AreOn limits clients (map (lane_after (enter_and_leave_lane c)) some ++ others) new.lanes.items)
     → KeepsSettings old new → new.clients.items ≡ old.clients.items ++ None ∷ [] → new.links.items ≡ old.links.items ++ new_link old.places kind ∷ [] → text ≡ text_line (codes "refused") → Turned (client_turn s kind) new text
 entered_none old mid new s kind c i text a is enters leaves keeps clients links e =
     let c_is : c ≡ length s.clients = is ∙ ap length a.clients in
-    let within = place_within s.limits c i s.histories enters.0 in
-    let place : position (refuses s.limits (length s.clients)) s.histories ≡ Some i = subst (λ n. position (refuses s.limits n) s.histories ≡ Some i) c_is enters.0 in
-    let on = leaves s.limits s.clients (take i s.histories) (drop i s.histories) (length-take-le i s.histories (omega arith)) enters.1 in
-    let on' : AreOn s.limits s.clients (map (entered_and_left (length s.clients)) (take i s.histories) ++ drop i s.histories) new.lanes.items = subst (λ n. AreOn s.limits s.clients (map (entered_and_left n) (take i s.histories) ++ drop i s.histories) new.lanes.items) c_is on in
+    let within = place_within s.limits c i s.lanes enters.0 in
+    let place : position (refuses s.limits (length s.clients)) s.lanes ≡ Some i = subst (λ n. position (refuses s.limits n) s.lanes ≡ Some i) c_is enters.0 in
+    let on = leaves s.limits s.clients (take i s.lanes) (drop i s.lanes) (length-take-le i s.lanes (omega arith)) enters.1 in
+    let on' : AreOn s.limits s.clients (map (lane_after (enter_and_leave_lane (length s.clients))) (take i s.lanes) ++ drop i s.lanes) new.lanes.items = subst (λ n. AreOn s.limits s.clients (map (lane_after (enter_and_leave_lane n)) (take i s.lanes) ++ drop i s.lanes) new.lanes.items) c_is on in
     rw place (record {
       text = e;
       left = record {
@@ -86,8 +83,8 @@ entered_none old mid new s kind c i text a is enters leaves keeps clients links 
         started = keeps.started ∙ a.started;
         moment = keeps.moment ∙ a.moment;
         clients = clients ∙ ap (λ cs. cs ++ None ∷ []) a.clients;
-        lanes = grown_lanes s.limits s.clients None (map (entered_and_left (length s.clients)) (take i s.histories) ++ drop i s.histories) new.lanes.items on';
-        none_yet = λ off. none_parted (length s.clients) i s.histories (a.none_yet off);
+        lanes = grown_lanes s.limits s.clients None (map (lane_after (enter_and_leave_lane (length s.clients))) (take i s.lanes) ++ drop i s.lanes) new.lanes.items on';
+        none_yet = λ off. none_parted (length s.clients) i s.lanes (a.none_yet off);
         links = more_links old new s kind a keeps links;
       };
     })

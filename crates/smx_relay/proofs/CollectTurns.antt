@@ -6,7 +6,7 @@ use Rattle.std.specs.List.{flat_map}
 use Rattle.std.specs.Fmt.{decimal}
 use Rattle.smx_relay.specs.declared.state.State.{State}
 use Rattle.smx_relay.specs.Texts.{text_line}
-use Rattle.smx_relay.specs.Relay.{Relay, collect_lanes, collect_text, collected, last_of}
+use Rattle.smx_relay.specs.Relay.{Relay, RelayLane, collect_lanes, collect_text, collect_lane, lane_after, last_of}
 use Rattle.smx_relay.specs.ClientTurn.{followed_by}
 use Rattle.smx_relay.specs.Messages.{send_turn}
 use Rattle.smx_relay.specs.Turns.{collect_turn, or_none}
@@ -14,7 +14,7 @@ use Rattle.smx_relay.specs.Private.Agrees.{Agrees, AreOn, Prints, Turned}
 use Rattle.smx_relay.proofs.Keeping.{KeepsSettings, kept_links}
 use Rattle.smx_relay.proofs.ClientTurns.{known_last, none_last}
 
-collect_left : (old new : State) (s : Relay) (c : ℕ) → Agrees old s → AreOn s.limits s.clients (map (collected c) s.histories) new.lanes.items → KeepsSettings old new → new.clients.items ≡ old.clients.items → new.links.items ≡ old.links.items → Agrees new (record s { histories = map (collected c) s.histories })
+collect_left : (old new : State) (s : Relay) (c : ℕ) → Agrees old s → AreOn s.limits s.clients (map (lane_after (collect_lane c)) s.lanes) new.lanes.items → KeepsSettings old new → new.clients.items ≡ old.clients.items → new.links.items ≡ old.links.items → Agrees new (record s { lanes = map (lane_after (collect_lane c)) s.lanes })
 collect_left old new s c a on keeps clients links = record {
   limits = keeps.limits ∙ a.limits;
   count = keeps.count ∙ a.count;
@@ -22,12 +22,12 @@ collect_left old new s c a on keeps clients links = record {
   moment = keeps.moment ∙ a.moment;
   clients = clients ∙ a.clients;
   lanes = on;
-  none_yet = λ off. ap (map (collected c)) (a.none_yet off);
-  links = kept_links old new s.accounts s.links s.centres s.started s.places s.routes keeps links a.links;
+  none_yet = λ off. ap (map (lane_after (collect_lane c))) (a.none_yet off);
+  links = kept_links old new s.accounts s.links s.places s.routes keeps links a.links;
 }
 
 -- the client collected its responses
-pub lanes_collected : (old new : State) (s : Relay) (c : ℕ) (text : List ℕ) → Agrees old s → text ≡ flat_map (collect_text c) s.histories → AreOn s.limits s.clients (map (collected c) s.histories) new.lanes.items → KeepsSettings old new → new.clients.items ≡ old.clients.items → new.links.items ≡ old.links.items
+pub lanes_collected : (old new : State) (s : Relay) (c : ℕ) (text : List ℕ) → Agrees old s → text ≡ flat_map (λ (l : RelayLane). collect_text c l.history) s.lanes → AreOn s.limits s.clients (map (lane_after (collect_lane c)) s.lanes) new.lanes.items → KeepsSettings old new → new.clients.items ≡ old.clients.items → new.links.items ≡ old.links.items
     → Turned (collect_lanes c s) new text
 lanes_collected old new s c text a e on keeps clients links = record { text = e; left = collect_left old new s c a on keeps clients links }
 

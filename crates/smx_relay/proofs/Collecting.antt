@@ -16,7 +16,7 @@ use Rattle.smx_history.proofs.Growing.{All-push}
 use Rattle.smx_history.proofs.Reading.{entries_of-push}
 use Rattle.smx_history.proofs.Finding.{waiting-collected, waiting_same, oldest_same}
 use Rattle.smx_relay.specs.Texts.{pdu_line, to_client}
-use Rattle.smx_relay.specs.Relay.{collect_text, collected}
+use Rattle.smx_relay.specs.Relay.{collect_text, collect_lane}
 use Rattle.smx_relay.specs.Private.OnLane.{TurnsLane, AreOurs}
 
 -- the notes of collects
@@ -70,7 +70,7 @@ none_left : (rest : List Response) → slice_get rest 0 ≡ None → rest ≡ []
 none_left [] e = refl
 none_left (x ∷ xs) e = absurd (let y : Some x ≡ None = e in cc)
 
-pub collecting_end : (c : ℕ) (old v new : Content) (text : List ℕ) → IsCollected v 0 c None new → new.limits ≡ old.limits → Collecting c old v text → (h : List Note) → AgreesWith h old → TurnsLane (collect_text c h, collected c h) old new text
+pub collecting_end : (c : ℕ) (old v new : Content) (text : List ℕ) → IsCollected v 0 c None new → new.limits ≡ old.limits → Collecting c old v text → (h : List Note) → AgreesWith h old → TurnsLane (collect_text c h, collect_lane c h) old new text
 unfolding collects lines
 collecting_end c old v new text got limits so_far h a =
     let x = so_far h a in

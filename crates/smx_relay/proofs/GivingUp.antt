@@ -25,7 +25,7 @@ use Rattle.smx_history.proofs.Frames.{is_up-other}
 use Rattle.smx_history.proofs.Reading.{entries_of-push}
 use Rattle.smx_history.proofs.SettleAgrees.{window-settled}
 use Rattle.smx_history.proofs.Updates.{failing_entry}
-use Rattle.smx_relay.specs.LaneLinks.{given_up, lowered}
+use Rattle.smx_relay.specs.LaneLinks.{give_up_lane, lower_lane}
 
 -- failures leave the link as it is
 is_up_failing : (h : List Note) (qs : List Place) → is_up (entries_of (h ++ map (failing 0) qs)) ≡ is_up (entries_of h)
@@ -113,10 +113,10 @@ window_empty v e refused down =
 
 -- what a lane is left with whose requests have failed
 abbrev pub GivenUp : Content → Content → Type 0
-GivenUp old new = (h : List Note) → AgreesWith h old → (qs : List Place) × SameCounts (window_after h) qs × AgreesWith (given_up qs h) new
+GivenUp old new = (h : List Note) → AgreesWith h old → (qs : List Place) × SameCounts (window_after h) qs × AgreesWith (give_up_lane qs h) new
 
 pub giving_up_end : (old now new : Content) (e : FailRefusal) → old.up ≡ false → fail_refusal now ≡ Some e → new ≡ now → GivingUp old now → GivenUp old new
-unfolding given_up
+unfolding give_up_lane
 giving_up_end old now new e was refused same so_far h a =
     let y = so_far h a in
     let down : is_up (entries_of h) ≡ false = sym a.after.up ∙ was in
@@ -124,15 +124,15 @@ giving_up_end old now new e was refused same so_far h a =
     (y.0, subst (SameCounts (window_after h)) (ap (λ ws. y.0 ++ ws) none ∙ append-nil y.0) y.1, rw (down, same) y.2)
 
 pub nothing_given_up : (v : Content) → v.up ≡ true → GivenUp v v
-unfolding given_up
+unfolding give_up_lane
 nothing_given_up v up h a =
     let up' : is_up (entries_of h) ≡ true = sym a.after.up ∙ up in
     (window_after h, λ test. refl, rw up' a)
 
 -- the link is lost, or there was none
 pub lowers : {U E : Type 0} (old new : Content) (r : Result U E) → MatchResult r (λ _. old.up ≡ true) (λ _. old.up ≡ false) → OnOk r ((h : List Note) → AgreesWith h old → AgreesWith (h ++ note 0 event.Down ∷ []) new) → OnErr r (new ≡ old)
-    → (h : List Note) → AgreesWith h old → AgreesWith (lowered h) new
-unfolding lowered
+    → (h : List Note) → AgreesWith h old → AgreesWith (lower_lane h) new
+unfolding lower_lane
 lowers old new (Ok u) up goes same h a =
     let up' : is_up (entries_of h) ≡ true = sym a.after.up ∙ up in
     rw up' (goes h a)

@@ -1,8 +1,15 @@
 -- Lanes and their histories, place by place.
-use Rattle.std.proofs.Common.{◌≡◌, ◌<◌, ◌+◌, ℕ, zero, suc, Bool, true, false, List, [], ◌∷◌, ◌++◌, length, get_or, set, refl, sym, ◌∙◌, ap, arith, Some, slice_get, ◌||◌}
+use Rattle.std.proofs.Common.{◌≡◌, ◌<◌, ◌+◌, ℕ, zero, suc, Bool, true, false, List, [], ◌∷◌, ◌++◌, length, get_or, set, refl, sym, ◌∙◌, ap, arith, Option, Some, slice_get, ◌||◌}
 use Rattle.std.proofs.lemmas.Option.{slice_get-get_or}
 use Rattle.std.proofs.lemmas.List.{set-get_or}
-use Rattle.std.specs.List.{AllZip, find, list_any, position_or_len}
+use Rattle.std.specs.List.{AllByRecursion, AllZip, find, list_any, position_or_len}
+use Rattle.smx_history.specs.declared.limits.Limits.{Limits}
+use Rattle.smx_history.specs.declared.note.Note.{Note}
+use Rattle.smx_history.specs.Contents.{Content}
+use Rattle.smx_relay.specs.declared.state.LinkedLane.{LinkedLane}
+use Rattle.smx_relay.specs.Links.{CentreLink}
+use Rattle.smx_relay.specs.Relay.{RelayLane, lane_after}
+use Rattle.smx_relay.specs.Private.OnLane.{OnLane, IsLane}
 
 pub zip-length : {X Y : Type 0} (R : X → Y → Type 0) (xs : List X) (ys : List Y) → AllZip R xs ys → length xs ≡ length ys
 zip-length R [] [] z = refl
@@ -23,6 +30,13 @@ zip-get R [] (y ∷ ys) i d z lt = absurd z
 zip-get R (x ∷ xs) [] i d z lt = absurd z
 zip-get R (x ∷ xs) (y ∷ ys) zero d z lt = (x, refl, z.0)
 zip-get R (x ∷ xs) (y ∷ ys) (suc i) d z lt = zip-get R xs ys i d z.1 (omega arith)
+
+pub zip-at : {X Y : Type 0} (R : X → Y → Type 0) (xs : List X) (ys : List Y) (i : ℕ) (c : X) (d : Y) → AllZip R xs ys → i < length ys → R (get_or xs i c) (get_or ys i d)
+zip-at R [] [] i c d z lt = absurd (omega arith)
+zip-at R [] (y ∷ ys) i c d z lt = absurd z
+zip-at R (x ∷ xs) [] i c d z lt = absurd z
+zip-at R (x ∷ xs) (y ∷ ys) zero c d z lt = z.0
+zip-at R (x ∷ xs) (y ∷ ys) (suc i) c d z lt = zip-at R xs ys i c d z.1 (omega arith)
 
 pub zip-set : {X Y : Type 0} (R : X → Y → Type 0) (xs : List X) (ys : List Y) (i : ℕ) (x : X) (y : Y) → AllZip R xs ys → R x y → AllZip R (set xs i x) (set ys i y)
 zip-set R [] [] i x y z r = tt
@@ -50,10 +64,10 @@ zip-middle_set R [] x v zs (y ∷ ys) w z r = (r, z.1)
 zip-middle_set R (a ∷ xs) x v zs [] w z r = absurd z
 zip-middle_set R (a ∷ xs) x v zs (y ∷ ys) w z r = (z.0, zip-middle_set R xs x v zs ys w z.1 r)
 
--- tests that agree find the same
-pub find-agree : {X : Type 0} (p q : X → Bool) → ((x : X) → p x ≡ q x) → (xs : List X) → find p xs ≡ find q xs
-find-agree p q same [] = refl
-find-agree p q same (x ∷ xs) = rw (same x, find-agree p q same xs) refl
+-- tests that agree on each find the same
+pub find-agree : {X : Type 0} (Q : X → Type 0) (p q : X → Bool) → ((x : X) → Q x → p x ≡ q x) → (xs : List X) → AllByRecursion Q xs → find p xs ≡ find q xs
+find-agree Q p q same [] all = refl
+find-agree Q p q same (x ∷ xs) all = rw (same x all.0, find-agree Q p q same xs all.1) refl
 
 -- what is not found in a part is found in the rest
 pub find-next : {X : Type 0} (p : X → Bool) (xs ys : List X) (x : X) → xs ≡ x ∷ ys → p x ≡ false → find p xs ≡ find p ys
@@ -85,3 +99,14 @@ at_index xs i x lt e = slice_get-get_or xs i x lt ∙ ap (λ y. Some y) (sym e)
 -- what is written back unchanged changes nothing
 pub written_back : {X : Type 0} (xs : List X) (i : ℕ) (x y : X) → x ≡ get_or xs i x → y ≡ x → set xs i y ≡ xs
 written_back xs i x y e same = ap (λ z. set xs i z) (same ∙ e) ∙ set-get_or xs i x
+
+-- the history of a lane went on, or its link did
+pub lane_goes : (limits : Limits) (clients : List (Option ℕ)) (f : List Note → List Note) (l : RelayLane) (k : LinkedLane) (after : Content) → IsLane limits clients l k → OnLane limits clients (f l.history) after → IsLane limits clients (lane_after f l) (record k { lane = after })
+lane_goes limits clients f l k after is on = record { on = on; link_is = is.link_is }
+
+pub link_goes : (limits : Limits) (clients : List (Option ℕ)) (l : RelayLane) (k : LinkedLane) (after : CentreLink) → IsLane limits clients l k → IsLane limits clients (record l { link = after }) (record k { link = after })
+link_goes limits clients l k after is = record { on = is.on; link_is = refl }
+
+-- a lane that is written back unchanged changes nothing
+pub lane_back : (lanes : List LinkedLane) (i : ℕ) (k : LinkedLane) (after : Content) → k ≡ get_or lanes i k → after ≡ k.lane → set lanes i (record k { lane = after }) ≡ lanes
+lane_back lanes i k after e same = written_back lanes i k (record k { lane = after }) e (ap (λ (v : Content). record k { lane = v }) same)

@@ -1,19 +1,15 @@
 -- From each state a line may print something.
-use Rattle.std.proofs.Common.{ℕ, Bool, true, false, List, [], ◌∷◌, Option, Some, None, refl, ap, slice_get, count_by}
+use Rattle.std.proofs.Common.{ℕ, Bool, true, false, List, [], ◌∷◌, Option, Some, None, refl, slice_get}
 use Rattle.smx_script.specs.declared.command.Action.{Action}
 use Rattle.smx_script.specs.declared.command.Action.TheVariants.{Client, Prefix, In, Take, Back, Collect, History, Turn, Lose, Bind, Moment, Expire}
 use Rattle.smx_script.specs.declared.command.Command.{Command}
 use Rattle.smx_script.specs.declared.command.Command.TheVariants.{Skip, Set, Run}
 use Rattle.smx_script.specs.Script.{command_of}
 use Rattle.smx_relay.specs.Links.{ClientLink, CentreLink, has_failed}
-use Rattle.smx_relay.specs.LaneLinks.{GivesUp, LosesAt, LosesLink, LoseTurn, going_on, lowered, with_centre}
+use Rattle.smx_relay.specs.LaneLinks.{GivesUp, LosesWhere, LosesLink, LoseTurn, is_up_at, lower_lane, with_centre}
 use Rattle.smx_relay.specs.Texts.{down_line}
-use Rattle.smx_history.specs.declared.note.Note.{Note}
-use Rattle.smx_history.specs.Entries.{is_up}
-use Rattle.smx_history.specs.History.{entries_of}
 use Rattle.smx_history.specs.Contents.{window_after}
-use Rattle.std.specs.Prelude.{unwrap_or}
-use Rattle.smx_relay.specs.Relay.{Relay, begun, last_of}
+use Rattle.smx_relay.specs.Relay.{Relay, begin_lanes, going_on, has_lane, history_of, lane_at, last_of}
 use Rattle.smx_relay.specs.ClientTurn.{OnOpen, OnStream, OnLink, OnClient, InTurn, followed_by, each_pdu}
 use Rattle.smx_relay.specs.CentreTurn.{OnUp, OnCentre, OnIndex, BackTurn, centre_pdu, centre_end}
 use Rattle.std.proofs.lemmas.List.Sorted.{IsPermutation-refl}
@@ -47,40 +43,37 @@ unfolding InTurn
 some_in s c octets = some_client s c octets (last_of s.clients c)
 
 some_given_up : (i : ℕ) (y : List ℕ × Relay) → Some_of (GivesUp i y)
-some_given_up i y =
-    let h = unwrap_or (slice_get y.1.histories i) [] in
-    (_, (window_after h, λ g at test. ap (λ (o : Option (List Note)). count_by test (window_after (unwrap_or o []))) at, refl))
+some_given_up i y = (_, (window_after (history_of y.1 i), λ test. refl, refl))
 
-some_up : (s : Relay) (i : ℕ) (octets : List ℕ) (o : Option CentreLink) → Some_of (OnUp s i octets o)
-some_up s i octets None = (None, refl)
-some_up s i octets (Some k) =
+some_up : (s : Relay) (i : ℕ) (octets : List ℕ) (k : CentreLink) → Some_of (OnUp s i octets k)
+some_up s i octets k =
     let r = some_received k.stream octets in
     let x = some_given_up i (followed_by (each_pdu (centre_pdu i) (with_centre s i (record k { stream = r.1 })) r.0) (centre_end i (has_failed r.1))) in
     (x.0, (r.0, r.1, r.2, x.1))
 
 some_centre : (s : Relay) (i : ℕ) (octets : List ℕ) (b : Bool) → Some_of (OnCentre s i octets b)
 some_centre s i octets false = (_, refl)
-some_centre s i octets true = some_up s i octets (slice_get s.centres i)
+some_centre s i octets true = some_up s i octets (lane_at s i).link
 
-some_index : (s : Relay) (i : ℕ) (octets : List ℕ) (o : Option (List Note)) → Some_of (OnIndex s i octets o)
-some_index s i octets None = (None, refl)
-some_index s i octets (Some h) = some_centre s i octets (is_up (entries_of h))
+some_index : (s : Relay) (i : ℕ) (octets : List ℕ) (b : Bool) → Some_of (OnIndex s i octets b)
+some_index s i octets false = (None, refl)
+some_index s i octets true = some_centre s i octets (is_up_at s i)
 
 some_lost_where : (s : Relay) (i : ℕ) (b : Bool) → Some_of (LosesLink s i b)
 some_lost_where s i false = (_, refl)
-some_lost_where s i true = some_given_up i (down_line i, going_on s i lowered)
+some_lost_where s i true = some_given_up i (down_line i, going_on s i lower_lane)
 
-some_lost_at : (s : Relay) (i : ℕ) (o : Option (List Note)) → Some_of (LosesAt s i o)
-some_lost_at s i None = (None, refl)
-some_lost_at s i (Some h) = some_lost_where s i (is_up (entries_of h))
+some_lost_at : (s : Relay) (i : ℕ) (b : Bool) → Some_of (LosesWhere s i b)
+some_lost_at s i false = (None, refl)
+some_lost_at s i true = some_lost_where s i (is_up_at s i)
 
 some_lost : (s : Relay) (i : ℕ) → Some_of (LoseTurn s i)
 unfolding LoseTurn
-some_lost s i = some_lost_at s i (slice_get s.histories i)
+some_lost s i = some_lost_at s i (has_lane s i)
 
 some_back : (s : Relay) (i : ℕ) (octets : List ℕ) → Some_of (BackTurn s i octets)
 unfolding BackTurn
-some_back s i octets = some_index s i octets (slice_get s.histories i)
+some_back s i octets = some_index s i octets (has_lane s i)
 
 some_take : (s : Relay) (i : ℕ) → Some_of (TakeTurn s i)
 some_take s i =
@@ -127,7 +120,7 @@ some_does : (s : Relay) (command : Command) → Some_of (Does s command)
 unfolding Does
 some_does s Skip = (_, refl)
 some_does s (Set setting) = (_, refl)
-some_does s (Run action) = some_act (begun s) action
+some_does s (Run action) = some_act (begin_lanes s) action
 
 some_command : (s : Relay) (o : Option Command) → Some_of (OnCommand s o)
 some_command s None = (None, refl)

@@ -1,5 +1,6 @@
 -- Turns of one link, as turns of the whole state.
 use Rattle.std.proofs.Common.{◌≡◌, ◌<◌, ◌≤◌, ◌++◌, ℕ, Bool, true, false, List, [], length, map, filter, not, ◌==◌, set, get_or, refl, sym, ◌∙◌, ap, subst, Some, None, slice_get}
+use Rattle.std.specs.List.{AllZip}
 use Rattle.std.proofs.lemmas.Option.{slice_get_past, slice_get_read}
 use Rattle.smx_pdu.specs.declared.pdu.Pdu.{Pdu}
 use Rattle.smx_session.specs.declared.act.Act.{Act}
@@ -10,13 +11,16 @@ use Rattle.smx_relay.specs.declared.state.State.{State}
 use Rattle.smx_relay.specs.Links.{ClientLink, CentreLink, has_left}
 use Rattle.smx_relay.specs.Texts.{pdu_line, up_lane, down_line}
 use Rattle.smx_routes.specs.Routing.{Route}
-use Rattle.smx_relay.specs.Relay.{Relay, all_left, left, with_link}
+use Rattle.smx_relay.specs.declared.state.LinkedLane.{LinkedLane}
+use Rattle.smx_relay.specs.Relay.{Relay, RelayLane, leave_lanes, going_on, lane_after, lane_at, leave_lane, with_link}
 use Rattle.smx_relay.specs.ClientTurn.{hang_up, client_act, client_pdu, client_pdu_at, client_end, client_end_at, decides}
-use Rattle.smx_relay.specs.LaneLinks.{with_centre, going_on, lowered}
-use Rattle.smx_relay.specs.CentreTurn.{centre_act, centre_pdu, centre_pdu_at, centre_end, centre_end_at, act_of, session_after}
+use Rattle.smx_relay.specs.LaneLinks.{with_centre, lower_lane}
+use Rattle.smx_relay.specs.CentreTurn.{centre_act, centre_pdu, centre_end, link_pdu, act_of, session_after}
 use Rattle.smx_relay.specs.Private.Agrees.{Agrees, HasLeft, IsReached, AreReached, Turned}
-use Rattle.smx_relay.proofs.Lanes.{written_back}
-use Rattle.smx_relay.proofs.Keeping.{KeepsSettings}
+use Rattle.smx_relay.specs.Private.OnLane.{IsLane}
+use Rattle.smx_relay.proofs.Lanes.{link_goes, written_back, zip-set}
+use Rattle.smx_relay.proofs.Keeping.{KeepsSettings, kept_links}
+use Rattle.smx_relay.proofs.StateTurns.{lane_is}
 
 -- ---- clients
 
@@ -39,8 +43,6 @@ linked old new s c after a is = record {
   links = record {
     accounts_are = is.keeps.accounts ∙ a.links.accounts_are;
     links_are = is.links ∙ ap (λ (ls : List ClientLink). set ls c after) a.links.links_are;
-    centres_are = is.keeps.centres ∙ a.links.centres_are;
-    none_yet = a.links.none_yet;
     places_are = is.keeps.places ∙ a.links.places_are;
     routes_are = is.keeps.routes ∙ a.links.routes_are;
   };
@@ -83,20 +85,18 @@ client_end_some s c k at = ap (client_end_at c s) at
 
 -- a client left the lanes, and its prefixes are gone
 pub left_by_all : (old new : State) (s : Relay) (c : ℕ) → Agrees old s → HasLeft c old.lanes.items new.lanes.items → KeepsSettings old (record new { routes = old.routes }) → new.clients.items ≡ old.clients.items → new.links.items ≡ old.links.items
-    → new.routes ≡ filter (λ r. not (r.client == c)) old.routes → Agrees new (all_left c s)
+    → new.routes ≡ filter (λ r. not (r.client == c)) old.routes → Agrees new (leave_lanes c s)
 left_by_all old new s c a leaves keeps clients links routes = record {
   limits = keeps.limits ∙ a.limits;
   count = keeps.count ∙ a.count;
   started = keeps.started ∙ a.started;
   moment = keeps.moment ∙ a.moment;
   clients = clients ∙ a.clients;
-  lanes = leaves s.limits s.clients s.histories a.lanes;
-  none_yet = λ off. ap (map (left c)) (a.none_yet off);
+  lanes = leaves s.limits s.clients s.lanes a.lanes;
+  none_yet = λ off. ap (map (lane_after (leave_lane c))) (a.none_yet off);
   links = record {
     accounts_are = keeps.accounts ∙ a.links.accounts_are;
     links_are = links ∙ a.links.links_are;
-    centres_are = keeps.centres ∙ a.links.centres_are;
-    none_yet = a.links.none_yet;
     places_are = keeps.places ∙ a.links.places_are;
     routes_are = routes ∙ ap (λ (rs : List Route). filter (λ r. not (r.client == c)) rs) a.links.routes_are;
   };
@@ -109,83 +109,76 @@ client_ended new s c k after answer text at link said turned =
     rw (client_end_some s c k at) (subst (λ (l : ClientLink). Turned (hang_up c undecoded (with_link s c l)) new text) link named)
 
 pub lanes_reached : (old : State) → IsReached old → AreReached old.lanes.items
-lanes_reached old reached = (reached.0.limits, reached.0.clients, reached.0.histories, reached.1.lanes)
+lanes_reached old reached = (reached.0.limits, reached.0.clients, reached.0.lanes, reached.1.lanes)
 
 -- ---- lanes
 
--- the link of a lane went on
-pub record IsCentre (old new : State) (i : ℕ) (after : CentreLink) : Type 0 where
-  pub centres : new.centres.items ≡ set old.centres.items i after
-  pub lanes : new.lanes.items ≡ old.lanes.items
+-- the link of the lane at the index went on
+pub record IsCentre (old new : State) (i : ℕ) (k : LinkedLane) (after : CentreLink) : Type 0 where
+  pub within : i < length old.lanes.items
+  pub here : k ≡ get_or old.lanes.items i k
+  pub lanes : new.lanes.items ≡ set old.lanes.items i (record k { link = after })
   pub clients : new.clients.items ≡ old.clients.items
   pub links : new.links.items ≡ old.links.items
-  pub limits : new.limits ≡ old.limits
-  pub count : new.count ≡ old.count
-  pub started : new.started ≡ old.started
-  pub moment : new.moment ≡ old.moment
-  pub accounts : new.accounts.items ≡ old.accounts.items
-  pub places : new.places ≡ old.places
-  pub routes : new.routes ≡ old.routes
+  pub keeps : KeepsSettings old new
 
-pub centred : (old new : State) (s : Relay) (i : ℕ) (after : CentreLink) → Agrees old s → IsCentre old new i after → Agrees new (with_centre s i after)
-centred old new s i after a is = record {
-  limits = is.limits ∙ a.limits;
-  count = is.count ∙ a.count;
-  started = is.started ∙ a.started;
-  moment = is.moment ∙ a.moment;
-  clients = is.clients ∙ a.clients;
-  lanes = rw is.lanes a.lanes;
-  none_yet = a.none_yet;
-  links = record {
-    accounts_are = is.accounts ∙ a.links.accounts_are;
-    links_are = is.links ∙ a.links.links_are;
-    centres_are = is.centres ∙ ap (λ (ls : List CentreLink). set ls i after) a.links.centres_are;
-    none_yet = λ off. ap (λ (ls : List CentreLink). set ls i after) (a.links.none_yet off);
-    places_are = is.places ∙ a.links.places_are;
-    routes_are = is.routes ∙ a.links.routes_are;
-  };
-}
+pub centred : (old new : State) (s : Relay) (i : ℕ) (k : LinkedLane) (after : CentreLink) → Agrees old s → IsCentre old new i k after → Agrees new (with_centre s i after)
+centred old new s i k after a is =
+    let R = IsLane s.limits s.clients in
+    let l : RelayLane = record (lane_at s i) { link = after } in
+    let on : R l (record k { link = after }) = link_goes s.limits s.clients (lane_at s i) k after (lane_is old s i k a is.within is.here) in
+    let lanes : AllZip R (set s.lanes i l) new.lanes.items = subst (λ ls. AllZip R (set s.lanes i l) ls) (sym is.lanes) (zip-set R s.lanes old.lanes.items i l (record k { link = after }) a.lanes on) in
+    record {
+      limits = is.keeps.limits ∙ a.limits;
+      count = is.keeps.count ∙ a.count;
+      started = is.keeps.started ∙ a.started;
+      moment = is.keeps.moment ∙ a.moment;
+      clients = is.clients ∙ a.clients;
+      lanes = lanes;
+      none_yet = λ off. ap (λ ls. set ls i l) (a.none_yet off);
+      links = kept_links old new s.accounts s.links s.places s.routes is.keeps is.links a.links;
+    }
 
-pub centre_at : (old : State) (s : Relay) (i : ℕ) (k : CentreLink) → Agrees old s → i < length old.centres.items → k ≡ get_or old.centres.items i k → slice_get s.centres i ≡ Some k
-centre_at old s i k a within here = ap (λ (ls : List CentreLink). slice_get ls i) (sym a.links.centres_are) ∙ slice_get_read old.centres.items (length old.centres.items) i k refl within here
+-- the link that there is
+pub centre_at : (old : State) (s : Relay) (i : ℕ) (k : LinkedLane) → Agrees old s → i < length old.lanes.items → k ≡ get_or old.lanes.items i k → k.link ≡ (lane_at s i).link
+centre_at old s i k a within here = (lane_is old s i k a within here).link_is
 
-pub no_centre : (old : State) (s : Relay) (i : ℕ) → Agrees old s → length old.centres.items ≤ i → slice_get s.centres i ≡ None
-no_centre old s i a past = ap (λ (ls : List CentreLink). slice_get ls i) (sym a.links.centres_are) ∙ slice_get_past old.centres.items i past
+pub left_is : (old : State) (s : Relay) (i : ℕ) (k : LinkedLane) (b : Bool) → Agrees old s → i < length old.lanes.items → k ≡ get_or old.lanes.items i k → has_left k.link ≡ b → has_left (lane_at s i).link ≡ b
+left_is old s i k b a within here e = ap has_left (sym (centre_at old s i k a within here)) ∙ e
 
 -- a link that was read only
-pub centre_untouched : (old new : State) (s : Relay) (i : ℕ) (k : CentreLink) → Agrees old s → k ≡ get_or old.centres.items i k → IsCentre old new i k → Agrees new s
-centre_untouched old new s i k a here is =
-    let same : s.centres ≡ set s.centres i k = sym a.links.centres_are ∙ sym (written_back old.centres.items i k k here refl) ∙ ap (λ (ls : List CentreLink). set ls i k) a.links.centres_are in
-    subst (λ (ls : List CentreLink). Agrees new (record s { centres = ls })) (sym same) (centred old new s i k a is)
+pub centre_untouched : (old new : State) (s : Relay) (i : ℕ) (k : LinkedLane) → Agrees old s → IsCentre old new i k k.link → Agrees new s
+centre_untouched old new s i k a is =
+    let lanes : new.lanes.items ≡ old.lanes.items = is.lanes ∙ written_back old.lanes.items i k k is.here refl in
+    record {
+      limits = is.keeps.limits ∙ a.limits;
+      count = is.keeps.count ∙ a.count;
+      started = is.keeps.started ∙ a.started;
+      moment = is.keeps.moment ∙ a.moment;
+      clients = is.clients ∙ a.clients;
+      lanes = rw lanes a.lanes;
+      none_yet = a.none_yet;
+      links = kept_links old new s.accounts s.links s.places s.routes is.keeps is.links a.links;
+    }
 
-pub centre_pdu_none : (s : Relay) (i : ℕ) (p : Pdu) → slice_get s.centres i ≡ None → centre_pdu i p s ≡ ([], s)
+pub centre_pdu_left : (s : Relay) (i : ℕ) (p : Pdu) → has_left (lane_at s i).link ≡ true → centre_pdu i p s ≡ ([], s)
 unfolding centre_pdu
-centre_pdu_none s i p at = ap (centre_pdu_at i p s) at
+centre_pdu_left s i p gone = rw gone refl
 
-pub centre_pdu_left : (s : Relay) (i : ℕ) (p : Pdu) (k : CentreLink) → slice_get s.centres i ≡ Some k → has_left k ≡ true → centre_pdu i p s ≡ ([], s)
-unfolding centre_pdu
-centre_pdu_left s i p k at gone = ap (centre_pdu_at i p s) at ∙ rw gone refl
-
-pub centre_pdu_some : (s : Relay) (i : ℕ) (p : Pdu) (k after : CentreLink) (act : UpAct) → slice_get s.centres i ≡ Some k → has_left k ≡ false → act ≡ act_of k.session p → after ≡ record k { session = session_after k.session p }
+pub centre_pdu_some : (s : Relay) (i : ℕ) (p : Pdu) (k after : CentreLink) (act : UpAct) → k ≡ (lane_at s i).link → has_left (lane_at s i).link ≡ false → act ≡ act_of k.session p → after ≡ record k { session = session_after k.session p }
     → centre_act i p act (with_centre s i after) ≡ centre_pdu i p s
 unfolding centre_pdu
 centre_pdu_some s i p k after act at here is link =
     ap (λ (x : UpAct). centre_act i p x (with_centre s i after)) is ∙ ap (λ (l : CentreLink). centre_act i p (act_of k.session p) (with_centre s i l)) link
-    ∙ sym (ap (centre_pdu_at i p s) at ∙ rw here refl)
+    ∙ ap (λ (l : CentreLink). link_pdu i p l s) at ∙ sym (rw here refl)
 
-pub centre_end_none : (s : Relay) (i : ℕ) (b : Bool) → slice_get s.centres i ≡ None → centre_end i b s ≡ ([], s)
+pub centre_end_left : (s : Relay) (i : ℕ) (b : Bool) → has_left (lane_at s i).link ≡ true → centre_end i b s ≡ ([], s)
 unfolding centre_end
-centre_end_none s i true at = ap (centre_end_at i s) at
-centre_end_none s i false at = refl
-
-pub centre_end_left : (s : Relay) (i : ℕ) (b : Bool) (k : CentreLink) → slice_get s.centres i ≡ Some k → has_left k ≡ true → centre_end i b s ≡ ([], s)
-unfolding centre_end
-centre_end_left s i true k at gone = ap (centre_end_at i s) at ∙ rw gone refl
-centre_end_left s i false k at gone = refl
+centre_end_left s i true gone = rw gone refl
+centre_end_left s i false gone = refl
 
 -- a bad length came
-pub centre_ended : (state : State) (s : Relay) (i : ℕ) (k : CentreLink) (answer : Pdu) (text : List ℕ) → slice_get s.centres i ≡ Some k → has_left k ≡ false → answer ≡ undecoded → text ≡ pdu_line (up_lane i) answer ++ down_line i → Agrees state (going_on s i lowered) → Turned (centre_end i true s) state text
+pub centre_ended : (state : State) (s : Relay) (i : ℕ) (answer : Pdu) (text : List ℕ) → has_left (lane_at s i).link ≡ false → answer ≡ undecoded → text ≡ pdu_line (up_lane i) answer ++ down_line i → Agrees state (going_on s i lower_lane) → Turned (centre_end i true s) state text
 unfolding centre_end
-centre_ended state s i k answer text at here said e a =
-    subst (λ (x : List ℕ × Relay). Turned x state text) (sym (ap (centre_end_at i s) at ∙ rw here refl))
-    (subst (λ (p : Pdu). Turned (pdu_line (up_lane i) p ++ down_line i, going_on s i lowered) state text) said (record { text = e; left = a }))
+centre_ended state s i answer text here said e a =
+    rw here (subst (λ (p : Pdu). Turned (pdu_line (up_lane i) p ++ down_line i, going_on s i lower_lane) state text) said (record { text = e; left = a }))

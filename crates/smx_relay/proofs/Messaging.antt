@@ -15,7 +15,7 @@ use Rattle.smx_mailbox.specs.Mailbox.{with_message, is_full, sent, after_sent, s
 use Rattle.smx_relay.specs.declared.state.State.{State}
 use Rattle.smx_relay.specs.Links.{ClientLink}
 use Rattle.smx_relay.specs.Texts.{text_line, pdu_line, to_client, up_lane, refusal}
-use Rattle.smx_relay.specs.Relay.{Relay, all_left, with_link}
+use Rattle.smx_relay.specs.Relay.{Relay, leave_lanes, with_link}
 use Rattle.smx_relay.specs.Messages.{answer_turn, leave_turn, left_line, message_turn, put_to, send_turn}
 use Rattle.smx_relay.specs.Private.Agrees.{Agrees, Turned}
 use Rattle.smx_relay.proofs.Links.{IsLinked, linked, link_untouched}
@@ -78,16 +78,16 @@ answer_passed old new s c p k after w lane number text a at some is same from un
 
 -- ---- a client leaves
 
-pub leave_nowhere : (s : Relay) (c : ℕ) (state : State) (text : List ℕ) → slice_get s.links c ≡ None → Agrees state (all_left c s) → text ≡ [] → Turned (leave_turn c s) state text
+pub leave_nowhere : (s : Relay) (c : ℕ) (state : State) (text : List ℕ) → slice_get s.links c ≡ None → Agrees state (leave_lanes c s) → text ≡ [] → Turned (leave_turn c s) state text
 unfolding leave_turn
 leave_nowhere s c state text at a e = rw at (record { text = e; left = a })
 
-pub leave_emptied : (mid new : State) (s : Relay) (c : ℕ) (k after : ClientLink) (messages : List Unanswered) (text : List ℕ) → Agrees mid (all_left c s) → slice_get s.links c ≡ Some k → IsLinked mid new c after → after ≡ record k { mailbox = emptied k.mailbox } → messages ≡ unanswered k.mailbox
+pub leave_emptied : (mid new : State) (s : Relay) (c : ℕ) (k after : ClientLink) (messages : List Unanswered) (text : List ℕ) → Agrees mid (leave_lanes c s) → slice_get s.links c ≡ Some k → IsLinked mid new c after → after ≡ record k { mailbox = emptied k.mailbox } → messages ≡ unanswered k.mailbox
     → text ≡ flat_map left_line messages → Turned (leave_turn c s) new text
 unfolding leave_turn
 leave_emptied mid new s c k after messages text a at is same all e = rw at (record {
   text = e ∙ ap (flat_map left_line) all;
-  left = gone_on mid new (all_left c s) c after (record k { mailbox = emptied k.mailbox }) a is same;
+  left = gone_on mid new (leave_lanes c s) c after (record k { mailbox = emptied k.mailbox }) a is same;
 })
 
 -- ---- a client collects

@@ -1,10 +1,9 @@
 -- A request that is offered to the lanes.
-use Rattle.std.proofs.Common.{◌≡◌, ◌+◌, ◌%◌, ℕ, zero, suc, Bool, List, [], ◌∷◌, ◌++◌, length, set, refl, sym, ◌∙◌, ap, subst, arith, Option, Some, None, slice_get, codes}
+use Rattle.std.proofs.Common.{◌≡◌, ◌<◌, ◌+◌, ◌%◌, ℕ, zero, suc, List, [], ◌∷◌, ◌++◌, length, get_or, set, refl, sym, ◌∙◌, ap, subst, arith, Option, Some, None, slice_get, codes}
 use Rattle.std.specs.Prelude.{is_none, unwrap_or}
 use Rattle.std.specs.List.{AllByRecursion, AllZip, find}
 use Rattle.std.specs.Fmt.{decimal}
 use Rattle.smx_pdu.specs.declared.pdu.Pdu.{Pdu}
-use Rattle.smx_history.specs.declared.limits.Limits.{Limits}
 use Rattle.smx_history.specs.declared.request.Request.{Request}
 use Rattle.smx_history.specs.declared.note.Note.{Note}
 use Rattle.smx_history.specs.declared.note.Event.TheVariants.{Accept}
@@ -15,10 +14,13 @@ use Rattle.smx_history.proofs.Finding.{refusal_same}
 use Rattle.smx_relay.specs.declared.state.State.{State}
 use Rattle.smx_relay.specs.declared.offer.Offer.{Offer}
 use Rattle.smx_relay.specs.Texts.{text_line, pdu_line, to_client, refusal_of}
-use Rattle.smx_relay.specs.Relay.{Relay, ring, last_of, accepts_on, lane_for, in_turn_at, request_of}
-use Rattle.smx_relay.specs.Private.OnLane.{OnLane}
+use Rattle.smx_relay.specs.declared.state.LinkedLane.{LinkedLane}
+use Rattle.smx_relay.specs.Relay.{Relay, ring, history_of, lane_after, lane_at, last_of, lane_for, in_turn_at, new_lane, request_of, with_request}
+use Rattle.smx_relay.specs.Private.OnLane.{OnLane, IsLane}
 use Rattle.smx_relay.specs.Private.Agrees.{Agrees, Turned, MayAccept, accepts_in}
 use Rattle.smx_relay.proofs.Lanes.{zip-length, zip-set, zip-weaker, find-agree}
+use Rattle.smx_relay.proofs.Ring.{ring_within}
+use Rattle.smx_relay.proofs.StateTurns.{lane_is}
 use Rattle.smx_relay.proofs.Rows.{rows_below}
 use Rattle.smx_relay.proofs.Keeping.{KeepsSettings, kept_links}
 use Rattle.smx_relay.proofs.OwnNotes.{own_push, own_grows, grows_set, last_set}
@@ -29,85 +31,82 @@ zip-all R Q f [] (y ∷ ys) z = absurd z
 zip-all R Q f (x ∷ xs) [] z = absurd z
 zip-all R Q f (x ∷ xs) (y ∷ ys) z = (f x y z.0, zip-all R Q f xs ys z.1)
 
--- tests that agree on fellows agree at each index
-zip-test : {X Y : Type 0} (R : X → Y → Type 0) (p : Option X → Bool) (q : Option Y → Bool) → p None ≡ q None → ((x : X) (y : Y) → R x y → p (Some x) ≡ q (Some y)) → (xs : List X) (ys : List Y) → AllZip R xs ys → (i : ℕ) → p (slice_get xs i) ≡ q (slice_get ys i)
-zip-test R p q none some [] [] z i = none
-zip-test R p q none some [] (y ∷ ys) z i = absurd z
-zip-test R p q none some (x ∷ xs) [] z i = absurd z
-zip-test R p q none some (x ∷ xs) (y ∷ ys) z zero = some x y z.0
-zip-test R p q none some (x ∷ xs) (y ∷ ys) z (suc i) = zip-test R p q none some xs ys z.1 i
+-- what stands at an index of the first list has its fellow in the second
+zip-other : {X Y : Type 0} (R : X → Y → Type 0) (xs : List X) (ys : List Y) (i : ℕ) (d : X) → AllZip R xs ys → i < length xs → (y : Y) × (slice_get ys i ≡ Some y) × R (get_or xs i d) y
+zip-other R [] [] i d z lt = absurd (omega arith)
+zip-other R [] (y ∷ ys) i d z lt = absurd z
+zip-other R (x ∷ xs) [] i d z lt = absurd z
+zip-other R (x ∷ xs) (y ∷ ys) zero d z lt = (y, refl, z.0)
+zip-other R (x ∷ xs) (y ∷ ys) (suc i) d z lt = zip-other R xs ys i d z.1 (omega arith)
 
--- what is found in the second list has its fellow in the first
-pub zip-found : {X Y : Type 0} (R : X → Y → Type 0) (xs : List X) (ys : List Y) (i : ℕ) (y : Y) → AllZip R xs ys → slice_get ys i ≡ Some y → (x : X) × (slice_get xs i ≡ Some x) × R x y
-zip-found R [] [] i y z e = absurd (let x : None ≡ Some y = e in cc)
-zip-found R [] (b ∷ ys) i y z e = absurd z
-zip-found R (a ∷ xs) [] i y z e = absurd z
-zip-found R (a ∷ xs) (b ∷ ys) zero y z e = let same : b ≡ y = cc in (a, refl, subst (λ w. R a w) same z.0)
-zip-found R (a ∷ xs) (b ∷ ys) (suc i) y z e = zip-found R xs ys i y z.1 e
+-- what is found in a list stands there
+found_at : {X : Type 0} (xs : List X) (i : ℕ) (x : X) → slice_get xs i ≡ Some x → (i < length xs) × (x ≡ get_or xs i x)
+found_at [] i x e = absurd (let z : None ≡ Some x = e in cc)
+found_at (y ∷ ys) zero x e = (omega arith, let same : y ≡ x = cc in sym same)
+found_at (y ∷ ys) (suc i) x e = let w = found_at ys i x e in (omega (arith, w.0), w.1)
 
 pub lanes_may_accept : (state : State) (s : Relay) (c n m : ℕ) → Agrees state s → last_of state.clients.items c ≡ Some n → m ≡ n + 1 → AllByRecursion (MayAccept c m) state.lanes.items
 lanes_may_accept state s c n m a known e =
     let last : last_of s.clients c ≡ Some n = ap (λ cs. last_of cs c) (sym a.clients) ∙ known in
     subst (λ k. AllByRecursion (MayAccept c k) state.lanes.items) (sym e)
-    (zip-all (OnLane s.limits s.clients) (MayAccept c (n + 1)) (λ h lane on. rows_below s.clients h lane c n on.agrees on.own last) s.histories state.lanes.items a.lanes)
-
-lane_test : (limits : Limits) (clients : List (Option ℕ)) (c : ℕ) (h : List Note) (lane : Content) → OnLane limits clients h lane → accepts_on limits c (Some h) ≡ accepts_in c (Some lane)
-lane_test limits clients c h lane on = ap is_none (ap (λ l. refusal_after l h c) (sym on.limits_are) ∙ sym (refusal_same h lane c on.agrees))
+    (zip-all (IsLane s.limits s.clients) (MayAccept c (n + 1)) (λ l k is. rows_below s.clients l.history k.lane c n is.on.agrees is.on.own last) s.lanes state.lanes.items a.lanes)
 
 -- the lane that the engine finds is the one that the histories say
 lane_same : (state : State) (s : Relay) (c last : ℕ) → Agrees state s → lane_for s c last ≡ find (λ i. accepts_in c (slice_get state.lanes.items i)) (ring (last % length state.lanes.items) (length state.lanes.items))
 unfolding lane_for
 lane_same state s c last a =
-    let test = zip-test (OnLane s.limits s.clients) (accepts_on s.limits c) (accepts_in c) refl (lane_test s.limits s.clients c) s.histories state.lanes.items a.lanes in
-    find-agree (λ i. accepts_on s.limits c (slice_get s.histories i)) (λ i. accepts_in c (slice_get state.lanes.items i)) test (ring (last % length s.histories) (length s.histories))
-    ∙ ap (λ n. find (λ i. accepts_in c (slice_get state.lanes.items i)) (ring (last % n) n)) (zip-length (OnLane s.limits s.clients) s.histories state.lanes.items a.lanes)
+    let n = length s.lanes in
+    let size : n ≡ length state.lanes.items = zip-length (IsLane s.limits s.clients) s.lanes state.lanes.items a.lanes in
+    find-agree (λ i. i < n) (λ i. is_none (refusal_after s.limits (history_of s i) c)) (λ i. accepts_in c (slice_get state.lanes.items i)) test (ring (last % n) n) (ring_within (last % n) n)
+    ∙ ap (λ m. find (λ i. accepts_in c (slice_get state.lanes.items i)) (ring (last % m) m)) size
+  where
+    test : (i : ℕ) → i < length s.lanes → is_none (refusal_after s.limits (history_of s i) c) ≡ accepts_in c (slice_get state.lanes.items i)
+    test i lt =
+        let w = zip-other (IsLane s.limits s.clients) s.lanes state.lanes.items i new_lane a.lanes lt in
+        let same = refusal_same (history_of s i) w.0.lane c w.2.on.agrees in
+        ap is_none (ap (λ l. refusal_after l (history_of s i) c) (sym w.2.on.limits_are) ∙ sym same) ∙ sym (ap (accepts_in c) w.1)
 
 -- what an accept on the lane at an index leaves
-pub record IsAccepted (old new : State) (c last at : ℕ) (r : Request) (lane after : Content) : Type 0 where
+pub record IsAccepted (old new : State) (c last at : ℕ) (r : Request) (k : LinkedLane) (after : Content) : Type 0 where
   pub found : find (λ i. accepts_in c (slice_get old.lanes.items i)) (ring (last % length old.lanes.items) (length old.lanes.items)) ≡ Some at
-  pub here : slice_get old.lanes.items at ≡ Some lane
-  pub lanes : new.lanes.items ≡ set old.lanes.items at after
-  pub limits_kept : after.limits ≡ lane.limits
-  pub goes : (h : List Note) → AgreesWith h lane → AgreesWith (h ++ note 0 (Accept r) ∷ []) after
+  pub here : slice_get old.lanes.items at ≡ Some k
+  pub lanes : new.lanes.items ≡ set old.lanes.items at (record k { lane = after })
+  pub limits_kept : after.limits ≡ k.lane.limits
+  pub goes : (h : List Note) → AgreesWith h k.lane → AgreesWith (with_request r h) after
   pub clients : new.clients.items ≡ set old.clients.items c (Some (last + 1))
-  pub limits : new.limits ≡ old.limits
-  pub count : new.count ≡ old.count
-  pub started : new.started ≡ old.started
-  pub moment : new.moment ≡ old.moment
-  pub accounts : new.accounts.items ≡ old.accounts.items
-  pub centres : new.centres.items ≡ old.centres.items
-  pub places : new.places ≡ old.places
-  pub routes : new.routes ≡ old.routes
   pub links : new.links.items ≡ old.links.items
+  pub keeps : KeepsSettings old new
 
-pub offered_some : (old new : State) (s : Relay) (c last at : ℕ) (o : Offer) (lane after : Content) (text : List ℕ) → Agrees old s → last_of old.clients.items c ≡ Some last → IsAccepted old new c last at (request_of c (last + 1) o) lane after
+pub offered_some : (old new : State) (s : Relay) (c last at : ℕ) (o : Offer) (k : LinkedLane) (after : Content) (text : List ℕ) → Agrees old s → last_of old.clients.items c ≡ Some last → IsAccepted old new c last at (request_of c (last + 1) o) k after
     → text ≡ text_line (codes "accepted " ++ (decimal c ++ (codes " " ++ decimal at))) → Turned (in_turn_at s c last o (lane_for s c last)) new text
-offered_some old new s c last at o lane after text a known is e =
-    let R = OnLane s.limits s.clients in
+offered_some old new s c last at o k after text a known is e =
+    let r = request_of c (last + 1) o in
     let found : lane_for s c last ≡ Some at = lane_same old s c last a ∙ is.found in
-    let there = zip-found R s.histories old.lanes.items at lane a.lanes is.here in
-    let h = there.0 in
-    let longer = h ++ note 0 (Accept (request_of c (last + 1) o)) ∷ [] in
+    let there = found_at old.lanes.items at k is.here in
+    let l = lane_at s at in
+    let was = lane_is old s at k a there.0 there.1 in
     let last_is : last_of s.clients c ≡ Some last = ap (λ cs. last_of cs c) (sym a.clients) ∙ known in
     let clients = set s.clients c (Some (last + 1)) in
     let grows = grows_set s.clients c last last_is in
-    let own = own_push clients h (note 0 (Accept (request_of c (last + 1) o))) (entry_by 0 (Accept (request_of c (last + 1) o))) refl (own_grows s.clients clients h grows there.2.own)
+    let own = own_push clients l.history (note 0 (Accept r)) (entry_by 0 (Accept r)) refl (own_grows s.clients clients l.history grows was.on.own)
     (record { by = refl; known = λ accept. omega (arith, ap (λ x. unwrap_or x 0) (last_set s.clients c last (last + 1) last_is)) }) in
-    let on : OnLane s.limits clients longer after = record { agrees = is.goes h there.2.agrees; limits_are = is.limits_kept ∙ there.2.limits_are; own = own } in
-    let weaker = zip-weaker R (OnLane s.limits clients) (λ g v x. record { agrees = x.agrees; limits_are = x.limits_are; own = own_grows s.clients clients g grows x.own }) s.histories old.lanes.items a.lanes in
-    let zipped : AllZip (OnLane s.limits clients) (set s.histories at longer) new.lanes.items =
-    subst (λ ls. AllZip (OnLane s.limits clients) (set s.histories at longer) ls) (sym is.lanes) (zip-set (OnLane s.limits clients) s.histories old.lanes.items at longer after weaker on) in
-    rw (found, there.1) (record {
+    let longer : OnLane s.limits clients (with_request r l.history) after = record { agrees = is.goes l.history was.on.agrees; limits_are = is.limits_kept ∙ was.on.limits_are; own = own } in
+    let R = IsLane s.limits clients in
+    let on : R (lane_after (with_request r) l) (record k { lane = after }) = record { on = longer; link_is = was.link_is } in
+    let weaker = zip-weaker (IsLane s.limits s.clients) R (λ g v x. record { on = record { agrees = x.on.agrees; limits_are = x.on.limits_are; own = own_grows s.clients clients g.history grows x.on.own }; link_is = x.link_is }) s.lanes old.lanes.items a.lanes in
+    let lanes : AllZip R (set s.lanes at (lane_after (with_request r) l)) new.lanes.items =
+    subst (λ ls. AllZip R (set s.lanes at (lane_after (with_request r) l)) ls) (sym is.lanes) (zip-set R s.lanes old.lanes.items at (lane_after (with_request r) l) (record k { lane = after }) weaker on) in
+    rw found (record {
       text = e;
       left = record {
-        limits = is.limits ∙ a.limits;
-        count = is.count ∙ a.count;
-        started = is.started ∙ a.started;
-        moment = is.moment ∙ a.moment;
+        limits = is.keeps.limits ∙ a.limits;
+        count = is.keeps.count ∙ a.count;
+        started = is.keeps.started ∙ a.started;
+        moment = is.keeps.moment ∙ a.moment;
         clients = is.clients ∙ ap (λ cs. set cs c (Some (last + 1))) a.clients;
-        lanes = zipped;
-        none_yet = λ off. ap (λ hs. set hs at longer) (a.none_yet off);
-        links = kept_links old new s.accounts s.links s.centres s.started s.places s.routes (record { limits = is.limits; count = is.count; started = is.started; accounts = is.accounts; centres = is.centres; places = is.places; routes = is.routes; moment = is.moment }) is.links a.links;
+        lanes = lanes;
+        none_yet = λ off. ap (λ ls. set ls at (lane_after (with_request r) l)) (a.none_yet off);
+        links = kept_links old new s.accounts s.links s.places s.routes is.keeps is.links a.links;
       };
     })
 
@@ -126,6 +125,6 @@ offered_none old new s c last o p text a none lanes clients keeps links is e =
         clients = clients ∙ a.clients;
         lanes = rw lanes a.lanes;
         none_yet = a.none_yet;
-        links = kept_links old new s.accounts s.links s.centres s.started s.places s.routes keeps links a.links;
+        links = kept_links old new s.accounts s.links s.places s.routes keeps links a.links;
       };
     })

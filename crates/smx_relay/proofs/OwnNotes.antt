@@ -5,7 +5,7 @@ use Rattle.std.specs.List.{AllByRecursion}
 use Rattle.std.specs.Fmt.{decimal}
 use Rattle.smx_history.specs.declared.note.Event.TheVariants as event
 use Rattle.smx_relay.specs.Texts.{text_line, down_line}
-use Rattle.smx_relay.specs.LaneLinks.{given_up, lowered, raised}
+use Rattle.smx_relay.specs.LaneLinks.{give_up_lane, lower_lane, raise_lane}
 use Rattle.smx_relay.specs.Expiring.{expire_on}
 use Rattle.smx_history.specs.Answering.{failing}
 use Rattle.std.proofs.lemmas.List.{append-nil}
@@ -23,7 +23,7 @@ use Rattle.smx_history.specs.Finding.{is_present, place_answered, waiting_after}
 use Rattle.smx_history.proofs.Growing.{All-push}
 use Rattle.smx_history.proofs.ShiftAgrees.{entries_of-shift}
 use Rattle.smx_history.proofs.Reading.{entries_of-push, entries_of-append, All-each}
-use Rattle.smx_relay.specs.Relay.{last_of, last_in, take_with, take_on, turn_on, back_to, back_on, collected, entered, entered_and_left}
+use Rattle.smx_relay.specs.Relay.{last_of, last_in, take_with, take_on, turn_on, back_to, back_on, collect_lane, enter_lane, enter_and_leave_lane}
 use Rattle.smx_relay.specs.Private.OnLane.{IsOwn, AreOwn}
 use Rattle.smx_relay.proofs.Collecting.{collects}
 
@@ -55,24 +55,24 @@ pub own_expired : (clients : List (Option ℕ)) (i : ℕ) (qs : List Place) (h :
 unfolding expire_on
 own_expired clients i qs h own = own_failing clients h qs own
 
-pub own_given_up : (clients : List (Option ℕ)) (qs : List Place) (h : List Note) → AreOwn clients h → AreOwn clients (given_up qs h)
-unfolding given_up
+pub own_given_up : (clients : List (Option ℕ)) (qs : List Place) (h : List Note) → AreOwn clients h → AreOwn clients (give_up_lane qs h)
+unfolding give_up_lane
 own_given_up clients qs h own = at (is_up (entries_of h))
   where
     at : (b : Bool) → AreOwn clients (cond {A = List Note} b h (h ++ map (failing 0) qs))
     at true = own
     at false = own_failing clients h qs own
 
-pub own_lowered : (clients : List (Option ℕ)) (h : List Note) → AreOwn clients h → AreOwn clients (lowered h)
-unfolding lowered
+pub own_lowered : (clients : List (Option ℕ)) (h : List Note) → AreOwn clients h → AreOwn clients (lower_lane h)
+unfolding lower_lane
 own_lowered clients h own = at (is_up (entries_of h))
   where
     at : (b : Bool) → AreOwn clients (cond {A = List Note} b (h ++ note 0 event.Down ∷ []) h)
     at true = own_push clients h _ _ refl own (own_other clients _ refl refl)
     at false = own
 
-pub own_raised : (clients : List (Option ℕ)) (h : List Note) → AreOwn clients h → AreOwn clients (raised h)
-unfolding raised
+pub own_raised : (clients : List (Option ℕ)) (h : List Note) → AreOwn clients h → AreOwn clients (raise_lane h)
+unfolding raise_lane
 own_raised clients h own = own_push clients h _ _ refl own (own_other clients _ refl refl)
 
 own_back_to : (clients : List (Option ℕ)) (p : Pdu) (h : List Note) (o : Option Place) → AreOwn clients h → AreOwn clients (back_to p h o).1
@@ -101,16 +101,16 @@ unfolding collects
 own_collects clients c [] = tt
 own_collects clients c (r ∷ rs) = (own_other clients _ refl refl, own_collects clients c rs)
 
-pub own_collected : (clients : List (Option ℕ)) (c : ℕ) (h : List Note) → AreOwn clients h → AreOwn clients (collected c h)
+pub own_collected : (clients : List (Option ℕ)) (c : ℕ) (h : List Note) → AreOwn clients h → AreOwn clients (collect_lane c h)
 unfolding collects
 own_collected clients c h own =
     subst (AllByRecursion (IsOwn clients)) (sym (entries_of-append h (collects c (waiting_after h c)))) (All-append (IsOwn clients) (entries_of h) (entries_of (collects c (waiting_after h c))) own (own_collects clients c (waiting_after h c)))
 
-pub own_entered : (clients : List (Option ℕ)) (c : ℕ) (h : List Note) → AreOwn clients h → AreOwn clients (entered c h)
+pub own_entered : (clients : List (Option ℕ)) (c : ℕ) (h : List Note) → AreOwn clients h → AreOwn clients (enter_lane c h)
 own_entered clients c h own = own_push clients h _ _ refl own (own_other clients _ refl refl)
 
-pub own_left : (clients : List (Option ℕ)) (c : ℕ) (h : List Note) → AreOwn clients (entered c h) → AreOwn clients (entered_and_left c h)
-own_left clients c h own = own_push clients (entered c h) _ _ refl own (own_other clients _ refl refl)
+pub own_left : (clients : List (Option ℕ)) (c : ℕ) (h : List Note) → AreOwn clients (enter_lane c h) → AreOwn clients (enter_and_leave_lane c h)
+own_left clients c h own = own_push clients (enter_lane c h) _ _ refl own (own_other clients _ refl refl)
 
 pub own_retired : (clients : List (Option ℕ)) (c : ℕ) (h : List Note) → AreOwn clients h → AreOwn clients (h ++ note 0 (event.Retire c) ∷ [])
 own_retired clients c h own = own_push clients h _ _ refl own (own_other clients _ refl refl)

@@ -1,48 +1,46 @@
--- A loop over the lanes, which takes each to what the next history leaves.
+-- A loop over a list, which takes each to what f makes of its fellow.
 use Rattle.std.proofs.Common.{◌≡◌, ◌<◌, ◌≤◌, ◌+◌, ℕ, Bool, true, false, List, [], ◌∷◌, ◌++◌, length, map, get_or, set, refl, sym, ◌∙◌, ap, subst, arith, Some, None, append_assoc, length-append}
 use Rattle.std.specs.List.{AllZip, list_any, position, position_or_len}
 use Rattle.std.proofs.lemmas.Bool.{lt-ltb, le-ltb}
 use Rattle.std.proofs.lemmas.List.{append-nil, map_push, length-map}
-use Rattle.smx_history.specs.declared.note.Note.{Note}
-use Rattle.smx_history.specs.Contents.{Content}
 use Rattle.smx_relay.proofs.Lanes.{zip-length, zip-middle, zip-middle_set, position_or_len-past, position_or_len-none}
 
--- f was done on the first i histories, and the others are left
-pub record IsPassing (R : List Note → Content → Type 0) (f : List Note → List Note) (hs done left : List (List Note)) (lanes : List Content) (i : ℕ) : Type 0 where
-  pub all : hs ≡ done ++ left
+-- f was done on the first i, and the others are left
+pub record IsPassing {X Y : Type 0} (R : X → Y → Type 0) (f : X → X) (xs done left : List X) (ys : List Y) (i : ℕ) : Type 0 where
+  pub all : xs ≡ done ++ left
   pub count : length done ≡ i
-  pub lanes_are : AllZip R (map f done ++ left) lanes
+  pub lanes_are : AllZip R (map f done ++ left) ys
 
-pub passing_start : (R : List Note → Content → Type 0) (f : List Note → List Note) (hs : List (List Note)) (lanes : List Content) → AllZip R hs lanes → IsPassing R f hs [] hs lanes 0
-passing_start R f hs lanes z = record { all = refl; count = refl; lanes_are = z }
+pub passing_start : {X Y : Type 0} (R : X → Y → Type 0) (f : X → X) (xs : List X) (ys : List Y) → AllZip R xs ys → IsPassing R f xs [] xs ys 0
+passing_start R f xs ys z = record { all = refl; count = refl; lanes_are = z }
 
-passing_length : (R : List Note → Content → Type 0) (f : List Note → List Note) (hs done left : List (List Note)) (lanes : List Content) (i : ℕ) → IsPassing R f hs done left lanes i → i + length left ≡ length lanes
-passing_length R f hs done left lanes i p =
-    omega (arith, zip-length R (map f done ++ left) lanes p.lanes_are, length-append (map f done) left, length-map done f, p.count)
+passing_length : {X Y : Type 0} (R : X → Y → Type 0) (f : X → X) (xs done left : List X) (ys : List Y) (i : ℕ) → IsPassing R f xs done left ys i → i + length left ≡ length ys
+passing_length R f xs done left ys i p =
+    omega (arith, zip-length R (map f done ++ left) ys p.lanes_are, length-append (map f done) left, length-map done f, p.count)
 
--- the history of the lane at i
-pub passing_at : (R : List Note → Content → Type 0) (f : List Note → List Note) (hs done left : List (List Note)) (lanes : List Content) (i : ℕ) (d : Content) → IsPassing R f hs done left lanes i → i < length lanes
-    → (h : List Note) × (rest : List (List Note)) × (left ≡ h ∷ rest) × R h (get_or lanes i d)
-passing_at R f hs done [] lanes i d p lt = absurd (let n = passing_length R f hs done [] lanes i p in omega (arith, n))
-passing_at R f hs done (h ∷ rest) lanes i d p lt =
-    (h, rest, refl, subst (λ k. R h (get_or lanes k d)) (length-map done f ∙ p.count) (zip-middle R (map f done) h rest lanes d p.lanes_are))
+-- what stands at i
+pub passing_at : {X Y : Type 0} (R : X → Y → Type 0) (f : X → X) (xs done left : List X) (ys : List Y) (i : ℕ) (d : Y) → IsPassing R f xs done left ys i → i < length ys
+    → (x : X) × (rest : List X) × (left ≡ x ∷ rest) × R x (get_or ys i d)
+passing_at R f xs done [] ys i d p lt = absurd (let n = passing_length R f xs done [] ys i p in omega (arith, n))
+passing_at R f xs done (x ∷ rest) ys i d p lt =
+    (x, rest, refl, subst (λ k. R x (get_or ys k d)) (length-map done f ∙ p.count) (zip-middle R (map f done) x rest ys d p.lanes_are))
 
-pub passing_more : (R : List Note → Content → Type 0) (f : List Note → List Note) (hs done left : List (List Note)) (lanes : List Content) (i : ℕ) (h : List Note) (rest : List (List Note)) (lane : Content) → IsPassing R f hs done left lanes i → left ≡ h ∷ rest → R (f h) lane
-    → IsPassing R f hs (done ++ h ∷ []) rest (set lanes i lane) (i + 1)
-passing_more R f hs done left lanes i h rest lane p e r =
-    let before : AllZip R (map f done ++ h ∷ rest) lanes = subst (λ xs. AllZip R (map f done ++ xs) lanes) e p.lanes_are in
-    let after = subst (λ k. AllZip R (map f done ++ f h ∷ rest) (set lanes k lane)) (length-map done f ∙ p.count) (zip-middle_set R (map f done) h (f h) rest lanes lane before r) in
+pub passing_more : {X Y : Type 0} (R : X → Y → Type 0) (f : X → X) (xs done left : List X) (ys : List Y) (i : ℕ) (x : X) (rest : List X) (y : Y) → IsPassing R f xs done left ys i → left ≡ x ∷ rest → R (f x) y
+    → IsPassing R f xs (done ++ x ∷ []) rest (set ys i y) (i + 1)
+passing_more R f xs done left ys i x rest y p e r =
+    let before : AllZip R (map f done ++ x ∷ rest) ys = subst (λ xs. AllZip R (map f done ++ xs) ys) e p.lanes_are in
+    let after = subst (λ k. AllZip R (map f done ++ f x ∷ rest) (set ys k y)) (length-map done f ∙ p.count) (zip-middle_set R (map f done) x (f x) rest ys y before r) in
     record {
-      all = p.all ∙ ap (λ xs. done ++ xs) e ∙ sym (append_assoc done (h ∷ []) rest);
-      count = omega (arith, length-append done (h ∷ []), p.count);
-      lanes_are = subst (λ xs. AllZip R xs (set lanes i lane)) (sym (append_assoc (map f done) (f h ∷ []) rest) ∙ ap (λ xs. xs ++ rest) (sym (map_push f done h))) after;
+      all = p.all ∙ ap (λ xs. done ++ xs) e ∙ sym (append_assoc done (x ∷ []) rest);
+      count = omega (arith, length-append done (x ∷ []), p.count);
+      lanes_are = subst (λ xs. AllZip R xs (set ys i y)) (sym (append_assoc (map f done) (f x ∷ []) rest) ∙ ap (λ xs. xs ++ rest) (sym (map_push f done x))) after;
     }
 
-pub passing_end : (R : List Note → Content → Type 0) (f : List Note → List Note) (hs done left : List (List Note)) (lanes : List Content) (i : ℕ) → IsPassing R f hs done left lanes i → length lanes ≤ i → (hs ≡ done) × AllZip R (map f hs) lanes
-passing_end R f hs done [] lanes i p le =
-    let same : hs ≡ done = p.all ∙ append-nil done in
-    (same, subst (λ xs. AllZip R (map f xs) lanes) (sym same) (subst (λ xs. AllZip R xs lanes) (append-nil (map f done)) p.lanes_are))
-passing_end R f hs done (h ∷ rest) lanes i p le = absurd (let n = passing_length R f hs done (h ∷ rest) lanes i p in omega (arith, n))
+pub passing_end : {X Y : Type 0} (R : X → Y → Type 0) (f : X → X) (xs done left : List X) (ys : List Y) (i : ℕ) → IsPassing R f xs done left ys i → length ys ≤ i → (xs ≡ done) × AllZip R (map f xs) ys
+passing_end R f xs done [] ys i p le =
+    let same : xs ≡ done = p.all ∙ append-nil done in
+    (same, subst (λ xs. AllZip R (map f xs) ys) (sym same) (subst (λ xs. AllZip R xs ys) (append-nil (map f done)) p.lanes_are))
+passing_end R f xs done (x ∷ rest) ys i p le = absurd (let n = passing_length R f xs done (x ∷ rest) ys i p in omega (arith, n))
 
 -- the first place at which a test passes, or none
 pub first_place : {X : Type 0} (p : X → Bool) (xs : List X) (x : X) (ys : List X) → list_any p xs ≡ false → p x ≡ true → position p (xs ++ x ∷ ys) ≡ Some (length xs)

@@ -62,8 +62,6 @@ routed_on old new s c prefix a is = record {
   links = record {
     accounts_are = is.keeps.accounts ∙ a.links.accounts_are;
     links_are = is.links ∙ a.links.links_are;
-    centres_are = is.keeps.centres ∙ a.links.centres_are;
-    none_yet = a.links.none_yet;
     places_are = is.keeps.places ∙ a.links.places_are;
     routes_are = refl;
   };

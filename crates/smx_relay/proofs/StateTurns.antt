@@ -1,9 +1,8 @@
 -- Turns of one lane, as turns of the whole state.
-use Rattle.std.proofs.Common.{◌≡◌, ◌<◌, ◌≤◌, ℕ, List, [], length, set, get_or, refl, sym, ◌∙◌, ap, subst, arith, Option, Some, None, slice_get, Result, Ok, Err, IfOk, count_by}
-use Rattle.std.specs.Prelude.{unwrap_or}
+use Rattle.std.proofs.Common.{◌≡◌, ◌<◌, ◌≤◌, ℕ, true, false, List, length, set, get_or, refl, sym, ◌∙◌, ap, subst, arith, Option, Some, None, Result, Ok, Err, IfOk}
 use Rattle.std.specs.Global.{Vec}
 use Rattle.std.specs.List.{AllZip}
-use Rattle.std.proofs.lemmas.Option.{slice_get_past}
+use Rattle.std.proofs.lemmas.Bool.{lt-ltb, le-ltb}
 use Rattle.smx_pdu.specs.declared.pdu.Pdu.{Pdu}
 use Rattle.smx_history.specs.declared.note.Note.{Note}
 use Rattle.smx_history.specs.declared.place.Place.{Place}
@@ -12,67 +11,71 @@ use Rattle.smx_history.specs.Contents.{AgreesWith, Content}
 use Rattle.smx_history.specs.Finding.{IsFree}
 use Rattle.smx_history.proofs.Finding.{some_free}
 use Rattle.smx_relay.specs.declared.state.State.{State}
-use Rattle.smx_relay.specs.Relay.{Relay, on_lane, take_on, back_on, history_on, turn_on}
+use Rattle.smx_relay.specs.declared.state.LinkedLane.{LinkedLane}
+use Rattle.smx_relay.specs.Relay.{Relay, going_on, has_lane, history_of, lane_after, lane_at, lane_turn, new_lane, on_lane, take_on, back_on, history_on, turn_on}
 use Rattle.smx_relay.specs.Turns.{AreExpiredOn, ExpireTurn, IsFreeOn, TakeTurn}
 use Rattle.smx_relay.specs.Expiring.{expire_on, expired_after}
-use Rattle.smx_relay.specs.Private.OnLane.{OnLane, AreOwn, TurnsLane}
+use Rattle.smx_relay.specs.Private.OnLane.{IsLane, AreOwn, TurnsLane}
 use Rattle.smx_relay.specs.Private.Agrees.{Agrees, MayPrint, Prints, Turned}
-use Rattle.smx_relay.proofs.Lanes.{zip-length, zip-get, zip-set}
+use Rattle.smx_relay.proofs.Lanes.{zip-length, zip-at, zip-set, lane_goes}
 use Rattle.smx_relay.proofs.OwnNotes.{own_take, own_back, own_expired, own_turn}
 use Rattle.smx_relay.proofs.Expiring.{Expires}
-use Rattle.smx_relay.proofs.ActTurns.{some_printed}
 use Rattle.smx_relay.proofs.Keeping.{KeepsSettings, kept_links}
 
 -- there is no such lane
+pub no_lane_at : (old : State) (s : Relay) (i : ℕ) → Agrees old s → length old.lanes.items ≤ i → has_lane s i ≡ false
+no_lane_at old s i a past = le-ltb i (length s.lanes) (omega (arith, zip-length (IsLane s.limits s.clients) s.lanes old.lanes.items a.lanes))
+
+pub a_lane_at : (old : State) (s : Relay) (i : ℕ) → Agrees old s → i < length old.lanes.items → has_lane s i ≡ true
+a_lane_at old s i a within = lt-ltb i (length s.lanes) (omega (arith, zip-length (IsLane s.limits s.clients) s.lanes old.lanes.items a.lanes))
+
 pub no_lane : (old new : State) (s : Relay) (i : ℕ) (f : List Note → List ℕ × List Note) → Agrees old s → length old.lanes.items ≤ i → Prints (on_lane s i f) new None
-no_lane old new s i f a past =
-    rw (slice_get_past s.histories i (omega (arith, zip-length (OnLane s.limits s.clients) s.histories old.lanes.items a.lanes))) tt
+no_lane old new s i f a past = rw (no_lane_at old s i a past) tt
 
 -- the lane at the index went on
-pub record IsTurned (old new : State) (i : ℕ) (lane after : Content) : Type 0 where
+pub record IsTurned (old new : State) (i : ℕ) (k : LinkedLane) (after : Content) : Type 0 where
   pub within : i < length old.lanes.items
-  pub here : lane ≡ get_or old.lanes.items i lane
-  pub lanes : new.lanes.items ≡ set old.lanes.items i after
+  pub here : k ≡ get_or old.lanes.items i k
+  pub lanes : new.lanes.items ≡ set old.lanes.items i (record k { lane = after })
   pub clients : new.clients.items ≡ old.clients.items
   pub links : new.links.items ≡ old.links.items
   pub keeps : KeepsSettings old new
 
--- the history of the lane at the index
-pub history_at : (old : State) (s : Relay) (i : ℕ) (lane : Content) → Agrees old s → i < length old.lanes.items → lane ≡ get_or old.lanes.items i lane → (h : List Note) × (slice_get s.histories i ≡ Some h) × OnLane s.limits s.clients h lane
-history_at old s i lane a within here =
-    let w = zip-get (OnLane s.limits s.clients) s.histories old.lanes.items i lane a.lanes within in
-    (w.0, w.1, subst (OnLane s.limits s.clients w.0) (sym here) w.2)
+-- the lane at the index has its history and its link
+pub lane_is : (old : State) (s : Relay) (i : ℕ) (k : LinkedLane) → Agrees old s → i < length old.lanes.items → k ≡ get_or old.lanes.items i k → IsLane s.limits s.clients (lane_at s i) k
+lane_is old s i k a within here =
+    subst (IsLane s.limits s.clients (lane_at s i)) (sym here) (zip-at (IsLane s.limits s.clients) s.lanes old.lanes.items i new_lane k a.lanes within)
 
-pub lane_turned : (old new : State) (s : Relay) (i : ℕ) (f : List Note → List ℕ × List Note) (h : List Note) (lane after : Content) (text : Vec ℕ) → Agrees old s → IsTurned old new i lane after → slice_get s.histories i ≡ Some h → OnLane s.limits s.clients h lane
-    → TurnsLane (f h) lane after text.items → AreOwn s.clients (f h).1 → Prints (on_lane s i f) new (Some text)
-lane_turned old new s i f h lane after text a is at on turns own =
-    let R = OnLane s.limits s.clients in
-    let on' : R (f h).1 after = record { agrees = turns.agrees; limits_are = turns.limits_are ∙ on.limits_are; own = own } in
-    let lanes : AllZip R (set s.histories i (f h).1) new.lanes.items = subst (λ ls. AllZip R (set s.histories i (f h).1) ls) (sym is.lanes) (zip-set R s.histories old.lanes.items i (f h).1 after a.lanes on') in
-    rw at (record {
-      text = turns.text;
-      left = record {
-        limits = is.keeps.limits ∙ a.limits;
-        count = is.keeps.count ∙ a.count;
-        started = is.keeps.started ∙ a.started;
-        moment = is.keeps.moment ∙ a.moment;
-        clients = is.clients ∙ a.clients;
-        lanes = lanes;
-        none_yet = λ off. ap (λ hs. set hs i (f h).1) (a.none_yet off);
-        links = kept_links old new s.accounts s.links s.centres s.started s.places s.routes is.keeps is.links a.links;
-      };
-    })
+-- its history went on
+pub goes_on : (old new : State) (s : Relay) (i : ℕ) (f : List Note → List Note) (k : LinkedLane) (after : Content) → Agrees old s → IsTurned old new i k after → AgreesWith (f (history_of s i)) after → after.limits ≡ k.lane.limits → AreOwn s.clients (f (history_of s i)) → Agrees new (going_on s i f)
+goes_on old new s i f k after a is agrees limits own =
+    let R = IsLane s.limits s.clients in
+    let l = lane_at s i in
+    let was = lane_is old s i k a is.within is.here in
+    let on : R (lane_after f l) (record k { lane = after }) = lane_goes s.limits s.clients f l k after was (record { agrees = agrees; limits_are = limits ∙ was.on.limits_are; own = own }) in
+    let lanes : AllZip R (set s.lanes i (lane_after f l)) new.lanes.items =
+    subst (λ ls. AllZip R (set s.lanes i (lane_after f l)) ls) (sym is.lanes) (zip-set R s.lanes old.lanes.items i (lane_after f l) (record k { lane = after }) a.lanes on) in
+    record {
+      limits = is.keeps.limits ∙ a.limits;
+      count = is.keeps.count ∙ a.count;
+      started = is.keeps.started ∙ a.started;
+      moment = is.keeps.moment ∙ a.moment;
+      clients = is.clients ∙ a.clients;
+      lanes = lanes;
+      none_yet = λ off. ap (λ ls. set ls i (lane_after f l)) (a.none_yet off);
+      links = kept_links old new s.accounts s.links s.places s.routes is.keeps is.links a.links;
+    }
+
+turn_goes : (old new : State) (s : Relay) (i : ℕ) (f : List Note → List ℕ × List Note) (k : LinkedLane) (after : Content) (text : List ℕ) → Agrees old s → IsTurned old new i k after → TurnsLane (f (history_of s i)) k.lane after text → AreOwn s.clients (f (history_of s i)).1 → Turned (lane_turn s i f) new text
+turn_goes old new s i f k after text a is turns own =
+    record { text = turns.text; left = goes_on old new s i (λ h. (f h).1) k after a is turns.agrees turns.limits_are own }
+
+pub lane_turned : (old new : State) (s : Relay) (i : ℕ) (f : List Note → List ℕ × List Note) (k : LinkedLane) (after : Content) (text : Vec ℕ) → Agrees old s → IsTurned old new i k after → TurnsLane (f (history_of s i)) k.lane after text.items → AreOwn s.clients (f (history_of s i)).1 → Prints (on_lane s i f) new (Some text)
+lane_turned old new s i f k after text a is turns own = rw (a_lane_at old s i a is.within) (turn_goes old new s i f k after text.items a is turns own)
 
 -- some number is free
 pub some_free_on : (s : Relay) (i : ℕ) → (u : ℕ) × IsFreeOn s i u
-some_free_on s i =
-    let number = some_free (unwrap_or (slice_get s.histories i) []) in
-    (number.0, λ h here. subst (λ (g : List Note). IsFree g number.0) (ap (λ (o : Option (List Note)). unwrap_or o []) here) number.1)
-
-free_here : (s : Relay) (i u : ℕ) (h : List Note) → slice_get s.histories i ≡ Some h → IsFree h u → IsFreeOn s i u
-free_here s i u h at free g there =
-    let e : h ≡ g = let x : Some h ≡ Some g = sym at ∙ there in cc in
-    subst (λ k. IsFree k u) e free
+some_free_on s i = some_free (history_of s i)
 
 -- a request is taken
 abbrev pub Takes : Relay → ℕ → State → Option (Vec ℕ) → Type 0
@@ -87,15 +90,15 @@ takes_none old new s i a past =
     (u.0, u.1, no_lane old new s i (take_on s.limits s.moment u.0 i) a past)
 
 -- the lane gave some free number
-pub takes_some : (old new : State) (s : Relay) (i : ℕ) (lane after : Content) (text : Vec ℕ) → Agrees old s → IsTurned old new i lane after
-    → ((h : List Note) → AgreesWith h lane → (n : ℕ) × IsFree h n × TurnsLane (take_on lane.limits old.moment n i h) lane after text.items) → Takes s i new (Some text)
-takes_some old new s i lane after text a is goes =
-    let x = history_at old s i lane a is.within is.here in
-    let h = x.0 in
-    let t = goes h x.2.agrees in
-    let here : TurnsLane (take_on s.limits old.moment t.0 i h) lane after text.items = subst (λ l. TurnsLane (take_on l old.moment t.0 i h) lane after text.items) x.2.limits_are t.2 in
-    let turns : TurnsLane (take_on s.limits s.moment t.0 i h) lane after text.items = subst (λ m. TurnsLane (take_on s.limits m t.0 i h) lane after text.items) a.moment here in
-    (t.0, free_here s i t.0 h x.1 t.1, lane_turned old new s i (take_on s.limits s.moment t.0 i) h lane after text a is x.1 x.2 turns (own_take s.clients s.limits s.moment t.0 i h x.2.own))
+pub takes_some : (old new : State) (s : Relay) (i : ℕ) (k : LinkedLane) (after : Content) (text : Vec ℕ) → Agrees old s → IsTurned old new i k after
+    → ((h : List Note) → AgreesWith h k.lane → (n : ℕ) × IsFree h n × TurnsLane (take_on k.lane.limits old.moment n i h) k.lane after text.items) → Takes s i new (Some text)
+takes_some old new s i k after text a is goes =
+    let h = history_of s i in
+    let on = (lane_is old s i k a is.within is.here).on in
+    let t = goes h on.agrees in
+    let here : TurnsLane (take_on s.limits old.moment t.0 i h) k.lane after text.items = subst (λ l. TurnsLane (take_on l old.moment t.0 i h) k.lane after text.items) on.limits_are t.2 in
+    let turns : TurnsLane (take_on s.limits s.moment t.0 i h) k.lane after text.items = subst (λ m. TurnsLane (take_on s.limits m t.0 i h) k.lane after text.items) a.moment here in
+    (t.0, t.1, lane_turned old new s i (take_on s.limits s.moment t.0 i) k after text a is turns (own_take s.clients s.limits s.moment t.0 i h on.own))
 
 -- what was taken so long ago has failed
 abbrev pub ExpiresOn : Relay → ℕ → ℕ → State → Option (Vec ℕ) → Type 0
@@ -106,49 +109,41 @@ expire_turns s i age new text expires = (on_lane s i (expire_on i expires.0), (e
 
 -- some requests are all those that fail
 pub some_expired_on : (s : Relay) (i age : ℕ) → (qs : List Place) × AreExpiredOn s i age qs
-some_expired_on s i age =
-    (expired_after s.moment age (unwrap_or (slice_get s.histories i) []), λ h here test. ap (λ (o : Option (List Note)). count_by test (expired_after s.moment age (unwrap_or o []))) here)
+some_expired_on s i age = (expired_after s.moment age (history_of s i), λ test. refl)
 
 pub expires_nowhere : (old new : State) (s : Relay) (i age : ℕ) → Agrees old s → length old.lanes.items ≤ i → ExpiresOn s i age new None
 expires_nowhere old new s i age a past =
     let qs = some_expired_on s i age in
     (qs.0, qs.1, no_lane old new s i (expire_on i qs.0) a past)
 
-pub expires_on : (old new : State) (s : Relay) (i age : ℕ) (lane after : Content) (text : Vec ℕ) → Agrees old s → IsTurned old new i lane after → Expires i old.moment age lane after text.items → ExpiresOn s i age new (Some text)
-expires_on old new s i age lane after text a is goes =
-    let x = history_at old s i lane a is.within is.here in
-    let h = x.0 in
-    let t = goes h x.2.agrees in
-    let counts : SameCounts (expired_after s.moment age h) t.0 = subst (λ m. SameCounts (expired_after m age h) t.0) a.moment t.1 in (
-      t.0,
-      λ g there. subst (λ (k : List Note). SameCounts (expired_after s.moment age k) t.0) (let e : Some h ≡ Some g = sym x.1 ∙ there in let z : h ≡ g = cc in z) counts,
-      lane_turned old new s i (expire_on i t.0) h lane after text a is x.1 x.2 t.2 (own_expired s.clients i t.0 h x.2.own),
-    )
+pub expires_on : (old new : State) (s : Relay) (i age : ℕ) (k : LinkedLane) (after : Content) (text : Vec ℕ) → Agrees old s → IsTurned old new i k after → Expires i old.moment age k.lane after text.items → ExpiresOn s i age new (Some text)
+expires_on old new s i age k after text a is goes =
+    let h = history_of s i in
+    let on = (lane_is old s i k a is.within is.here).on in
+    let t = goes h on.agrees in
+    let counts : SameCounts (expired_after s.moment age h) t.0 = subst (λ m. SameCounts (expired_after m age h) t.0) a.moment t.1 in
+    (t.0, counts, lane_turned old new s i (expire_on i t.0) k after text a is t.2 (own_expired s.clients i t.0 h on.own))
 
-pub backs_some : (old new : State) (s : Relay) (i : ℕ) (p : Pdu) (lane after : Content) (text : Vec ℕ) → Agrees old s → IsTurned old new i lane after
-    → ((h : List Note) → AgreesWith h lane → TurnsLane (back_on p h) lane after text.items) → Prints (on_lane s i (back_on p)) new (Some text)
-backs_some old new s i p lane after text a is goes =
-    let x = history_at old s i lane a is.within is.here in
-    lane_turned old new s i (back_on p) x.0 lane after text a is x.1 x.2 (goes x.0 x.2.agrees) (own_back s.clients p x.0 x.2.own)
-
--- so it is with what a response's turn answers
-pub backs_one : {E : Type 0} (old new : State) (s : Relay) (i : ℕ) (p : Pdu) (lane after : Content) (result : Result (Vec ℕ) E) → Agrees old s → IsTurned old new i lane after
-    → ((h : List Note) → AgreesWith h lane → IfOk result (λ text. TurnsLane (back_on p h) lane after text.items)) → IfOk result (λ text. Turned (unwrap_or (on_lane s i (back_on p)) ([], s)) new text.items)
-backs_one old new s i p lane after (Ok text) a is goes = some_printed (on_lane s i (back_on p)) ([], s) new text (backs_some old new s i p lane after text a is goes)
-backs_one old new s i p lane after (Err e) a is goes = tt
+-- a response's turn
+pub backs : {E : Type 0} (old new : State) (s : Relay) (i : ℕ) (p : Pdu) (k : LinkedLane) (after : Content) (result : Result (Vec ℕ) E) → Agrees old s → IsTurned old new i k after
+    → ((h : List Note) → AgreesWith h k.lane → IfOk result (λ text. TurnsLane (back_on p h) k.lane after text.items)) → IfOk result (λ text. Turned (lane_turn s i (back_on p)) new text.items)
+backs old new s i p k after (Ok text) a is goes =
+    let on = (lane_is old s i k a is.within is.here).on in
+    turn_goes old new s i (back_on p) k after text.items a is (goes (history_of s i) on.agrees) (own_back s.clients p (history_of s i) on.own)
+backs old new s i p k after (Err e) a is goes = tt
 
 history_own : (clients : List (Option ℕ)) (h : List Note) → AreOwn clients h → AreOwn clients (history_on h).1
 unfolding history_on
 history_own clients h own = own
 
-pub history_some : (old new : State) (s : Relay) (i : ℕ) (lane after : Content) (text : Vec ℕ) → Agrees old s → IsTurned old new i lane after
-    → ((h : List Note) → AgreesWith h lane → TurnsLane (history_on h) lane after text.items) → Prints (on_lane s i history_on) new (Some text)
-history_some old new s i lane after text a is goes =
-    let x = history_at old s i lane a is.within is.here in
-    lane_turned old new s i history_on x.0 lane after text a is x.1 x.2 (goes x.0 x.2.agrees) (history_own s.clients x.0 x.2.own)
+pub history_some : (old new : State) (s : Relay) (i : ℕ) (k : LinkedLane) (after : Content) (text : Vec ℕ) → Agrees old s → IsTurned old new i k after
+    → ((h : List Note) → AgreesWith h k.lane → TurnsLane (history_on h) k.lane after text.items) → Prints (on_lane s i history_on) new (Some text)
+history_some old new s i k after text a is goes =
+    let on = (lane_is old s i k a is.within is.here).on in
+    lane_turned old new s i history_on k after text a is (goes (history_of s i) on.agrees) (history_own s.clients (history_of s i) on.own)
 
-pub turn_some : (old new : State) (s : Relay) (i : ℕ) (lane after : Content) (text : Vec ℕ) → Agrees old s → IsTurned old new i lane after
-    → ((h : List Note) → AgreesWith h lane → TurnsLane (turn_on i h) lane after text.items) → Prints (on_lane s i (turn_on i)) new (Some text)
-turn_some old new s i lane after text a is goes =
-    let x = history_at old s i lane a is.within is.here in
-    lane_turned old new s i (turn_on i) x.0 lane after text a is x.1 x.2 (goes x.0 x.2.agrees) (own_turn s.clients i x.0 x.2.own)
+pub turn_some : (old new : State) (s : Relay) (i : ℕ) (k : LinkedLane) (after : Content) (text : Vec ℕ) → Agrees old s → IsTurned old new i k after
+    → ((h : List Note) → AgreesWith h k.lane → TurnsLane (turn_on i h) k.lane after text.items) → Prints (on_lane s i (turn_on i)) new (Some text)
+turn_some old new s i k after text a is goes =
+    let on = (lane_is old s i k a is.within is.here).on in
+    lane_turned old new s i (turn_on i) k after text a is (goes (history_of s i) on.agrees) (own_turn s.clients i (history_of s i) on.own)

@@ -13,7 +13,7 @@ use Rattle.smx_mailbox.specs.declared.message.Unanswered.{Unanswered}
 use Rattle.smx_mailbox.specs.Mailbox.{with_message, is_full, sent, after_sent, settled, unanswered, emptied}
 use Rattle.smx_relay.specs.Texts.{text_line, pdu_line, to_client, up_lane, refusal}
 use Rattle.smx_relay.specs.Links.{ClientLink}
-use Rattle.smx_relay.specs.Relay.{Relay, with_link, all_left}
+use Rattle.smx_relay.specs.Relay.{Relay, with_link, leave_lanes}
 
 -- a message that no client gets is answered with a status (SMPP 3.4, section 4.6.2)
 abbrev pub refuse : Relay → ℕ → Pdu → ℕ → List ℕ × Relay
@@ -62,7 +62,7 @@ empty_at c s (Some k) = (flat_map left_line (unanswered k.mailbox), with_link s 
 
 -- a client leaves each lane, and each of its messages is answered
 unfoldable pub leave_turn : ℕ → Relay → List ℕ × Relay
-leave_turn c s = empty_at c (all_left c s) (slice_get s.links c)
+leave_turn c s = empty_at c (leave_lanes c s) (slice_get s.links c)
 
 abbrev pub send_at : ℕ → Relay → Option ClientLink → List ℕ × Relay
 send_at c s None = ([], s)

@@ -1,5 +1,5 @@
 -- What each line of a script does and prints, over the histories of the lanes.
-use Rattle.std.specs.Prelude.{ℕ, ◌+◌, ◌%◌, Bool, true, false, List, [], ◌∷◌, ◌++◌, length, map, filter, not, ◌==◌, take, drop, set, replicate, position, codes, Option, Some, None, is_none, is_some, ◌||◌, max, nat_lt, nat_le, slice_get, if◌then◌else◌}
+use Rattle.std.specs.Prelude.{ℕ, ◌+◌, ◌%◌, Bool, true, false, List, [], ◌∷◌, ◌++◌, length, map, filter, not, ◌==◌, take, drop, set, replicate, position, codes, Option, Some, None, get_or, is_none, is_some, ◌||◌, max, nat_lt, nat_le, slice_get, if◌then◌else◌}
 use Rattle.std.specs.List.{flat_map, find, range_with_len}
 use Rattle.std.specs.Fmt.{decimal}
 use Rattle.smx_pdu.specs.declared.pdu.Pdu.{Pdu}
@@ -21,6 +21,15 @@ use Rattle.smx_script.specs.declared.command.Setting.TheVariants.{Sizes, Lanes, 
 use Rattle.smx_relay.specs.Links.{ClientLink, CentreLink, new_link, bound_centre}
 use Rattle.smx_relay.specs.Texts.{text_line, pdu_line, to_client, up_lane, refusal_of, upstream_of, entry_line, turned_line, down_line}
 
+-- a lane: what happened on it since it was made, and its link to the centre
+pub record RelayLane : Type 0 where
+  pub history : List Note
+  pub link : CentreLink
+
+-- nothing has happened, and the link is bound
+abbrev pub new_lane : RelayLane
+new_lane = record { history = []; link = bound_centre }
+
 pub record Relay : Type 0 where
   -- the sizes of each lane, and how many lanes there are to be
   pub limits : Limits
@@ -33,10 +42,8 @@ pub record Relay : Type 0 where
   pub started : Bool
   -- the moment, in milliseconds
   pub moment : ℕ
-  -- what happened on each lane since
-  pub histories : List (List Note)
-  -- the link of each lane
-  pub centres : List CentreLink
+  -- what happened on each lane since, and its link
+  pub lanes : List RelayLane
   -- the last ordinal of each client, by its number; none of a number that no client has, as 0 and those that were refused
   pub clients : List (Option ℕ)
   -- the link of each client, by its number; that of a number that no client has is never used
@@ -52,8 +59,7 @@ start = record {
   accounts = [];
   started = false;
   moment = 0;
-  histories = [];
-  centres = [];
+  lanes = [];
   clients = None ∷ [];
   links = new_link 16 None ∷ [];
   routes = [];
@@ -67,8 +73,8 @@ set_turn s (Places places) = if s.started then None else Some ([], record s { pl
 set_turn s (Account login) = if s.started || nat_le 256 (length s.accounts) then None else Some ([], record s { accounts = s.accounts ++ login ∷ [] })
 
 -- the lanes begin with the first line that is no setting
-abbrev pub begun : Relay → Relay
-begun s = if s.started then s else record s { started = true; histories = replicate s.count []; centres = replicate s.count bound_centre }
+abbrev pub begin_lanes : Relay → Relay
+begin_lanes s = if s.started then s else record s { started = true; lanes = replicate s.count new_lane }
 
 abbrev pub last_in : Option (Option ℕ) → Option ℕ
 last_in None = None
@@ -78,41 +84,59 @@ last_in (Some last) = last
 abbrev pub last_of : List (Option ℕ) → ℕ → Option ℕ
 last_of clients c = last_in (slice_get clients c)
 
-abbrev pub on_found : Relay → ℕ → (List Note → List ℕ × List Note) → Option (List Note) → Option (List ℕ × Relay)
-on_found s i f None = None
-on_found s i f (Some h) = Some ((f h).0, record s { histories = set s.histories i (f h).1 })
+abbrev pub has_lane : Relay → ℕ → Bool
+has_lane s i = nat_lt i (length s.lanes)
 
--- on a lane that there is, f prints and goes on
+-- the lane with this index, which there is
+abbrev pub lane_at : Relay → ℕ → RelayLane
+lane_at s i = get_or s.lanes i new_lane
+
+abbrev pub history_of : Relay → ℕ → List Note
+history_of s i = (lane_at s i).history
+
+-- the history of a lane goes on
+abbrev pub lane_after : (List Note → List Note) → RelayLane → RelayLane
+lane_after f l = record l { history = f l.history }
+
+-- a lane goes on, without a print
+abbrev pub going_on : Relay → ℕ → (List Note → List Note) → Relay
+going_on s i f = record s { lanes = set s.lanes i (lane_after f (lane_at s i)) }
+
+-- f prints, and the lane goes on
+abbrev pub lane_turn : Relay → ℕ → (List Note → List ℕ × List Note) → List ℕ × Relay
+lane_turn s i f = ((f (history_of s i)).0, going_on s i (λ h. (f h).1))
+
+-- so it is on a lane that there is
 abbrev pub on_lane : Relay → ℕ → (List Note → List ℕ × List Note) → Option (List ℕ × Relay)
-on_lane s i f = on_found s i f (slice_get s.histories i)
+on_lane s i f = if has_lane s i then Some (lane_turn s i f) else None
 
 -- a client enters on each lane
-abbrev pub entered : ℕ → List Note → List Note
-entered c h = h ++ note 0 (event.Admit c) ∷ []
+abbrev pub enter_lane : ℕ → List Note → List Note
+enter_lane c h = h ++ note 0 (event.Admit c) ∷ []
 
 -- or on none: where a lane refuses it, it leaves those before again
-abbrev pub entered_and_left : ℕ → List Note → List Note
-entered_and_left c h = (h ++ note 0 (event.Admit c) ∷ []) ++ note 0 (event.Retire c) ∷ []
+abbrev pub enter_and_leave_lane : ℕ → List Note → List Note
+enter_and_leave_lane c h = (h ++ note 0 (event.Admit c) ∷ []) ++ note 0 (event.Retire c) ∷ []
 
 abbrev pub client_turn_at : Relay → Option Kind → ℕ → Option ℕ → List ℕ × Relay
 client_turn_at s kind c None =
-    (text_line (codes "client " ++ decimal c), record s { histories = map (entered c) s.histories; clients = s.clients ++ Some 0 ∷ []; links = s.links ++ new_link s.places kind ∷ [] })
+    (text_line (codes "client " ++ decimal c), record s { lanes = map (lane_after (enter_lane c)) s.lanes; clients = s.clients ++ Some 0 ∷ []; links = s.links ++ new_link s.places kind ∷ [] })
 client_turn_at s kind c (Some i) = (
   text_line (codes "refused"),
-  record s { histories = map (entered_and_left c) (take i s.histories) ++ drop i s.histories; clients = s.clients ++ None ∷ []; links = s.links ++ new_link s.places kind ∷ [] },
+  record s { lanes = map (lane_after (enter_and_leave_lane c)) (take i s.lanes) ++ drop i s.lanes; clients = s.clients ++ None ∷ []; links = s.links ++ new_link s.places kind ∷ [] },
 )
 
 -- the next number is used up either way
 abbrev pub client_turn : Relay → Option Kind → List ℕ × Relay
-client_turn s kind = client_turn_at s kind (length s.clients) (position (λ h. is_some (admit_refusal_after s.limits h (length s.clients))) s.histories)
+client_turn s kind = client_turn_at s kind (length s.clients) (position (λ l. is_some (admit_refusal_after s.limits l.history (length s.clients))) s.lanes)
 
 -- a client leaves a lane, where it is present
-abbrev pub left : ℕ → List Note → List Note
-left c h = if is_present c h then h ++ note 0 (event.Retire c) ∷ [] else h
+abbrev pub leave_lane : ℕ → List Note → List Note
+leave_lane c h = if is_present c h then h ++ note 0 (event.Retire c) ∷ [] else h
 
 -- a client leaves each lane, and its prefixes go
-abbrev pub all_left : ℕ → Relay → Relay
-all_left c s = record s { histories = map (left c) s.histories; routes = filter (λ r. not (r.client == c)) s.routes }
+abbrev pub leave_lanes : ℕ → Relay → Relay
+leave_lanes c s = record s { lanes = map (lane_after (leave_lane c)) s.lanes; routes = filter (λ r. not (r.client == c)) s.routes }
 
 -- the link of a client is this from now on
 abbrev pub with_link : Relay → ℕ → ClientLink → Relay
@@ -125,24 +149,21 @@ request_of c n o = record { client = c; ordinal = n; own = o.own; command = o.co
 abbrev pub ring : ℕ → ℕ → List ℕ
 ring first count = map (λ k. (first + k) % count) (range_with_len 0 count)
 
-abbrev pub accepts_on : Limits → ℕ → Option (List Note) → Bool
-accepts_on limits c None = false
-accepts_on limits c (Some h) = is_none (refusal_after limits h c)
-
 -- the first lane that accepts a client's next request, from the one that its ordinal names on
 unfoldable pub lane_for : Relay → ℕ → ℕ → Option ℕ
-lane_for s c last = find (λ i. accepts_on s.limits c (slice_get s.histories i)) (ring (last % length s.histories) (length s.histories))
+lane_for s c last =
+    find (λ i. is_none (refusal_after s.limits (history_of s i) c)) (ring (last % length s.lanes) (length s.lanes))
 
-abbrev pub accepted : Relay → ℕ → ℕ → Offer → ℕ → Option (List Note) → Relay
-accepted s c last o i None = s
-accepted s c last o i (Some h) =
-    record s { histories = set s.histories i (h ++ note 0 (event.Accept (request_of c (last + 1) o)) ∷ []); clients = set s.clients c (Some (last + 1)) }
+-- a lane has one request more
+abbrev pub with_request : Request → List Note → List Note
+with_request r h = h ++ note 0 (event.Accept r) ∷ []
 
 -- the ordinal is used where a lane accepts
 abbrev pub in_turn_at : Relay → ℕ → ℕ → Offer → Option ℕ → List ℕ × Relay
 in_turn_at s c last o None = (pdu_line (to_client c) (refusal_of o), s)
 in_turn_at s c last o (Some i) =
-    (text_line (codes "accepted " ++ (decimal c ++ (codes " " ++ decimal i))), accepted s c last o i (slice_get s.histories i))
+    let r = request_of c (last + 1) o in
+    (text_line (codes "accepted " ++ (decimal c ++ (codes " " ++ decimal i))), record (going_on s i (with_request r)) { clients = set s.clients c (Some r.ordinal) })
 
 -- the moment on a lane: since a script's moments never fall, no take there was later and it is the script's
 abbrev pub moment_on : ℕ → List Note → ℕ
@@ -176,12 +197,12 @@ abbrev pub collect_text : ℕ → List Note → List ℕ
 collect_text c h = flat_map (λ r. pdu_line (to_client c) r.pdu) (waiting_after h c)
 
 -- the client collects each response that waits
-abbrev pub collected : ℕ → List Note → List Note
-collected c h = h ++ map (λ r. note 0 (event.Collect c r.ordinal)) (waiting_after h c)
+abbrev pub collect_lane : ℕ → List Note → List Note
+collect_lane c h = h ++ map (λ r. note 0 (event.Collect c r.ordinal)) (waiting_after h c)
 
 -- it does so on lane after lane
 abbrev pub collect_lanes : ℕ → Relay → List ℕ × Relay
-collect_lanes c s = (flat_map (collect_text c) s.histories, record s { histories = map (collected c) s.histories })
+collect_lanes c s = (flat_map (λ l. collect_text c l.history) s.lanes, record s { lanes = map (lane_after (collect_lane c)) s.lanes })
 
 -- the entries after the last shift are listed
 unfoldable pub history_on : List Note → List ℕ × List Note

@@ -13,16 +13,16 @@ use Rattle.smx_script.specs.declared.command.Action.TheVariants.{Client, Prefix,
 use Rattle.smx_script.specs.Script.{command_of}
 use Rattle.smx_relay.specs.Texts.{text_line}
 use Rattle.smx_relay.specs.Links.{ClientLink, may_receive}
-use Rattle.smx_relay.specs.Relay.{Relay, set_turn, begun, last_of, on_lane, take_on, client_turn, collect_lanes, history_on, turn_on}
+use Rattle.smx_relay.specs.Relay.{Relay, set_turn, begin_lanes, last_of, history_of, on_lane, take_on, client_turn, collect_lanes, history_on, turn_on}
 use Rattle.smx_relay.specs.Messages.{send_turn}
 use Rattle.smx_relay.specs.ClientTurn.{InTurn, followed_by}
 use Rattle.smx_relay.specs.CentreTurn.{BackTurn}
 use Rattle.smx_relay.specs.LaneLinks.{LoseTurn, bind_turn}
 use Rattle.smx_relay.specs.Expiring.{expired_after, expire_on}
 
--- the number is free on the lane, where there is such a lane
+-- the number is free on the lane
 abbrev pub IsFreeOn : Relay → ℕ → ℕ → Type 0
-IsFreeOn s i u = (h : List Note) → slice_get s.histories i ≡ Some h → IsFree h u
+IsFreeOn s i u = IsFree (history_of s i) u
 
 -- a request that is taken gets some free number
 abbrev pub TakeTurn : Relay → ℕ → Option (List ℕ × Relay) → Type 0
@@ -30,7 +30,7 @@ TakeTurn s i x = (u : ℕ) × IsFreeOn s i u × (x ≡ on_lane s i (take_on s.li
 
 -- these are all the requests that fail on the lane, in any order
 abbrev pub AreExpiredOn : Relay → ℕ → ℕ → List Place → Type 0
-AreExpiredOn s i age qs = (h : List Note) → slice_get s.histories i ≡ Some h → SameCounts (expired_after s.moment age h) qs
+AreExpiredOn s i age qs = SameCounts (expired_after s.moment age (history_of s i)) qs
 
 -- each request fails that was taken so long ago; which of them first, isn't said
 abbrev pub ExpireTurn : Relay → ℕ → ℕ → Option (List ℕ × Relay) → Type 0
@@ -89,7 +89,7 @@ Acts s (Expire i age) x = ExpireTurn s i age x
 unfoldable pub Does : Relay → Command → Option (List ℕ × Relay) → Type 0
 Does s Skip x = x ≡ Some ([], s)
 Does s (Set setting) x = x ≡ set_turn s setting
-Does s (Run action) x = Acts (begun s) action x
+Does s (Run action) x = Acts (begin_lanes s) action x
 
 abbrev pub OnCommand : Relay → Option Command → Option (List ℕ × Relay) → Type 0
 OnCommand s None x = x ≡ None

@@ -1,5 +1,5 @@
 //! Octets of the centre on a lane: the lane's session decides each PDU.
-ghost use Rattle.std.specs.Prelude.{◌≡◌, IfOk};
+ghost use Rattle.std.specs.Prelude.{◌≡◌, ◌<◌, length, IfOk};
 ghost use Rattle.smx_pdu.specs.Answers.{undecoded};
 ghost use Rattle.smx_relay.specs.Relay.{Relay};
 ghost use Rattle.smx_relay.specs.ClientTurn.{each_pdu};
@@ -18,13 +18,12 @@ use std::alloc::{AllocError, Global};
 
 // Hands a response to a lane.
 fn back(alloc: Global, state: &mut State, lane: u64, response: Pdu) -> Result<Vec<u8>, AllocError>
-    ensures { (s : Relay) → Agrees state.old s → IfOk result (λ text. Turned (to_lane lane response s) state.new text.items) }
+    requires { lane < length state.old.lanes.items }
+    ensures turned { (s : Relay) → Agrees state.old s → IfOk result (λ text.
+        Turned (to_lane lane response s) state.new text.items) }
+    ensures lanes { length state.new.lanes.items ≡ length state.old.lanes.items }
 {
-    let at = lane as usize;
-    if at >= state.lanes.len() {
-        return Ok(Vec::new(alloc));
-    }
-    back_on(alloc, &mut state.lanes[at], response)
+    back_on(alloc, &mut state.lanes[lane as usize].lane, response)
 }
 
 // Does what a lane's session says of a PDU.
@@ -35,7 +34,10 @@ fn centre_act(
     pdu: Pdu,
     act: UpAct,
 ) -> Result<Vec<u8>, AllocError>
-    ensures { (s : Relay) → Agrees state.old s → IfOk result (λ text. Turned (centre_act lane pdu act s) state.new text.items) }
+    requires { lane < length state.old.lanes.items }
+    ensures turned { (s : Relay) → Agrees state.old s → IfOk result (λ text.
+        Turned (centre_act lane pdu act s) state.new text.items) }
+    ensures lanes { length state.new.lanes.items ≡ length state.old.lanes.items }
 {
     match act {
         UpAct::ToLane => back(alloc, state, lane, pdu),
@@ -60,13 +62,12 @@ fn centre_act(
 
 // A PDU of the centre. What comes after its unbind is dropped.
 fn centre_pdu(alloc: Global, state: &mut State, lane: u64, pdu: Pdu) -> Result<Vec<u8>, AllocError>
-    ensures { (s : Relay) → Agrees state.old s → IfOk result (λ text. Turned (centre_pdu lane pdu s) state.new text.items) }
+    requires { lane < length state.old.lanes.items }
+    ensures turned { (s : Relay) → Agrees state.old s → IfOk result (λ text.
+        Turned (centre_pdu lane pdu s) state.new text.items) }
+    ensures lanes { length state.new.lanes.items ≡ length state.old.lanes.items }
 {
-    let at = lane as usize;
-    if at >= state.centres.len() {
-        return Ok(Vec::new(alloc));
-    }
-    let link = &mut state.centres[at];
+    let link = &mut state.lanes[lane as usize].link;
     if link.has_left() {
         return Ok(Vec::new(alloc));
     }
@@ -81,7 +82,10 @@ fn each_centre_pdu(
     lane: u64,
     pdus: Vec<Pdu>,
 ) -> Result<Vec<u8>, AllocError>
-    ensures { (s : Relay) → Agrees state.old s → IfOk result (λ text. Turned (each_pdu (centre_pdu lane) s pdus.items) state.new text.items) }
+    requires { lane < length state.old.lanes.items }
+    ensures turned { (s : Relay) → Agrees state.old s → IfOk result (λ text.
+        Turned (each_pdu (centre_pdu lane) s pdus.items) state.new text.items) }
+    ensures lanes { length state.new.lanes.items ≡ length state.old.lanes.items }
 {
     let mut text = Vec::new(alloc);
     for pdu in pdus {
@@ -97,16 +101,15 @@ fn centre_end(
     lane: u64,
     has_failed: bool,
 ) -> Result<Vec<u8>, AllocError>
-    ensures { (s : Relay) → Agrees state.old s → IfOk result (λ text. Turned (centre_end lane has_failed s) state.new text.items) }
+    requires { lane < length state.old.lanes.items }
+    ensures turned { (s : Relay) → Agrees state.old s → IfOk result (λ text.
+        Turned (centre_end lane has_failed s) state.new text.items) }
+    ensures lanes { length state.new.lanes.items ≡ length state.old.lanes.items }
 {
-    let at = lane as usize;
     if !has_failed {
         return Ok(Vec::new(alloc));
     }
-    if at >= state.centres.len() {
-        return Ok(Vec::new(alloc));
-    }
-    if state.centres[at].has_left() {
+    if state.lanes[lane as usize].link.has_left() {
         return Ok(Vec::new(alloc));
     }
     lower(state, lane);
@@ -121,19 +124,17 @@ pub(crate) fn receive_back(
     octets: &[u8],
 ) -> Result<Option<Vec<u8>>, AllocError>
     requires { IsReached state.old }
-    ensures { (s : Relay) → Agrees state.old s → IfOk result (λ text. MayPrint (BackTurn s lane octets.now) state.new text) }
+    ensures { (s : Relay) → Agrees state.old s → IfOk result (λ text.
+        MayPrint (BackTurn s lane octets.now) state.new text) }
 {
     let at = lane as usize;
     if at >= state.lanes.len() {
         return Ok(None);
     }
-    if !state.lanes[at].is_up() {
+    if !state.lanes[at].lane.is_up() {
         return Ok(Some(down_line(alloc, lane)?));
     }
-    if at >= state.centres.len() {
-        return Ok(None);
-    }
-    let link = &mut state.centres[at];
+    let link = &mut state.lanes[at].link;
     let pdus = link.receive(alloc, octets)?;
     let has_failed = link.has_failed();
     let mut text = each_centre_pdu(alloc, state, lane, pdus)?;

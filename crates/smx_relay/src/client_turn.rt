@@ -1,7 +1,8 @@
 //! Octets of a client: its session decides each PDU.
 ghost use Rattle.std.specs.Prelude.{◌≡◌, IfOk};
 ghost use Rattle.smx_relay.specs.Relay.{Relay};
-ghost use Rattle.smx_relay.specs.ClientTurn.{InTurn, client_act, client_end, client_pdu, each_pdu, hang_up};
+ghost use Rattle.smx_relay.specs.ClientTurn.{InTurn, client_act, client_end, client_pdu, each_pdu};
+ghost use Rattle.smx_relay.specs.ClientTurn.{hang_up};
 ghost use Rattle.smx_relay.specs.Private.Agrees.{Agrees, IsReached, MayPrint, Turned};
 
 use crate::clients::{last_of, leave};
@@ -21,7 +22,8 @@ fn hang_up(
     answer: &Pdu,
 ) -> Result<Vec<u8>, AllocError>
     requires { IsReached state.old }
-    ensures { (s : Relay) → Agrees state.old s → IfOk result (λ text. Turned (hang_up client answer.now s) state.new text.items) }
+    ensures { (s : Relay) → Agrees state.old s → IfOk result (λ text.
+        Turned (hang_up client answer.now s) state.new text.items) }
 {
     let mut text = hangup_lines(alloc, client, answer)?;
     text.extend_from_slice(&leave(alloc, state, client)?)?;
@@ -37,7 +39,8 @@ fn client_act(
     act: Act,
 ) -> Result<Vec<u8>, AllocError>
     requires { IsReached state.old }
-    ensures { (s : Relay) → Agrees state.old s → IfOk result (λ text. Turned (client_act client pdu act s) state.new text.items) }
+    ensures { (s : Relay) → Agrees state.old s → IfOk result (λ text.
+        Turned (client_act client pdu act s) state.new text.items) }
 {
     match act {
         Act::Answer(answer) => to_line(alloc, client, &answer),
@@ -66,7 +69,8 @@ fn client_pdu(
     pdu: Pdu,
 ) -> Result<Vec<u8>, AllocError>
     requires { IsReached state.old }
-    ensures { (s : Relay) → Agrees state.old s → IfOk result (λ text. Turned (client_pdu client pdu s) state.new text.items) }
+    ensures { (s : Relay) → Agrees state.old s → IfOk result (λ text.
+        Turned (client_pdu client pdu s) state.new text.items) }
 {
     let at = client as usize;
     if at >= state.links.len() {
@@ -84,7 +88,8 @@ fn each_client_pdu(
     pdus: Vec<Pdu>,
 ) -> Result<Vec<u8>, AllocError>
     requires { IsReached state.old }
-    ensures { (s : Relay) → Agrees state.old s → IfOk result (λ text. Turned (each_pdu (client_pdu client) s pdus.items) state.new text.items) }
+    ensures { (s : Relay) → Agrees state.old s → IfOk result (λ text.
+        Turned (each_pdu (client_pdu client) s pdus.items) state.new text.items) }
 {
     let mut text = Vec::new(alloc);
     for pdu in pdus {
@@ -101,7 +106,8 @@ fn client_end(
     has_failed: bool,
 ) -> Result<Vec<u8>, AllocError>
     requires { IsReached state.old }
-    ensures { (s : Relay) → Agrees state.old s → IfOk result (λ text. Turned (client_end client has_failed s) state.new text.items) }
+    ensures { (s : Relay) → Agrees state.old s → IfOk result (λ text.
+        Turned (client_end client has_failed s) state.new text.items) }
 {
     let at = client as usize;
     if !has_failed {
@@ -122,7 +128,8 @@ pub(crate) fn receive_in(
     octets: &[u8],
 ) -> Result<Option<Vec<u8>>, AllocError>
     requires { IsReached state.old }
-    ensures { (s : Relay) → Agrees state.old s → IfOk result (λ text. MayPrint (InTurn s client octets.now) state.new text) }
+    ensures { (s : Relay) → Agrees state.old s → IfOk result (λ text.
+        MayPrint (InTurn s client octets.now) state.new text) }
 {
     let at = client as usize;
     if last_of(&state.clients, client).is_none() {

@@ -2,18 +2,20 @@
 ghost use Rattle.std.specs.Prelude.{◌≡◌, ℕ, List, ◌++◌, length, map, Option, IfOk};
 ghost use Rattle.std.specs.List.{flat_map};
 ghost use Rattle.smx_history.specs.declared.limits.Limits.{Limits};
-ghost use Rattle.smx_history.specs.declared.note.Note.{Note};
-ghost use Rattle.smx_relay.specs.Relay.{Relay, client_turn, collect_text, collected, entered, entered_and_left, last_of};
+ghost use Rattle.smx_relay.specs.Relay.{Relay, RelayLane, client_turn, collect_text, collect_lane};
+ghost use Rattle.smx_relay.specs.Relay.{enter_lane, enter_and_leave_lane};
+ghost use Rattle.smx_relay.specs.Relay.{lane_after, last_of};
 ghost use Rattle.smx_relay.specs.Messages.{leave_turn};
 ghost use Rattle.smx_relay.specs.Turns.{collect_turn};
-ghost use Rattle.smx_relay.specs.Private.Agrees.{Agrees, AreOn, AreReached, Enters, HasLeft, HaveEntered, IsReached, Prints, Turned};
+ghost use Rattle.smx_relay.specs.Private.Agrees.{Agrees, AreOn, AreReached, Enters, HasLeft};
+ghost use Rattle.smx_relay.specs.Private.Agrees.{HaveEntered, IsReached, Prints, Turned};
 
 use crate::link::ClientLink;
 use crate::messages::{left_lines, send};
 use crate::on_lane::{CALLER, collect_on};
-use crate::state::State;
+use crate::state::{LinkedLane, State};
 use crate::texts::{client_line, none_line};
-use smx_lane::{AdmitFault, Lane};
+use smx_lane::AdmitFault;
 use smx_session::Kind;
 use std::alloc::{AllocError, Global};
 
@@ -29,12 +31,12 @@ pub fn last_of(clients: &[Option<u64>], client: u64) -> Option<u64>
 }
 
 // Admits the client on one lane after another, and gives the index of the first that refuses it.
-fn admit_all(lanes: &mut Vec<Lane>, client: u64) -> Result<Option<usize>, AllocError>
-    ensures { (limits : Limits) (clients : List (Option ℕ)) (hs : List (List Note)) → AreOn limits clients hs lanes.old.items
-        → IfOk result (λ refusing. Enters limits clients hs client refusing lanes.new.items) }
+fn admit_all(lanes: &mut Vec<LinkedLane>, client: u64) -> Result<Option<usize>, AllocError>
+    ensures { (limits : Limits) (clients : List (Option ℕ)) (ls : List RelayLane)
+        → AreOn limits clients ls lanes.old.items → IfOk result (λ refusing. Enters limits clients ls client refusing lanes.new.items) }
 {
     for at in 0..lanes.len() {
-        match lanes[at].admit(CALLER, client) {
+        match lanes[at].lane.admit(CALLER, client) {
             Ok(()) => {}
             Err(AdmitFault::NoMemory) => return Err(AllocError),
             Err(AdmitFault::Known) => return Ok(Some(at)),
@@ -45,22 +47,25 @@ fn admit_all(lanes: &mut Vec<Lane>, client: u64) -> Result<Option<usize>, AllocE
 }
 
 // Retires the client on the lanes before an index.
-fn retire_before(lanes: &mut Vec<Lane>, count: usize, client: u64)
+fn retire_before(lanes: &mut Vec<LinkedLane>, count: usize, client: u64)
     requires { HaveEntered client count lanes.old.items }
-    ensures { (limits : Limits) (clients : List (Option ℕ)) (some : List (List Note)) (others : List (List Note)) → length some ≡ count
-        → AreOn limits clients (map (entered client) some ++ others) lanes.old.items
-        → AreOn limits clients (map (entered_and_left client) some ++ others) lanes.new.items }
+    ensures { (limits : Limits) (clients : List (Option ℕ))
+        (some : List RelayLane) (others : List RelayLane) → length some ≡ count
+        → AreOn limits clients (map (lane_after (enter_lane client)) some ++ others) lanes.old.items
+        → AreOn limits clients (map (lane_after (enter_and_leave_lane client)) some ++ others)
+        lanes.new.items }
 {
     for at in 0..count {
-        let _ = lanes[at].retire(CALLER, client);
+        let _ = lanes[at].lane.retire(CALLER, client);
     }
 }
 
-/// A new client enters on each lane, or on none where a lane refuses it. It is bound so, or is still
-/// to bind.
+/// A new client enters on each lane, or on none where a lane refuses it. It is bound so, or is
+/// still to bind.
 pub fn enter(alloc: Global, state: &mut State, kind: Option<Kind>) -> Result<Vec<u8>, AllocError>
     requires { IsReached state.old }
-    ensures { (s : Relay) → Agrees state.old s → IfOk result (λ text. Turned (client_turn s kind) state.new text.items) }
+    ensures { (s : Relay) → Agrees state.old s → IfOk result (λ text.
+        Turned (client_turn s kind) state.new text.items) }
 {
     let client = state.clients.len() as u64;
     state
@@ -80,19 +85,20 @@ pub fn enter(alloc: Global, state: &mut State, kind: Option<Kind>) -> Result<Vec
 }
 
 // The client leaves each lane where it is present.
-fn leave_all(lanes: &mut Vec<Lane>, client: u64)
+fn leave_all(lanes: &mut Vec<LinkedLane>, client: u64)
     requires { AreReached lanes.old.items }
     ensures { HasLeft client lanes.old.items lanes.new.items }
 {
     for at in 0..lanes.len() {
-        let _left = lanes[at].retire(CALLER, client);
+        let _left = lanes[at].lane.retire(CALLER, client);
     }
 }
 
 /// A client leaves each lane, its prefixes go, and each of its messages is answered.
 pub(crate) fn leave(alloc: Global, state: &mut State, client: u64) -> Result<Vec<u8>, AllocError>
     requires { IsReached state.old }
-    ensures { (s : Relay) → Agrees state.old s → IfOk result (λ text. Turned (leave_turn client s) state.new text.items) }
+    ensures { (s : Relay) → Agrees state.old s → IfOk result (λ text.
+        Turned (leave_turn client s) state.new text.items) }
 {
     leave_all(&mut state.lanes, client);
     state.routes.remove(client);
@@ -105,15 +111,19 @@ pub(crate) fn leave(alloc: Global, state: &mut State, client: u64) -> Result<Vec
 }
 
 // Collects on one lane after another what waits for the client.
-fn collect_all(alloc: Global, lanes: &mut Vec<Lane>, client: u64) -> Result<Vec<u8>, AllocError>
+fn collect_all(
+    alloc: Global,
+    lanes: &mut Vec<LinkedLane>,
+    client: u64,
+) -> Result<Vec<u8>, AllocError>
     requires { AreReached lanes.old.items }
-    ensures { (limits : Limits) (clients : List (Option ℕ)) (hs : List (List Note)) → AreOn limits clients hs lanes.old.items
-        → IfOk result (λ text. (text.items ≡ flat_map (collect_text client) hs)
-        × AreOn limits clients (map (collected client) hs) lanes.new.items) }
+    ensures { (limits : Limits) (clients : List (Option ℕ)) (ls : List RelayLane)
+        → AreOn limits clients ls lanes.old.items → IfOk result (λ text. (text.items ≡ flat_map (λ l. collect_text client l.history) ls)
+        × AreOn limits clients (map (lane_after (collect_lane client)) ls) lanes.new.items) }
 {
     let mut text = Vec::new(alloc);
     for at in 0..lanes.len() {
-        let waiting = collect_on(alloc, &mut lanes[at], client)?;
+        let waiting = collect_on(alloc, &mut lanes[at].lane, client)?;
         text.extend_from_slice(&waiting)?;
     }
     Ok(text)

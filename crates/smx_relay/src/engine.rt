@@ -18,7 +18,8 @@ const MAX_SCRIPT: usize = 1_048_576;
 
 // Runs a script that was read.
 fn relay<W: Write>(alloc: Global, script: &[u8], writer: &mut W) -> RunEnd
-    ensures { (out : List ℕ) × Appends (W.contents writer.old) (W.contents writer.new) out × Ends result script.now out }
+    ensures { (out : List ℕ) × Appends (W.contents writer.old) (W.contents writer.new) out
+        × Ends result script.now out }
 {
     let Ok(start) = new_state(alloc) else {
         return RunEnd::NoMemory;

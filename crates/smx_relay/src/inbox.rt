@@ -1,5 +1,6 @@
 //! A client's mailbox, which is made at its first message and goes when the client leaves.
-ghost use Rattle.std.specs.Prelude.{◌≡◌, true, false, Some, None, IfOk, IfErr, IfSome, IfNone, OnOk};
+ghost use Rattle.std.specs.Prelude.{◌≡◌, true, false, Some, None, IfOk, IfErr, IfSome, IfNone};
+ghost use Rattle.std.specs.Prelude.{OnOk};
 ghost use Rattle.smx_routes.specs.Window.{answered};
 ghost use Rattle.smx_routes.specs.declared.mo_window.Waiting.{Waiting};
 ghost use Rattle.smx_mailbox.specs.Mailbox.{new_mailbox, with_message, is_full, sent, after_sent};

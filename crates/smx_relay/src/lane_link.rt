@@ -1,8 +1,9 @@
 //! A lane's link to the centre: it is lost, and there is one again.
-ghost use Rattle.std.specs.Prelude.{◌≡◌, List, IfOk, set};
+ghost use Rattle.std.specs.Prelude.{◌≡◌, ◌<◌, List, length, IfOk};
 ghost use Rattle.smx_history.specs.declared.place.Place.{Place};
-ghost use Rattle.smx_relay.specs.Relay.{Relay};
-ghost use Rattle.smx_relay.specs.LaneLinks.{AreTakenOn, LoseTurn, bind_turn, given_up, going_on, lowered};
+ghost use Rattle.smx_relay.specs.Relay.{Relay, going_on};
+ghost use Rattle.smx_relay.specs.LaneLinks.{AreTakenOn, LoseTurn, bind_turn, give_up_lane};
+ghost use Rattle.smx_relay.specs.LaneLinks.{lower_lane};
 ghost use Rattle.smx_relay.specs.Private.Agrees.{Agrees, IsReached, MayPrint, Prints};
 
 use crate::link::CentreLink;
@@ -14,30 +15,26 @@ use std::alloc::{AllocError, Global};
 
 /// The link of a lane is lost, where it is up.
 pub(crate) fn lower(state: &mut State, lane: u64)
-    ensures { (s : Relay) → Agrees state.old s → Agrees state.new (going_on s lane lowered) }
+    requires { lane < length state.old.lanes.items }
+    ensures agrees { (s : Relay) → Agrees state.old s
+        → Agrees state.new (going_on s lane lower_lane) }
+    ensures lanes { length state.new.lanes.items ≡ length state.old.lanes.items }
 {
-    let at = lane as usize;
-    if at >= state.lanes.len() {
-        return;
-    }
-    let _was_down = state.lanes[at].down(CALLER);
+    let _was_down = state.lanes[lane as usize].lane.down(CALLER);
 }
 
 /// Each request that was taken on a lane that is down fails.
 pub(crate) fn give_up(state: &mut State, lane: u64)
-    requires { IsReached state.old }
+    requires there { lane < length state.old.lanes.items }
+    requires reached { IsReached state.old }
     ensures { (s : Relay) → Agrees state.old s → (qs : List Place) × AreTakenOn s lane qs
-        × Agrees state.new (going_on s lane (given_up qs)) }
+        × Agrees state.new (going_on s lane (give_up_lane qs)) }
 {
-    let at = lane as usize;
-    if at >= state.lanes.len() {
-        return;
-    }
-    give_up_on(&mut state.lanes[at]);
+    give_up_on(&mut state.lanes[lane as usize].lane);
 }
 
-/// The link of a lane is lost, and what was taken fails. A lane that is down stays as it is. There is
-/// no text where there is no such lane.
+/// The link of a lane is lost, and what was taken fails. A lane that is down stays as it is. There
+/// is no text where there is no such lane.
 pub(crate) fn lose(
     alloc: Global,
     state: &mut State,
@@ -51,21 +48,12 @@ pub(crate) fn lose(
     if at >= state.lanes.len() {
         return Ok(None);
     }
-    if !state.lanes[at].is_up() {
+    if !state.lanes[at].lane.is_up() {
         return Ok(Some(down_line(alloc, lane)?));
     }
     lower(state, lane);
     give_up(state, lane);
     Ok(Some(down_line(alloc, lane)?))
-}
-
-// A lane has a new link.
-fn renew(centres: &mut Vec<CentreLink>, at: usize, link: CentreLink)
-    ensures { centres.new.items ≡ set centres.old.items at link }
-{
-    if at < centres.len() {
-        centres[at] = link;
-    }
 }
 
 /// A lane that is down gets a new link, which is bound, where it has room. There is no text where
@@ -82,9 +70,10 @@ pub(crate) fn bind(
     if at >= state.lanes.len() {
         return Ok(None);
     }
-    match state.lanes[at].up(CALLER) {
+    match state.lanes[at].lane.up(CALLER) {
         Ok(()) => {
-            renew(&mut state.centres, at, CentreLink::bound(alloc)?);
+            let link = CentreLink::bound(alloc)?;
+            state.lanes[at].link = link;
             Ok(Some(bound_line(alloc, lane)?))
         }
         Err(UpRefusal::AlreadyUp) => Ok(Some(bound_line(alloc, lane)?)),

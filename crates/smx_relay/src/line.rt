@@ -17,13 +17,14 @@ use std::alloc::{AllocError, Global};
 
 // Takes the oldest request of a lane. There is no text where there is no such lane.
 fn take(alloc: Global, state: &mut State, lane: u64) -> Result<Option<Vec<u8>>, AllocError>
-    ensures { (s : Relay) → Agrees state.old s → IfOk result (λ text. MayPrint (TakeTurn s lane) state.new text) }
+    ensures { (s : Relay) → Agrees state.old s → IfOk result (λ text.
+        MayPrint (TakeTurn s lane) state.new text) }
 {
     let at = lane as usize;
     if at >= state.lanes.len() {
         return Ok(None);
     }
-    let text = take_on(alloc, &mut state.lanes[at], lane, state.moment)?;
+    let text = take_on(alloc, &mut state.lanes[at].lane, lane, state.moment)?;
     Ok(Some(text))
 }
 
@@ -35,13 +36,14 @@ fn expire(
     age: u64,
 ) -> Result<Option<Vec<u8>>, AllocError>
     requires { IsReached state.old }
-    ensures { (s : Relay) → Agrees state.old s → IfOk result (λ text. MayPrint (ExpireTurn s lane age) state.new text) }
+    ensures { (s : Relay) → Agrees state.old s → IfOk result (λ text.
+        MayPrint (ExpireTurn s lane age) state.new text) }
 {
     let at = lane as usize;
     if at >= state.lanes.len() {
         return Ok(None);
     }
-    let text = expire_on(alloc, &mut state.lanes[at], lane, state.moment, age)?;
+    let text = expire_on(alloc, &mut state.lanes[at].lane, lane, state.moment, age)?;
     Ok(Some(text))
 }
 
@@ -65,7 +67,7 @@ fn history(alloc: Global, state: &State, lane: u64) -> Result<Option<Vec<u8>>, A
     if at >= state.lanes.len() {
         return Ok(None);
     }
-    Ok(Some(history_on(alloc, &state.lanes[at])?))
+    Ok(Some(history_on(alloc, &state.lanes[at].lane)?))
 }
 
 // Lists the stored entries of a lane, which goes on without them. There is no text where there is no
@@ -78,7 +80,7 @@ fn turn(alloc: Global, state: &mut State, lane: u64) -> Result<Option<Vec<u8>>, 
     if at >= state.lanes.len() {
         return Ok(None);
     }
-    Ok(Some(turn_on(alloc, &mut state.lanes[at], lane)?))
+    Ok(Some(turn_on(alloc, &mut state.lanes[at].lane, lane)?))
 }
 
 // Runs an action. There is no text at a bad line.
@@ -89,7 +91,8 @@ fn run_action(
     action: Action,
 ) -> Result<Option<Vec<u8>>, AllocError>
     requires { IsReached state.old }
-    ensures { (s : Relay) → Agrees state.old s → IfOk result (λ text. MayPrint (Acts s action) state.new text) }
+    ensures { (s : Relay) → Agrees state.old s → IfOk result (λ text.
+        MayPrint (Acts s action) state.new text) }
 {
     match action {
         Action::Client { kind } => Ok(Some(enter(alloc, state, kind)?)),
@@ -115,7 +118,8 @@ fn run_command(
     command: Command,
 ) -> Result<Option<Vec<u8>>, AllocError>
     requires { IsReached state.old }
-    ensures { (s : Relay) → Agrees state.old s → IfOk result (λ text. MayPrint (Does s command) state.new text) }
+    ensures { (s : Relay) → Agrees state.old s → IfOk result (λ text.
+        MayPrint (Does s command) state.new text) }
 {
     match command {
         Command::Skip => Ok(Some(Vec::new(alloc))),
@@ -135,7 +139,8 @@ pub fn run_line(
     line: &[u8],
 ) -> Result<Option<Vec<u8>>, AllocError>
     requires { IsReached state.old }
-    ensures { (s : Relay) → Agrees state.old s → IfOk result (λ text. MayPrint (Lines s line.now) state.new text) }
+    ensures { (s : Relay) → Agrees state.old s → IfOk result (λ text.
+        MayPrint (Lines s line.now) state.new text) }
 {
     match read_command(alloc, line)? {
         Some(command) => run_command(alloc, state, command),

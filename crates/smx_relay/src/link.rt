@@ -1,22 +1,19 @@
 //! The links: what comes on them is cut into PDUs, which a session decides.
-ghost use Rattle.std.specs.Prelude.{◌≡◌, true, false, Some, None, IfOk, IfErr, IfSome, IfNone, OnOk, Ok};
-ghost use Rattle.smx_relay.specs.Links.{Receives, has_failed, has_left, may_receive, new_link, new_stream, bound_centre};
+ghost use Rattle.std.specs.Prelude.{◌≡◌, true, false, Some, None, IfOk, IfErr, IfSome, IfNone};
+ghost use Rattle.std.specs.Prelude.{OnOk, Ok};
+ghost use Rattle.smx_relay.specs.Links.{Receives, has_failed, has_left, may_receive, new_link};
+ghost use Rattle.smx_relay.specs.Links.{new_stream, bound_centre};
 
 use crate::inbox::Inbox;
 use crate::receive::receive;
 use smx_frame::Framer;
 use smx_mailbox::{Message, Unanswered};
-use smx_pdu::command::{BIND_TRANSCEIVER, RESPONSE};
-use smx_pdu::status::ESME_ROK;
-use smx_pdu::{Body, Pdu};
+use smx_pdu::{MAX_PDU, Pdu};
 use smx_session::{
     Account, Act, ClientSession, ClientState, Kind, UpAct, UpstreamSession, UpstreamState,
 };
 use std::alloc::{AllocError, Global};
 use std::marker::Model;
-
-/// The most octets that a PDU has, its header included.
-const MAX_PDU: u32 = 65_536;
 
 /// A client's link. Contracts see it as the state of its session and the stream of its octets.
 #[derive(Drop)]
@@ -40,7 +37,8 @@ impl ClientLink {
     ghost use Rattle.smx_relay.specs.ClientTurn.{decides};
     ghost use Rattle.smx_routes.specs.Window.{answered};
     ghost use Rattle.smx_routes.specs.declared.mo_window.Waiting.{Waiting};
-    ghost use Rattle.smx_mailbox.specs.Mailbox.{with_message, is_full, sent, after_sent, settled, unanswered, emptied};
+    ghost use Rattle.smx_mailbox.specs.Mailbox.{with_message, is_full, sent, after_sent, settled};
+    ghost use Rattle.smx_mailbox.specs.Mailbox.{unanswered, emptied};
 
     /// The link of a client that is bound so, or is still to bind, and whose mailbox has so many
     /// places.
@@ -53,7 +51,7 @@ impl ClientLink {
         };
         ClientLink {
             session,
-            framer: Framer::new(alloc, MAX_PDU),
+            framer: Framer::new(alloc, MAX_PDU as u32),
             mailbox: Inbox::new(alloc, places),
         }
     }
@@ -77,8 +75,10 @@ impl ClientLink {
 
     /// The PDUs that these octets complete.
     pub(crate) fn receive(&mut self, alloc: Global, octets: &[u8]) -> Result<Vec<Pdu>, AllocError>
-        ensures stream { IfOk result (λ pdus. Receives self.old.stream octets.now pdus.items self.new.stream) }
-        ensures others { (self.new.session ≡ self.old.session) × (self.new.mailbox ≡ self.old.mailbox) }
+        ensures stream { IfOk result (λ pdus.
+            Receives self.old.stream octets.now pdus.items self.new.stream) }
+        ensures others { (self.new.session ≡ self.old.session)
+            × (self.new.mailbox ≡ self.old.mailbox) }
     {
         receive(alloc, &mut self.framer, octets)
     }
@@ -87,7 +87,8 @@ impl ClientLink {
     #[tactic(auto, unfolding(crate::specs::ClientTurn::decides))]
     pub(crate) fn decide(&mut self, pdu: &Pdu, accounts: &[Account]) -> Result<Act, AllocError>
         ensures act { IfOk result (λ act. act ≡ (decides accounts.now self.old.session pdu.now).0) }
-        ensures link { IfOk result (λ _. self.new ≡ record self.old { session = (decides accounts.now self.old.session pdu.now).1 }) }
+        ensures link { IfOk result (λ _. self.new
+            ≡ record self.old { session = (decides accounts.now self.old.session pdu.now).1 }) }
     {
         self.session.on_pdu(pdu, accounts)
     }
@@ -115,8 +116,11 @@ impl ClientLink {
 
     /// The messages that the client is sent now.
     pub(crate) fn send(&mut self) -> Result<Vec<Pdu>, AllocError>
-        ensures ok { IfOk result (λ pdus. pdus.items ≡ sent self.old.mailbox.window self.old.mailbox.waiting) }
-        ensures after { OnOk result (self.new ≡ record self.old { mailbox = after_sent self.old.mailbox.window self.old.mailbox.waiting }) }
+        ensures ok { IfOk result (λ pdus.
+            pdus.items ≡ sent self.old.mailbox.window self.old.mailbox.waiting) }
+        ensures after { OnOk result (self.new ≡ record self.old {
+          mailbox = after_sent self.old.mailbox.window self.old.mailbox.waiting;
+        }) }
     {
         self.mailbox.send()
     }
@@ -128,7 +132,9 @@ impl ClientLink {
             × (r.0 ≡ w.lane)
             × (r.1 ≡ w.number)
             × (self.new ≡ record self.old { mailbox = settled number self.old.mailbox })) }
-        ensures none { IfNone result ((answered number command self.old.mailbox.window.waiting ≡ None) × (self.new ≡ self.old)) }
+        ensures none { IfNone result (
+            (answered number command self.old.mailbox.window.waiting ≡ None)
+            × (self.new ≡ self.old)) }
     {
         self.mailbox.settle(number, command)
     }
@@ -136,7 +142,8 @@ impl ClientLink {
     /// The messages that the client leaves without an answer.
     pub(crate) fn empty(&mut self) -> Result<Vec<Unanswered>, AllocError>
         ensures ok { IfOk result (λ messages. messages.items ≡ unanswered self.old.mailbox) }
-        ensures after { OnOk result (self.new ≡ record self.old { mailbox = emptied self.old.mailbox }) }
+        ensures after { OnOk result
+            (self.new ≡ record self.old { mailbox = emptied self.old.mailbox }) }
     {
         self.mailbox.empty()
     }
@@ -157,9 +164,6 @@ impl Model for CentreLink {
     ghost view = { λ l. record { session = l.session; stream = l.framer.stream } };
 }
 
-/// The number of the proxy's own bind, which the centre answers.
-const BIND_NUMBER: u32 = 0x7FFF_FFFD;
-
 impl CentreLink {
     ghost use Rattle.smx_relay.specs.CentreTurn.{act_of, session_after};
 
@@ -168,17 +172,9 @@ impl CentreLink {
         ensures { IfOk result (λ link. link ≡ bound_centre) }
     {
         let system_id = Vec::from_slice(alloc, b"smx")?;
-        let mut session = UpstreamSession::new(alloc, system_id, Vec::new(alloc), 0, 0);
-        let answer = Pdu {
-            command: RESPONSE + BIND_TRANSCEIVER,
-            status: ESME_ROK,
-            number: BIND_NUMBER,
-            body: Body::empty(alloc),
-        };
-        let _ = session.on_pdu(&answer, 0);
         Ok(CentreLink {
-            session,
-            framer: Framer::new(alloc, MAX_PDU),
+            session: UpstreamSession::bound(alloc, system_id, Vec::new(alloc), 0, 0),
+            framer: Framer::new(alloc, MAX_PDU as u32),
         })
     }
 
@@ -198,7 +194,8 @@ impl CentreLink {
 
     /// The PDUs that these octets complete.
     pub(crate) fn receive(&mut self, alloc: Global, octets: &[u8]) -> Result<Vec<Pdu>, AllocError>
-        ensures stream { IfOk result (λ pdus. Receives self.old.stream octets.now pdus.items self.new.stream) }
+        ensures stream { IfOk result (λ pdus.
+            Receives self.old.stream octets.now pdus.items self.new.stream) }
         ensures session { self.new.session ≡ self.old.session }
     {
         receive(alloc, &mut self.framer, octets)
@@ -208,7 +205,8 @@ impl CentreLink {
     #[tactic(auto, unfolding(crate::specs::CentreTurn::act_of, crate::specs::CentreTurn::session_after))]
     pub(crate) fn decide(&mut self, pdu: &Pdu) -> UpAct
         ensures act { result ≡ act_of self.old.session pdu.now }
-        ensures link { self.new ≡ record self.old { session = session_after self.old.session pdu.now } }
+        ensures link { self.new
+            ≡ record self.old { session = session_after self.old.session pdu.now } }
     {
         self.session.on_pdu(pdu, 0)
     }

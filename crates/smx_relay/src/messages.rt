@@ -25,7 +25,8 @@ pub(crate) fn route(
     client: u64,
     prefix: &[u8],
 ) -> Result<Option<Vec<u8>>, AllocError>
-    ensures { (s : Relay) → Agrees state.old s → IfOk result (λ text. MayPrint (RouteTurn s client prefix.now) state.new text) }
+    ensures { (s : Relay) → Agrees state.old s → IfOk result (λ text.
+        MayPrint (RouteTurn s client prefix.now) state.new text) }
 {
     let at = client as usize;
     if last_of(&state.clients, client).is_none() {
@@ -47,7 +48,9 @@ pub(crate) fn route(
 
 // Answers a message that no client gets.
 fn refuse(alloc: Global, lane: u64, message: &Pdu, status: u32) -> Result<Vec<u8>, AllocError>
-    ensures { IfOk result (λ line. line.items ≡ pdu_line (up_lane lane) (refusal message.now.command message.now.number status)) }
+    ensures { IfOk result (λ line.
+        line.items ≡ pdu_line (up_lane lane)
+        (refusal message.now.command message.now.number status)) }
 {
     let answer = refusal(alloc, message.command, message.number, status);
     up_line(alloc, lane, &answer)
@@ -61,7 +64,9 @@ fn put(
     client: u64,
     pdu: Pdu,
 ) -> Result<Vec<u8>, AllocError>
-    ensures { (s : Relay) → Agrees state.old s → IfOk result (λ text. Turned (put_to s lane pdu (Some client)) state.new text.items) }
+    ensures turned { (s : Relay) → Agrees state.old s → IfOk result (λ text.
+        Turned (put_to s lane pdu (Some client)) state.new text.items) }
+    ensures lanes { state.new.lanes ≡ state.old.lanes }
 {
     let at = client as usize;
     if at >= state.links.len() {
@@ -84,7 +89,9 @@ pub(crate) fn message(
     lane: u64,
     pdu: Pdu,
 ) -> Result<Vec<u8>, AllocError>
-    ensures { (s : Relay) → Agrees state.old s → IfOk result (λ text. Turned (message_turn lane pdu s) state.new text.items) }
+    ensures turned { (s : Relay) → Agrees state.old s → IfOk result (λ text.
+        Turned (message_turn lane pdu s) state.new text.items) }
+    ensures lanes { state.new.lanes ≡ state.old.lanes }
 {
     let routed = match read_destination(pdu.body.as_slice()) {
         Ok(address) => state.routes.route(address),
@@ -104,7 +111,8 @@ pub(crate) fn answer(
     client: u64,
     pdu: Pdu,
 ) -> Result<Vec<u8>, AllocError>
-    ensures { (s : Relay) → Agrees state.old s → IfOk result (λ text. Turned (answer_turn client pdu s) state.new text.items) }
+    ensures { (s : Relay) → Agrees state.old s → IfOk result (λ text.
+        Turned (answer_turn client pdu s) state.new text.items) }
 {
     let at = client as usize;
     if at >= state.links.len() {
@@ -155,7 +163,8 @@ fn sent_lines(alloc: Global, client: u64, pdus: &[Pdu]) -> Result<Vec<u8>, Alloc
 
 /// The client is sent the messages that its window has places for.
 pub(crate) fn send(alloc: Global, state: &mut State, client: u64) -> Result<Vec<u8>, AllocError>
-    ensures { (s : Relay) → Agrees state.old s → IfOk result (λ text. Turned (send_turn client s) state.new text.items) }
+    ensures { (s : Relay) → Agrees state.old s → IfOk result (λ text.
+        Turned (send_turn client s) state.new text.items) }
 {
     let at = client as usize;
     if at >= state.links.len() {

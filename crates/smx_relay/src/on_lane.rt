@@ -91,14 +91,14 @@ ghost use Rattle.std.specs.Prelude.{◌++◌, map};
 ghost use Rattle.smx_history.specs.declared.place.Place.{Place};
 ghost use Rattle.smx_history.specs.Prefixes.{SameCounts};
 ghost use Rattle.smx_history.specs.Contents.{window_after};
-ghost use Rattle.smx_relay.specs.LaneLinks.{given_up};
+ghost use Rattle.smx_relay.specs.LaneLinks.{give_up_lane};
 
 /// Each request that was taken and not answered fails, on a lane that is down. Which of them first,
 /// isn't said.
 pub fn give_up_on(lane: &mut Lane)
     requires { (h : List Note) × AgreesWith h lane.old }
     ensures agrees { (h : List Note) → AgreesWith h lane.old → (qs : List Place)
-        × SameCounts (window_after h) qs × AgreesWith (given_up qs h) lane.new }
+        × SameCounts (window_after h) qs × AgreesWith (give_up_lane qs h) lane.new }
     ensures limits { lane.new.limits ≡ lane.old.limits }
 {
     if lane.is_up() {
@@ -137,14 +137,14 @@ pub fn expire_on(
     Ok(text)
 }
 
-ghost use Rattle.smx_relay.specs.Relay.{collect_text, collected};
+ghost use Rattle.smx_relay.specs.Relay.{collect_text, collect_lane};
 ghost use Rattle.smx_relay.specs.Private.OnLane.{AreOurs};
 
 /// Collects each response that waits for the client.
 pub fn collect_on(alloc: Global, lane: &mut Lane, client: u64) -> Result<Vec<u8>, AllocError>
     requires { (h : List Note) × AgreesWith h lane.old × AreOurs h }
     ensures { (h : List Note) → AgreesWith h lane.old → IfOk result (λ text.
-        TurnsLane (collect_text client h, collected client h) lane.old lane.new text.items) }
+        TurnsLane (collect_text client h, collect_lane client h) lane.old lane.new text.items) }
 {
     let mut text = Vec::new(alloc);
     while let Some(response) = lane.collect(CALLER, client) {

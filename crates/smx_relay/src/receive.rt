@@ -13,7 +13,8 @@ pub(crate) fn receive(
     framer: &mut Framer,
     octets: &[u8],
 ) -> Result<Vec<Pdu>, AllocError>
-    ensures { IfOk result (λ pdus. Receives framer.old.stream octets.now pdus.items framer.new.stream) }
+    ensures { IfOk result (λ pdus.
+        Receives framer.old.stream octets.now pdus.items framer.new.stream) }
 {
     let Ok(()) = framer.feed(octets) else {
         return Err(AllocError);

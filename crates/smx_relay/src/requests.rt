@@ -1,12 +1,13 @@
 //! Requests of clients, which go to the lanes.
-ghost use Rattle.std.specs.Prelude.{◌≡◌, ◌<◌, ◌+◌, ◌%◌, List, [], ◌++◌, ◌∷◌, length, Some, IfOk, IfSome, IfNone, slice_get, set};
+ghost use Rattle.std.specs.Prelude.{◌≡◌, ◌<◌, ◌+◌, ◌%◌, List, length, Some, IfOk, IfSome, IfNone};
+ghost use Rattle.std.specs.Prelude.{slice_get, set};
 ghost use Rattle.std.specs.List.{AllByRecursion, find};
 ghost use Rattle.smx_history.specs.declared.note.Note.{Note};
-ghost use Rattle.smx_history.specs.declared.note.Event.TheVariants.{Accept};
-ghost use Rattle.smx_history.specs.History.{note};
 ghost use Rattle.smx_history.specs.Contents.{AgreesWith, Content};
+ghost use Rattle.smx_relay.specs.declared.state.LinkedLane.{LinkedLane};
 ghost use Rattle.smx_relay.specs.Texts.{refusal_of};
 ghost use Rattle.smx_relay.specs.Relay.{Relay, in_turn_at, lane_for, last_of, request_of, ring};
+ghost use Rattle.smx_relay.specs.Relay.{with_request};
 ghost use Rattle.smx_relay.specs.ClientTurn.{forward, offer_of};
 ghost use Rattle.smx_relay.specs.Private.Agrees.{Agrees, IsReached, MayAccept, Turned, accepts_in};
 
@@ -14,22 +15,23 @@ use crate::clients::last_of;
 use crate::offer::Offer;
 use crate::on_lane::CALLER;
 use crate::refusal::refusal;
-use crate::state::State;
+use crate::state::{LinkedLane, State};
 use crate::texts::{accepted_line, to_line};
 use smx_history::Request;
-use smx_lane::Lane;
 use smx_pdu::status::ESME_RMSGQFUL;
 use smx_pdu::{Pdu, is_forwarded};
 use std::alloc::{AllocError, Global};
 
 // Offers a request to each lane, from one on in a ring, and gives the first that accepts it.
-fn accept_in_ring(lanes: &mut Vec<Lane>, last: u64, request: Request) -> Option<usize>
+fn accept_in_ring(lanes: &mut Vec<LinkedLane>, last: u64, request: Request) -> Option<usize>
     requires own { AllByRecursion (MayAccept request.client request.ordinal) lanes.old.items }
     ensures first { result ≡ find (λ i. accepts_in request.client (slice_get lanes.old.items i))
         (ring (last % length lanes.old.items) (length lanes.old.items)) }
-    ensures accepted { IfSome result (λ i. (old new : Content) × (slice_get lanes.old.items i ≡ Some old)
-        × (lanes.new.items ≡ set lanes.old.items i new) × (new.limits ≡ old.limits)
-        × ((h : List Note) → AgreesWith h old → AgreesWith (h ++ note 0 (Accept request) ∷ []) new)) }
+    ensures accepted { IfSome result (λ i.
+        (l : LinkedLane) × (after : Content) × (slice_get lanes.old.items i ≡ Some l)
+        × (lanes.new.items ≡ set lanes.old.items i (record l { lane = after }))
+        × (after.limits ≡ l.lane.limits)
+        × ((h : List Note) → AgreesWith h l.lane → AgreesWith (with_request request h) after)) }
     ensures refused { IfNone result (lanes.new.items ≡ lanes.old.items) }
 {
     let count = lanes.len();
@@ -40,7 +42,7 @@ fn accept_in_ring(lanes: &mut Vec<Lane>, last: u64, request: Request) -> Option<
     let mut request = request;
     for k in 0..count {
         let at = (first + k) % count;
-        match lanes[at].accept(CALLER, request) {
+        match lanes[at].lane.accept(CALLER, request) {
             Ok(()) => return Some(at),
             Err((back, _)) => request = back,
         }
@@ -121,7 +123,8 @@ pub fn forward(
     pdu: Pdu,
 ) -> Result<Vec<u8>, AllocError>
     requires { IsReached state.old }
-    ensures { (s : Relay) → Agrees state.old s → IfOk result (λ text. Turned (forward client pdu s) state.new text.items) }
+    ensures { (s : Relay) → Agrees state.old s → IfOk result (λ text.
+        Turned (forward client pdu s) state.new text.items) }
 {
     match (offer_of(pdu), last_of(&state.clients, client)) {
         (Some(offer), Some(last)) => offer_next(alloc, state, client, last, offer),

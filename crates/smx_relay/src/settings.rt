@@ -1,10 +1,10 @@
 //! The settings, and the start of the lanes.
 ghost use Rattle.std.specs.Prelude.{◌≡◌, ℕ, List, IfOk, OnOk};
-ghost use Rattle.smx_relay.specs.Relay.{Relay, start, begun, set_turn};
+ghost use Rattle.smx_relay.specs.Relay.{Relay, start, begin_lanes, set_turn};
 ghost use Rattle.smx_relay.specs.Private.Agrees.{Agrees, Prints};
 
 use crate::link::{CentreLink, ClientLink};
-use crate::state::State;
+use crate::state::{LinkedLane, State};
 use smx_history::Limits;
 use smx_lane::Lane;
 use smx_routes::Routes;
@@ -35,7 +35,6 @@ pub fn new_state(alloc: Global) -> Result<State, AllocError>
         started: false,
         moment: 0,
         lanes: Vec::new(alloc),
-        centres: Vec::new(alloc),
         clients,
         links,
         routes: Routes::new(alloc),
@@ -51,7 +50,8 @@ pub fn set(
     state: &mut State,
     setting: Setting,
 ) -> Result<Option<Vec<u8>>, AllocError>
-    ensures { (s : Relay) → Agrees state.old s → IfOk result (λ text. Prints (set_turn s setting) state.new text) }
+    ensures { (s : Relay) → Agrees state.old s → IfOk result (λ text.
+        Prints (set_turn s setting) state.new text) }
 {
     if state.started {
         return Ok(None);
@@ -72,7 +72,7 @@ pub fn set(
 
 /// Makes the lanes and their links, unless they were made.
 pub fn begin(alloc: Global, state: &mut State) -> Result<(), AllocError>
-    ensures { (s : Relay) → Agrees state.old s → OnOk result (Agrees state.new (begun s)) }
+    ensures { (s : Relay) → Agrees state.old s → OnOk result (Agrees state.new (begin_lanes s)) }
 {
     if state.started {
         return Ok(());
@@ -82,8 +82,8 @@ pub fn begin(alloc: Global, state: &mut State) -> Result<(), AllocError>
         let Ok(lane) = Lane::new(alloc, state.limits) else {
             return Err(AllocError);
         };
-        state.lanes.push(lane)?;
-        state.centres.push(CentreLink::bound(alloc)?)?;
+        let link = CentreLink::bound(alloc)?;
+        state.lanes.push(LinkedLane { lane, link })?;
     }
     Ok(())
 }

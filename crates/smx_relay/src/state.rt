@@ -6,6 +6,13 @@ use smx_lane::Lane;
 use smx_routes::Routes;
 use smx_session::Account;
 
+/// A lane, and its link to the centre.
+#[derive(Drop)]
+pub struct LinkedLane {
+    pub lane: Lane,
+    pub link: CentreLink,
+}
+
 /// The settings, the lanes and the clients.
 #[derive(Drop)]
 pub struct State {
@@ -21,9 +28,7 @@ pub struct State {
     pub started: bool,
     /// The moment, in milliseconds. It never falls.
     pub moment: u64,
-    pub lanes: Vec<Lane>,
-    /// The link of each lane.
-    pub centres: Vec<CentreLink>,
+    pub lanes: Vec<LinkedLane>,
     /// The last ordinal of each client, by its number; none of a number that no client has.
     pub clients: Vec<Option<u64>>,
     /// The link of each client, by its number; that of a number that no client has is never used.

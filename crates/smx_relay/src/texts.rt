@@ -1,6 +1,8 @@
 //! The lines that a run prints.
 ghost use Rattle.std.specs.Prelude.{◌≡◌, ◌++◌, IfOk, OnOk, string_bytes, codes};
-ghost use Rattle.smx_relay.specs.Texts.{bad_line, bound_line, closed_line, down_line, entry_line, failed_line, kept_line, kind_name, pdu_line, text_line, to_client, turned_line, unbound_line, up_lane};
+ghost use Rattle.smx_relay.specs.Texts.{bad_line, bound_line, closed_line, down_line, entry_line};
+ghost use Rattle.smx_relay.specs.Texts.{failed_line, kept_line, kind_name, pdu_line, text_line};
+ghost use Rattle.smx_relay.specs.Texts.{to_client, turned_line, unbound_line, up_lane};
 ghost use Rattle.std.specs.Fmt.{decimal};
 ghost use Rattle.std.specs.List.{flat_map};
 
@@ -70,14 +72,16 @@ pub fn bad_line(alloc: Global, number: u64) -> Result<String, AllocError>
 
 /// What is printed of a lane that has nothing to take.
 pub fn empty_line(alloc: Global, lane: u64) -> Result<Vec<u8>, AllocError>
-    ensures { IfOk result (λ line. line.items ≡ text_line (codes "take " ++ (decimal lane ++ codes " empty"))) }
+    ensures { IfOk result (λ line.
+        line.items ≡ text_line (codes "take " ++ (decimal lane ++ codes " empty"))) }
 {
     Ok(format!(in alloc; "take {lane} empty\n")?.into_bytes())
 }
 
 /// What is printed of a lane whose window is full.
 pub fn full_line(alloc: Global, lane: u64) -> Result<Vec<u8>, AllocError>
-    ensures { IfOk result (λ line. line.items ≡ text_line (codes "take " ++ (decimal lane ++ codes " full"))) }
+    ensures { IfOk result (λ line.
+        line.items ≡ text_line (codes "take " ++ (decimal lane ++ codes " full"))) }
 {
     Ok(format!(in alloc; "take {lane} full\n")?.into_bytes())
 }
@@ -105,7 +109,9 @@ pub fn client_line(alloc: Global, client: u64) -> Result<Vec<u8>, AllocError>
 
 /// What is printed of a request that a lane accepts.
 pub fn accepted_line(alloc: Global, client: u64, lane: u64) -> Result<Vec<u8>, AllocError>
-    ensures { IfOk result (λ line. line.items ≡ text_line (codes "accepted " ++ (decimal client ++ (codes " " ++ decimal lane)))) }
+    ensures { IfOk result (λ line.
+        line.items ≡ text_line (codes "accepted "
+        ++ (decimal client ++ (codes " " ++ decimal lane)))) }
 {
     Ok(format!(in alloc; "accepted {client} {lane}\n")?.into_bytes())
 }
@@ -164,7 +170,8 @@ pub fn kept_line(alloc: Global, lane: u64) -> Result<Vec<u8>, AllocError>
 
 /// What a client gets last, and that it is hung up.
 pub fn hangup_lines(alloc: Global, client: u64, pdu: &Pdu) -> Result<Vec<u8>, AllocError>
-    ensures { IfOk result (λ lines. lines.items ≡ pdu_line (to_client client) pdu.now ++ closed_line client) }
+    ensures { IfOk result (λ lines.
+        lines.items ≡ pdu_line (to_client client) pdu.now ++ closed_line client) }
 {
     let mut lines = to_line(alloc, client, pdu)?;
     lines.extend_from_slice(&closed_line(alloc, client)?)?;
@@ -173,7 +180,8 @@ pub fn hangup_lines(alloc: Global, client: u64, pdu: &Pdu) -> Result<Vec<u8>, Al
 
 /// What goes upstream last from a lane, and that it is down.
 pub fn farewell_lines(alloc: Global, lane: u64, pdu: &Pdu) -> Result<Vec<u8>, AllocError>
-    ensures { IfOk result (λ lines. lines.items ≡ pdu_line (up_lane lane) pdu.now ++ down_line lane) }
+    ensures { IfOk result (λ lines.
+        lines.items ≡ pdu_line (up_lane lane) pdu.now ++ down_line lane) }
 {
     let mut lines = up_line(alloc, lane, pdu)?;
     lines.extend_from_slice(&down_line(alloc, lane)?)?;

@@ -87,6 +87,31 @@ impl UpstreamSession {
         }
     }
 
+    /// A session that is bound, with the same texts, silence and moment. It takes no memory.
+    pub fn bound(
+        alloc: Global,
+        system_id: Vec<u8>,
+        password: Vec<u8>,
+        silence: u64,
+        now: u64,
+    ) -> UpstreamSession
+        requires system_id { IsText 16 system_id.items }
+        requires password { IsText 9 password.items }
+        ensures { result ≡ record {
+          system_id = system_id.items;
+          password = password.items;
+          silence = silence;
+          state = UpstreamState.Bound;
+          latest = now;
+          heard = now;
+          enquired = None;
+        } }
+    {
+        let mut session = UpstreamSession::new(alloc, system_id, password, silence, now);
+        session.state = Bound;
+        session
+    }
+
     pub fn state(&self) -> UpstreamState
         ensures { result ≡ self.now.state }
     {

@@ -27,9 +27,6 @@ const CENTRE_STATES: [UpstreamState; 4] = [
     UpstreamState::Ended,
 ];
 
-// The number of the proxy's own bind.
-const BIND_NUMBER: u32 = 0x7FFF_FFFD;
-
 fn sent_text(alloc: Global, act: &str, pdu: &Pdu) -> Result<String, AllocError> {
     format!(in alloc;
         "{act}/{:x}/{:x}/{:x}/{}",
@@ -99,10 +96,14 @@ fn centre_act_text(alloc: Global, act: &UpAct) -> Result<String, AllocError> {
 
 // The session with a centre in this state.
 fn centre_in(alloc: Global, state: UpstreamState) -> UpstreamSession {
-    let mut session = UpstreamSession::new(alloc, Vec::new(alloc), Vec::new(alloc), 1000, 0);
-    if state == UpstreamState::Bound || state == UpstreamState::Unbinding {
-        let _ = session.on_pdu(&Pdu::header_only(alloc, 0x8000_0009, 0, BIND_NUMBER), 0);
-    }
+    let mut session = match state {
+        UpstreamState::Bound | UpstreamState::Unbinding => {
+            UpstreamSession::bound(alloc, Vec::new(alloc), Vec::new(alloc), 1000, 0)
+        }
+        UpstreamState::Binding | UpstreamState::Ended => {
+            UpstreamSession::new(alloc, Vec::new(alloc), Vec::new(alloc), 1000, 0)
+        }
+    };
     if state == UpstreamState::Unbinding {
         let _ = session.stop();
     }

@@ -7,7 +7,8 @@ use Rattle.smx_history.specs.declared.note.Note.{Note}
 use Rattle.smx_history.specs.Entries.{is_accept}
 use Rattle.smx_history.specs.History.{entries_of}
 use Rattle.smx_history.specs.Contents.{Content, AgreesWith}
-use Rattle.smx_relay.specs.Relay.{last_of}
+use Rattle.smx_relay.specs.declared.state.LinkedLane.{LinkedLane}
+use Rattle.smx_relay.specs.Relay.{RelayLane, last_of}
 
 -- the one caller has the number 0, and no accept is above the client's last ordinal
 pub record IsOwn (clients : List (Option ℕ)) (e : Entry) : Type 0 where
@@ -22,6 +23,11 @@ pub record OnLane (limits : Limits) (clients : List (Option ℕ)) (h : List Note
   pub agrees : AgreesWith h lane
   pub limits_are : lane.limits ≡ limits
   pub own : AreOwn clients h
+
+-- so it is, and it has this link
+pub record IsLane (limits : Limits) (clients : List (Option ℕ)) (l : RelayLane) (lane : LinkedLane) : Type 0 where
+  pub on : OnLane limits clients l.history lane.lane
+  pub link_is : lane.link ≡ l.link
 
 -- a turn on a lane printed the text, and took the lane to what the longer history leaves
 pub record TurnsLane (x : List ℕ × List Note) (old new : Content) (written : List ℕ) : Type 0 where

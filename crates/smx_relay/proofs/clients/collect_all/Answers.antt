@@ -15,7 +15,7 @@ collect_on-requires c = reached_at c.loop-at.lanes.items c.loop-at.at c.index_mu
 
 pub loop-at-preserved : goal.loop-at-preserved
 loop-at-preserved c = record {
-  long = length-set c.loop-at.lanes.items c.loop-at.at c.collect_on.new.lane ∙ c.loop-at.invariant.long;
+  long = length-set c.loop-at.lanes.items c.loop-at.at (record c.index_mut.result.now { lane = c.collect_on.new.lane }) ∙ c.loop-at.invariant.long;
   reached = reached_more c.args.client c.loop-at.lanes.items c.loop-at.at c.index_mut.result.now c.collect_on.new.lane c.in_ok-waiting.waiting.items c.loop-at.invariant.reached (omega arith) c.index_mut.ensures.value c.in_ok-waiting.ensures;
   so_far = collecting_all_more c.args.client c.args.lanes.now.items c.loop-at.lanes.items c.loop-at.text.items c.extend_from_slice.new.self.items c.in_ok-waiting.waiting.items c.loop-at.at c.index_mut.result.now c.collect_on.new.lane
       c.loop-at.invariant.so_far (omega arith) c.index_mut.ensures.value c.in_ok-waiting.ensures (search rules);

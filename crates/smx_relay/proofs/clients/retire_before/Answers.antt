@@ -16,7 +16,7 @@ retire-requires c = leaving_requires c.args.client c.args.count c.loop-at.lanes.
 
 pub loop-at-preserved : goal.loop-at-preserved
 loop-at-preserved c =
-    let left = left_by c.args.client c.index_mut.result.now c.retire.new.self c.retire.result c.retire.ensures.reply c.retire.ensures.agrees c.retire.ensures.limits in
+    let left = left_by c.args.client c.index_mut.result.now.lane c.retire.new.self c.retire.result c.retire.ensures.reply c.retire.ensures.agrees c.retire.ensures.limits in
     record {
       some = leaving_some_more c.args.client c.args.count c.loop-at.lanes.items c.loop-at.at c.index_mut.result.now c.retire.new.self c.loop-at.invariant.some c.loop-at-test.true c.index_mut.ensures.value left;
       so_far = leaving_more c.args.client c.args.count c.args.lanes.now.items c.loop-at.lanes.items c.loop-at.at c.index_mut.result.now c.retire.new.self c.loop-at.invariant.so_far c.loop-at-test.true c.index_mut.ensures.value left;

@@ -1,18 +1,15 @@
 use Rattle.std.proofs.Common.{arith, refl}
-use Rattle.smx_relay.proofs.StateTurns.{history_at}
-use Rattle.smx_relay.proofs.LinkTurns.{gave_up_at, gave_up_nowhere}
+use Rattle.smx_relay.proofs.StateTurns.{lane_is}
+use Rattle.smx_relay.proofs.LinkTurns.{gave_up_at}
 use Rattle.smx_relay.proofs.lane_link.give_up.Goals as goal
-
-pub returns-then-at-len : goal.returns-then-at-len
-returns-then-at-len c = λ s a. gave_up_nowhere c.args.state.now s c.args.lane a (omega arith)
 
 pub give_up_on-requires : goal.give_up_on-requires
 give_up_on-requires c =
-    let x = history_at c.args.state.now c.requires.0 c.args.lane c.index_mut.result.now c.requires.1 (omega arith) c.index_mut.ensures.value in
-    (x.0, x.2.agrees)
+    let x = lane_is c.args.state.now c.requires.reached.0 c.args.lane c.index_mut.result.now c.requires.reached.1 (omega arith) c.index_mut.ensures.value in
+    (_, x.on.agrees)
 
 pub returns : goal.returns
 returns c = λ s a.
     gave_up_at c.args.state.now _ s c.args.lane c.index_mut.result.now c.give_up_on.new.lane a
-    (record { within = omega arith; here = c.index_mut.ensures.value; lanes = refl; clients = refl; links = refl; keeps = record { limits = refl; count = refl; started = refl; accounts = refl; centres = refl; places = refl; routes = refl; moment = refl } })
+    (record { within = omega arith; here = c.index_mut.ensures.value; lanes = refl; clients = refl; links = refl; keeps = record { limits = refl; count = refl; started = refl; accounts = refl; places = refl; routes = refl; moment = refl } })
     c.give_up_on.ensures.agrees c.give_up_on.ensures.limits

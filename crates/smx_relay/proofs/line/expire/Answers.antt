@@ -1,6 +1,6 @@
 use Rattle.std.proofs.Common.{arith, refl}
 use Rattle.std.specs.Prelude.{Some, None}
-use Rattle.smx_relay.proofs.StateTurns.{expire_turns, expires_nowhere, expires_on, history_at}
+use Rattle.smx_relay.proofs.StateTurns.{expire_turns, expires_nowhere, expires_on, lane_is}
 use Rattle.smx_relay.proofs.line.expire.Goals as goal
 
 pub returns-then-at-len : goal.returns-then-at-len
@@ -8,11 +8,11 @@ returns-then-at-len c = λ s a. expire_turns s c.args.lane c.args.age c.args.sta
 
 pub expire_on-requires : goal.expire_on-requires
 expire_on-requires c =
-    let x = history_at c.args.state.now c.requires.0 c.args.lane c.index_mut.result.now c.requires.1 (omega arith) c.index_mut.ensures.value in
-    (x.0, x.2.agrees)
+    let x = lane_is c.args.state.now c.requires.0 c.args.lane c.index_mut.result.now c.requires.1 (omega arith) c.index_mut.ensures.value in
+    (_, x.on.agrees)
 
 pub returns : goal.returns
 returns c = λ s a.
     expire_turns s c.args.lane c.args.age _ (Some c.in_ok-text.text)
     (expires_on c.args.state.now _ s c.args.lane c.args.age c.index_mut.result.now c.expire_on.new.lane c.in_ok-text.text a
-    (record { within = omega arith; here = c.index_mut.ensures.value; lanes = refl; clients = refl; links = refl; keeps = record { limits = refl; count = refl; started = refl; accounts = refl; centres = refl; places = refl; routes = refl; moment = refl } }) c.in_ok-text.ensures)
+    (record { within = omega arith; here = c.index_mut.ensures.value; lanes = refl; clients = refl; links = refl; keeps = record { limits = refl; count = refl; started = refl; accounts = refl; places = refl; routes = refl; moment = refl } }) c.in_ok-text.ensures)

@@ -16,7 +16,7 @@ returns-in-Some c = λ s a.
     let new = record old { links = with_item old.links c.args.client after } in
     let at = link_at old s c.args.client k a (omega arith) c.index_mut.ensures.value in
     let r = c.in-Some.ensures.some in
-    IfOk-weaker c.up_line.result _ _ (λ text e. answer_passed old new s c.args.client c.args.pdu k after r.0 c.in-Some.lane c.in-Some.number text.items a at r.1 (record { links = refl; lanes = refl; clients = refl; keeps = record { limits = refl; count = refl; started = refl; accounts = refl; centres = refl; places = refl; routes = refl; moment = refl } }) r.4 r.2 r.3 e) c.up_line.ensures
+    IfOk-weaker c.up_line.result _ _ (λ text e. answer_passed old new s c.args.client c.args.pdu k after r.0 c.in-Some.lane c.in-Some.number text.items a at r.1 (record { links = refl; lanes = refl; clients = refl; keeps = record { limits = refl; count = refl; started = refl; accounts = refl; places = refl; routes = refl; moment = refl } }) r.4 r.2 r.3 e) c.up_line.ensures
 
 pub returns-in-None : goal.returns-in-None
 returns-in-None c = λ s a.
@@ -25,5 +25,5 @@ returns-in-None c = λ s a.
     let after = c.settle.new.self in
     let new = record old { links = with_item old.links c.args.client after } in
     let at = link_at old s c.args.client k a (omega arith) c.index_mut.ensures.value in
-    let here = link_same old new s c.args.client k after a c.index_mut.ensures.value (record { links = refl; lanes = refl; clients = refl; keeps = record { limits = refl; count = refl; started = refl; accounts = refl; centres = refl; places = refl; routes = refl; moment = refl } }) c.in-None.ensures.none.1 in
+    let here = link_same old new s c.args.client k after a c.index_mut.ensures.value (record { links = refl; lanes = refl; clients = refl; keeps = record { limits = refl; count = refl; started = refl; accounts = refl; places = refl; routes = refl; moment = refl } }) c.in-None.ensures.none.1 in
     answer_dropped s c.args.client c.args.pdu k new _ at c.in-None.ensures.none.0 here c.new-in-None.ensures.items

@@ -25,7 +25,7 @@ returns-in-Ok c = λ s a.
     let n = known_client old s c.args.client c.last_of.result a (search rules) (search rules) in
     let at = link_at old s c.args.client c.index.result.now a (omega arith) (search rules) in
     route_added old new s c.args.client n.0 c.args.prefix.now c.index.result.now _ a n.1 at (sym c.may_receive.ensures ∙ c.if-not-may_receive.false)
-    (record { fresh = c.in-Ok.ensures.reply; added = c.in-Ok.ensures.ok; lanes = refl; clients = refl; links = refl; keeps = record { limits = refl; count = refl; started = refl; accounts = refl; centres = refl; places = refl; routes = refl; moment = refl } }) c.new.ensures.items
+    (record { fresh = c.in-Ok.ensures.reply; added = c.in-Ok.ensures.ok; lanes = refl; clients = refl; links = refl; keeps = record { limits = refl; count = refl; started = refl; accounts = refl; places = refl; routes = refl; moment = refl } }) c.new.ensures.items
 
 pub returns-in-Err-TooLong : goal.returns-in-Err-TooLong
 returns-in-Err-TooLong c = λ s a.

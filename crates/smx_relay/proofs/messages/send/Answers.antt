@@ -15,4 +15,4 @@ returns c = λ s a.
     let after = c.send.new.self in
     let new = record old { links = with_item old.links c.args.client after } in
     let at = link_at old s c.args.client k a (omega arith) c.index_mut.ensures.value in
-    IfOk-weaker c.sent_lines.result _ _ (λ text e. send_some old new s c.args.client k after c.in_ok-pdus.pdus.items text.items a at (record { links = refl; lanes = refl; clients = refl; keeps = record { limits = refl; count = refl; started = refl; accounts = refl; centres = refl; places = refl; routes = refl; moment = refl } }) c.in_ok-pdus.ensures.after c.in_ok-pdus.ensures.ok e) (search rules)
+    IfOk-weaker c.sent_lines.result _ _ (λ text e. send_some old new s c.args.client k after c.in_ok-pdus.pdus.items text.items a at (record { links = refl; lanes = refl; clients = refl; keeps = record { limits = refl; count = refl; started = refl; accounts = refl; places = refl; routes = refl; moment = refl } }) c.in_ok-pdus.ensures.after c.in_ok-pdus.ensures.ok e) (search rules)

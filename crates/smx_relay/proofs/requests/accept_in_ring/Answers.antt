@@ -1,5 +1,5 @@
 use Rattle.std.proofs.Common.{◌%◌, ◌+◌, rules, arith, refl, sym, ◌∙◌}
-use Rattle.smx_relay.proofs.Lanes.{at_index, written_back}
+use Rattle.smx_relay.proofs.Lanes.{at_index, lane_back}
 use Rattle.smx_relay.proofs.Ring.{ring_found, ring_next, ring_none}
 use Rattle.smx_relay.proofs.requests.accept_in_ring.Goals as goal
 
@@ -19,7 +19,7 @@ loop-k-preserved c =
     let at = (c.args.last % c.len-count.result + c.loop-k.k) % c.len-count.result in
     let here = at_index c.loop-k.lanes.items at c.index_mut.result.now (search rules) c.index_mut.ensures.value in
     record {
-      same = written_back c.loop-k.lanes.items at c.index_mut.result.now c.accept.new.self c.index_mut.ensures.value c.in-Err.ensures.err ∙ c.loop-k.invariant.same;
+      same = lane_back c.loop-k.lanes.items at c.index_mut.result.now c.accept.new.self c.index_mut.ensures.value c.in-Err.ensures.err ∙ c.loop-k.invariant.same;
       request_same = search rules;
       none = c.loop-k.invariant.none ∙ ring_next c.args.lanes.now.items c.loop-k.lanes.items c.args.request.client c.args.last c.len-count.result c.loop-k.k c.index_mut.result.now c.in-Err.field-0-1
           (omega arith) (omega arith) c.loop-k.invariant.same here (rw (← c.loop-k.invariant.request_same) c.in-Err.ensures.reply.1);
