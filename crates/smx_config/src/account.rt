@@ -11,14 +11,16 @@ ghost use Rattle.smx_config.specs.Reading.{prefix_of, prefixes_of, prefixes_in, 
 use crate::fault::ConfigFault;
 use crate::text::Text;
 use std::alloc::{AllocError, Global};
+use std::fmt;
 use std::marker::Model;
 use toml::Value;
 
 /// The most prefixes of an account.
 pub(crate) const MAX_PREFIXES: usize = 16;
 
-/// A client that may bind, and the messages that it gets.
-#[derive(Debug, Drop)]
+/// A client that may bind, and the messages that it gets. Printed for debugging it has its system_id
+/// alone, so that no password is seen.
+#[derive(Drop)]
 pub struct Account {
     /// 1 to 15 octets, none of them 0. No other account of a configuration has it.
     pub system_id: String,
@@ -38,6 +40,12 @@ impl Model for Account {
     ghost view = { λ a. record { system_id = string_bytes a.system_id; password = string_bytes a.password; prefixes = map string_bytes a.prefixes.items } };
 
     ghost invariant = { λ a. IsAccount (record { system_id = string_bytes a.system_id; password = string_bytes a.password; prefixes = map string_bytes a.prefixes.items }) };
+}
+
+impl fmt::Debug for Account {
+    fn fmt<W: fmt::Write>(&self, f: &mut fmt::Formatter<W>) -> fmt::Result {
+        write!(f, "Account({})", self.system_id)
+    }
 }
 
 // Whether one of the texts is this one.

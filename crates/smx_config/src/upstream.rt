@@ -6,11 +6,13 @@ ghost use Rattle.smx_config.specs.Reading.{upstream_of, upstreams_of};
 use crate::fault::ConfigFault;
 use crate::text::Text;
 use std::alloc::{AllocError, Global};
+use std::fmt;
 use std::marker::Model;
 use toml::Value;
 
-/// Where the message centre is, and how the proxy binds to it.
-#[derive(Debug, Drop)]
+/// Where the message centre is, and how the proxy binds to it. Printed for debugging it has its
+/// address and system_id alone, so that no password is seen.
+#[derive(Drop)]
 pub struct Upstream {
     /// 1 to 255 octets, as `127.0.0.1:2776`.
     pub address: String,
@@ -29,6 +31,12 @@ impl Model for Upstream {
     ghost view = { λ u. record { address = string_bytes u.address; system_id = string_bytes u.system_id; password = string_bytes u.password } };
 
     ghost invariant = { λ u. IsUpstream (record { address = string_bytes u.address; system_id = string_bytes u.system_id; password = string_bytes u.password }) };
+}
+
+impl fmt::Debug for Upstream {
+    fn fmt<W: fmt::Write>(&self, f: &mut fmt::Formatter<W>) -> fmt::Result {
+        write!(f, "Upstream({} at {})", self.system_id, self.address)
+    }
 }
 
 // The upstream that a value states.

@@ -1,9 +1,11 @@
 //! Octets that a line carries.
 
+use std::fmt;
 use std::marker::Model;
 
-/// Octets that a line carries. Contracts see them as their list.
-#[derive(Debug, Drop)]
+/// Octets that a line carries. Contracts see them as their list. Printed for debugging they are
+/// their length alone, as a bind's have a password.
+#[derive(Drop)]
 pub struct Octets {
     octets: Vec<u8>,
 }
@@ -14,6 +16,12 @@ impl Model for Octets {
     ghost Value = { List ℕ };
 
     ghost view = { λ o. o.octets.items };
+}
+
+impl fmt::Debug for Octets {
+    fn fmt<W: fmt::Write>(&self, f: &mut fmt::Formatter<W>) -> fmt::Result {
+        write!(f, "Octets({} octets)", self.octets.len())
+    }
 }
 
 impl Octets {

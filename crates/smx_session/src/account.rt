@@ -1,4 +1,6 @@
 //! Who may bind.
+ghost use Rattle.std.specs.Prelude.{◌≡◌};
+ghost use Rattle.std.specs.Str.{bytes_eq};
 
 use std::fmt;
 use std::marker::Model;
@@ -24,5 +26,30 @@ impl Model for Account {
 impl fmt::Debug for Account {
     fn fmt<W: fmt::Write>(&self, f: &mut fmt::Formatter<W>) -> fmt::Result {
         f.write_str("Account")
+    }
+}
+
+// Whether both have the same octets. Where both have as many it goes over all of them, wherever
+// they differ.
+fn same_octets(one: &[u8], other: &[u8]) -> bool
+    ensures { result ≡ bytes_eq one.now other.now }
+{
+    if one.len() != other.len() {
+        return false;
+    }
+    let mut differences = 0;
+    for (own, said) in one.iter().zip(other) {
+        differences |= own ^ said;
+    }
+    differences == 0
+}
+
+impl Account {
+    /// Whether this is the account's password. Where both have as many octets all of them are gone
+    /// over, wherever they differ.
+    pub fn has_password(&self, password: &[u8]) -> bool
+        ensures { result ≡ bytes_eq self.now.password password.now }
+    {
+        same_octets(&self.password, password)
     }
 }

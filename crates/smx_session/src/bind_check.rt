@@ -1,6 +1,5 @@
 //! The checks of a client's bind (SMPP 3.4, section 4.1).
 ghost use Rattle.std.specs.Prelude.{◌≡◌, ◌∷◌, ◌++◌, [], codes, position, IfOk};
-ghost use Rattle.std.specs.Str.{bytes_eq};
 ghost use Rattle.smx_pdu.specs.Reading.{said_by, bind_at, Gives};
 ghost use Rattle.smx_session.specs.Binds.{account_of, bind_answer, check_bind, check_fields};
 
@@ -34,13 +33,6 @@ fn account_of(accounts: &[Account], system_id: &[u8]) -> Option<usize>
         .position(|account| account.system_id.as_slice() == system_id)
 }
 
-// Whether the account has exactly this password.
-fn has_password(account: &Account, password: &[u8]) -> bool
-    ensures { result ≡ bytes_eq account.now.password password.now }
-{
-    account.password.as_slice() == password
-}
-
 // Checks what a bind says against the accounts.
 fn check_fields(accounts: &[Account], bind: &Bind<'_>) -> Checked
     ensures { result ≡ check_fields accounts.now (Ok (said_by bind.now)) }
@@ -48,7 +40,7 @@ fn check_fields(accounts: &[Account], bind: &Bind<'_>) -> Checked
     match account_of(accounts, bind.system_id) {
         None => Checked::Refused(ESME_RINVSYSID),
         Some(account) => {
-            if has_password(&accounts[account], bind.password) {
+            if accounts[account].has_password(bind.password) {
                 Checked::Granted {
                     account,
                     version: bind.interface_version,
