@@ -18,6 +18,7 @@ use std::cmp::Ord;
 use std::sync::Wait;
 use std::test::Fail;
 
+mod hostile;
 mod stand;
 
 const LIMITS: Limits = Limits {

@@ -19,6 +19,7 @@ use std::sync::Wait;
 use std::test::*;
 
 mod expiring;
+mod hostile;
 mod losing;
 mod passing;
 mod rows;

@@ -174,6 +174,7 @@ pub fn seat_of<'a, 'd, R: Wait>(
     script: Script,
 ) -> Option<Seat<'a, 'd>>
     requires { locks_of door.old.fronts ≡ at.now }
+    ensures { locks_of door.new.fronts ≡ at.now }
 {
     let port = door.enter(at, rt).ok()?;
     if senders.len() != port.lanes() {
@@ -202,6 +203,7 @@ pub fn plain_seat<'a, 'd, R: Wait>(
     script: Script,
 ) -> Option<Seat<'a, 'd>>
     requires { locks_of door.old.fronts ≡ at.now }
+    ensures { locks_of door.new.fronts ≡ at.now }
 {
     let Boxes { inbox, senders, .. } = make_boxes(rt, alloc, lanes, 1)?;
     seat_of(rt, alloc, at, door, desk, inbox, senders, script)

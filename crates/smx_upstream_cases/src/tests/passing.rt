@@ -93,7 +93,7 @@ fn visited<R: Wait + Abort>(
     passes(rt, alloc, at, tap, &mut client, history)
 }
 
-fn entries_of(rt: &impl Abort, exchange: Exchange, door: Door) -> usize
+pub(super) fn entries_of(rt: &impl Abort, exchange: Exchange, door: Door) -> usize
     requires { locks_of door.fronts ≡ exchange }
 {
     let lanes = exchange.finish(door).ok().expect(rt, "the lane is out");
