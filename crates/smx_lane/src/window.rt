@@ -15,19 +15,13 @@ use crate::ages::{Ages, is_expired};
 use crate::numbers::{following, number_of, place_in};
 use crate::rows::Rows;
 use smx_history::{Place, Request};
+use smx_pdu::is_response_to;
 use std::alloc::{AllocError, Global};
 use std::marker::Model;
 
 // How many requests are listed by their ages, for each that the window holds: as many are answered between two times that
 // the list is made anew.
 const LISTED: usize = 4;
-
-// Whether a response's command is the request's with the top bit, or generic_nack.
-fn fits(request: u32, command: u32) -> bool
-    ensures { result ≡ is_response_to request command }
-{
-    (command >= 0x8000_0000 && command - 0x8000_0000 == request) || command == 0x8000_0000
-}
 
 // A request's number names its row, so a row is found without a search.
 #[derive(Drop)]
@@ -132,7 +126,8 @@ impl Window {
             return None;
         }
         match self.rows.get(at) {
-            Some(place) if place.upstream == number && fits(place.command, command) => Some(place),
+            Some(place) if place.upstream == number && is_response_to(place.command, command) =>
+                Some(place),
             _ => None,
         }
     }

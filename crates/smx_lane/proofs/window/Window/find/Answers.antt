@@ -9,7 +9,7 @@ use Rattle.smx_lane.proofs.window.Window.find.Goals as goal
 pub returns-in-Some-clause-found : goal.returns-in-Some-clause-found
 returns-in-Some-clause-found c =
     let rows = c.self.inside.rows in
-    let good : is_response_to c.in-Some.place.command c.args.command ≡ true = sym c.fits.ensures ∙ c.if-fits.true in
+    let good : is_response_to c.in-Some.place.command c.args.command ≡ true = sym c.is_response_to.ensures ∙ c.if-is_response_to.true in
     rw (← c.self.view_is) (sym (found_at (λ (q : Place). is_response_to q.command c.args.command) rows 0 c.place_in-at.result c.args.number c.in-Some.place c.self.invariant.numbered c.in-Some.ensures c.if-place-number.true good))
 
 pub returns-in-Some-clause-place : goal.returns-in-Some-clause-place
@@ -19,7 +19,7 @@ returns-in-Some-clause-place c =
 pub returns-in_default-clause-found : goal.returns-in_default-clause-found
 returns-in_default-clause-found c =
     let rows = c.self.inside.rows in
-    let bad : is_response_to c.in-Some.place.command c.args.command ≡ false = sym c.fits.ensures ∙ c.if-fits.false in
+    let bad : is_response_to c.in-Some.place.command c.args.command ≡ false = sym c.is_response_to.ensures ∙ c.if-is_response_to.false in
     rw (← c.self.view_is) (sym (not_found (λ (q : Place). is_response_to q.command c.args.command) rows c.args.number (λ k q there is.
     let named = (c.self.invariant.numbered k q there).1 in
     let here : c.place_in-at.result ≡ k = omega (arith, named, c.place_in-at.ensures, ap place_in is) in
