@@ -10,7 +10,7 @@ use Rattle.smx_history.specs.declared.entry.Entry.{Entry}
 use Rattle.smx_history.specs.declared.limits.Limits.{Limits}
 use Rattle.smx_history.specs.declared.note.Note.{Note}
 use Rattle.smx_history.specs.declared.note.Event.TheVariants.{Admit, Retire}
-use Rattle.smx_history.specs.declared.reply.AdmitRefusal.{AdmitRefusal}
+use Rattle.smx_history.specs.declared.reply.AdmitFault.{AdmitFault}
 use Rattle.smx_history.specs.Prefixes.{RiseAbove, last_or}
 use Rattle.smx_history.specs.Entries.{admits, present, is_admit}
 use Rattle.smx_history.specs.Legal.{KeepsRules, StandsWell, IsPaired}
@@ -73,7 +73,7 @@ entering_more c old lanes i lane after so_far lt is allowed goes kept limits cli
       },
     )
 
-pub entering_refused : (c : ℕ) (old lanes new : List Content) (i : ℕ) (lane : Content) (e : AdmitRefusal) → Entering c old lanes i → i < length lanes → lane ≡ get_or lanes i lane → admit_refusal lane c ≡ Some e → new ≡ lanes
+pub entering_refused : (c : ℕ) (old lanes new : List Content) (i : ℕ) (lane : Content) (e : AdmitFault) → Entering c old lanes i → i < length lanes → lane ≡ get_or lanes i lane → admit_refusal lane c ≡ Some e → new ≡ lanes
     → (limits : Limits) (clients : List (Option ℕ)) (hs : List (List Note)) → AreOn limits clients hs old → Enters limits clients hs c (Some i) new
 entering_refused c old lanes new i lane e so_far lt is refused same limits clients hs on =
     let x = so_far limits clients hs on in
