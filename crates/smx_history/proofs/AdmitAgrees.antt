@@ -8,7 +8,7 @@ use Rattle.std.proofs.lemmas.List.Sums.{sum_by-append}
 use Rattle.std.proofs.lemmas.Bool.{le-leb, lt-leb, leb-true, cases_lt, cases_Bool}
 use Rattle.smx_history.specs.declared.note.Event.TheVariants.{Admit}
 use Rattle.smx_history.specs.declared.note.Note.{Note}
-use Rattle.smx_history.specs.declared.reply.AdmitRefusal.TheVariants.{Known, HistoryFull}
+use Rattle.smx_history.specs.declared.reply.AdmitFault.TheVariants.{Known, HistoryFull}
 use Rattle.smx_history.specs.Prefixes.{last_or}
 use Rattle.smx_history.specs.Entries.{is_admit, admits, present}
 use Rattle.smx_history.specs.Legal.{IsFifo}

@@ -10,7 +10,6 @@ use Rattle.smx_history.specs.Legal.{IsLegal, KeepsRules, IsFifo, AreApart, IsBou
 use Rattle.smx_history.specs.Contents.{AgreesWith}
 use Rattle.smx_history.specs.Numbers.{place_in, generation_in, generation_after, generations_after}
 use Rattle.smx_history.specs.Room.{AreLimits}
-use Rattle.smx_history.proofs.Room.{KeepsRoom}
 use Rattle.smx_history.proofs.Updates.{empty}
 
 AtEach-empty : {X : Type 0} (Q : List X → X → Type 0) → AtEach Q []
@@ -56,17 +55,4 @@ AgreesWith-new limits are = record {
   legal = IsLegal-empty limits (omega (arith, are.history.0));
   numbered = record { within = tt; placed = AtEach-empty (λ before u. generation_in u ≡ generation_after (place_in u) before) };
   after = record { limits = refl; queue = refl; window = λ test. refl; members = refl; greatest = refl; up = refl; generations = zeros limits.window; latest = refl; entries = refl };
-}
-
-pub KeepsRoom-new : (limits : Limits) → AreLimits limits → KeepsRoom (empty limits)
-KeepsRoom-new limits are = record {
-  limits = are;
-  queue = omega arith;
-  window = omega arith;
-  size = omega (arith, are.history.0);
-  boxes = tt;
-  queue_known = λ c above. refl;
-  window_known = λ c above. refl;
-  members_known = tt;
-  clients = tt;
 }

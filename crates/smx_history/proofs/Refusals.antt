@@ -14,9 +14,6 @@ refused_queue v m p h = rw (lt-leb v.limits.client m.pending p, le-leb v.limits.
 pub refused_history : (v : Content) (m : Member) → m.pending < v.limits.client → length v.queue < v.limits.queue → has_room v ≡ false → refusal_for v (Some m) ≡ Some HistoryFull
 refused_history v m p q h = rw (lt-leb v.limits.client m.pending p, lt-leb v.limits.queue (length v.queue) q, h) refl
 
-pub not_refused : (v : Content) (m : Member) → m.pending < v.limits.client → length v.queue < v.limits.queue → has_room v ≡ true → v.up ≡ true → refusal_for v (Some m) ≡ None
-not_refused v m p q h up = rw (lt-leb v.limits.client m.pending p, lt-leb v.limits.queue (length v.queue) q, h, up) refl
-
 pub refused_down : (v : Content) (m : Member) → m.pending < v.limits.client → length v.queue < v.limits.queue → has_room v ≡ true → v.up ≡ false → refusal_for v (Some m) ≡ Some Down
 refused_down v m p q h down = rw (lt-leb v.limits.client m.pending p, lt-leb v.limits.queue (length v.queue) q, h, down) refl
 

@@ -1,6 +1,5 @@
 -- A take keeps the room.
-use Rattle.std.proofs.Common.{◌≡◌, ◌<◌, ◌+◌, ◌==◌, ℕ, cond, List, [], ◌∷◌, ◌++◌, length, drop, get_or, sym, ◌∙◌, ap, arith, count_by, length-append, suc}
-use Rattle.std.specs.List.{remove}
+use Rattle.std.proofs.Common.{◌≡◌, ◌<◌, ◌+◌, ◌==◌, ℕ, cond, List, [], ◌∷◌, ◌++◌, length, drop, ◌∙◌, ap, arith, count_by, length-append, suc}
 use Rattle.std.proofs.lemmas.List.Sums.{sum_by-cons}
 use Rattle.smx_history.specs.declared.request.Request.{Request}
 use Rattle.smx_history.specs.declared.note.Event.TheVariants.{Take}
@@ -9,14 +8,6 @@ use Rattle.smx_history.specs.Contents.{Content, Member}
 use Rattle.smx_history.proofs.Room.{KeepsRoom, FitsBox}
 use Rattle.smx_history.proofs.Updates.{taken, place_for}
 use Rattle.smx_history.proofs.Keeping.{count_by-push, All-each}
-
-pub remove_first : {X : Type 0} (xs ys : List X) → ys ≡ remove xs 0 → ys ≡ drop 1 xs
-remove_first xs ys h = h
-
--- the first element and the rest
-pub front_split : {X : Type 0} (xs : List X) (x : X) → 0 < length xs → x ≡ get_or xs 0 x → xs ≡ x ∷ drop 1 xs
-front_split [] x h is = absurd (omega arith)
-front_split (y ∷ xs) x h is = ap (λ z. z ∷ xs) (sym is)
 
 box-taken : (v : Content) (by : ℕ) (r : Request) (u t : ℕ) (rest : List Request) → v.queue ≡ r ∷ rest → (m : Member) → FitsBox v m → FitsBox (taken v by r u t) m
 box-taken v by r u t rest front m fits =

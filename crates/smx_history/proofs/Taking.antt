@@ -25,12 +25,6 @@ drop-next_suc (suc n) (x ∷ xs) y ys h = drop-next_suc n xs y ys h
 pub drop-next : {X : Type 0} (n : ℕ) (xs : List X) (y : X) (ys : List X) → drop n xs ≡ y ∷ ys → drop (n + 1) xs ≡ ys
 drop-next n xs y ys h = rw add-one (drop-next_suc n xs y ys h)
 
-pub take-next : {X : Type 0} (n : ℕ) (xs : List X) (y : X) (ys : List X) → drop n xs ≡ y ∷ ys → take (suc n) xs ≡ take n xs ++ y ∷ []
-take-next zero [] y ys h = cc
-take-next (suc n) [] y ys h = cc
-take-next zero (x ∷ xs) y ys h = cc
-take-next (suc n) (x ∷ xs) y ys h = ap (λ zs. x ∷ zs) (take-next n xs y ys h)
-
 pub filter-and : {X : Type 0} (p q : X → Bool) (xs : List X) → filter (λ x. p x && q x) xs ≡ filter q (filter p xs)
 filter-and p q [] = refl
 filter-and p q (x ∷ xs) = filter-and_at (p x) (filter-and p q xs)

@@ -6,7 +6,7 @@ use Rattle.smx_history.specs.declared.limits.Limits.{Limits}
 use Rattle.smx_history.specs.declared.note.Note.{Note}
 use Rattle.smx_history.specs.declared.place.Place.{Place}
 use Rattle.smx_history.specs.declared.response.Response.{Response}
-use Rattle.smx_history.specs.declared.reply.AdmitRefusal.{AdmitRefusal}
+use Rattle.smx_history.specs.declared.reply.AdmitFault.{AdmitFault}
 use Rattle.smx_history.specs.declared.reply.Refusal.{Refusal}
 use Rattle.smx_history.specs.Entries.{numbers}
 use Rattle.smx_history.specs.Numbers.{recent}
@@ -14,7 +14,7 @@ use Rattle.smx_history.specs.History.{entries_of}
 use Rattle.smx_history.specs.Contents.{content_after, members_after, window_after}
 use Rattle.smx_history.specs.Replies.{member_with, waiting_in, has_room, admit_refusal, accept_refusal, answers_place}
 
-unfoldable pub admit_refusal_after : Limits → List Note → ℕ → Option AdmitRefusal
+unfoldable pub admit_refusal_after : Limits → List Note → ℕ → Option AdmitFault
 admit_refusal_after limits h c = admit_refusal (content_after limits h) c
 
 unfoldable pub refusal_after : Limits → List Note → ℕ → Option Refusal

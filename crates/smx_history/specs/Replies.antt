@@ -1,8 +1,8 @@
 -- What the calls answer, and what they leave.
 use Rattle.std.specs.Prelude.{◌+◌, ◌==◌, ◌&&◌, nat_le, max, ℕ, Bool, not, List, [], length, Option, Some, None, if◌then◌else◌}
 use Rattle.std.specs.List.{find}
-use Rattle.smx_history.specs.declared.reply.AdmitRefusal.{AdmitRefusal}
-use Rattle.smx_history.specs.declared.reply.AdmitRefusal.TheVariants.{Known, HistoryFull as AdmitHistoryFull}
+use Rattle.smx_history.specs.declared.reply.AdmitFault.{AdmitFault}
+use Rattle.smx_history.specs.declared.reply.AdmitFault.TheVariants.{Known, HistoryFull as AdmitHistoryFull}
 use Rattle.smx_history.specs.declared.reply.Refusal.{Refusal}
 use Rattle.smx_history.specs.declared.reply.Refusal.TheVariants.{NotAdmitted, ClientFull, QueueFull, HistoryFull, Down}
 use Rattle.smx_pdu.specs.declared.pdu.Pdu.{Pdu}
@@ -30,8 +30,8 @@ waiting_in (Some m) = m.waiting
 abbrev pub has_room : Content → Bool
 has_room v = nat_le (size_of v + 4) v.limits.history
 
--- the first reason to refuse to admit a client
-abbrev pub admit_refusal : Content → ℕ → Option AdmitRefusal
+-- the first reason to refuse to admit a client, whether or not there is memory
+abbrev pub admit_refusal : Content → ℕ → Option AdmitFault
 admit_refusal v c =
     if nat_le c v.greatest then Some Known
     else if not (has_room v) then Some AdmitHistoryFull

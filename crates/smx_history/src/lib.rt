@@ -15,7 +15,7 @@ pub use limits::Limits;
 pub use note::{Event, Note};
 pub use place::Place;
 pub use reply::{
-    AdmitRefusal, AlreadyDown, Answered, FailRefusal, Failed, NoneExpired, Refusal, TakeRefusal,
+    AdmitFault, AlreadyDown, Answered, FailRefusal, Failed, NoneExpired, Refusal, TakeRefusal,
     UpRefusal,
 };
 pub use request::Request;

@@ -5,13 +5,16 @@ use thiserror::Error;
 
 /// Why a client is not admitted: the first of these that stands.
 #[derive(Clone, Copy, Debug, PartialEq, Eq, Error)]
-pub enum AdmitRefusal {
+pub enum AdmitFault {
     /// The number is 0, or isn't above that of every client admitted so far.
     #[error("the client's number is not above that of every client admitted so far")]
     Known,
     /// There is no room for what may follow of one more client.
     #[error("the history has no room for one more client")]
     HistoryFull,
+    /// The client's row or box could not be made.
+    #[error("no memory for the client")]
+    NoMemory,
 }
 
 /// Why a request is not accepted: the first of these that stands.

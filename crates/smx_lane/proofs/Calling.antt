@@ -22,7 +22,7 @@ use Rattle.smx_history.specs.History.{note, shift}
 use Rattle.smx_history.specs.Contents.{Content, AgreesWith}
 use Rattle.smx_history.specs.Replies.{admit_refusal, accept_refusal, take_refusal, fail_refusal, up_refusal, member_with, moment_at, expired_in}
 use Rattle.smx_history.specs.Answering.{IsAnswered, IsCollected, IsFailed, IsExpired, IsGivenUp, failing}
-use Rattle.smx_lane.specs.declared.fault.AdmitFault.{AdmitFault}
+use Rattle.smx_history.specs.declared.reply.AdmitFault.{AdmitFault}
 use Rattle.smx_lane.specs.declared.fault.NotAdmitted.{NotAdmitted}
 use Rattle.smx_lane.specs.declared.sent.Sent.{Sent}
 use Rattle.smx_lane.specs.declared.call.Call.{Call}

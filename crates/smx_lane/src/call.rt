@@ -3,12 +3,12 @@ ghost use Rattle.std.specs.Prelude.{◌≡◌, List, [], ◌∷◌, IfOk, OnErr}
 ghost use Rattle.smx_history.specs.declared.note.Note.{Note};
 ghost use Rattle.smx_lane.specs.Calls.{IsReply, GoesOn, Ran, HandsOut, HandsOutLegal};
 
-use crate::fault::{AdmitFault, NotAdmitted};
+use crate::fault::NotAdmitted;
 use crate::lane::Lane;
 use crate::sent::Sent;
 use smx_history::{
-    AlreadyDown, Answered, Entry, FailRefusal, Failed, NoneExpired, Refusal, Request, TakeRefusal,
-    UpRefusal,
+    AdmitFault, AlreadyDown, Answered, Entry, FailRefusal, Failed, NoneExpired, Refusal, Request,
+    TakeRefusal, UpRefusal,
 };
 use smx_pdu::Pdu;
 use std::alloc::{AllocError, Global};

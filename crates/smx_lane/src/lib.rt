@@ -13,10 +13,10 @@ mod sent;
 mod window;
 
 pub use call::{Call, Reply, run, run_all};
-pub use fault::{AdmitFault, LaneFault, NotAdmitted};
+pub use fault::{LaneFault, NotAdmitted};
 pub use lane::Lane;
 pub use sent::Sent;
 pub use smx_history::{
-    AdmitRefusal, AlreadyDown, Answered, Entry, Event, FailRefusal, Failed, Kind, Limits,
+    AdmitFault, AlreadyDown, Answered, Entry, Event, FailRefusal, Failed, Kind, Limits,
     NoneExpired, Note, Place, Refusal, Request, Response, TakeRefusal, UpRefusal,
 };

@@ -1,12 +1,12 @@
 //! The words of a lane's refusals.
-use smx_history::{AdmitRefusal, Refusal, TakeRefusal};
+use smx_history::{AdmitFault, Refusal, TakeRefusal};
 use std::test::*;
 
 #[test]
 fn refusals_say_why(rt: HostRuntime) {
     let why = format!(in rt.alloc();
         "{}; {}; {}",
-        AdmitRefusal::Known,
+        AdmitFault::Known,
         Refusal::ClientFull,
         TakeRefusal::WindowFull
     );

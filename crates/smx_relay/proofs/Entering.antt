@@ -10,7 +10,7 @@ use Rattle.smx_history.specs.declared.entry.Entry.{Entry}
 use Rattle.smx_history.specs.declared.limits.Limits.{Limits}
 use Rattle.smx_history.specs.declared.note.Note.{Note}
 use Rattle.smx_history.specs.declared.note.Event.TheVariants.{Admit, Retire}
-use Rattle.smx_history.specs.declared.reply.AdmitRefusal.{AdmitRefusal}
+use Rattle.smx_history.specs.declared.reply.AdmitFault.{AdmitFault}
 use Rattle.smx_history.specs.Prefixes.{RiseAbove, last_or}
 use Rattle.smx_history.specs.Entries.{admits, present, is_admit}
 use Rattle.smx_history.specs.Legal.{KeepsRules, StandsWell, IsPaired}
@@ -75,7 +75,7 @@ entering_more c old lanes i k after so_far lt is allowed goes kept limits client
       },
     )
 
-pub entering_refused : (c : ℕ) (old lanes new : List LinkedLane) (i : ℕ) (k : LinkedLane) (e : AdmitRefusal) → Entering c old lanes i → i < length lanes → k ≡ get_or lanes i k → admit_refusal k.lane c ≡ Some e → new ≡ lanes
+pub entering_refused : (c : ℕ) (old lanes new : List LinkedLane) (i : ℕ) (k : LinkedLane) (e : AdmitFault) → Entering c old lanes i → i < length lanes → k ≡ get_or lanes i k → admit_refusal k.lane c ≡ Some e → new ≡ lanes
     → (limits : Limits) (clients : List (Option ℕ)) (ls : List RelayLane) → AreOn limits clients ls old → Enters limits clients ls c (Some i) new
 entering_refused c old lanes new i k e so_far lt is refused same limits clients ls on =
     let x = so_far limits clients ls on in

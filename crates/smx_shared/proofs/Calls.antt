@@ -22,7 +22,7 @@ use Rattle.smx_history.specs.Failures.{failure_command}
 use Rattle.smx_history.specs.History.{note, shift}
 use Rattle.smx_history.specs.Contents.{Content}
 use Rattle.smx_history.specs.Replies.{moment_at}
-use Rattle.smx_lane.specs.declared.fault.AdmitFault.{AdmitFault}
+use Rattle.smx_history.specs.declared.reply.AdmitFault.{AdmitFault}
 use Rattle.smx_lane.specs.declared.fault.NotAdmitted.{NotAdmitted}
 use Rattle.smx_lane.specs.declared.sent.Sent.{Sent}
 use Rattle.smx_lane.specs.declared.call.Call.{Call}

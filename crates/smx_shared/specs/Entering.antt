@@ -6,7 +6,7 @@ use Rattle.smx_history.specs.declared.limits.Limits.{Limits}
 use Rattle.smx_history.specs.declared.note.Note.{Note}
 use Rattle.smx_history.specs.declared.note.Event.TheVariants as event
 use Rattle.smx_history.specs.History.{note}
-use Rattle.smx_lane.specs.declared.fault.AdmitFault.TheVariants as admit
+use Rattle.smx_history.specs.declared.reply.AdmitFault.TheVariants as admit
 use Rattle.smx_shared.specs.declared.fault.EnterFault.{EnterFault}
 use Rattle.smx_shared.specs.declared.fault.EnterFault.TheVariants.{Exhausted, Spent, HistoryFull, NoMemory, Known}
 use Rattle.smx_shared.specs.Views.{DoorView, PortView, DepartedView, locks_of}

@@ -26,7 +26,7 @@ use Rattle.smx_shared.specs.declared.fault.ExpiryFault as expiry_fault
 use Rattle.smx_shared.specs.declared.fault.ExpiryFault.TheVariants as expires
 use Rattle.smx_shared.specs.declared.fault.UpFault as up_fault
 use Rattle.smx_shared.specs.declared.fault.UpFault.TheVariants as ups
-use Rattle.smx_lane.specs.declared.fault.AdmitFault.{AdmitFault}
+use Rattle.smx_history.specs.declared.reply.AdmitFault.{AdmitFault}
 use Rattle.smx_ticket_core.specs.declared.callers.Caller.TheVariants.{Idle}
 use Rattle.smx_history.specs.declared.reply.Answered.{Answered}
 use Rattle.smx_shared.specs.declared.fault.TakeFault as take_fault

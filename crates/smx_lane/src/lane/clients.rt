@@ -9,8 +9,8 @@ ghost use Rattle.smx_lane.specs.Conditions.{IsOwn, IsNext};
 ghost use Rattle.smx_lane.specs.Faults.{IsAdmitFault};
 
 use super::Lane;
-use crate::fault::{AdmitFault, NotAdmitted};
-use smx_history::{Entry, Kind};
+use crate::fault::NotAdmitted;
+use smx_history::{AdmitFault, Entry, Kind};
 use std::alloc::AllocError;
 
 impl Lane {

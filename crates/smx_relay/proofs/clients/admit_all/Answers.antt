@@ -1,6 +1,6 @@
 use Rattle.std.proofs.Common.{arith, refl, ◌∙◌}
 use Rattle.std.proofs.Math.ListN.{length-set}
-use Rattle.smx_history.specs.declared.reply.AdmitRefusal.TheVariants.{Known, HistoryFull}
+use Rattle.smx_history.specs.declared.reply.AdmitFault.TheVariants.{Known, HistoryFull}
 use Rattle.smx_relay.proofs.Lanes.{lane_back}
 use Rattle.smx_relay.proofs.Entering.{entering_start, entering_more, entering_refused, entering_end}
 use Rattle.smx_relay.proofs.clients.admit_all.Goals as goal
