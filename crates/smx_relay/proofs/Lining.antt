@@ -1,5 +1,5 @@
 -- From each state a line may print something.
-use Rattle.std.proofs.Common.{ℕ, Bool, true, false, List, [], ◌∷◌, Option, Some, None, refl, slice_get}
+use Rattle.std.proofs.Common.{ℕ, Bool, true, false, List, ◌∷◌, Option, Some, None, refl, slice_get}
 use Rattle.smx_script.specs.declared.command.Action.{Action}
 use Rattle.smx_script.specs.declared.command.Action.TheVariants.{Client, Prefix, In, Take, Back, Collect, History, Turn, Lose, Bind, Moment, Expire}
 use Rattle.smx_script.specs.declared.command.Command.{Command}

@@ -5,6 +5,7 @@ use Rattle.std.specs.Fmt.{decimal}
 use Rattle.smx_pdu.specs.declared.pdu.Pdu.{Pdu}
 use Rattle.smx_pdu.specs.declared.body_fault.BodyFault.{BodyFault}
 use Rattle.smx_pdu.specs.declared.status.TheConstants.{ESME_RINVCMDLEN, ESME_RMSGQFUL, ESME_RX_T_APPN}
+use Rattle.smx_pdu.specs.Answers.{refusal}
 use Rattle.smx_pdu.specs.Reading.{destination_at}
 use Rattle.smx_routes.specs.declared.mo_window.Waiting.{Waiting}
 use Rattle.smx_routes.specs.Window.{answered}
@@ -14,7 +15,7 @@ use Rattle.smx_mailbox.specs.declared.message.Unanswered.{Unanswered}
 use Rattle.smx_mailbox.specs.Mailbox.{with_message, is_full, sent, after_sent, settled, unanswered, emptied}
 use Rattle.smx_relay.specs.declared.state.State.{State}
 use Rattle.smx_relay.specs.Links.{ClientLink}
-use Rattle.smx_relay.specs.Texts.{text_line, pdu_line, to_client, up_lane, refusal}
+use Rattle.smx_relay.specs.Texts.{text_line, pdu_line, to_client, up_lane}
 use Rattle.smx_relay.specs.Relay.{Relay, leave_lanes, with_link}
 use Rattle.smx_relay.specs.Messages.{answer_turn, leave_turn, left_line, message_turn, put_to, send_turn}
 use Rattle.smx_relay.specs.Private.Agrees.{Agrees, Turned}
@@ -30,11 +31,11 @@ link_same old new s c k after a here is same = link_untouched old new s c k a he
 
 -- ---- a message comes
 
-pub put_refused : (s : Relay) (i : ℕ) (p : Pdu) (state : State) (text : List ℕ) → Agrees state s → text ≡ pdu_line (up_lane i) (refusal p.command p.number ESME_RX_T_APPN) → Turned (put_to s i p None) state text
+pub put_refused : (s : Relay) (i : ℕ) (p : Pdu) (state : State) (text : List ℕ) → Agrees state s → text ≡ pdu_line (up_lane i) (refusal p.command ESME_RX_T_APPN p.number) → Turned (put_to s i p None) state text
 unfolding put_to
 put_refused s i p state text a e = record { text = e; left = a }
 
-pub put_nowhere : (s : Relay) (i : ℕ) (p : Pdu) (c : ℕ) (state : State) (text : List ℕ) → slice_get s.links c ≡ None → Agrees state s → text ≡ pdu_line (up_lane i) (refusal p.command p.number ESME_RX_T_APPN) → Turned (put_to s i p (Some c)) state text
+pub put_nowhere : (s : Relay) (i : ℕ) (p : Pdu) (c : ℕ) (state : State) (text : List ℕ) → slice_get s.links c ≡ None → Agrees state s → text ≡ pdu_line (up_lane i) (refusal p.command ESME_RX_T_APPN p.number) → Turned (put_to s i p (Some c)) state text
 unfolding put_to
 put_nowhere s i p c state text at a e = rw at (record { text = e; left = a })
 
@@ -43,12 +44,12 @@ pub put_there : (old new : State) (s : Relay) (i : ℕ) (p : Pdu) (c : ℕ) (k a
 unfolding put_to
 put_there old new s i p c k after text a at room is same e = rw (at, room) (record { text = e; left = gone_on old new s c after (record k { mailbox = with_message (record { lane = i; pdu = p }) k.mailbox }) a is same })
 
-pub put_full : (s : Relay) (i : ℕ) (p : Pdu) (c : ℕ) (k : ClientLink) (state : State) (text : List ℕ) → slice_get s.links c ≡ Some k → is_full k.mailbox ≡ true → Agrees state s → text ≡ pdu_line (up_lane i) (refusal p.command p.number ESME_RMSGQFUL)
+pub put_full : (s : Relay) (i : ℕ) (p : Pdu) (c : ℕ) (k : ClientLink) (state : State) (text : List ℕ) → slice_get s.links c ≡ Some k → is_full k.mailbox ≡ true → Agrees state s → text ≡ pdu_line (up_lane i) (refusal p.command ESME_RMSGQFUL p.number)
     → Turned (put_to s i p (Some c)) state text
 unfolding put_to
 put_full s i p c k state text at full a e = rw (at, full) (record { text = e; left = a })
 
-pub message_unread : (s : Relay) (i : ℕ) (p : Pdu) (fault : BodyFault) (state : State) (text : List ℕ) → destination_at p.body ≡ Err fault → Agrees state s → text ≡ pdu_line (up_lane i) (refusal p.command p.number ESME_RINVCMDLEN) → Turned (message_turn i p s) state text
+pub message_unread : (s : Relay) (i : ℕ) (p : Pdu) (fault : BodyFault) (state : State) (text : List ℕ) → destination_at p.body ≡ Err fault → Agrees state s → text ≡ pdu_line (up_lane i) (refusal p.command ESME_RINVCMDLEN p.number) → Turned (message_turn i p s) state text
 unfolding message_turn
 message_unread s i p fault state text at a e = rw at (record { text = e; left = a })
 

@@ -1,5 +1,5 @@
 -- A request that is offered to the lanes.
-use Rattle.std.proofs.Common.{◌≡◌, ◌<◌, ◌+◌, ◌%◌, ℕ, zero, suc, List, [], ◌∷◌, ◌++◌, length, get_or, set, refl, sym, ◌∙◌, ap, subst, arith, Option, Some, None, slice_get, codes}
+use Rattle.std.proofs.Common.{◌≡◌, ◌<◌, ◌+◌, ◌%◌, ℕ, zero, suc, List, [], ◌∷◌, ◌++◌, length, get_or, set, refl, sym, ◌∙◌, ap, subst, arith, Some, None, slice_get, codes}
 use Rattle.std.specs.Prelude.{is_none, unwrap_or}
 use Rattle.std.specs.List.{AllByRecursion, AllZip, find}
 use Rattle.std.specs.Fmt.{decimal}
@@ -12,10 +12,11 @@ use Rattle.smx_history.specs.Contents.{AgreesWith, Content}
 use Rattle.smx_history.specs.Finding.{refusal_after}
 use Rattle.smx_history.proofs.Finding.{refusal_same}
 use Rattle.smx_relay.specs.declared.state.State.{State}
-use Rattle.smx_relay.specs.declared.offer.Offer.{Offer}
 use Rattle.smx_relay.specs.Texts.{text_line, pdu_line, to_client, refusal_of}
 use Rattle.smx_relay.specs.declared.state.LinkedLane.{LinkedLane}
 use Rattle.smx_relay.specs.Relay.{Relay, ring, history_of, lane_after, lane_at, last_of, lane_for, in_turn_at, new_lane, request_of, with_request}
+use Rattle.smx_relay.specs.ClientTurn.{forward}
+use Rattle.smx_relay.proofs.Offers.{request_named}
 use Rattle.smx_relay.specs.Private.OnLane.{OnLane, IsLane}
 use Rattle.smx_relay.specs.Private.Agrees.{Agrees, Turned, MayAccept, accepts_in}
 use Rattle.smx_relay.proofs.Lanes.{zip-length, zip-set, zip-weaker, find-agree}
@@ -23,7 +24,7 @@ use Rattle.smx_relay.proofs.Ring.{ring_within}
 use Rattle.smx_relay.proofs.StateTurns.{lane_is}
 use Rattle.smx_relay.proofs.Rows.{rows_below}
 use Rattle.smx_relay.proofs.Keeping.{KeepsSettings, kept_links}
-use Rattle.smx_relay.proofs.OwnNotes.{own_push, own_grows, grows_set, last_set}
+use Rattle.smx_relay.proofs.OwnNotes.{Grows, own_push, own_grows, grows_set, last_set}
 
 zip-all : {X Y : Type 0} (R : X → Y → Type 0) (Q : Y → Type 0) → ((x : X) (y : Y) → R x y → Q y) → (xs : List X) (ys : List Y) → AllZip R xs ys → AllByRecursion Q ys
 zip-all R Q f [] [] z = tt
@@ -67,29 +68,29 @@ lane_same state s c last a =
         ap is_none (ap (λ l. refusal_after l (history_of s i) c) (sym w.2.on.limits_are) ∙ sym same) ∙ sym (ap (accepts_in c) w.1)
 
 -- what an accept on the lane at an index leaves
-pub record IsAccepted (old new : State) (c last at : ℕ) (r : Request) (k : LinkedLane) (after : Content) : Type 0 where
-  pub found : find (λ i. accepts_in c (slice_get old.lanes.items i)) (ring (last % length old.lanes.items) (length old.lanes.items)) ≡ Some at
+pub record IsAccepted (old new : State) (last at : ℕ) (r : Request) (k : LinkedLane) (after : Content) : Type 0 where
+  pub found : find (λ i. accepts_in r.client (slice_get old.lanes.items i)) (ring (last % length old.lanes.items) (length old.lanes.items)) ≡ Some at
   pub here : slice_get old.lanes.items at ≡ Some k
   pub lanes : new.lanes.items ≡ set old.lanes.items at (record k { lane = after })
   pub limits_kept : after.limits ≡ k.lane.limits
   pub goes : (h : List Note) → AgreesWith h k.lane → AgreesWith (with_request r h) after
-  pub clients : new.clients.items ≡ set old.clients.items c (Some (last + 1))
+  pub clients : new.clients.items ≡ set old.clients.items r.client (Some r.ordinal)
   pub links : new.links.items ≡ old.links.items
   pub keeps : KeepsSettings old new
 
-pub offered_some : (old new : State) (s : Relay) (c last at : ℕ) (o : Offer) (k : LinkedLane) (after : Content) (text : List ℕ) → Agrees old s → last_of old.clients.items c ≡ Some last → IsAccepted old new c last at (request_of c (last + 1) o) k after
-    → text ≡ text_line (codes "accepted " ++ (decimal c ++ (codes " " ++ decimal at))) → Turned (in_turn_at s c last o (lane_for s c last)) new text
-offered_some old new s c last at o k after text a known is e =
-    let r = request_of c (last + 1) o in
+pub offered_some : (old new : State) (s : Relay) (last at : ℕ) (r : Request) (k : LinkedLane) (after : Content) (text : List ℕ) → Agrees old s → last_of old.clients.items r.client ≡ Some last → r.ordinal ≡ last + 1 → IsAccepted old new last at r k after
+    → text ≡ text_line (codes "accepted " ++ (decimal r.client ++ (codes " " ++ decimal at))) → Turned (in_turn_at s r (lane_for s r.client last)) new text
+offered_some old new s last at r k after text a known next is e =
+    let c = r.client in
     let found : lane_for s c last ≡ Some at = lane_same old s c last a ∙ is.found in
     let there = found_at old.lanes.items at k is.here in
     let l = lane_at s at in
     let was = lane_is old s at k a there.0 there.1 in
     let last_is : last_of s.clients c ≡ Some last = ap (λ cs. last_of cs c) (sym a.clients) ∙ known in
-    let clients = set s.clients c (Some (last + 1)) in
-    let grows = grows_set s.clients c last last_is in
+    let clients = set s.clients c (Some r.ordinal) in
+    let grows : Grows s.clients clients = subst (λ n. Grows s.clients (set s.clients c (Some n))) (sym next) (grows_set s.clients c last last_is) in
     let own = own_push clients l.history (note 0 (Accept r)) (entry_by 0 (Accept r)) refl (own_grows s.clients clients l.history grows was.on.own)
-    (record { by = refl; known = λ accept. omega (arith, ap (λ x. unwrap_or x 0) (last_set s.clients c last (last + 1) last_is)) }) in
+    (record { by = refl; known = λ accept. omega (arith, ap (λ x. unwrap_or x 0) (last_set s.clients c last r.ordinal last_is)) }) in
     let longer : OnLane s.limits clients (with_request r l.history) after = record { agrees = is.goes l.history was.on.agrees; limits_are = is.limits_kept ∙ was.on.limits_are; own = own } in
     let R = IsLane s.limits clients in
     let on : R (lane_after (with_request r) l) (record k { lane = after }) = record { on = longer; link_is = was.link_is } in
@@ -103,20 +104,20 @@ offered_some old new s c last at o k after text a known is e =
         count = is.keeps.count ∙ a.count;
         started = is.keeps.started ∙ a.started;
         moment = is.keeps.moment ∙ a.moment;
-        clients = is.clients ∙ ap (λ cs. set cs c (Some (last + 1))) a.clients;
+        clients = is.clients ∙ ap (λ cs. set cs c (Some r.ordinal)) a.clients;
         lanes = lanes;
         none_yet = λ off. ap (λ ls. set ls at (lane_after (with_request r) l)) (a.none_yet off);
         links = kept_links old new s.accounts s.links s.places s.routes is.keeps is.links a.links;
       };
     })
 
-pub offered_none : (old new : State) (s : Relay) (c last : ℕ) (o : Offer) (p : Pdu) (text : List ℕ) → Agrees old s → find (λ i. accepts_in c (slice_get old.lanes.items i)) (ring (last % length old.lanes.items) (length old.lanes.items)) ≡ None
+pub offered_none : (old new : State) (s : Relay) (last : ℕ) (r : Request) (p : Pdu) (text : List ℕ) → Agrees old s → find (λ i. accepts_in r.client (slice_get old.lanes.items i)) (ring (last % length old.lanes.items) (length old.lanes.items)) ≡ None
     → new.lanes.items ≡ old.lanes.items → new.clients.items ≡ old.clients.items → KeepsSettings old new → new.links.items ≡ old.links.items
-    → p ≡ refusal_of o → text ≡ pdu_line (to_client c) p → Turned (in_turn_at s c last o (lane_for s c last)) new text
-offered_none old new s c last o p text a none lanes clients keeps links is e =
-    let found : lane_for s c last ≡ None = lane_same old s c last a ∙ none in
+    → p ≡ refusal_of r → text ≡ pdu_line (to_client r.client) p → Turned (in_turn_at s r (lane_for s r.client last)) new text
+offered_none old new s last r p text a none lanes clients keeps links is e =
+    let found : lane_for s r.client last ≡ None = lane_same old s r.client last a ∙ none in
     rw found (record {
-      text = e ∙ ap (pdu_line (to_client c)) is;
+      text = e ∙ ap (pdu_line (to_client r.client)) is;
       left = record {
         limits = keeps.limits ∙ a.limits;
         count = keeps.count ∙ a.count;
@@ -128,3 +129,10 @@ offered_none old new s c last o p text a none lanes clients keeps links is e =
         links = kept_links old new s.accounts s.links s.places s.routes keeps links a.links;
       };
     })
+
+-- a PDU that is passed on
+pub forwarded : (s : Relay) (c last : ℕ) (p : Pdu) (r : Request) (state : State) (text : List ℕ) → last_of s.clients c ≡ Some last → request_of c (last + 1) p ≡ Some r → Turned (in_turn_at s r (lane_for s r.client last)) state text → Turned (forward c p s) state text
+unfolding forward
+forwarded s c last p r state text known is turned =
+    let named = request_named c (last + 1) p r is in
+    rw (known, is) (subst (λ d. Turned (in_turn_at s r (lane_for s d last)) state text) named.0 turned)

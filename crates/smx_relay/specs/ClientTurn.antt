@@ -1,7 +1,6 @@
 -- Octets of a client: what its session decides of each PDU, and what comes of that.
-use Rattle.std.specs.Prelude.{◌≡◌, ℕ, ◌++◌, Bool, true, false, List, [], ◌∷◌, Option, Some, None, slice_get, refl}
+use Rattle.std.specs.Prelude.{◌≡◌, ℕ, ◌++◌, Bool, true, false, List, [], ◌∷◌, ◌+◌, Option, Some, None, slice_get}
 use Rattle.smx_pdu.specs.declared.pdu.Pdu.{Pdu}
-use Rattle.smx_pdu.specs.Command.{is_forwarded}
 use Rattle.smx_frame.specs.Stream.{Stream}
 use Rattle.smx_session.specs.Login.{Login}
 use Rattle.smx_session.specs.declared.act.Act.{Act}
@@ -10,10 +9,10 @@ use Rattle.smx_session.specs.declared.client_state.ClientState.{ClientState}
 use Rattle.smx_session.specs.declared.client_state.ClientState.TheVariants.{Ended}
 use Rattle.smx_pdu.specs.Answers.{undecoded}
 use Rattle.smx_session.specs.ClientTable.{client_decides}
-use Rattle.smx_relay.specs.declared.offer.Offer.{Offer}
+use Rattle.smx_history.specs.declared.request.Request.{Request}
 use Rattle.smx_relay.specs.Texts.{pdu_line, to_client, closed_line}
 use Rattle.smx_relay.specs.Links.{ClientLink, Receives, has_failed}
-use Rattle.smx_relay.specs.Relay.{Relay, last_of, lane_for, in_turn_at, with_link}
+use Rattle.smx_relay.specs.Relay.{Relay, last_of, lane_for, in_turn_at, request_of, with_link}
 use Rattle.smx_relay.specs.Messages.{answer_turn, leave_turn}
 
 -- one turn, and then another
@@ -25,21 +24,17 @@ abbrev pub each_pdu : (Pdu → Relay → List ℕ × Relay) → Relay → List P
 each_pdu turn s [] = ([], s)
 each_pdu turn s (p ∷ ps) = followed_by (turn p s) (λ t. each_pdu turn t ps)
 
-abbrev pub offer_if : (p : Pdu) (b : Bool) → is_forwarded p.command ≡ b → Option Offer
-offer_if p true e = Some (record { own = p.number; command = p.command; body = p.body; forwarded = e })
-offer_if p false e = None
+abbrev pub offer_at : Relay → ℕ → ℕ → Option Request → List ℕ × Relay
+offer_at s c last None = ([], s)
+offer_at s c last (Some r) = in_turn_at s r (lane_for s c last)
 
--- a request that is passed on
-unfoldable pub offer_of : Pdu → Option Offer
-offer_of p = offer_if p (is_forwarded p.command) refl
-
-abbrev pub forward_at : Relay → ℕ → Option Offer → Option ℕ → List ℕ × Relay
-forward_at s c (Some o) (Some last) = in_turn_at s c last o (lane_for s c last)
-forward_at s c _ _ = ([], s)
+abbrev pub forward_at : Relay → ℕ → Pdu → Option ℕ → List ℕ × Relay
+forward_at s c p None = ([], s)
+forward_at s c p (Some last) = offer_at s c last (request_of c (last + 1) p)
 
 -- a client's request goes to the first lane that accepts it
 unfoldable pub forward : ℕ → Pdu → Relay → List ℕ × Relay
-forward c p s = forward_at s c (offer_of p) (last_of s.clients c)
+forward c p s = forward_at s c p (last_of s.clients c)
 
 abbrev pub answer_client : ℕ → Pdu → Relay → List ℕ × Relay
 answer_client c answer s = (pdu_line (to_client c) answer, s)

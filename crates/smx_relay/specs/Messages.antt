@@ -11,13 +11,14 @@ use Rattle.smx_routes.specs.Window.{answered}
 use Rattle.smx_routes.specs.Routing.{routed}
 use Rattle.smx_mailbox.specs.declared.message.Unanswered.{Unanswered}
 use Rattle.smx_mailbox.specs.Mailbox.{with_message, is_full, sent, after_sent, settled, unanswered, emptied}
-use Rattle.smx_relay.specs.Texts.{text_line, pdu_line, to_client, up_lane, refusal}
+use Rattle.smx_relay.specs.Texts.{text_line, pdu_line, to_client, up_lane}
+use Rattle.smx_pdu.specs.Answers.{refusal}
 use Rattle.smx_relay.specs.Links.{ClientLink}
 use Rattle.smx_relay.specs.Relay.{Relay, with_link, leave_lanes}
 
 -- a message that no client gets is answered with a status (SMPP 3.4, section 4.6.2)
 abbrev pub refuse : Relay → ℕ → Pdu → ℕ → List ℕ × Relay
-refuse s i p status = (pdu_line (up_lane i) (refusal p.command p.number status), s)
+refuse s i p status = (pdu_line (up_lane i) (refusal p.command status p.number), s)
 
 abbrev pub put_with : Relay → ℕ → Pdu → ℕ → ClientLink → Bool → List ℕ × Relay
 put_with s i p c k true = refuse s i p ESME_RMSGQFUL
@@ -54,7 +55,7 @@ answer_turn c p s = answer_at s c p (slice_get s.links c)
 
 -- the client has left
 abbrev pub left_line : Unanswered → List ℕ
-left_line u = pdu_line (up_lane u.lane) (refusal u.command u.number ESME_RX_T_APPN)
+left_line u = pdu_line (up_lane u.lane) (refusal u.command ESME_RX_T_APPN u.number)
 
 abbrev pub empty_at : ℕ → Relay → Option ClientLink → List ℕ × Relay
 empty_at c s None = ([], s)

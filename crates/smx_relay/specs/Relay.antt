@@ -1,8 +1,9 @@
 -- What each line of a script does and prints, over the histories of the lanes.
-use Rattle.std.specs.Prelude.{ℕ, ◌+◌, ◌%◌, Bool, true, false, List, [], ◌∷◌, ◌++◌, length, map, filter, not, ◌==◌, take, drop, set, replicate, position, codes, Option, Some, None, get_or, is_none, is_some, ◌||◌, max, nat_lt, nat_le, slice_get, if◌then◌else◌}
+use Rattle.std.specs.Prelude.{◌≡◌, refl, ℕ, ◌+◌, ◌%◌, Bool, true, false, List, [], ◌∷◌, ◌++◌, length, map, filter, not, ◌==◌, take, drop, set, replicate, position, codes, Option, Some, None, get_or, is_none, is_some, ◌||◌, max, nat_lt, nat_le, slice_get, if◌then◌else◌}
 use Rattle.std.specs.List.{flat_map, find, range_with_len}
 use Rattle.std.specs.Fmt.{decimal}
 use Rattle.smx_pdu.specs.declared.pdu.Pdu.{Pdu}
+use Rattle.smx_pdu.specs.Command.{is_forwarded}
 use Rattle.smx_session.specs.Login.{Login}
 use Rattle.smx_session.specs.declared.kind.Kind.{Kind}
 use Rattle.smx_history.specs.declared.limits.Limits.{Limits}
@@ -15,7 +16,6 @@ use Rattle.smx_history.specs.Entries.{is_up}
 use Rattle.smx_history.specs.Contents.{queue_after, window_after}
 use Rattle.smx_history.specs.Finding.{is_present, admit_refusal_after, refusal_after, place_answered, waiting_after}
 use Rattle.smx_routes.specs.Routing.{Route}
-use Rattle.smx_relay.specs.declared.offer.Offer.{Offer}
 use Rattle.smx_script.specs.declared.command.Setting.{Setting}
 use Rattle.smx_script.specs.declared.command.Setting.TheVariants.{Sizes, Lanes, Places, Account}
 use Rattle.smx_relay.specs.Links.{ClientLink, CentreLink, new_link, bound_centre}
@@ -142,8 +142,13 @@ leave_lanes c s = record s { lanes = map (lane_after (leave_lane c)) s.lanes; ro
 abbrev pub with_link : Relay → ℕ → ClientLink → Relay
 with_link s c k = record s { links = set s.links c k }
 
-abbrev pub request_of : ℕ → ℕ → Offer → Request
-request_of c n o = record { client = c; ordinal = n; own = o.own; command = o.command; body = o.body; forwarded = o.forwarded }
+abbrev pub request_if : (c n : ℕ) (p : Pdu) (b : Bool) → is_forwarded p.command ≡ b → Option Request
+request_if c n p true e = Some (record { client = c; ordinal = n; own = p.number; command = p.command; body = p.body; forwarded = e })
+request_if c n p false e = None
+
+-- a client's request with this ordinal, of a PDU that is passed on
+unfoldable pub request_of : ℕ → ℕ → Pdu → Option Request
+request_of c n p = request_if c n p (is_forwarded p.command) refl
 
 -- all lanes, from one on
 abbrev pub ring : ℕ → ℕ → List ℕ
@@ -159,11 +164,12 @@ abbrev pub with_request : Request → List Note → List Note
 with_request r h = h ++ note 0 (event.Accept r) ∷ []
 
 -- the ordinal is used where a lane accepts
-abbrev pub in_turn_at : Relay → ℕ → ℕ → Offer → Option ℕ → List ℕ × Relay
-in_turn_at s c last o None = (pdu_line (to_client c) (refusal_of o), s)
-in_turn_at s c last o (Some i) =
-    let r = request_of c (last + 1) o in
-    (text_line (codes "accepted " ++ (decimal c ++ (codes " " ++ decimal i))), record (going_on s i (with_request r)) { clients = set s.clients c (Some r.ordinal) })
+abbrev pub in_turn_at : Relay → Request → Option ℕ → List ℕ × Relay
+in_turn_at s r None = (pdu_line (to_client r.client) (refusal_of r), s)
+in_turn_at s r (Some i) = (
+  text_line (codes "accepted " ++ (decimal r.client ++ (codes " " ++ decimal i))),
+  record (going_on s i (with_request r)) { clients = set s.clients r.client (Some r.ordinal) },
+)
 
 -- the moment on a lane: since a script's moments never fall, no take there was later and it is the script's
 abbrev pub moment_on : ℕ → List Note → ℕ

@@ -1,19 +1,17 @@
 -- The lines that a run prints.
-use Rattle.std.specs.Prelude.{ℕ, List, [], ◌∷◌, ◌++◌, codes, unwrap_or}
+use Rattle.std.specs.Prelude.{ℕ, List, [], ◌∷◌, ◌++◌, codes}
 use Rattle.std.specs.Fmt.{decimal}
 use Rattle.hex.specs.Hex.{encode_lower}
 use Rattle.smx_pdu.specs.declared.pdu.Pdu.{Pdu}
-use Rattle.smx_pdu.specs.declared.command.TheConstants.{GENERIC_NACK}
 use Rattle.smx_pdu.specs.declared.status.TheConstants.{ESME_RMSGQFUL}
 use Rattle.smx_pdu.specs.Pdu.{spelling}
-use Rattle.smx_pdu.specs.Command.{response_of}
+use Rattle.smx_pdu.specs.Answers.{refusal}
 use Rattle.smx_history.specs.declared.entry.Kind.{Kind}
 use Rattle.smx_history.specs.declared.entry.Kind.TheVariants.{Admit, Accept, Take, Answer, Late, Collect, Retire, Fail, Down, Up}
 use Rattle.smx_history.specs.declared.entry.Entry.{Entry}
 use Rattle.smx_history.specs.declared.request.Request.{Request}
 use Rattle.smx_history.specs.declared.reply.Failed.{Failed}
 use Rattle.smx_history.specs.declared.reply.Failed.TheVariants as failed
-use Rattle.smx_relay.specs.declared.offer.Offer.{Offer}
 
 -- each line ends with a line feed
 abbrev pub text_line : List ℕ → List ℕ
@@ -59,13 +57,9 @@ kept_line lane = text_line (codes "kept " ++ decimal lane)
 abbrev pub turned_line : ℕ → ℕ → List ℕ
 turned_line lane count = text_line (codes "turned " ++ (decimal lane ++ (codes " " ++ decimal count)))
 
--- the answer to a request, a header with this status
-abbrev pub refusal : ℕ → ℕ → ℕ → Pdu
-refusal command number status = record { command = unwrap_or (response_of command) GENERIC_NACK; status = status; number = number; body = [] }
-
 -- the answer to a request that each lane refuses: the queue is full (SMPP 3.4, section 5.1.3)
-abbrev pub refusal_of : Offer → Pdu
-refusal_of o = refusal o.command o.own ESME_RMSGQFUL
+abbrev pub refusal_of : Request → Pdu
+refusal_of r = refusal r.command ESME_RMSGQFUL r.own
 
 -- a request as it goes upstream
 abbrev pub upstream_of : Request → ℕ → Pdu

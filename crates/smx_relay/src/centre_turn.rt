@@ -9,7 +9,6 @@ ghost use Rattle.smx_relay.specs.Private.Agrees.{Agrees, IsReached, MayPrint, Tu
 use crate::lane_link::{give_up, lower};
 use crate::messages::message;
 use crate::on_lane::back_on;
-use crate::refusal::undecoded;
 use crate::state::State;
 use crate::texts::{down_line, farewell_lines, up_line};
 use smx_pdu::Pdu;
@@ -113,7 +112,7 @@ fn centre_end(
         return Ok(Vec::new(alloc));
     }
     lower(state, lane);
-    farewell_lines(alloc, lane, &undecoded(alloc))
+    farewell_lines(alloc, lane, &Pdu::undecoded(alloc))
 }
 
 /// Octets of the centre. There is no text where there is no such lane.

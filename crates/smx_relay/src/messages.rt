@@ -1,14 +1,14 @@
 //! Messages of the centre: they go to clients, and their answers to the centre.
 ghost use Rattle.std.specs.Prelude.{◌≡◌, Some, IfOk};
 ghost use Rattle.std.specs.List.{flat_map};
-ghost use Rattle.smx_relay.specs.Texts.{pdu_line, refusal, to_client, up_lane};
+ghost use Rattle.smx_relay.specs.Texts.{pdu_line, to_client, up_lane};
+ghost use Rattle.smx_pdu.specs.Answers.{refusal};
 ghost use Rattle.smx_relay.specs.Relay.{Relay};
 ghost use Rattle.smx_relay.specs.Messages.{answer_turn, left_line, message_turn, put_to, send_turn};
 ghost use Rattle.smx_relay.specs.Turns.{RouteTurn};
 ghost use Rattle.smx_relay.specs.Private.Agrees.{Agrees, MayPrint, Turned};
 
 use crate::clients::last_of;
-use crate::refusal::refusal;
 use crate::state::State;
 use crate::texts::{message_line, push_to_client, push_up, up_line};
 use smx_mailbox::{Message, Unanswered};
@@ -50,9 +50,9 @@ pub(crate) fn route(
 fn refuse(alloc: Global, lane: u64, message: &Pdu, status: u32) -> Result<Vec<u8>, AllocError>
     ensures { IfOk result (λ line.
         line.items ≡ pdu_line (up_lane lane)
-        (refusal message.now.command message.now.number status)) }
+        (refusal message.now.command status message.now.number)) }
 {
-    let answer = refusal(alloc, message.command, message.number, status);
+    let answer = Pdu::refusal(alloc, message.command, status, message.number);
     up_line(alloc, lane, &answer)
 }
 
@@ -144,7 +144,7 @@ pub(crate) fn left_lines(alloc: Global, messages: &[Unanswered]) -> Result<Vec<u
 {
     let mut text = Vec::new(alloc);
     for message in messages {
-        let answer = refusal(alloc, message.command, message.number, ESME_RX_T_APPN);
+        let answer = Pdu::refusal(alloc, message.command, ESME_RX_T_APPN, message.number);
         push_up(alloc, &mut text, message.lane as u64, &answer)?;
     }
     Ok(text)

@@ -8,13 +8,11 @@ ghost use Rattle.smx_relay.specs.declared.state.LinkedLane.{LinkedLane};
 ghost use Rattle.smx_relay.specs.Texts.{refusal_of};
 ghost use Rattle.smx_relay.specs.Relay.{Relay, in_turn_at, lane_for, last_of, request_of, ring};
 ghost use Rattle.smx_relay.specs.Relay.{with_request};
-ghost use Rattle.smx_relay.specs.ClientTurn.{forward, offer_of};
+ghost use Rattle.smx_relay.specs.ClientTurn.{forward};
 ghost use Rattle.smx_relay.specs.Private.Agrees.{Agrees, IsReached, MayAccept, Turned, accepts_in};
 
 use crate::clients::last_of;
-use crate::offer::Offer;
 use crate::on_lane::CALLER;
-use crate::refusal::refusal;
 use crate::state::{LinkedLane, State};
 use crate::texts::{accepted_line, to_line};
 use smx_history::Request;
@@ -50,17 +48,21 @@ fn accept_in_ring(lanes: &mut Vec<LinkedLane>, last: u64, request: Request) -> O
     None
 }
 
-// A client's request under its ordinal.
-fn request_of(client: u64, ordinal: u64, offer: Offer) -> Request
-    ensures { result ≡ request_of client ordinal offer }
+// A client's request under its ordinal, of a PDU that is passed on.
+#[tactic(auto, unfolding(crate::specs::Relay::request_of))]
+fn request_of(client: u64, ordinal: u64, pdu: Pdu) -> Option<Request>
+    ensures { result ≡ request_of client ordinal pdu }
 {
-    Request {
+    if !is_forwarded(pdu.command) {
+        return None;
+    }
+    Some(Request {
         client,
         ordinal,
-        own: offer.own,
-        command: offer.command,
-        body: offer.body,
-    }
+        own: pdu.number,
+        command: pdu.command,
+        body: pdu.body,
+    })
 }
 
 // Keeps the last ordinal of a client.
@@ -72,24 +74,21 @@ fn keep_last(clients: &mut Vec<Option<u64>>, client: u64, ordinal: u64)
 }
 
 // Offers a client's next request to the lanes.
-fn offer_next(
+fn offer(
     alloc: Global,
     state: &mut State,
-    client: u64,
     last: u64,
-    offer: Offer,
+    request: Request,
 ) -> Result<Vec<u8>, AllocError>
     requires reached { IsReached state.old }
-    requires known { last_of state.old.clients.items client ≡ Some last }
+    requires known { last_of state.old.clients.items request.client ≡ Some last }
+    requires next { request.ordinal ≡ last + 1 }
     ensures { (s : Relay) → Agrees state.old s → IfOk result (λ text.
-        Turned (in_turn_at s client last offer (lane_for s client last)) state.new text.items) }
+        Turned (in_turn_at s request (lane_for s request.client last)) state.new text.items) }
 {
-    // No script has so many lines that the ordinals end.
-    let Some(ordinal) = last.checked_add(1) else {
-        return Err(AllocError);
-    };
-    let refusal = refusal(alloc, offer.command, offer.own, ESME_RMSGQFUL);
-    let request = request_of(client, ordinal, offer);
+    let client = request.client;
+    let ordinal = request.ordinal;
+    let refusal = Pdu::refusal(alloc, request.command, ESME_RMSGQFUL, request.own);
     match accept_in_ring(&mut state.lanes, last, request) {
         Some(at) => {
             keep_last(&mut state.clients, client, ordinal);
@@ -97,21 +96,6 @@ fn offer_next(
         }
         None => to_line(alloc, client, &refusal),
     }
-}
-
-// A request that is passed on.
-#[tactic(auto, unfolding(crate::specs::ClientTurn::offer_of))]
-fn offer_of(pdu: Pdu) -> Option<Offer>
-    ensures { result ≡ offer_of pdu }
-{
-    if !is_forwarded(pdu.command) {
-        return None;
-    }
-    Some(Offer {
-        own: pdu.number,
-        command: pdu.command,
-        body: pdu.body,
-    })
 }
 
 /// A client's request goes to the first lane that accepts it.
@@ -126,8 +110,15 @@ pub fn forward(
     ensures { (s : Relay) → Agrees state.old s → IfOk result (λ text.
         Turned (forward client pdu s) state.new text.items) }
 {
-    match (offer_of(pdu), last_of(&state.clients, client)) {
-        (Some(offer), Some(last)) => offer_next(alloc, state, client, last, offer),
-        _ => Ok(Vec::new(alloc)),
+    let Some(last) = last_of(&state.clients, client) else {
+        return Ok(Vec::new(alloc));
+    };
+    // No script has so many lines that the ordinals end.
+    let Some(ordinal) = last.checked_add(1) else {
+        return Err(AllocError);
+    };
+    match request_of(client, ordinal, pdu) {
+        Some(request) => offer(alloc, state, last, request),
+        None => Ok(Vec::new(alloc)),
     }
 }

@@ -1,5 +1,4 @@
 use Rattle.std.proofs.Common.{arith, refl}
-use Rattle.std.proofs.Math.ListN.{length-set}
 use Rattle.smx_relay.proofs.StateTurns.{backs}
 use Rattle.smx_relay.proofs.centre_turn.back.Goals as goal
 

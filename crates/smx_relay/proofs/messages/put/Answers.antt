@@ -3,7 +3,8 @@ use Rattle.std.specs.Vec.{with_item}
 use Rattle.std.proofs.lemmas.Result.{IfOk-weaker}
 use Rattle.smx_pdu.specs.declared.status.TheConstants.{ESME_RMSGQFUL}
 use Rattle.smx_mailbox.specs.declared.message.Message.{Message}
-use Rattle.smx_relay.specs.Texts.{pdu_line, refusal, up_lane}
+use Rattle.smx_pdu.specs.Answers.{refusal}
+use Rattle.smx_relay.specs.Texts.{pdu_line, up_lane}
 use Rattle.smx_relay.proofs.Links.{link_at, no_link}
 use Rattle.smx_relay.proofs.Messaging.{link_same, put_nowhere, put_there, put_full}
 use Rattle.smx_relay.proofs.messages.put.Goals as goal
@@ -31,4 +32,4 @@ returns-in-Err-clause-turned c = λ s a.
     let back = rw c.in-Err.is at c.in_ok-put.ensures.full in
     let here = link_same old new s c.args.client k after a c.index_mut.ensures.value (record { links = refl; lanes = refl; clients = refl; keeps = record { limits = refl; count = refl; started = refl; accounts = refl; places = refl; routes = refl; moment = refl } }) back.2 in
     IfOk-weaker c.refuse-in-Err.result _ _ (λ text e. put_full s c.args.lane c.args.pdu c.args.client k new text.items at back.0 here
-    (subst (λ (m : Message). text.items ≡ pdu_line (up_lane c.args.lane) (refusal m.pdu.command m.pdu.number ESME_RMSGQFUL)) back.1 e)) c.refuse-in-Err.ensures
+    (subst (λ (m : Message). text.items ≡ pdu_line (up_lane c.args.lane) (refusal m.pdu.command ESME_RMSGQFUL m.pdu.number)) back.1 e)) c.refuse-in-Err.ensures
