@@ -233,7 +233,7 @@ fn on_toml(alloc: Global, error: &toml::de::Error) -> Result<String, AllocError>
 fn words_on(alloc: Global, text: &str, fault: ConfigFault) -> Result<String, AllocError> {
     let words = match toml::table_from_str(alloc, text) {
         Ok(table) => on_fault(alloc, &table, fault)?,
-        Err(error) if error.is_memory() => None,
+        Err(error) if error.is_memory() => return Err(AllocError),
         Err(error) => Some(on_toml(alloc, &error)?),
     };
     match words {

@@ -1,6 +1,7 @@
 //! Readers and writers that fail.
 ghost use Rattle.std.specs.Prelude.{Some};
 
+use crate::tests::name_want;
 use smx_relay::{RunEnd, run};
 use std::alloc::Global;
 use std::io;
@@ -71,6 +72,7 @@ impl Write for Weary {
 fn reads(rt: &impl Abort, alloc: Global, reads: usize, end: RunEnd, output: &str) -> bool {
     let mut out = Vec::with_capacity(alloc, 1_024).expect(rt, "out of memory");
     let found = run(alloc, &mut Broken { reads, at: 0 }, &mut out);
+    name_want(rt, found);
     found == end && out.as_slice() == output.as_bytes()
 }
 
@@ -94,9 +96,11 @@ fn make_weary(rt: &impl Abort, alloc: Global, writes: usize, takes: usize, fails
 }
 
 // How a run ends over the writer.
-fn end_over(alloc: Global, out: &mut Weary) -> RunEnd {
+fn end_over(rt: &impl Abort, alloc: Global, out: &mut Weary) -> RunEnd {
     let mut script = SCRIPT.as_bytes();
-    run(alloc, &mut script, out)
+    let end = run(alloc, &mut script, out);
+    name_want(rt, end);
+    end
 }
 
 // What was written before the writer failed is a front, as long as the writes were.
@@ -108,7 +112,7 @@ fn writes_a_front(
     fails: bool,
 ) -> bool {
     let mut out = make_weary(rt, alloc, writes, takes, fails);
-    let end = end_over(alloc, &mut out);
+    let end = end_over(rt, alloc, &mut out);
     let held = out.held.as_slice();
     let front = OUTPUT.as_bytes().starts_with(held);
     end == RunEnd::WriteFault && front && (takes != 1 || held.len() == writes)
@@ -116,7 +120,7 @@ fn writes_a_front(
 
 fn writes_all(rt: &impl Abort, alloc: Global, writes: usize, takes: usize) -> bool {
     let mut out = make_weary(rt, alloc, writes, takes, true);
-    end_over(alloc, &mut out) == RunEnd::Clean && out.held.as_slice() == OUTPUT.as_bytes()
+    end_over(rt, alloc, &mut out) == RunEnd::Clean && out.held.as_slice() == OUTPUT.as_bytes()
 }
 
 // Each octet is written alone, or each text at once.
@@ -135,7 +139,9 @@ fn a_writer_that_fails(rt: HostRuntime) {
 fn runs(rt: &impl Abort, alloc: Global, script: &[u8], end: RunEnd) -> bool {
     let mut out = Vec::with_capacity(alloc, 1_024).expect(rt, "out of memory");
     let mut reader = script;
-    run(alloc, &mut reader, &mut out) == end && out.is_empty()
+    let found = run(alloc, &mut reader, &mut out);
+    name_want(rt, found);
+    found == end && out.is_empty()
 }
 
 #[test]

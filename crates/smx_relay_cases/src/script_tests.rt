@@ -1,5 +1,5 @@
 //! Lines of a script.
-use smx_script::{Action, Command, lines_of, read_command, subject_of};
+use smx_script::{Action, Command, Reason, Wrong, lines_of, read_command, subject_of};
 use std::alloc::Global;
 use std::process::Abort;
 use std::test::*;
@@ -60,15 +60,24 @@ fn command_of(rt: &impl Abort, alloc: Global, line: &str) -> Option<Command> {
     read_command(alloc, line.as_bytes()).expect(rt, "out of memory")
 }
 
+// Whether it is known what the line speaks of.
+fn has_subject(rt: &impl Abort, alloc: Global, line: &str) -> bool {
+    let found = subject_of(alloc, line.as_bytes());
+    if let Err(Reason::Plain(Wrong::Unsaid)) = &found {
+        panic!(rt; "out of memory")
+    }
+    found.is_ok()
+}
+
 #[test]
 fn good_and_bad_lines(rt: HostRuntime) {
     for line in GOOD {
         assert!(rt; command_of(&rt, rt.alloc(), line).is_some(), "{line}");
-        assert!(rt; subject_of(rt.alloc(), line.as_bytes()).is_ok(), "{line}");
+        assert!(rt; has_subject(&rt, rt.alloc(), line), "{line}");
     }
     for line in BAD {
         assert!(rt; command_of(&rt, rt.alloc(), line).is_none(), "{line}");
-        assert!(rt; subject_of(rt.alloc(), line.as_bytes()).is_err(), "{line}");
+        assert!(rt; !has_subject(&rt, rt.alloc(), line), "{line}");
     }
 }
 

@@ -1,4 +1,5 @@
 use smx_relay::{RunEnd, run};
+use smx_script::{Reason, Wrong};
 use std::alloc::Global;
 use std::process::Abort;
 use std::test::*;
@@ -11,9 +12,20 @@ pub fn outcome(rt: &impl Abort, alloc: Global, script: &[u8]) -> (RunEnd, Vec<u8
     (end, out)
 }
 
+// Names want of memory, which tools/refuse-memory brings about.
+pub fn name_want(rt: &impl Abort, end: RunEnd) {
+    match end {
+        RunEnd::NoMemory | RunEnd::BadLine(_, Reason::Plain(Wrong::Unsaid)) => {
+            panic!(rt; "out of memory")
+        }
+        _ => {}
+    }
+}
+
 // What is said of how a run over the script ends, and what it prints.
 pub fn said(rt: &impl Abort, alloc: Global, script: &[u8]) -> (String, Vec<u8>) {
     let (end, out) = outcome(rt, alloc, script);
+    name_want(rt, end);
     let words = format!(in alloc; "{end}");
     (words.expect(rt, "out of memory"), out)
 }
@@ -23,15 +35,22 @@ pub fn says(rt: &impl Abort, alloc: Global, script: &[u8], words: &str) -> bool 
     said(rt, alloc, script).0.as_str() == words
 }
 
-// Whether a run over the script ends so, and prints this.
+// Whether a run over the script ends so, and prints this. One that ends for want of memory is to print
+// a front of it.
 pub fn prints(rt: &impl Abort, alloc: Global, script: &[u8], end: RunEnd, output: &str) -> bool {
     let (found, out) = outcome(rt, alloc, script);
-    found == end && out.as_slice() == output.as_bytes()
+    let front = output.as_bytes().starts_with(&out);
+    if front {
+        name_want(rt, found);
+    }
+    found == end && front && out.len() == output.len()
 }
 
 // Whether a run over the script ends so, whatever it prints.
 pub fn ends(rt: &impl Abort, alloc: Global, script: &[u8], end: RunEnd) -> bool {
-    outcome(rt, alloc, script).0 == end
+    let (found, _) = outcome(rt, alloc, script);
+    name_want(rt, found);
+    found == end
 }
 
 // A script, and what it prints when each line is run.

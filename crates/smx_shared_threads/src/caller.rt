@@ -1,7 +1,8 @@
 //! A client in a thread of its own.
-ghost use Rattle.std.specs.Prelude.{◌≡◌};
+ghost use Rattle.std.specs.Prelude.{◌≡◌, ◌<◌, length};
 ghost use Rattle.smx_shared.specs.Views.{locks_of};
 
+use smx_lock::TryFault;
 use smx_pdu::command::SUBMIT_SM;
 use smx_pdu::{Body, Pdu};
 use smx_shared::{Exchange, Offer, Port};
@@ -24,6 +25,8 @@ pub(crate) struct Caller<'a> {
     pub alloc: Global,
     pub at: &'a Exchange,
     pub port: Port,
+    /// Whether it collects without waiting for the lane.
+    pub tries: bool,
     ghost fits: { locks_of port.fronts ≡ at.now },
 }
 
@@ -67,13 +70,24 @@ impl Caller<'_> {
             if self.port.lanes() == 0 {
                 return None;
             }
-            match self.port.collect(self.at, rt, 0) {
+            match self.look(rt) {
                 Ok(Some(response)) => return Some(response),
-                Ok(None) => thread::yield_now(),
-                Err(_) => return None,
+                Ok(None) | Err(TryFault::Busy) => thread::yield_now(),
+                Err(TryFault::Spent) => return None,
             }
         }
         None
+    }
+
+    fn look<R: Wait>(&mut self, rt: &R) -> Result<Option<Pdu>, TryFault>
+        requires { 0 < length self.old.port.fronts }
+    {
+        if self.tries {
+            return self.port.try_collect(self.at, 0);
+        }
+        self.port
+            .collect(self.at, rt, 0)
+            .map_err(|_| TryFault::Spent)
     }
 }
 

@@ -1,6 +1,7 @@
 //! Two ports and a tap in threads of their own, beside a loopback centre that answers each request
 //! twice, or once as a stranger: every request comes back to its port once, and the lane's history is
-//! legal, also where the tap turns the lane over after each 100 takes.
+//! legal, also where the tap turns the lane over after each 100 takes, and where tap and ports only try
+//! for the lane: then each answer is that another has it, or the true one.
 #![tactic(auto)]
 
 ghost use Rattle.std.specs.Prelude.{◌≡◌, slice_get, Some, All, IfSome};
@@ -45,9 +46,10 @@ enum Difference {
 }
 
 fn main(rt: HostRuntime) -> anyhow::Result<()> {
-    run(&rt, "twice", Mode::Twice, false)?;
-    run(&rt, "stranger", Mode::Stranger, false)?;
-    run(&rt, "turned over", Mode::Twice, true)
+    run(&rt, "twice", Mode::Twice, false, false)?;
+    run(&rt, "stranger", Mode::Stranger, false, false)?;
+    run(&rt, "turned over", Mode::Twice, true, false)?;
+    run(&rt, "tried", Mode::Twice, false, true)
 }
 
 fn run<R: Print + Threads + Wait + AllocGlobal + Sync>(
@@ -55,6 +57,7 @@ fn run<R: Print + Threads + Wait + AllocGlobal + Sync>(
     name: &str,
     mode: Mode,
     turns: bool,
+    tries: bool,
 ) -> anyhow::Result<()> {
     let Ok((exchange, mut door, taps)) = Exchange::new(rt, rt.alloc(), LIMITS, 1) else {
         return Err(Difference::NoMemory.into());
@@ -70,15 +73,26 @@ fn run<R: Print + Threads + Wait + AllocGlobal + Sync>(
         tap,
         centre,
         turns,
+        tries,
     };
     let Ok(port) = door.enter(at, rt) else {
         return Err(Difference::NotEntered.into());
     };
-    let one = Caller { alloc, at, port };
+    let one = Caller {
+        alloc,
+        at,
+        port,
+        tries,
+    };
     let Ok(port) = door.enter(at, rt) else {
         return Err(Difference::NotEntered.into());
     };
-    let two = Caller { alloc, at, port };
+    let two = Caller {
+        alloc,
+        at,
+        port,
+        tries,
+    };
     let first = AtomicBool::new(false);
     let second = AtomicBool::new(false);
     let (served, done) = join(

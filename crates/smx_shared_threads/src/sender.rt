@@ -41,6 +41,8 @@ pub(crate) struct Sender<'a> {
     pub centre: Centre,
     /// Whether the lane is turned over after each 100 takes.
     pub turns: bool,
+    /// Whether it takes without waiting for the lane.
+    pub tries: bool,
     ghost fits: { slice_get at.now tap.lane ≡ Some tap.front.lock },
 }
 
@@ -79,7 +81,7 @@ impl Sender<'_> {
 
     // Sends the next request, where there is one. The answer is false where something went wrong.
     fn send<R: Wait>(&mut self, rt: &R, done: &mut Done) -> bool {
-        let Ok(sent) = self.tap.take(self.at, rt, 0) else {
+        let Some(sent) = self.take(rt) else {
             thread::yield_now();
             return true;
         };
@@ -96,6 +98,13 @@ impl Sender<'_> {
             }
         }
         true
+    }
+
+    fn take<R: Wait>(&mut self, rt: &R) -> Option<Sent> {
+        if self.tries {
+            return self.tap.try_take(self.at, 0).ok();
+        }
+        self.tap.take(self.at, rt, 0).ok()
     }
 
     fn turn_over<R: Wait>(&mut self, rt: &R, done: &mut Done) -> bool {
