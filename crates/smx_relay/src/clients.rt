@@ -33,7 +33,8 @@ pub fn last_of(clients: &[Option<u64>], client: u64) -> Option<u64>
 // Admits the client on one lane after another, and gives the index of the first that refuses it.
 fn admit_all(lanes: &mut Vec<LinkedLane>, client: u64) -> Result<Option<usize>, AllocError>
     ensures { (limits : Limits) (clients : List (Option ℕ)) (ls : List RelayLane)
-        → AreOn limits clients ls lanes.old.items → IfOk result (λ refusing. Enters limits clients ls client refusing lanes.new.items) }
+        → AreOn limits clients ls lanes.old.items
+        → IfOk result (λ refusing. Enters limits clients ls client refusing lanes.new.items) }
 {
     for at in 0..lanes.len() {
         match lanes[at].lane.admit(CALLER, client) {
@@ -118,7 +119,8 @@ fn collect_all(
 ) -> Result<Vec<u8>, AllocError>
     requires { AreReached lanes.old.items }
     ensures { (limits : Limits) (clients : List (Option ℕ)) (ls : List RelayLane)
-        → AreOn limits clients ls lanes.old.items → IfOk result (λ text. (text.items ≡ flat_map (λ l. collect_text client l.history) ls)
+        → AreOn limits clients ls lanes.old.items
+        → IfOk result (λ text. (text.items ≡ flat_map (λ l. collect_text client l.history) ls)
         × AreOn limits clients (map (lane_after (collect_lane client)) ls) lanes.new.items) }
 {
     let mut text = Vec::new(alloc);
