@@ -12,7 +12,7 @@ use Rattle.smx_upstream.specs.declared.mark.Mark.{Mark}
 use Rattle.smx_upstream.specs.declared.mark.Mark.TheVariants.{Offered, Full, Part}
 use Rattle.smx_upstream.specs.declared.event.Event.{Event}
 use Rattle.smx_upstream.specs.declared.event.Event.TheVariants.{Opened, Looked, Expired, Young, Shifted, Sought, Decided, Took, Broke}
-use Rattle.smx_upstream.specs.Phases.{Phase, Opening, Ready, Written, Clogged, Watched, Swept, Clear, Sated, Brimming, MayRead, Deciding, Closing, Settled, MayTake, HasTried, Stopped, Refrained, Gone, Wrong, go, from_opening, from_ready, from_written, from_watched, from_swept, from_clear, from_sated, from_may_read, from_deciding, from_closing, from_settled, from_may_take, phase_from, phase_of, after_offer, unless_left, is_last, when_looked, when_kept, when_decided, when_part, when_full, when_read, when_may_read, when_may_take, end_of, quiet_end, Waits, IsTurnEnd, IsTurn, EndsEarly, IsPart}
+use Rattle.smx_upstream.specs.Phases.{Phase, Opening, Ready, Written, Clogged, Watched, Swept, Clear, Sated, Brimming, MayRead, Deciding, Closing, Settled, MayTake, HasTried, Stopped, Refrained, Gone, Drained, Wrong, go, from_opening, from_ready, from_written, from_watched, from_swept, from_clear, from_sated, from_may_read, from_deciding, from_closing, from_settled, from_may_take, phase_from, phase_of, after_offer, unless_left, is_last, when_looked, when_kept, when_decided, when_part, when_full, when_read, when_may_read, when_may_take, end_of, quiet_end, Waits, IsTurnEnd, IsTurn, EndsEarly, IsPart}
 
 phase_append : (p : Phase) (xs ys : List (Step Mark Event)) → phase_from p (xs ++ ys) ≡ phase_from (phase_from p xs) ys
 unfolding phase_from
@@ -131,6 +131,9 @@ ends_stopped = record { allowed = λ bound quiet. tt; early = refl }
 pub ends_gone : EndsEarly Done Gone
 ends_gone = record { allowed = λ bound quiet. tt; early = refl }
 
+pub ends_drained : EndsEarly Done Drained
+ends_drained = record { allowed = λ bound quiet. tt; early = refl }
+
 pub ends_left : (left : Bool) → EndsEarly (end_of left) (unless_left left)
 ends_left true = record { allowed = λ bound quiet. tt; early = refl }
 ends_left false = record { allowed = λ bound quiet. tt; early = refl }
@@ -143,8 +146,8 @@ pub turn_err : (bound quiet : Bool) (r : Result TurnEnd Fault) (p : Phase) → I
 turn_err bound quiet (Ok end) p e sure = absurd (true≢false (sym e))
 turn_err bound quiet (Err fault) p e sure = sure
 
-pub waits_as : (p q : Phase) (unsent : List ℕ) → p ≡ q → Waits q unsent → Waits p unsent
-waits_as p q unsent same w = subst (λ (x : Phase). Waits x unsent) (sym same) w
+pub waits_as : (p q : Phase) (unsent rest : List ℕ) → p ≡ q → Waits q unsent rest → Waits p unsent rest
+waits_as p q unsent rest same w = subst (λ (x : Phase). Waits x unsent rest) (sym same) w
 
 -- the ends of a turn that asked for leave to take
 pub refrained : (bound quiet : Bool) (p : Phase) → p ≡ Refrained → IsTurnEnd bound quiet Idle p

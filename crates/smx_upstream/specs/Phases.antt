@@ -1,5 +1,6 @@
 -- The order of an upstream turn.
 use Rattle.std.specs.Prelude.{◌≡◌, ◌≢◌, ◌≤◌, ℕ, Bool, true, false, ◌||◌, List, [], ◌∷◌, length, Result, Ok, Err, Option, Some, None}
+use Rattle.smx_frame.specs.Stream.{HasNone}
 use Rattle.smx_session.specs.declared.up_act.UpAct.{UpAct}
 use Rattle.smx_session.specs.declared.up_act.UpAct.TheVariants as act
 use Rattle.smx_link.specs.declared.link.Polled.{Polled}
@@ -68,8 +69,10 @@ pub data Phase : Type 0 where
   Ending : Phase
   -- nothing is left to do, and all was written
   Over : Phase
-  -- the link has ended, or the session is silent
+  -- the session is silent
   Gone : Phase
+  -- the link has ended, and no whole PDU is left
+  Drained : Phase
   -- what no turn does
   Wrong : Phase
 
@@ -128,7 +131,7 @@ when_decided ended true = Closing
 when_decided ended false = Deciding ended
 
 abbrev pub when_part : Bool → Phase
-when_part true = Gone
+when_part true = Drained
 when_part false = Settled
 
 -- what is left of an ended link is decided whole
@@ -224,6 +227,7 @@ go Refrained s = Wrong
 go Ending s = Wrong
 go Over s = Wrong
 go Gone s = Wrong
+go Drained s = Wrong
 go Wrong s = Wrong
 
 unfoldable pub phase_from : Phase → List (Step Mark Event) → Phase
@@ -237,6 +241,7 @@ phase_of ss = phase_from Opening ss
 abbrev pub IsTurnEnd : Bool → Bool → TurnEnd → Phase → Type 0
 IsTurnEnd bound quiet Done Over = Unit {0}
 IsTurnEnd bound quiet Done Gone = Unit {0}
+IsTurnEnd bound quiet Done Drained = Unit {0}
 IsTurnEnd bound quiet Done _ = ⊥
 IsTurnEnd bound quiet Idle Stopped = Unit {0}
 IsTurnEnd bound quiet Idle Refrained = Unit {0}
@@ -309,13 +314,14 @@ quiet_end false = Worked
 abbrev pub IsOver : Phase → Type 0
 IsOver p = IsTurnEnd true true Done p
 
--- what waits for the link where a turn stands so
-abbrev pub Waits : Phase → List ℕ → Type 0
-Waits Clogged unsent = unsent ≢ []
-Waits Ending unsent = unsent ≢ []
-Waits Brimming unsent = 65536 ≤ length unsent
-Waits Over unsent = unsent ≡ []
-Waits _ unsent = Unit {0}
+-- what waits for the link where a turn stands so, and what no PDU has of the octets that were read
+abbrev pub Waits : Phase → List ℕ → List ℕ → Type 0
+Waits Clogged unsent rest = unsent ≢ []
+Waits Ending unsent rest = unsent ≢ []
+Waits Brimming unsent rest = 65536 ≤ length unsent
+Waits Over unsent rest = unsent ≡ []
+Waits Drained unsent rest = HasNone 65536 rest
+Waits _ unsent rest = Unit {0}
 
 -- how often a call says that the link failed
 abbrev pub link_faults : {A : Type 0} → Result A Fault → ℕ

@@ -60,7 +60,8 @@ impl<L: Link + Drop> UpstreamWorker<L> {
             self.new.steps }
         ensures order { IsTurn (is_bound self.new.stand.session.state)
             (are_all_quiet self.new.steps) result (phase_of self.new.steps) }
-        ensures waits { OnOk result (Waits (phase_of self.new.steps) self.new.wire.unsent) }
+        ensures waits { OnOk result (Waits (phase_of self.new.steps) self.new.wire.unsent
+            self.new.wire.rest) }
         ensures whole { OnOk result
             (is_settled (phase_of self.new.steps) ≡ true → HasNone 65536 self.new.wire.rest) }
         ensures offered { IsPrefix (L.offered self.old.wire.link ++ self.old.wire.unsent)
@@ -89,6 +90,7 @@ impl<L: Link + Drop> UpstreamWorker<L> {
             × (result.tap.front.lock ≡ self.stand.tap.front.lock) }
         ensures loses { Loses self.stand.tap.front result.tap.front result.lost }
         ensures count { result.lost.failed ≡ length result.lost.given }
+        ensures all { result.lost.end ≡ None → result.lost.failed ≡ 1025 }
         ensures known { known_of result.tap.front.mine ≡ known_of self.stand.tap.front.mine }
         ensures answers { result.answers ≡ self.stand.answers }
         ensures senders { result.senders.items ≡ self.stand.senders }

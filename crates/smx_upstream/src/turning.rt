@@ -181,7 +181,7 @@ impl<L: Link + Drop> UpstreamWorker<L> {
             ≡ Some self.new.stand.tap.front.lock }
         ensures phase { phase_of log.old ≡ Ready → IsPart Sated result (phase_of log.new) }
         ensures waits { phase_of log.old ≡ Ready
-            → OnOk result (Waits (phase_of log.new) self.new.wire.unsent) }
+            → OnOk result (Waits (phase_of log.new) self.new.wire.unsent self.new.wire.rest) }
         ensures goes_on { result ≡ Ok None → self.new.ending ≡ false }
         ensures offered { IsPrefix (L.offered self.old.wire.link ++ self.old.wire.unsent)
             (L.offered self.new.wire.link) }
@@ -233,7 +233,7 @@ impl<L: Link + Drop> UpstreamWorker<L> {
             ≡ Some self.new.stand.tap.front.lock }
         ensures phase { phase_of log.old ≡ MayRead → IsPart Settled result (phase_of log.new) }
         ensures waits { phase_of log.old ≡ MayRead
-            → OnOk result (Waits (phase_of log.new) self.new.wire.unsent) }
+            → OnOk result (Waits (phase_of log.new) self.new.wire.unsent self.new.wire.rest) }
         ensures whole { result ≡ Ok None → HasNone 65536 self.new.wire.rest }
         ensures held { OnOk result (self.new.held ≡ None) }
         ensures offers { IsPrefix (L.offered self.old.wire.link) (L.offered self.new.wire.link) }
@@ -282,7 +282,7 @@ impl<L: Link + Drop> UpstreamWorker<L> {
             ≡ Some self.new.stand.tap.front.lock }
         ensures phase { phase_of log.old ≡ Sated → IsPart Settled result (phase_of log.new) }
         ensures waits { phase_of log.old ≡ Sated
-            → OnOk result (Waits (phase_of log.new) self.new.wire.unsent) }
+            → OnOk result (Waits (phase_of log.new) self.new.wire.unsent self.new.wire.rest) }
         ensures whole { result ≡ Ok None → HasNone 65536 self.new.wire.rest }
         ensures held { OnOk result (self.new.held ≡ None) }
         ensures offers { IsPrefix (L.offered self.old.wire.link) (L.offered self.new.wire.link) }
@@ -325,7 +325,7 @@ impl<L: Link + Drop> UpstreamWorker<L> {
         ensures phase { phase_of log.old ≡ Settled → IsTurn (is_bound self.new.stand.session.state)
             (are_all_quiet log.new) result (phase_of log.new) }
         ensures waits { phase_of log.old ≡ Settled
-            → OnOk result (Waits (phase_of log.new) self.new.wire.unsent) }
+            → OnOk result (Waits (phase_of log.new) self.new.wire.unsent self.new.wire.rest) }
         ensures faults { link_faults result ≡ 0 }
         ensures spent { result ≡ Err Fault.Spent → EndsSpent log.new }
         ensures goes { (queries : _) → Goes turn
@@ -368,7 +368,7 @@ impl<L: Link + Drop> UpstreamWorker<L> {
             ≡ Some self.new.stand.tap.front.lock }
         ensures order { IsTurn (is_bound self.new.stand.session.state)
             (are_all_quiet log.new) result (phase_of log.new) }
-        ensures waits { OnOk result (Waits (phase_of log.new) self.new.wire.unsent) }
+        ensures waits { OnOk result (Waits (phase_of log.new) self.new.wire.unsent self.new.wire.rest) }
         ensures whole { OnOk result
             (is_settled (phase_of log.new) ≡ true → HasNone 65536 self.new.wire.rest) }
         ensures held { OnOk result (self.new.held ≡ None) }

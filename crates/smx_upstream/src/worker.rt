@@ -7,7 +7,7 @@ ghost use Rattle.smx_turns.specs.declared.step.Step.TheVariants.{Did};
 ghost use Rattle.smx_upstream.specs.Ages.{new_age};
 ghost use Rattle.smx_upstream.specs.Events.{out_of, those};
 ghost use Rattle.smx_upstream.specs.Quiet.{is_quiet_event};
-ghost use Rattle.smx_upstream.specs.Standing.{stand};
+ghost use Rattle.smx_upstream.specs.Standing.{bind_of, stand};
 
 use crate::age::Age;
 use crate::event::Event;
@@ -191,6 +191,7 @@ impl<L: Link + Drop> UpstreamWorker<L> {
         ensures stand { IfOk result (λ w. w.stand
             ≡ stand parts.session parts.tap parts.answers parts.senders.items (new_age history response_timer)) }
         ensures first { IfOk result (λ w. w.first ≡ w.stand) }
+        ensures said { IfOk result (λ w. w.wire.said ≡ bind_of parts.session ∷ []) }
         ensures ready { IfOk result (λ w. (w.held ≡ None) × (w.ending ≡ false)) }
         ensures err { IfErr result (λ p. p ≡ parts) }
     {

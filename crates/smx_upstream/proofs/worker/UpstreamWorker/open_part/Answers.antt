@@ -43,7 +43,7 @@ returns-then-left-clause-phase g c = λ was.
 
 pub returns-then-left-clause-waits : goal.returns-then-left-clause-waits
 returns-then-left-clause-waits g c = λ was.
-    waits_as _ Clogged _ (c.renew.ensures.phase c.in_ok-left.left (c.expire.ensures.phase c.in_ok-left.left (c.look.ensures.phase c.in_ok-left.left (c.in_ok-left.ensures.opening was ∙ ap (λ e. after_offer e c.in_ok-left.left) (sym (ap (λ w. w.ending) c.self.view_is ∙ ap (λ w. w.ending) c.offer.ensures.same) ∙ c.if-self.false)) ∙ ap (when_looked c.in_ok-left.left) c.if-look.false)) ∙ ap when_kept c.if-left.true)
+    waits_as _ Clogged _ _ (c.renew.ensures.phase c.in_ok-left.left (c.expire.ensures.phase c.in_ok-left.left (c.look.ensures.phase c.in_ok-left.left (c.in_ok-left.ensures.opening was ∙ ap (λ e. after_offer e c.in_ok-left.left) (sym (ap (λ w. w.ending) c.self.view_is ∙ ap (λ w. w.ending) c.offer.ensures.same) ∙ c.if-self.false)) ∙ ap (when_looked c.in_ok-left.left) c.if-look.false)) ∙ ap when_kept c.if-left.true)
     (subst (λ (l : List ℕ). l ≢ []) (sym (ap (λ w. w.wire.unsent) c.renew.ensures.same ∙ ap (λ w. w.wire.unsent) c.expire.ensures.same))
     (c.look.ensures.left (subst (λ (l : List ℕ). l ≢ []) (sym (ap (λ w. w.wire.unsent) c.make_room.ensures.same)) (c.in_ok-left.ensures.left.0 c.if-left.true))))
 
@@ -61,7 +61,7 @@ returns-clause-phase g c = λ was.
 
 pub returns-clause-waits : goal.returns-clause-waits
 returns-clause-waits g c = λ was.
-    waits_as _ Sated _ (c.seek.ensures.phase (c.renew.ensures.phase c.in_ok-left.left (c.expire.ensures.phase c.in_ok-left.left (c.look.ensures.phase c.in_ok-left.left (c.in_ok-left.ensures.opening was ∙ ap (λ e. after_offer e c.in_ok-left.left) (sym (ap (λ w. w.ending) c.self.view_is ∙ ap (λ w. w.ending) c.offer.ensures.same) ∙ c.if-self.false)) ∙ ap (when_looked c.in_ok-left.left) c.if-look.false)) ∙ ap when_kept c.if-left.false)) tt
+    waits_as _ Sated _ _ (c.seek.ensures.phase (c.renew.ensures.phase c.in_ok-left.left (c.expire.ensures.phase c.in_ok-left.left (c.look.ensures.phase c.in_ok-left.left (c.in_ok-left.ensures.opening was ∙ ap (λ e. after_offer e c.in_ok-left.left) (sym (ap (λ w. w.ending) c.self.view_is ∙ ap (λ w. w.ending) c.offer.ensures.same) ∙ c.if-self.false)) ∙ ap (when_looked c.in_ok-left.left) c.if-look.false)) ∙ ap when_kept c.if-left.false)) tt
 
 pub returns-in_err-left-clause-goes : goal.returns-in_err-left-clause-goes
 returns-in_err-left-clause-goes g c = λ turn queries. c.offer.ensures.goes turn (g.G.Gate.asked c.args.gate.now) (g.G.Gate.told c.args.gate.now) queries

@@ -12,7 +12,7 @@ returns-then-unsent-ge-MAX_PDU-clause-phase g c = λ was. early _ _ Brimming (st
 
 pub returns-then-unsent-ge-MAX_PDU-clause-waits : goal.returns-then-unsent-ge-MAX_PDU-clause-waits
 returns-then-unsent-ge-MAX_PDU-clause-waits g c = λ was.
-    waits_as _ Brimming _ (stepped _ _ (Marked Full) Sated _ c.push.ensures cell_full was) (let h = c.unsent.ensures in let k = c.if-unsent-ge-MAX_PDU.true in search rules)
+    waits_as _ Brimming _ _ (stepped _ _ (Marked Full) Sated _ c.push.ensures cell_full was) (let h = c.unsent.ensures in let k = c.if-unsent-ge-MAX_PDU.true in search rules)
 
 pub returns-then-unsent-ge-MAX_PDU-clause-goes : goal.returns-then-unsent-ge-MAX_PDU-clause-goes
 returns-then-unsent-ge-MAX_PDU-clause-goes g c =
@@ -22,7 +22,7 @@ pub returns-then-not-may-clause-phase : goal.returns-then-not-may-clause-phase
 returns-then-not-may-clause-phase g c = λ was. early _ _ Stopped (stepped _ _ (Asked Reading c.ask-may.result) Sated _ c.ask-may.ensures.log (cell_reading c.ask-may.result) was ∙ ap when_may_read c.if-not-may.true) ends_stopped
 
 pub returns-then-not-may-clause-waits : goal.returns-then-not-may-clause-waits
-returns-then-not-may-clause-waits g c = λ was. waits_as _ Stopped _ (stepped _ _ (Asked Reading c.ask-may.result) Sated _ c.ask-may.ensures.log (cell_reading c.ask-may.result) was ∙ ap when_may_read c.if-not-may.true) tt
+returns-then-not-may-clause-waits g c = λ was. waits_as _ Stopped _ _ (stepped _ _ (Asked Reading c.ask-may.result) Sated _ c.ask-may.ensures.log (cell_reading c.ask-may.result) was ∙ ap when_may_read c.if-not-may.true) tt
 
 pub returns-then-not-may-clause-goes : goal.returns-then-not-may-clause-goes
 returns-then-not-may-clause-goes g c = (goes_ask c.args.turn _ _ _ _ Reading c.ask-may.result c.ask-may.ensures.log c.ask-may.ensures.asked c.ask-may.ensures.told refl (ap (λ w. w.events) c.make_ready.ensures.same) (ap (λ w. w.stand) c.make_ready.ensures.same) (ap (λ w. g.L.Link.polls w.wire.link) c.make_ready.ensures.same))

@@ -25,7 +25,7 @@ returns-then-not-may-clause-phase g c = λ was.
 
 pub returns-then-not-may-clause-waits : goal.returns-then-not-may-clause-waits
 returns-then-not-may-clause-waits g c = λ was.
-    waits_as _ Refrained _ (stepped _ _ (Asked Taking c.ask-may.result) Settled _ c.ask-may.ensures.log (cell_taking c.ask-may.result) was ∙ ap when_may_take c.if-not-may.true) tt
+    waits_as _ Refrained _ _ (stepped _ _ (Asked Taking c.ask-may.result) Settled _ c.ask-may.ensures.log (cell_taking c.ask-may.result) was ∙ ap when_may_take c.if-not-may.true) tt
 
 pub returns-then-not-bound-clause-phase : goal.returns-then-not-bound-clause-phase
 returns-then-not-bound-clause-phase g c = λ was.
@@ -33,7 +33,7 @@ returns-then-not-bound-clause-phase g c = λ was.
 
 pub returns-then-not-bound-clause-waits : goal.returns-then-not-bound-clause-waits
 returns-then-not-bound-clause-waits g c = λ was.
-    waits_as _ MayTake _ (stepped _ _ (Asked Taking c.ask-may.result) Settled _ c.ask-may.ensures.log (cell_taking c.ask-may.result) was ∙ ap when_may_take c.if-not-may.false) tt
+    waits_as _ MayTake _ _ (stepped _ _ (Asked Taking c.ask-may.result) Settled _ c.ask-may.ensures.log (cell_taking c.ask-may.result) was ∙ ap when_may_take c.if-not-may.false) tt
 
 pub returns-in_err-take_one-clause-phase : goal.returns-in_err-take_one-clause-phase
 returns-in_err-take_one-clause-phase g c = λ was.
@@ -47,4 +47,4 @@ returns-clause-phase g c = λ was.
 
 pub returns-clause-waits : goal.returns-clause-waits
 returns-clause-waits g c = λ was.
-    waits_as _ HasTried _ (c.take_one.ensures.phase (stepped _ _ (Asked Taking c.ask-may.result) Settled _ c.ask-may.ensures.log (cell_taking c.ask-may.result) was ∙ ap when_may_take c.if-not-may.false)) tt
+    waits_as _ HasTried _ _ (c.take_one.ensures.phase (stepped _ _ (Asked Taking c.ask-may.result) Settled _ c.ask-may.ensures.log (cell_taking c.ask-may.result) was ∙ ap when_may_take c.if-not-may.false)) tt
