@@ -28,8 +28,8 @@ struct Fate {
     retires: usize,
 }
 
-// What is wanted where so many octets were heard, and so many taken: the request is accepted where it
-// came whole, and the client retires.
+// What is wanted where so many octets were heard, and so many taken: the request is accepted where
+// it came whole, and the client retires.
 fn wanted(end: RunEnd, heard: usize, taken: usize) -> Fate {
     Fate {
         end,

@@ -15,8 +15,8 @@ struct Fate {
     status: Option<u32>,
 }
 
-// What is wanted where so many octets of the centre were heard, and so many taken: of a request that
-// was sent and not answered the client is told a failure, and of one that waits nothing.
+// What is wanted where so many octets of the centre were heard, and so many taken: of a request
+// that was sent and not answered the client is told a failure, and of one that waits nothing.
 fn wanted(end: RunEnd, heard: usize, taken: usize) -> Fate {
     Fate {
         end,
