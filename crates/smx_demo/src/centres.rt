@@ -69,9 +69,7 @@ impl Centres {
             }
             match listener.accept() {
                 Ok((stream, _)) => {
-                    if let Ok(stream) = StreamPeer::new(stream) {
-                        answer_all(alloc, stream, over);
-                    }
+                    answer_all(alloc, stream, over);
                     return;
                 }
                 Err(_) => sleep(rt, Duration::from_millis(1)),
@@ -80,9 +78,11 @@ impl Centres {
     }
 }
 
-// Answers what comes over a connection.
-fn answer_all(alloc: Global, stream: StreamPeer, over: &AtomicBool) {
-    let mut stream = stream;
+/// Answers what comes over a connection as a loopback centre does, until it ends or all is over.
+pub fn answer_all(alloc: Global, stream: TcpStream, over: &AtomicBool) {
+    let Ok(mut stream) = StreamPeer::new(stream) else {
+        return;
+    };
     let mut centre = CentrePeer::new(alloc, Centre::new(alloc, Mode::Plain));
     let mut buffer = [0u8; 4_096];
     for _ in 0..u64::MAX {

@@ -7,4 +7,5 @@ mod showing;
 mod stream_peer;
 mod visitors;
 
+pub use centres::answer_all;
 pub use showing::{NotShown, demo};

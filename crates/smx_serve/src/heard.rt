@@ -19,7 +19,7 @@ fn first(octets: &[u8]) -> Option<(Header, &[u8], &[u8])> {
 
 // Whether a bind is that of an account.
 fn is_of(bind: &Bind<'_>, account: &Account) -> bool {
-    bind.system_id == account.system_id.as_slice() && bind.password == account.password.as_slice()
+    bind.system_id == account.system_id.as_slice() && account.has_password(bind.password)
 }
 
 // The system_id of the account whose bind this is.
