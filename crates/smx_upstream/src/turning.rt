@@ -368,7 +368,8 @@ impl<L: Link + Drop> UpstreamWorker<L> {
             ≡ Some self.new.stand.tap.front.lock }
         ensures order { IsTurn (is_bound self.new.stand.session.state)
             (are_all_quiet log.new) result (phase_of log.new) }
-        ensures waits { OnOk result (Waits (phase_of log.new) self.new.wire.unsent self.new.wire.rest) }
+        ensures waits { OnOk result (Waits (phase_of log.new) self.new.wire.unsent
+            self.new.wire.rest) }
         ensures whole { OnOk result
             (is_settled (phase_of log.new) ≡ true → HasNone 65536 self.new.wire.rest) }
         ensures held { OnOk result (self.new.held ≡ None) }
