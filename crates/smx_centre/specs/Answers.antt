@@ -49,29 +49,29 @@ abbrev pub stranger : Pdu → Pdu
 stranger r = record r { number = 0x7000_0000 }
 
 -- the PDUs that a response to a forwarded command makes, by the mode and the response that waits
-abbrev pub sent : Mode → Option Pdu → Pdu → List Pdu
-sent Plain held r = r ∷ []
-sent Reversed None r = []
-sent Reversed (Some first) r = r ∷ first ∷ []
-sent Twice held r = r ∷ r ∷ []
-sent Stranger held r = r ∷ stranger r ∷ []
-sent Silent held r = []
+abbrev pub pdus_sent : Mode → Option Pdu → Pdu → List Pdu
+pdus_sent Plain held r = r ∷ []
+pdus_sent Reversed None r = []
+pdus_sent Reversed (Some first) r = r ∷ first ∷ []
+pdus_sent Twice held r = r ∷ r ∷ []
+pdus_sent Stranger held r = r ∷ stranger r ∷ []
+pdus_sent Silent held r = []
 
 -- the response that waits then
-abbrev pub kept : Mode → Option Pdu → Pdu → Option Pdu
-kept Plain held r = held
-kept Reversed None r = Some r
-kept Reversed (Some first) r = None
-kept Twice held r = held
-kept Stranger held r = held
-kept Silent held r = held
+abbrev pub response_kept : Mode → Option Pdu → Pdu → Option Pdu
+response_kept Plain held r = held
+response_kept Reversed None r = Some r
+response_kept Reversed (Some first) r = None
+response_kept Twice held r = held
+response_kept Stranger held r = held
+response_kept Silent held r = held
 
 -- the answers to a PDU
 abbrev pub answers : Class → Centring → Pdu → List Pdu
 answers Bind c p = response p ESME_ROK (codes "centre" ++ 0 ∷ []) ∷ []
 answers Session c p = response p ESME_ROK [] ∷ []
-answers Message c p = sent c.mode c.held (forwarded_response (Some (next c.messages)) p)
-answers Forwarded c p = sent c.mode c.held (forwarded_response None p)
+answers Message c p = pdus_sent c.mode c.held (forwarded_response (Some (next c.messages)) p)
+answers Forwarded c p = pdus_sent c.mode c.held (forwarded_response None p)
 answers OtherRequest c p = unknown p.number ∷ []
 answers Response c p = []
 
@@ -81,9 +81,9 @@ after Bind c p = c
 after Session c p = c
 after Message c p = record c {
   messages = next c.messages;
-  held = kept c.mode c.held (forwarded_response (Some (next c.messages)) p);
+  held = response_kept c.mode c.held (forwarded_response (Some (next c.messages)) p);
 }
-after Forwarded c p = record c { held = kept c.mode c.held (forwarded_response None p) }
+after Forwarded c p = record c { held = response_kept c.mode c.held (forwarded_response None p) }
 after OtherRequest c p = c
 after Response c p = c
 

@@ -51,7 +51,7 @@ fn next(number: u32) -> u32
 
 impl Centre {
     ghost use Rattle.std.specs.Prelude.{Contains, IfOk, OnOk, OnErr, IsOk, length, ℕ};
-    ghost use Rattle.smx_centre.specs.Answers.{class_of, answers, after, delivery, sent, kept, forwarded_response};
+    ghost use Rattle.smx_centre.specs.Answers.{class_of, answers, after, delivery, pdus_sent, response_kept, forwarded_response};
 
     /// A centre that has given no number. It takes no memory.
     pub fn new(alloc: Global, mode: Mode) -> Centre
@@ -71,9 +71,9 @@ impl Centre {
     fn send(&mut self, request: &Pdu, message: Option<u32>) -> Result<Vec<Pdu>, AllocError>
         requires { request.now.command < RESPONSE }
         ensures ok { IfOk result (λ pdus. pdus.items
-            ≡ sent self.old.mode self.old.held (forwarded_response message request.now)) }
+            ≡ pdus_sent self.old.mode self.old.held (forwarded_response message request.now)) }
         ensures held { OnOk result (self.new ≡ record self.old {
-          held = kept self.old.mode self.old.held (forwarded_response message request.now);
+          held = response_kept self.old.mode self.old.held (forwarded_response message request.now);
         }) }
         ensures err { OnErr result (self.new ≡ self.old) }
     {
@@ -98,8 +98,10 @@ impl Centre {
     // Holds the first of two responses until the second is there.
     fn send_reversed(&mut self, response: Pdu) -> Result<Vec<Pdu>, AllocError>
         requires { self.old.mode ≡ Mode.Reversed }
-        ensures ok { IfOk result (λ pdus. pdus.items ≡ sent Mode.Reversed self.old.held response) }
-        ensures held { OnOk result (self.new ≡ record self.old { held = kept Mode.Reversed self.old.held response }) }
+        ensures ok { IfOk result (λ pdus. pdus.items
+            ≡ pdus_sent Mode.Reversed self.old.held response) }
+        ensures held { OnOk result (self.new
+            ≡ record self.old { held = response_kept Mode.Reversed self.old.held response }) }
         ensures err { OnErr result (self.new ≡ self.old) }
     {
         let mut pdus = Vec::with_capacity(self.alloc, 2)?;
@@ -116,7 +118,8 @@ impl Centre {
     /// Answers one PDU. It takes memory for the answers and their bodies; where that is refused,
     /// the centre is unchanged.
     pub fn on_pdu(&mut self, pdu: &Pdu) -> Result<Vec<Pdu>, AllocError>
-        ensures ok { IfOk result (λ pdus. pdus.items ≡ answers (class_of pdu.now.command) self.old pdu.now) }
+        ensures ok { IfOk result (λ pdus. pdus.items
+            ≡ answers (class_of pdu.now.command) self.old pdu.now) }
         ensures after { OnOk result (self.new ≡ after (class_of pdu.now.command) self.old pdu.now) }
         ensures err { OnErr result (self.new ≡ self.old) }
     {
@@ -142,7 +145,8 @@ impl Centre {
         requires short { length destination.now ≤ 20 }
         requires plain { ¬ Contains destination.now 0 }
         ensures ok { IfOk result (λ p. p ≡ delivery (next self.old.deliveries) destination.now) }
-        ensures after { OnOk result (self.new ≡ record self.old { deliveries = next self.old.deliveries }) }
+        ensures after { OnOk result (self.new
+            ≡ record self.old { deliveries = next self.old.deliveries }) }
         ensures err { OnErr result (self.new ≡ self.old) }
     {
         let number = next(self.deliveries);

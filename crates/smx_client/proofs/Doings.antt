@@ -3,7 +3,7 @@ use Rattle.std.proofs.Common.{◌≡◌, ◌<◌, ℕ, List, [], ◌∷◌, ◌+
 use Rattle.std.proofs.lemmas.List.{append-nil}
 use Rattle.std.specs.declared.snapshot.Snapshot.{Snapshot}
 use Rattle.smx_pdu.specs.declared.pdu.Pdu.{Pdu}
-use Rattle.smx_pdu.specs.Answers.{undecoded}
+use Rattle.smx_pdu.specs.Answers.{nack_of_undecoded}
 use Rattle.smx_session.specs.ClientTable.{client_decides}
 use Rattle.smx_session.specs.declared.act.Act.{Act}
 use Rattle.smx_session.specs.declared.act.Act.TheVariants as act
@@ -57,7 +57,7 @@ module _ (d : Desk) (said said' : List Pdu) (s : ClientState) (w : Window) (i : 
     lanes = refl;
   }
 
-  pub broke : (p : PortView) (s' : ClientState) (a0 : Act) (a : Snapshot Act) → a.value ≡ a0 → a0 ≡ act.Hangup undecoded → s' ≡ Ended → said' ≡ said ++ act_out a0
+  pub broke : (p : PortView) (s' : ClientState) (a0 : Act) (a : Snapshot Act) → a.value ≡ a0 → a0 ≡ act.Hangup nack_of_undecoded → s' ≡ Ended → said' ≡ said ++ act_out a0
       → Does (parts d said p s w i x h) (Broke a) (parts d said' p s' w i x h)
   broke p s' a0 a chosen is ended says = record {
     says = says ∙ ap (λ o. said ++ act_out o) (sym chosen);

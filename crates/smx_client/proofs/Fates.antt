@@ -19,7 +19,7 @@ use Rattle.smx_shared.specs.Submits.{Submitted as Lands, Refuses}
 use Rattle.smx_shared.specs.declared.offer.Offer.{Offer}
 use Rattle.smx_shared.specs.declared.fault.SubmitFault.{SubmitFault}
 use Rattle.smx_routes.specs.declared.mo_window.Waiting.{Waiting}
-use Rattle.smx_routes.specs.Window.{Window, answered, without}
+use Rattle.smx_routes.specs.Window.{Window, message_for, without}
 use Rattle.smx_client.specs.declared.event.Fate.{Fate}
 use Rattle.smx_client.specs.declared.event.Fate.TheVariants.{Own}
 use Rattle.smx_client.specs.Events.{act_out, refusal_out}
@@ -66,14 +66,14 @@ pub own_out : (a b : Act) → b ≡ a → act_out a ≡ act_out b ++ []
 own_out a b chosen = sym (append-nil (act_out b) ∙ ap act_out chosen)
 
 settle_is : (p : Pdu) (found : Option (ℕ × ℕ)) (w u : Window)
-    → IfSome found (λ r. (row : Waiting) × (answered p.number p.command w.waiting ≡ Some row) × (r.0 ≡ row.lane) × (r.1 ≡ row.number) × (u ≡ record w { waiting = without p.number w.waiting }))
-    → IfNone found ((answered p.number p.command w.waiting ≡ None) × (u ≡ w)) → settle_step p found w u
+    → IfSome found (λ r. (row : Waiting) × (message_for p.number p.command w.waiting ≡ Some row) × (r.0 ≡ row.lane) × (r.1 ≡ row.number) × (u ≡ record w { waiting = without p.number w.waiting }))
+    → IfNone found ((message_for p.number p.command w.waiting ≡ None) × (u ≡ w)) → settle_step p found w u
 settle_is p (Some r) w u some none = some
 settle_is p None w u some none = none
 
 pub settle_window : (p q : Pdu) (found : Option (ℕ × ℕ)) (w u : Window) → q ≡ p
-    → IfSome found (λ r. (row : Waiting) × (answered p.number p.command w.waiting ≡ Some row) × (r.0 ≡ row.lane) × (r.1 ≡ row.number) × (u ≡ record w { waiting = without p.number w.waiting }))
-    → IfNone found ((answered p.number p.command w.waiting ≡ None) × (u ≡ w)) → settle_step q found w u
+    → IfSome found (λ r. (row : Waiting) × (message_for p.number p.command w.waiting ≡ Some row) × (r.0 ≡ row.lane) × (r.1 ≡ row.number) × (u ≡ record w { waiting = without p.number w.waiting }))
+    → IfNone found ((message_for p.number p.command w.waiting ≡ None) × (u ≡ w)) → settle_step q found w u
 settle_window p q found w u same some none = subst (λ x. settle_step x found w u) (sym same) (settle_is p found w u some none)
 
 -- of the PDU that waits

@@ -2,7 +2,7 @@
 use Rattle.std.specs.Prelude.{◌≡◌, ◌<◌, ◌++◌, length, ℕ, List, [], ◌∷◌, Option, Some, None, Result, Ok, Err}
 use Rattle.smx_pdu.specs.declared.pdu.Pdu.{Pdu}
 use Rattle.smx_session.specs.Login.{Login}
-use Rattle.smx_pdu.specs.Answers.{undecoded}
+use Rattle.smx_pdu.specs.Answers.{nack_of_undecoded}
 use Rattle.smx_session.specs.ClientTable.{client_decides}
 use Rattle.smx_session.specs.declared.act.Act.{Act}
 use Rattle.smx_session.specs.declared.act.Act.TheVariants as act
@@ -21,7 +21,7 @@ use Rattle.smx_box.specs.declared.receiver.Got.{Got}
 use Rattle.smx_box.specs.declared.receiver.Got.TheVariants.{Item, Shut, Empty}
 use Rattle.smx_routes.specs.declared.mo_window.Waiting.{Waiting}
 use Rattle.smx_box.specs.Boxes.{Sending, Receiving, GetServes, Hands}
-use Rattle.smx_routes.specs.Window.{Window, IsNext, answered, without}
+use Rattle.smx_routes.specs.Window.{Window, IsNext, message_for, without}
 use Rattle.smx_turns.specs.Runs.{Runs}
 use Rattle.smx_turns.specs.declared.mo_item.MoItem.{MoItem}
 use Rattle.smx_client.specs.declared.desk.Desk.{Desk}
@@ -75,15 +75,15 @@ Suits _ _ = ⊥
 -- the session's table
 abbrev pub session_step : List Login → ClientState → Event → ClientState → Type 0
 session_step accounts s (Decided p a f) t = ((a.value, t) ≡ client_decides accounts s p.value) × Suits a.value f
-session_step accounts s (Broke a) t = (a.value ≡ act.Hangup undecoded) × (t ≡ Ended)
+session_step accounts s (Broke a) t = (a.value ≡ act.Hangup nack_of_undecoded) × (t ≡ Ended)
 session_step accounts s (Collected k r) t = t ≡ s
 session_step accounts s (Fetched g d) t = t ≡ s
 session_step accounts s (PutAgain lane reply) t = t ≡ s
 
 -- the message that a response answers leaves the window, where there is one
 abbrev pub settle_step : Pdu → Option (ℕ × ℕ) → Window → Window → Type 0
-settle_step p None w u = (answered p.number p.command w.waiting ≡ None) × (u ≡ w)
-settle_step p (Some found) w u = (row : Waiting) × (answered p.number p.command w.waiting ≡ Some row) × (found.0 ≡ row.lane) × (found.1 ≡ row.number)
+settle_step p None w u = (message_for p.number p.command w.waiting ≡ None) × (u ≡ w)
+settle_step p (Some found) w u = (row : Waiting) × (message_for p.number p.command w.waiting ≡ Some row) × (found.0 ≡ row.lane) × (found.1 ≡ row.number)
     × (u ≡ record w { waiting = without p.number w.waiting })
 
 abbrev pub fate_window : Pdu → Fate → Window → Window → Type 0

@@ -70,9 +70,12 @@ fn read_prefix(
     before: &[String],
     value: &Value,
 ) -> Result<Option<String>, AllocError>
-    ensures value { IfOk result (λ r. option_map string_bytes r ≡ prefix_of (map string_bytes before.now) (view value.now)) }
-    ensures short { IfOk result (λ r. IfSome r (λ p. IsTrue (is_text text.Prefix (string_bytes p)))) }
-    ensures new { IfOk result (λ r. IfSome r (λ p. All (λ q. q ≢ string_bytes p) (map string_bytes before.now))) }
+    ensures value { IfOk result (λ r. option_map string_bytes r
+        ≡ prefix_of (map string_bytes before.now) (view value.now)) }
+    ensures short { IfOk result (λ r. IfSome r
+        (λ p. IsTrue (is_text text.Prefix (string_bytes p)))) }
+    ensures new { IfOk result (λ r. IfSome r
+        (λ p. All (λ q. q ≢ string_bytes p) (map string_bytes before.now))) }
 {
     let Some(prefix) = Text::Prefix.of(value) else {
         return Ok(None);
@@ -86,7 +89,8 @@ fn read_prefix(
 
 // The prefixes that values state.
 fn read_prefixes(alloc: Global, values: &[Value]) -> Result<Option<Vec<String>>, AllocError>
-    ensures value { IfOk result (λ r. option_map (λ list. map string_bytes list.items) r ≡ prefixes_of (items_view values.now)) }
+    ensures value { IfOk result (λ r. option_map (λ list. map string_bytes list.items) r
+        ≡ prefixes_of (items_view values.now)) }
     ensures kept { IfOk result (λ r. IfSome r (λ list. ArePrefixes (map string_bytes list.items))) }
 {
     if values.len() > MAX_PREFIXES {
@@ -104,7 +108,8 @@ fn read_prefixes(alloc: Global, values: &[Value]) -> Result<Option<Vec<String>>,
 
 // The prefixes of an account, of which it may have none.
 fn prefixes_within(alloc: Global, value: &Value) -> Result<Option<Vec<String>>, AllocError>
-    ensures value { IfOk result (λ r. option_map (λ list. map string_bytes list.items) r ≡ prefixes_in (view value.now)) }
+    ensures value { IfOk result (λ r. option_map (λ list. map string_bytes list.items) r
+        ≡ prefixes_in (view value.now)) }
     ensures kept { IfOk result (λ r. IfSome r (λ list. ArePrefixes (map string_bytes list.items))) }
 {
     match value.get(Text::Prefix.key()) {
@@ -123,7 +128,8 @@ fn read_account(
     value: &Value,
 ) -> Result<Option<Account>, AllocError>
     ensures value { IfOk result (λ a. a ≡ account_of before.now (view value.now)) }
-    ensures new { IfOk result (λ r. IfSome r (λ a. All (λ b. b.system_id ≢ a.system_id) before.now)) }
+    ensures new { IfOk result (λ r. IfSome r
+        (λ a. All (λ b. b.system_id ≢ a.system_id) before.now)) }
 {
     let Some(system_id) = Text::SystemId.within(value) else {
         return Ok(None);
@@ -148,10 +154,13 @@ fn read_account(
 
 /// The accounts that values state, or the first that states none.
 pub(crate) fn read_accounts(alloc: Global, values: &[Value]) -> Result<Vec<Account>, ConfigFault>
-    ensures value { MatchResult result (λ list. accounts_of (items_view values.now) ≡ Ok list.items) (λ e. (e ≡ ConfigFault.NoMemory) ⊎ (accounts_of (items_view values.now) ≡ Err e)) }
+    ensures value { MatchResult result (λ list. accounts_of (items_view values.now)
+        ≡ Ok list.items) (λ e. (e ≡ ConfigFault.NoMemory)
+        ⊎ (accounts_of (items_view values.now) ≡ Err e)) }
     ensures fault { IfErr result (λ e. e ≢ ConfigFault.NotToml) }
     ensures count { IfOk result (λ list. length list.items ≡ length values.now) }
-    ensures distinct { IfOk result (λ list. AllPairs (λ a b. a.system_id ≢ b.system_id) list.items) }
+    ensures distinct { IfOk result (λ list. AllPairs
+        (λ a b. a.system_id ≢ b.system_id) list.items) }
 {
     let mut list = Vec::new(alloc);
     for value in values {

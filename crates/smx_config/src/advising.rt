@@ -245,7 +245,8 @@ fn words_on(alloc: Global, text: &str, fault: ConfigFault) -> Result<String, All
 /// Says of the fault of a text which key is at fault, what its limit is and what would be right, in
 /// one sentence. Of its words no clause says more than the place with which they begin.
 pub fn advice(alloc: Global, text: &str, fault: ConfigFault) -> Result<String, AllocError>
-    ensures place { IfOk result (λ advice. (words : List ℕ) × (string_bytes advice ≡ place_of fault ++ words)) }
+    ensures place { IfOk result (λ advice. (words : List ℕ)
+        × (string_bytes advice ≡ place_of fault ++ words)) }
 {
     let mut advice = place(alloc, fault)?;
     let words = words_on(alloc, text, fault)?;

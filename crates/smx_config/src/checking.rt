@@ -79,8 +79,10 @@ pub fn check<W: Write>(alloc: Global, text: &str, writer: &mut W) -> Result<bool
 /// Writes the line of a file that has no text to check: `fault file`, or `fault NoMemory` where
 /// memory was refused.
 pub fn reject<W: Write>(fault: FileFault, writer: &mut W) -> Result<(), WriteFault>
-    ensures ok { OnOk result (Appends (W.contents writer.old) (W.contents writer.new) (file_line fault)) }
-    ensures err { OnErr result ((front back : List ℕ) × (file_line fault ≡ front ++ back) × Appends (W.contents writer.old) (W.contents writer.new) front) }
+    ensures ok { OnOk result (Appends (W.contents writer.old) (W.contents writer.new)
+        (file_line fault)) }
+    ensures err { OnErr result ((front back : List ℕ) × (file_line fault ≡ front ++ back)
+        × Appends (W.contents writer.old) (W.contents writer.new) front) }
 {
     let line = match fault {
         FileFault::Failed | FileFault::TooLong | FileFault::NotUtf8 => "fault file\n",

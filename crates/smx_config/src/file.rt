@@ -29,7 +29,8 @@ pub enum FileFault {
 
 /// The text that a reader has.
 pub fn read_text<R: Read>(alloc: Global, reader: &mut R) -> Result<String, FileFault>
-    ensures ok { IfOk result (λ text. IfSome (R.remaining reader.old) (λ file. string_bytes text ≡ file)) }
+    ensures ok { IfOk result (λ text. IfSome (R.remaining reader.old)
+        (λ file. string_bytes text ≡ file)) }
     ensures short { IfOk result (λ text. length (string_bytes text) ≤ 1048576) }
     ensures too_long { IsErrOf result FileFault.TooLong
         → IfSome (R.remaining reader.old) (λ file. 1048576 < length file) }

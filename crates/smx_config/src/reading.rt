@@ -65,7 +65,8 @@ fn limits(alloc: Global, table: &Table) -> Option<Limits>
 }
 
 fn read_table(alloc: Global, table: &Table) -> Result<Config, ConfigFault>
-    ensures value { MatchResult result (λ c. config_of (table_view table.now) ≡ Ok c) (λ e. (e ≡ ConfigFault.NoMemory) ⊎ (config_of (table_view table.now) ≡ Err e)) }
+    ensures value { MatchResult result (λ c. config_of (table_view table.now) ≡ Ok c)
+        (λ e. (e ≡ ConfigFault.NoMemory) ⊎ (config_of (table_view table.now) ≡ Err e)) }
     ensures fault { IfErr result (λ e. e ≢ ConfigFault.NotToml) }
 {
     let Some(listen) = Text::Listen.at(table) else {

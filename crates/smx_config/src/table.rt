@@ -26,7 +26,8 @@ fn are_tables(values: &[Value]) -> bool
 
 // Whether values are tables, at least one and at most so many.
 fn is_table_list(values: &[Value], most: usize) -> bool
-    ensures { result ≡ ((nat_le 1 (length values.now) && nat_le (length values.now) most) && are_tables (items_view values.now)) }
+    ensures { result ≡ ((nat_le 1 (length values.now) && nat_le
+        (length values.now) most) && are_tables (items_view values.now)) }
 {
     1 <= values.len() && values.len() <= most && are_tables(values)
 }
@@ -34,7 +35,8 @@ fn is_table_list(values: &[Value], most: usize) -> bool
 /// The tables of the list at a key, at least one and at most so many.
 #[tactic(auto, using(crate::proofs::Items::tables_of_view))]
 pub(crate) fn tables_at<'a>(table: &'a Table, key: &str, most: usize) -> Option<&'a [Value]>
-    ensures value { option_map (λ vs. items_view vs.now) result ≡ tables_at key.now most (table_view table.now) }
+    ensures value { option_map (λ vs. items_view vs.now) result
+        ≡ tables_at key.now most (table_view table.now) }
     ensures kept { IfSome result (λ vs. (1 ≤ length vs.now) × (length vs.now ≤ most)) }
 {
     let values = match find(table, key) {

@@ -64,7 +64,9 @@ fn read_upstream(alloc: Global, value: &Value) -> Result<Option<Upstream>, Alloc
 
 /// The upstreams that values state, or the first that states none.
 pub(crate) fn read_upstreams(alloc: Global, values: &[Value]) -> Result<Vec<Upstream>, ConfigFault>
-    ensures value { MatchResult result (λ list. upstreams_of (items_view values.now) ≡ Ok list.items) (λ e. (e ≡ ConfigFault.NoMemory) ⊎ (upstreams_of (items_view values.now) ≡ Err e)) }
+    ensures value { MatchResult result (λ list. upstreams_of (items_view values.now)
+        ≡ Ok list.items) (λ e. (e ≡ ConfigFault.NoMemory)
+        ⊎ (upstreams_of (items_view values.now) ≡ Err e)) }
     ensures fault { IfErr result (λ e. e ≢ ConfigFault.NotToml) }
     ensures count { IfOk result (λ list. length list.items ≡ length values.now) }
 {

@@ -81,10 +81,12 @@ impl Framer {
     /// Takes the next piece of the stream. The fault is that which [`Framer::next_pdu`] has
     /// answered, or `NoMemory`.
     pub fn feed(&mut self, piece: &[u8]) -> Result<(), FrameFault>
-        ensures ok { OnOk result (self.new.stream ≡ record self.old.stream { rest = self.old.stream.rest ++ piece.now; failed = None }) }
+        ensures ok { OnOk result (self.new.stream
+            ≡ record self.old.stream { rest = self.old.stream.rest ++ piece.now; failed = None }) }
         ensures err { OnErr result (self.new.stream ≡ self.old.stream) }
         ensures failed { (e : FrameFault) → self.old.stream.failed ≡ Some e → result ≡ Err e }
-        ensures only { IfErr result (λ e. (e ≡ FrameFault.NoMemory) ⊎ (self.old.stream.failed ≡ Some e)) }
+        ensures only { IfErr result (λ e. (e ≡ FrameFault.NoMemory)
+            ⊎ (self.old.stream.failed ≡ Some e)) }
 
         // Memory is wanted only where there is no room, which a PDU handed out leaves as it was.
         ensures memory { IsErrOf result FrameFault.NoMemory → self.old.room < length piece.now }
@@ -110,8 +112,10 @@ impl Framer {
             × (fault_at self.old.stream.max self.old.stream.rest ≡ None) × (self.new ≡ self.old) }
         ensures faults { (e : FrameFault) → fault_at self.old.stream.max self.old.stream.rest ≡ Some e → (result ≡ Err e)
             × (self.new.stream ≡ record self.old.stream { failed = Some e }) }
-        ensures only { IfErr result (λ e. (e ≡ FrameFault.NoMemory) ⊎ (fault_at self.old.stream.max self.old.stream.rest ≡ Some e)) }
-        ensures memory { IsErrOf result FrameFault.NoMemory → BeginsFrame self.old.stream.max self.old.stream.rest × (self.new ≡ self.old) }
+        ensures only { IfErr result (λ e. (e ≡ FrameFault.NoMemory)
+            ⊎ (fault_at self.old.stream.max self.old.stream.rest ≡ Some e)) }
+        ensures memory { IsErrOf result FrameFault.NoMemory
+            → BeginsFrame self.old.stream.max self.old.stream.rest × (self.new ≡ self.old) }
         ensures room { self.new.room ≡ self.old.room }
     {
         match front_of(self.rest(), self.max) {

@@ -11,7 +11,7 @@ use Rattle.smx_history.specs.declared.request.Request.{Request}
 use Rattle.smx_history.specs.declared.note.Note.{Note}
 use Rattle.smx_history.specs.Prefixes.{last_or}
 use Rattle.smx_history.specs.Entries.{accepts, takes, accepts_of, collects_of, is_admitted}
-use Rattle.smx_history.specs.Legal.{IsFifo, KeepsRules, owed}
+use Rattle.smx_history.specs.Legal.{IsFifo, KeepsRules, owed_count}
 use Rattle.smx_history.specs.History.{entry_by, note, marks_of, entries_of, requests, request_in}
 use Rattle.smx_history.specs.Contents.{AgreesWith, Content, Member, member_after}
 use Rattle.smx_history.specs.Replies.{member_with}
@@ -27,7 +27,7 @@ use Rattle.smx_history.proofs.Growing.{AtEachPrefix-whole, last_or-push}
 use Rattle.smx_history.proofs.Frames.{unanswered-other, collects_of-other, admits-other, takes-other, present-other, waiting-other, is_up-other}
 
 -- what is owed grows by three for a request that is queued
-owed-accepted : (es : List Entry) (by : ℕ) (r : Request) → length (takes es) ≤ length (accepts es) → owed (es ++ entry_by by (Accept r) ∷ []) ≡ owed es + 3
+owed-accepted : (es : List Entry) (by : ℕ) (r : Request) → length (takes es) ≤ length (accepts es) → owed_count (es ++ entry_by by (Accept r) ∷ []) ≡ owed_count es + 3
 owed-accepted es by r le =
     let e = entry_by by (Accept r) in
     rw (unanswered-other es e refl refl, waiting-other es e refl refl refl refl, present-other es e refl refl, accepted_push es e refl, takes-other es e refl, is_up-other es e refl)

@@ -16,7 +16,7 @@ use Rattle.smx_history.specs.Prefixes.{AtEach}
 use Rattle.smx_history.specs.Entries.{is_accept, is_collect, is_link, answers_of, collects_of, own_of}
 use Rattle.smx_history.specs.Legal.{IsFifo, IsPaired}
 use Rattle.smx_history.specs.History.{entry_by, entry_in, note, entries_of, responses, response_in, request_in}
-use Rattle.smx_history.specs.Contents.{AgreesWith, IsAfter, Content, Member, shown, member_after, members_after}
+use Rattle.smx_history.specs.Contents.{AgreesWith, IsAfter, Content, Member, as_shown, member_after, members_after}
 use Rattle.smx_history.proofs.Room.{KeepsRoom}
 use Rattle.smx_history.specs.Replies.{member_with}
 use Rattle.smx_history.proofs.Updates.{settled, settled_late, answered, response_for, with_row}
@@ -42,17 +42,17 @@ row-settled h n e p q a entry accept collect brings fifo paired place same =
     let le : k ≤ length (answers_of a.client es) =
     let l = StartsWith-length (map (λ x. x.ordinal) (answers_of a.client es)) (map (λ x. x.ordinal) (collects_of a.client es)) (fifo.collected a.client) in
     omega (arith, l, length-map (answers_of a.client es) (λ x. x.ordinal), length-map (collects_of a.client es) (λ x. x.ordinal)) in
-    let old = map (shown es a.client) (responses a.client h) in
-    let long : length old ≡ length (answers_of a.client es) = length-map (responses a.client h) (shown es a.client) ∙ length-responses a.client h in
+    let old = map (as_shown es a.client) (responses a.client h) in
+    let long : length old ≡ length (answers_of a.client es) = length-map (responses a.client h) (as_shown es a.client) ∙ length-responses a.client h in
     let came : responses a.client (h ++ n ∷ []) ≡ responses a.client h ++ record { ordinal = q.ordinal; pdu = p } ∷ [] =
     ap (λ c. responses c (h ++ n ∷ [])) (sym of) ∙ responses-push q.client h n (record { ordinal = q.ordinal; pdu = p }) brings ∙ ap (λ c. responses c h ++ record { ordinal = q.ordinal; pdu = p } ∷ []) of in
     let own : own_of a.client q.ordinal (es ++ e ∷ []) ≡ q.own =
     ap (λ c. own_of c q.ordinal (es ++ e ∷ [])) (sym of) ∙ own_of-kept q.client q.ordinal es (e ∷ []) place.accepted ∙ place.own in
     let see : ℕ → Response = λ k. record { ordinal = q.ordinal; pdu = record { command = p.command; status = p.status; number = k; body = p.body } } in
-    let last : shown (es ++ e ∷ []) a.client (record { ordinal = q.ordinal; pdu = p }) ≡ response_for q p = ap see own in
-    let all : map (shown (es ++ e ∷ []) a.client) (responses a.client h ++ record { ordinal = q.ordinal; pdu = p } ∷ []) ≡ old ++ response_for q p ∷ [] =
-    map-append (shown (es ++ e ∷ []) a.client) (responses a.client h) (record { ordinal = q.ordinal; pdu = p } ∷ [])
-    ∙ ap (λ xs. xs ++ shown (es ++ e ∷ []) a.client (record { ordinal = q.ordinal; pdu = p }) ∷ []) (shown-kept a.client h (e ∷ []) paired)
+    let last : as_shown (es ++ e ∷ []) a.client (record { ordinal = q.ordinal; pdu = p }) ≡ response_for q p = ap see own in
+    let all : map (as_shown (es ++ e ∷ []) a.client) (responses a.client h ++ record { ordinal = q.ordinal; pdu = p } ∷ []) ≡ old ++ response_for q p ∷ [] =
+    map-append (as_shown (es ++ e ∷ []) a.client) (responses a.client h) (record { ordinal = q.ordinal; pdu = p } ∷ [])
+    ∙ ap (λ xs. xs ++ as_shown (es ++ e ∷ []) a.client (record { ordinal = q.ordinal; pdu = p }) ∷ []) (shown-kept a.client h (e ∷ []) paired)
     ∙ ap (λ x. old ++ x ∷ []) last in
     rw (entries_of-push h n e entry, accepts_of-other a.client es e accept, collects_of-other a.client es e collect, came, all, drop-append-le k old (response_for q p ∷ []) (omega (arith, le, long))) refl
 

@@ -10,7 +10,7 @@ use Rattle.smx_history.specs.Prefixes.{AtEach}
 use Rattle.smx_history.specs.Entries.{is_admitted, is_collect, answers_of, collects_of}
 use Rattle.smx_history.specs.Legal.{IsFifo, IsPaired, IsServed}
 use Rattle.smx_history.specs.History.{entry_by, note, entries_of, responses}
-use Rattle.smx_history.specs.Contents.{AgreesWith, IsAfter, Content, Member, shown, member_after, members_after}
+use Rattle.smx_history.specs.Contents.{AgreesWith, IsAfter, Content, Member, as_shown, member_after, members_after}
 use Rattle.smx_history.proofs.Room.{KeepsRoom}
 use Rattle.smx_history.specs.Replies.{member_with}
 use Rattle.smx_history.proofs.Updates.{collected, with_row}
@@ -31,13 +31,13 @@ drop_more k xs = rw add-one (drop_suc k xs)
     drop_suc (suc k) (x ∷ xs) = drop_suc k xs
 
 -- the ordinals of what waits are those of the answers that were not collected
-ordinals_next : (h : List Note) (c : ℕ) (r : Response) (rest : List Response) → r ∷ rest ≡ drop (length (collects_of c (entries_of h))) (map (shown (entries_of h) c) (responses c h)) → drop (length (collects_of c (entries_of h))) (map (λ e. e.ordinal) (answers_of c (entries_of h))) ≡ r.ordinal ∷ map (λ (x : Response). x.ordinal) rest
+ordinals_next : (h : List Note) (c : ℕ) (r : Response) (rest : List Response) → r ∷ rest ≡ drop (length (collects_of c (entries_of h))) (map (as_shown (entries_of h) c) (responses c h)) → drop (length (collects_of c (entries_of h))) (map (λ e. e.ordinal) (answers_of c (entries_of h))) ≡ r.ordinal ∷ map (λ (x : Response). x.ordinal) rest
 ordinals_next h c r rest w =
     let k = length (collects_of c (entries_of h)) in
     ap (drop k) (sym (responses_are_answers c h) ∙ sym (ordinals_shown (entries_of h) c (responses c h)))
-    ∙ drop-map (λ (x : Response). x.ordinal) k (map (shown (entries_of h) c) (responses c h)) ∙ ap (map (λ (x : Response). x.ordinal)) (sym w)
+    ∙ drop-map (λ (x : Response). x.ordinal) k (map (as_shown (entries_of h) c) (responses c h)) ∙ ap (map (λ (x : Response). x.ordinal)) (sym w)
   where
-    ordinals_shown : (es : List Entry) (c : ℕ) (rs : List Response) → map (λ (x : Response). x.ordinal) (map (shown es c) rs) ≡ map (λ x. x.ordinal) rs
+    ordinals_shown : (es : List Entry) (c : ℕ) (rs : List Response) → map (λ (x : Response). x.ordinal) (map (as_shown es c) rs) ≡ map (λ x. x.ordinal) rs
     ordinals_shown es c [] = refl
     ordinals_shown es c (x ∷ rs) = ap (λ ns. x.ordinal ∷ ns) (ordinals_shown es c rs)
 
@@ -55,7 +55,7 @@ row-collected h by c n a paired same =
     let pending : (member_after (h ++ x ∷ []) a).pending ≡ (member_after h a).pending - 1 =
     rw (entries_of-push h x e refl, accepts_of-other a.client es e refl) (omega (arith, count)) in
     let waiting : (member_after (h ++ x ∷ []) a).waiting ≡ drop 1 (member_after h a).waiting =
-    rw (entries_of-push h x e refl, count, responses-other a.client h x refl, shown-kept a.client h (e ∷ []) paired) (sym (drop_more k (map (shown es a.client) (responses a.client h)))) in
+    rw (entries_of-push h x e refl, count, responses-other a.client h x refl, shown-kept a.client h (e ∷ []) paired) (sym (drop_more k (map (as_shown es a.client) (responses a.client h)))) in
     λ i. record { client = a.client; by = a.by; last = sym last i; pending = sym pending i; waiting = sym waiting i }
 
 pub rows_collected : (h : List Note) (v : Content) (by c n : ℕ) → AgreesWith h v → with_row c (λ x. record x { pending = x.pending - 1; waiting = drop 1 x.waiting }) v.members ≡ members_after (h ++ note by (Collect c n) ∷ [])

@@ -13,7 +13,7 @@ use Rattle.smx_history.specs.declared.note.Note.{Note}
 use Rattle.smx_history.specs.declared.note.Event.TheVariants.{Collect, Take}
 use Rattle.smx_history.specs.declared.place.Place.{Place}
 use Rattle.smx_history.specs.Prefixes.{SameCounts}
-use Rattle.smx_history.specs.Entries.{is_take, has_name, present, unanswered, numbers}
+use Rattle.smx_history.specs.Entries.{is_take, has_name, present, unanswered_takes, numbers}
 use Rattle.smx_history.specs.Numbers.{AreSpaced, recent}
 use Rattle.smx_history.specs.Legal.{AreApart, IsLegal, KeepsRules, IsPaired}
 use Rattle.smx_history.specs.History.{entries_of, entry_by, note, marks_of}
@@ -147,7 +147,7 @@ few_numbers n (e ∷ us) h = at (e.number == n) refl (few_numbers n us h.1)
 
 few_places : (h : List Note) (v : Content) (n : ℕ) → AgreesWith h v → count_by (λ (q : Place). q.upstream == n) (window_after h) ≤ 1
 few_places h v n a =
-    omega (arith, count_by-map (λ (q : Place). q.upstream == n) (place_of h) (unanswered (entries_of h)), few_numbers n (unanswered (entries_of h)) (AtEachPrefix-whole AreApart (entries_of h) a.legal.rules.apart))
+    omega (arith, count_by-map (λ (q : Place). q.upstream == n) (place_of h) (unanswered_takes (entries_of h)), few_numbers n (unanswered_takes (entries_of h)) (AtEachPrefix-whole AreApart (entries_of h) a.legal.rules.apart))
 
 -- of the same places, one at most, the first is the same
 first_same : (xs ys : List Place) → SameCounts xs ys → length xs ≤ 1 → slice_get ys 0 ≡ slice_get xs 0
@@ -239,8 +239,8 @@ taken_free h new by c n u t before a =
     let none = count_none_any named es (omega (arith, legal.once.takes c n, count_by-push named es e, one)) in
     let unsettled = not_settled c n es before.rules.pairing (none_taken (λ x. is_take x.kind) (has_name c n) es none) in
     let grown = unanswered_taken es e refl unsettled in
-    let apart = last_apart (unanswered es) e (subst (λ xs. IsDistinct nat_eq (map (λ x. x.number) xs)) grown (AtEachPrefix-whole AreApart (es ++ e ∷ []) legal.apart)) in
+    let apart = last_apart (unanswered_takes es) e (subst (λ xs. IsDistinct nat_eq (map (λ x. x.number) xs)) grown (AtEachPrefix-whole AreApart (es ++ e ∷ []) legal.apart)) in
     let range = AtEach-last (λ earlier x. IsPaired x.kind earlier x) es e legal.pairing in
-    let free : list_any (λ p. p.upstream == u) (window_after h) ≡ false = any-map (λ (p : Place). p.upstream == u) (place_of h) (unanswered es) ∙ apart in
+    let free : list_any (λ p. p.upstream == u) (window_after h) ≡ false = any-map (λ (p : Place). p.upstream == u) (place_of h) (unanswered_takes es) ∙ apart in
     let spaced = spaced_free (numbers es) u (subst (λ ns. AreSpaced ns) (numbers_push es e refl) legal.spaced) in
     record { above = λ _. range.0; below = λ _. range.1; unused = λ _. free; spaced = λ _. spaced }

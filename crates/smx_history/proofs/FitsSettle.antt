@@ -8,7 +8,7 @@ use Rattle.smx_history.specs.declared.entry.Entry.{Entry}
 use Rattle.smx_history.specs.declared.entry.Kind.{Kind}
 use Rattle.smx_history.specs.declared.entry.Kind.TheVariants as kind
 use Rattle.smx_history.specs.declared.limits.Limits.{Limits}
-use Rattle.smx_history.specs.Entries.{is_admit, is_accept, is_take, is_answer, is_collect, is_retire, is_settling, has_name, takes, answers_of, collects_of, is_retired, is_settled, unanswered, command_of, numbers}
+use Rattle.smx_history.specs.Entries.{is_admit, is_accept, is_take, is_answer, is_collect, is_retire, is_settling, has_name, takes, answers_of, collects_of, is_retired, is_settled, unanswered_takes, command_of, numbers}
 use Rattle.smx_history.specs.Numbers.{AreSpaced}
 use Rattle.smx_history.specs.Failures.{failure_command}
 use Rattle.smx_history.specs.Legal.{KeepsRules, IsFifo, IsOnce, AreApart, IsBounded, Answers}
@@ -39,7 +39,7 @@ pub settles_fail : (k : Kind) → k ≡ kind.Fail → Settles k
 settles_fail k is = record { settling = ap is_settling is; admit = ap is_admit is; accept = ap is_accept is; take = ap is_take is; collect = ap is_collect is; retire = ap is_retire is }
 
 -- the takes without an answer are those that were, without that of the name
-pub unanswered_settled : (es : List Entry) (e : Entry) → Settles e.kind → unanswered (es ++ e ∷ []) ≡ filter (λ t. not (has_name e.client e.ordinal t)) (unanswered es)
+pub unanswered_settled : (es : List Entry) (e : Entry) → Settles e.kind → unanswered_takes (es ++ e ∷ []) ≡ filter (λ t. not (has_name e.client e.ordinal t)) (unanswered_takes es)
 unanswered_settled es e s =
     ap (filter (λ x. not (is_settled x.client x.ordinal (es ++ e ∷ [])))) (takes-other es e s.take)
     ∙ filter_agree (λ x. not (is_settled x.client x.ordinal (es ++ e ∷ []))) (λ x. not (is_settled x.client x.ordinal es) && not (has_name e.client e.ordinal x))
@@ -96,11 +96,11 @@ settle_but limits es e legal s p =
         takes = takes_kept es e s.take legal.once;
         settlings = settles_once es e s p.first legal.once;
       };
-      apart = rw gone (apart-filter (λ t. not (has_name e.client e.ordinal t)) (unanswered es) (AtEachPrefix-whole AreApart es legal.apart));
+      apart = rw gone (apart-filter (λ t. not (has_name e.client e.ordinal t)) (unanswered_takes es) (AtEachPrefix-whole AreApart es legal.apart));
       spaced = spaced_kept es e s.take legal.spaced;
       bounds = record {
         queue = rw (accepts-other es e s.accept, takes-other es e s.take) was.queue;
-        window = rw gone (let l = length_part (λ (t : Entry). not (has_name e.client e.ordinal t)) (unanswered es) in omega (arith, l, was.window));
+        window = rw gone (let l = length_part (λ (t : Entry). not (has_name e.client e.ordinal t)) (unanswered_takes es) in omega (arith, l, was.window));
         client = λ c stays. rw (accepts_of-other c es e s.accept, collects_of-other c es e s.collect) (was.client c (sym (is_retired-other c es e s.retire) ∙ stays));
       };
     }

@@ -8,7 +8,7 @@ use Rattle.smx_history.specs.declared.entry.Entry.{Entry}
 use Rattle.smx_history.specs.declared.entry.Kind.TheVariants as kind
 use Rattle.smx_history.specs.declared.limits.Limits.{Limits}
 use Rattle.smx_history.specs.Prefixes.{AtEach}
-use Rattle.smx_history.specs.Entries.{is_admit, is_accept, is_take, is_answer, is_collect, is_retire, is_settling, name_of, has_name, accepts, takes, is_settled, unanswered, is_up, numbers}
+use Rattle.smx_history.specs.Entries.{is_admit, is_accept, is_take, is_answer, is_collect, is_retire, is_settling, name_of, has_name, accepts, takes, is_settled, unanswered_takes, is_up, numbers}
 use Rattle.smx_history.specs.Numbers.{AreSpaced}
 use Rattle.smx_history.specs.Legal.{KeepsRules, IsFifo, AreApart, IsBounded, IsPaired}
 use Rattle.smx_history.proofs.Fitting.{Fits, is_taken}
@@ -40,7 +40,7 @@ takes_push es e k = filter_push (λ x. is_take x.kind) es e (ap is_take k)
 pub numbers_push : (es : List Entry) (e : Entry) → e.kind ≡ kind.Take → numbers (es ++ e ∷ []) ≡ numbers es ++ e.number ∷ []
 numbers_push es e k = ap (map (λ (t : Entry). t.number)) (takes_push es e k) ∙ map-append (λ t. t.number) (takes es) (e ∷ [])
 
-pub unanswered_taken : (es : List Entry) (e : Entry) → e.kind ≡ kind.Take → is_settled e.client e.ordinal es ≡ false → unanswered (es ++ e ∷ []) ≡ unanswered es ++ e ∷ []
+pub unanswered_taken : (es : List Entry) (e : Entry) → e.kind ≡ kind.Take → is_settled e.client e.ordinal es ≡ false → unanswered_takes (es ++ e ∷ []) ≡ unanswered_takes es ++ e ∷ []
 unanswered_taken es e k none =
     ap (filter (λ x. not (is_settled x.client x.ordinal (es ++ e ∷ [])))) (takes_push es e k)
     ∙ filter_agree (λ x. not (is_settled x.client x.ordinal (es ++ e ∷ []))) (λ x. not (is_settled x.client x.ordinal es)) (λ x. ap not (is_settled-other x.client x.ordinal es e (ap is_settling k))) (takes es ++ e ∷ [])
@@ -53,8 +53,8 @@ pub record MayTake (limits : Limits) (es : List Entry) (e : Entry) : Type 0 wher
   pub within : e.number ≤ 2147483644
   pub next : slice_get (map name_of (accepts es)) (length (map name_of (takes es))) ≡ Some (name_of e)
   pub first : is_taken e.client e.ordinal es ≡ false
-  pub free : count_by (λ x. x.number == e.number) (unanswered es) ≡ 0
-  pub window : length (unanswered es) < limits.window
+  pub free : count_by (λ x. x.number == e.number) (unanswered_takes es) ≡ 0
+  pub window : length (unanswered_takes es) < limits.window
   pub up : is_up es ≡ true
   pub spaced : AreSpaced (numbers es ++ e.number ∷ [])
 
@@ -90,12 +90,12 @@ take_fit limits es e legal k p =
       membership = membership_kept es e (ap is_admit k) (ap is_retire k) legal.membership;
       standing = StandsWell-by es e kind.Take k p.up;
       pairing = IsPaired-by es e kind.Take k (p.positive, p.within);
-      apart = rw (push, map-append (λ x. x.number) (unanswered es) (e ∷ []))
-          (IsDistinct-push (map (λ x. x.number) (unanswered es)) e.number (AtEachPrefix-whole AreApart es legal.apart) (none_numbered e.number (unanswered es) p.free));
+      apart = rw (push, map-append (λ x. x.number) (unanswered_takes es) (e ∷ []))
+          (IsDistinct-push (map (λ x. x.number) (unanswered_takes es)) e.number (AtEachPrefix-whole AreApart es legal.apart) (none_numbered e.number (unanswered_takes es) p.free));
       spaced = subst (λ ns. AreSpaced ns) (sym (numbers_push es e k)) p.spaced;
       bounds = record {
         queue = rw (accepts-other es e (ap is_accept k), takes_push es e k) (omega (arith, length-append (takes es) (e ∷ []), was.queue));
-        window = rw push (omega (arith, length-append (unanswered es) (e ∷ []), p.window));
+        window = rw push (omega (arith, length-append (unanswered_takes es) (e ∷ []), p.window));
         client = λ c gone. rw (accepts_of-other c es e (ap is_accept k), collects_of-other c es e (ap is_collect k)) (was.client c (sym (is_retired-other c es e (ap is_retire k)) ∙ gone));
       };
     }

@@ -5,7 +5,7 @@ use Rattle.std.proofs.lemmas.List.{map-append}
 use Rattle.std.proofs.Common.{true, map, ◌≡◌, ◌-◌, ◌==◌, ℕ, false, not, ◌&&◌, List, [], ◌∷◌, ◌++◌, length, ◌∙◌, ap, filter, sum_by}
 use Rattle.std.proofs.lemmas.List.Elements.{filter_agree}
 use Rattle.smx_history.specs.declared.entry.Entry.{Entry}
-use Rattle.smx_history.specs.Entries.{is_admit, is_accept, is_take, is_answer, is_collect, is_retire, is_settling, has_name, admits, accepts, takes, accepts_of, answers_of, collects_of, is_retired, unanswered, is_settled, present, is_link, is_rise, is_up, numbers}
+use Rattle.smx_history.specs.Entries.{is_admit, is_accept, is_take, is_answer, is_collect, is_retire, is_settling, has_name, admits, accepts, takes, accepts_of, answers_of, collects_of, is_retired, unanswered_takes, is_settled, present, is_link, is_rise, is_up, numbers}
 use Rattle.smx_history.specs.Prefixes.{last_or}
 use Rattle.smx_history.specs.Legal.{waiting}
 
@@ -36,7 +36,7 @@ numbers-other es e k = ap (map (λ (t : Entry). t.number)) (takes-other es e k)
 pub accepts-other : (es : List Entry) (e : Entry) → is_accept e.kind ≡ false → accepts (es ++ e ∷ []) ≡ accepts es
 accepts-other es e h = filter_other (λ x. is_accept x.kind) es e h
 
-pub unanswered-other : (es : List Entry) (e : Entry) → is_take e.kind ≡ false → is_settling e.kind ≡ false → unanswered (es ++ e ∷ []) ≡ unanswered es
+pub unanswered-other : (es : List Entry) (e : Entry) → is_take e.kind ≡ false → is_settling e.kind ≡ false → unanswered_takes (es ++ e ∷ []) ≡ unanswered_takes es
 unanswered-other es e t s =
     ap (filter (λ x. not (is_settled x.client x.ordinal (es ++ e ∷ [])))) (takes-other es e t)
     ∙ filter_agree (λ x. not (is_settled x.client x.ordinal (es ++ e ∷ []))) (λ x. not (is_settled x.client x.ordinal es)) (λ x. ap not (is_settled-other x.client x.ordinal es e s)) (takes es)

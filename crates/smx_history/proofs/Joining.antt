@@ -5,7 +5,7 @@ use Rattle.std.specs.List.{flat_map}
 use Rattle.smx_history.specs.declared.entry.Entry.{Entry}
 use Rattle.smx_history.specs.declared.limits.Limits.{Limits}
 use Rattle.smx_history.specs.Prefixes.{AtEachPrefix}
-use Rattle.smx_history.specs.Shifts.{noted, marks_in}
+use Rattle.smx_history.specs.Shifts.{entries_among, marks_in}
 use Rattle.smx_history.specs.Legal.{IsLegal, IsWithin}
 use Rattle.smx_history.proofs.Shifting.{noted-some}
 
@@ -25,7 +25,7 @@ marks_in-append [] ys = refl
 marks_in-append (es ∷ xs) ys = ap (λ zs. None ∷ map Some es ++ zs) (marks_in-append xs ys) ∙ ap (λ zs. None ∷ zs) (sym (append_assoc (map Some es) (marks_in xs) (marks_in ys)))
 
 -- the entries of the lists are the lists, joined
-pub noted-lists : (lists : List (List Entry)) → noted (marks_in lists) ≡ flat_map (λ es. es) lists
+pub noted-lists : (lists : List (List Entry)) → entries_among (marks_in lists) ≡ flat_map (λ es. es) lists
 noted-lists [] = refl
 noted-lists (es ∷ lists) =
-    filter_map-append (λ mark. mark) (map Some es) (marks_in lists) ∙ ap (λ xs. xs ++ noted (marks_in lists)) (noted-some es) ∙ ap (λ xs. es ++ xs) (noted-lists lists)
+    filter_map-append (λ mark. mark) (map Some es) (marks_in lists) ∙ ap (λ xs. xs ++ entries_among (marks_in lists)) (noted-some es) ∙ ap (λ xs. es ++ xs) (noted-lists lists)

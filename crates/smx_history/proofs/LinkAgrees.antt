@@ -7,7 +7,7 @@ use Rattle.smx_history.specs.declared.entry.Kind.TheVariants as kind
 use Rattle.smx_history.specs.declared.limits.Limits.{Limits}
 use Rattle.smx_history.specs.declared.note.Note.{Note}
 use Rattle.smx_history.specs.declared.note.Event.TheVariants.{Down, Up}
-use Rattle.smx_history.specs.Entries.{is_admit, is_accept, is_take, is_answer, is_collect, is_retire, is_settling, is_link, is_rise, unanswered}
+use Rattle.smx_history.specs.Entries.{is_admit, is_accept, is_take, is_answer, is_collect, is_retire, is_settling, is_link, is_rise, unanswered_takes}
 use Rattle.smx_history.specs.Legal.{KeepsRules, IsFifo, AreApart, IsBounded, HasForm, StandsWell, IsPaired}
 use Rattle.smx_history.specs.History.{entry_by, entry_in, note, entries_of, request_in, response_in}
 use Rattle.smx_history.specs.Contents.{AgreesWith, IsAfter, Content, size_of}
@@ -129,5 +129,5 @@ pub AgreesWith-raised : (h : List Note) (v : Content) (by : ℕ) → AgreesWith 
 AgreesWith-raised h v by a down none room =
     let e = entry_by by Up in
     agrees-next h (note by Up) e v (raised v by) refl refl refl a
-    (link_fit v.limits (entries_of h) e a.legal.rules refl (refl, refl, refl, refl) (sym a.after.up ∙ down, empty_of (unanswered (entries_of h)) (sym (length-window h v a.after) ∙ none)))
+    (link_fit v.limits (entries_of h) e a.legal.rules refl (refl, refl, refl, refl) (sym a.after.up ∙ down, empty_of (unanswered_takes (entries_of h)) (sym (length-window h v a.after) ∙ none)))
     (linked h v (note by Up) e refl refl refl (λ c. refl) a) room

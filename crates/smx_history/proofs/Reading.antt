@@ -17,9 +17,9 @@ use Rattle.smx_history.specs.Prefixes.{AtEach, first_or}
 use Rattle.smx_history.specs.Entries.{is_accept, is_answer, Name, name_of, has_name, accepts, takes, answers_of, is_accepted, own_of, command_of}
 use Rattle.smx_history.specs.Legal.{IsFifo, IsPaired}
 use Rattle.smx_history.specs.History.{entry_by, entry_in, marks_of, entries_of, requests, request_in, responses, response_in}
-use Rattle.smx_history.specs.Contents.{shown}
+use Rattle.smx_history.specs.Contents.{as_shown}
 use Rattle.smx_history.proofs.Growing.{any_kept}
-use Rattle.smx_history.specs.Shifts.{noted}
+use Rattle.smx_history.specs.Shifts.{entries_among}
 use Rattle.smx_history.specs.Failures.{failure}
 use Rattle.smx_history.proofs.Shifting.{noted-push}
 use Rattle.std.specs.Option.{option_map}
@@ -174,11 +174,11 @@ marks_of-push h n e is = map-append entry_in h (n ∷ []) ∙ ap (λ mark. marks
 
 -- and one more entry
 pub entries_of-push : (h : List Note) (n : Note) (e : Entry) → entry_in n ≡ Some e → entries_of (h ++ n ∷ []) ≡ entries_of h ++ e ∷ []
-entries_of-push h n e is = ap noted (marks_of-push h n e is) ∙ noted-push (marks_of h) e
+entries_of-push h n e is = ap entries_among (marks_of-push h n e is) ∙ noted-push (marks_of h) e
 
 -- the entries of notes and further notes
 pub entries_of-append : (g h : List Note) → entries_of (g ++ h) ≡ entries_of g ++ entries_of h
-entries_of-append g h = ap noted (map-append entry_in g h) ∙ filter_map-append (λ mark. mark) (marks_of g) (marks_of h)
+entries_of-append g h = ap entries_among (map-append entry_in g h) ∙ filter_map-append (λ mark. mark) (marks_of g) (marks_of h)
 
 -- a response that came was to a request that was accepted
 pub responses_accepted : (c : ℕ) (h : List Note) → AtEach (λ before e. IsPaired e.kind before e) (entries_of h) → AllByRecursion (λ (r : Response). is_accepted c r.ordinal (entries_of h) ≡ true) (responses c h)
@@ -203,10 +203,10 @@ All-each P Q f [] h = tt
 All-each P Q f (x ∷ xs) h = (f x h.0, All-each P Q f xs h.1)
 
 -- later entries change nothing of what a client sees of a response
-pub shown-kept : (c : ℕ) (h : List Note) (more : List Entry) → AtEach (λ before e. IsPaired e.kind before e) (entries_of h) → map (shown (entries_of h ++ more) c) (responses c h) ≡ map (shown (entries_of h) c) (responses c h)
+pub shown-kept : (c : ℕ) (h : List Note) (more : List Entry) → AtEach (λ before e. IsPaired e.kind before e) (entries_of h) → map (as_shown (entries_of h ++ more) c) (responses c h) ≡ map (as_shown (entries_of h) c) (responses c h)
 shown-kept c h more paired =
-    map_agree (shown (entries_of h ++ more) c) (shown (entries_of h) c) (responses c h)
-    (All-each (λ (r : Response). is_accepted c r.ordinal (entries_of h) ≡ true) (λ r. shown (entries_of h ++ more) c r ≡ shown (entries_of h) c r)
+    map_agree (as_shown (entries_of h ++ more) c) (as_shown (entries_of h) c) (responses c h)
+    (All-each (λ (r : Response). is_accepted c r.ordinal (entries_of h) ≡ true) (λ r. as_shown (entries_of h ++ more) c r ≡ as_shown (entries_of h) c r)
     (λ r is. rw (own_of-kept c r.ordinal (entries_of h) more is) refl) (responses c h) (responses_accepted c h paired))
 
 -- a note that is no answer of the client's adds no response

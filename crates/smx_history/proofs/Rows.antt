@@ -9,7 +9,7 @@ use Rattle.smx_history.specs.Prefixes.{AtEach, last_or}
 use Rattle.smx_history.specs.Entries.{is_admit, is_accept, is_collect, is_retire, accepts_of, collects_of, is_admitted, is_retired, present}
 use Rattle.smx_history.specs.Legal.{IsPaired}
 use Rattle.smx_history.specs.History.{entry_in, entries_of, responses, response_in}
-use Rattle.smx_history.specs.Contents.{IsAfter, Content, Member, shown, member_after, members_after}
+use Rattle.smx_history.specs.Contents.{IsAfter, Content, Member, as_shown, member_after, members_after}
 use Rattle.smx_history.specs.Replies.{member_with}
 use Rattle.smx_history.proofs.Updates.{with_row}
 use Rattle.smx_history.proofs.Frames.{accepts_of-other, collects_of-other, present-other}
@@ -22,7 +22,7 @@ pub record IsRow (h : List Note) (c : ℕ) (m : Member) : Type 0 where
   pub stays : is_retired c (entries_of h) ≡ false
   pub last : m.last ≡ last_or 0 (map (λ e. e.ordinal) (accepts_of c (entries_of h)))
   pub pending : m.pending ≡ length (accepts_of c (entries_of h)) - length (collects_of c (entries_of h))
-  pub waiting : m.waiting ≡ drop (length (collects_of c (entries_of h))) (map (shown (entries_of h) c) (responses c h))
+  pub waiting : m.waiting ≡ drop (length (collects_of c (entries_of h))) (map (as_shown (entries_of h) c) (responses c h))
 
 row_found_in : (h : List Note) (c : ℕ) (m : Member) (us : List Entry) → AllByRecursion (λ a. (is_admitted a.by a.client (entries_of h) ≡ true) × (is_retired a.client (entries_of h) ≡ false)) us → member_with c (map (member_after h) us) ≡ Some m → IsRow h c m
 row_found_in h c m [] served found = absurd (let e : None ≡ Some m = found in cc)

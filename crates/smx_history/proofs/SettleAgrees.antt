@@ -8,9 +8,9 @@ use Rattle.smx_history.specs.declared.place.Place.{Place}
 use Rattle.smx_history.specs.declared.note.Note.{Note}
 use Rattle.smx_pdu.specs.Command.{is_response_to}
 use Rattle.smx_history.specs.Prefixes.{SameCounts}
-use Rattle.smx_history.specs.Entries.{is_accepted, is_take, has_name, takes, unanswered, own_of, command_of, is_settled}
-use Rattle.smx_history.specs.Legal.{IsFifo, Answers, size, owed}
-use Rattle.smx_history.specs.Shifts.{stored}
+use Rattle.smx_history.specs.Entries.{is_accepted, is_take, has_name, takes, unanswered_takes, own_of, command_of, is_settled}
+use Rattle.smx_history.specs.Legal.{IsFifo, Answers, size, owed_count}
+use Rattle.smx_history.specs.Shifts.{stored_among}
 use Rattle.smx_history.proofs.Shifting.{size-push}
 use Rattle.smx_history.specs.History.{entry_in, entries_of, marks_of}
 use Rattle.smx_history.specs.Contents.{AgreesWith, IsAfter, Content, place_of, window_after}
@@ -37,7 +37,7 @@ is_taken es q =
     list_any (λ t. is_take t.kind && (has_name q.client q.ordinal t && (t.number == q.upstream))) es
     && (not (is_settled q.client q.ordinal es) && (is_accepted q.client q.ordinal es && ((own_of q.client q.ordinal es == q.own) && (command_of q.client q.ordinal es == q.command))))
 
-taken_places : (h : List Note) → IsFifo (entries_of h) → AllByRecursion (λ t. is_taken (entries_of h) (place_of h t) ≡ true) (unanswered (entries_of h))
+taken_places : (h : List Note) → IsFifo (entries_of h) → AllByRecursion (λ t. is_taken (entries_of h) (place_of h t) ≡ true) (unanswered_takes (entries_of h))
 unfolding is_taken
 taken_places h fifo =
     let es = entries_of h in
@@ -69,7 +69,7 @@ place_taken h v i q a within is =
     let es = entries_of h in
     let fifo = AtEachPrefix-whole IsFifo es a.legal.rules.fifo in
     let none : list_any (λ x. not (is_taken es x)) (window_after h) ≡ false =
-    any_map_none (unanswered es) (taken_places h fifo) in
+    any_map_none (unanswered_takes es) (taken_places h fifo) in
     taken_from es q (All-same (is_taken es) (window_after h) v.window a.after.window none i q within is)
   where
     any_map_none : (us : List Entry) → AllByRecursion (λ t. is_taken (entries_of h) (place_of h t) ≡ true) us → list_any (λ x. not (is_taken (entries_of h) x)) (map (place_of h) us) ≡ false
@@ -88,9 +88,9 @@ place_answers es q e place c n u fits = record {
 pub few_named : (h : List Note) (v : Content) (c n : ℕ) → count_by (λ (x : Place). (x.client == c) && (x.ordinal == n)) v.window ≡ count_by (λ (x : Place). (x.client == c) && (x.ordinal == n)) (window_after h) → count_by (λ x. is_take x.kind && has_name c n x) (entries_of h) ≤ 1 → count_by (λ (x : Place). (x.client == c) && (x.ordinal == n)) v.window ≤ 1
 few_named h v c n same once =
     let es = entries_of h in
-    let a : count_by (λ (x : Place). (x.client == c) && (x.ordinal == n)) (window_after h) ≡ count_by (has_name c n) (unanswered es) =
-    count_by-map (λ (x : Place). (x.client == c) && (x.ordinal == n)) (place_of h) (unanswered es) in
-    let b : count_by (has_name c n) (unanswered es) ≤ count_by (has_name c n) (takes es) =
+    let a : count_by (λ (x : Place). (x.client == c) && (x.ordinal == n)) (window_after h) ≡ count_by (has_name c n) (unanswered_takes es) =
+    count_by-map (λ (x : Place). (x.client == c) && (x.ordinal == n)) (place_of h) (unanswered_takes es) in
+    let b : count_by (has_name c n) (unanswered_takes es) ≤ count_by (has_name c n) (takes es) =
     count-filter-le (has_name c n) (λ t. not (is_settled t.client t.ordinal es)) (takes es) in
     let d : count_by (has_name c n) (takes es) ≡ count_by (λ x. is_take x.kind && has_name c n x) es =
     sym (length-filter (has_name c n) (takes es)) ∙ ap length (sym (filter-and (λ x. is_take x.kind) (has_name c n) es)) ∙ length-filter (λ x. is_take x.kind && has_name c n x) es in
@@ -103,8 +103,8 @@ window-settled h v n e q i a entry settles of named' within is =
     let fifo = AtEachPrefix-whole IsFifo es a.legal.rules.fifo in
     let named : Place → Bool = λ x. (x.client == e.client) && (x.ordinal == e.ordinal) in
     let places : window_after (h ++ n ∷ []) ≡ filter (λ x. not (named x)) (window_after h) =
-    ap (map (place_of (h ++ n ∷ []))) (ap unanswered (entries_of-push h n e entry) ∙ unanswered_settled es e settles)
-    ∙ places_of-kept h (n ∷ []) (λ t. not (has_name e.client e.ordinal t)) fifo ∙ sym (filter-map (λ x. not (named x)) (place_of h) (unanswered es)) in
+    ap (map (place_of (h ++ n ∷ []))) (ap unanswered_takes (entries_of-push h n e entry) ∙ unanswered_settled es e settles)
+    ∙ places_of-kept h (n ∷ []) (λ t. not (has_name e.client e.ordinal t)) fifo ∙ sym (filter-map (λ x. not (named x)) (place_of h) (unanswered_takes es)) in
     let few : count_by named v.window ≤ 1 =
     few_named h v e.client e.ordinal (a.after.window named) (a.legal.rules.once.takes e.client e.ordinal) in
     λ test.
@@ -113,5 +113,5 @@ window-settled h v n e q i a entry settles of named' within is =
     ∙ sym (count_by-filter test (λ x. not (named x)) (window_after h)) ∙ ap (count_by test) (sym places)
 
 -- the size after a call, from what the lane keeps room for
-pub within-after : (h : List Note) (n : Note) (e : Entry) (v : Content) → entry_in n ≡ Some e → IsAfter (h ++ n ∷ []) v → KeepsRoom v → length (stored (marks_of h)) + 1 + owed (entries_of h ++ e ∷ []) ≤ v.limits.history
+pub within-after : (h : List Note) (n : Note) (e : Entry) (v : Content) → entry_in n ≡ Some e → IsAfter (h ++ n ∷ []) v → KeepsRoom v → length (stored_among (marks_of h)) + 1 + owed_count (entries_of h ++ e ∷ []) ≤ v.limits.history
 within-after h n e v is after room = omega (arith, size-push (marks_of h) e, ap size (marks_of-push h n e is), size_agrees (h ++ n ∷ []) v after, room.size)

@@ -7,10 +7,10 @@ use Rattle.smx_history.proofs.Counts.{length-same}
 use Rattle.std.proofs.lemmas.Bool.{and_from, eq-eqb, not-true}
 use Rattle.smx_history.specs.declared.entry.Entry.{Entry}
 use Rattle.smx_history.specs.declared.note.Note.{Note}
-use Rattle.smx_history.specs.Entries.{is_admit, admits, accepts, takes, answers_of, collects_of, is_admitted, is_retired, unanswered, present, name_of}
+use Rattle.smx_history.specs.Entries.{is_admit, admits, accepts, takes, answers_of, collects_of, is_admitted, is_retired, unanswered_takes, present, name_of}
 use Rattle.smx_history.specs.Legal.{IsFifo, size}
 use Rattle.smx_history.specs.History.{entries_of, marks_of, requests, responses}
-use Rattle.smx_history.specs.Contents.{IsAfter, Content, Member, size_of, shown, place_of, window_after, member_after}
+use Rattle.smx_history.specs.Contents.{IsAfter, Content, Member, size_of, as_shown, place_of, window_after, member_after}
 use Rattle.smx_history.proofs.Growing.{StartsWith-length}
 use Rattle.smx_history.proofs.Reading.{length-requests, length-responses, All-filtered, All-from_get, any_at}
 
@@ -22,8 +22,8 @@ takes-le-accepts es fifo =
     let le = StartsWith-length (map name_of (accepts es)) (map name_of (takes es)) fifo.taken in
     omega (arith, le, length-map (accepts es) name_of, length-map (takes es) name_of)
 
-pub length-window : (h : List Note) (v : Content) → IsAfter h v → length v.window ≡ length (unanswered (entries_of h))
-length-window h v a = length-same (window_after h) v.window a.window ∙ length-map (unanswered (entries_of h)) (place_of h)
+pub length-window : (h : List Note) (v : Content) → IsAfter h v → length v.window ≡ length (unanswered_takes (entries_of h))
+length-window h v a = length-same (window_after h) v.window a.window ∙ length-map (unanswered_takes (entries_of h)) (place_of h)
 
 pub length-members : (h : List Note) (v : Content) → IsAfter h v → length v.members ≡ length (present (entries_of h))
 length-members h v a = ap length a.members ∙ length-map (present (entries_of h)) (member_after h)
@@ -31,8 +31,8 @@ length-members h v a = ap length a.members ∙ length-map (present (entries_of h
 length-waiting : (h : List Note) (a : Entry) → length (member_after h a).waiting ≡ length (answers_of a.client (entries_of h)) - length (collects_of a.client (entries_of h))
 length-waiting h a =
     let k = length (collects_of a.client (entries_of h)) in
-    length-drop k (map (shown (entries_of h) a.client) (responses a.client h))
-    ∙ ap (λ n. n - k) (length-map (responses a.client h) (shown (entries_of h) a.client) ∙ length-responses a.client h)
+    length-drop k (map (as_shown (entries_of h) a.client) (responses a.client h))
+    ∙ ap (λ n. n - k) (length-map (responses a.client h) (as_shown (entries_of h) a.client) ∙ length-responses a.client h)
 
 waiting-rows : (h : List Note) (us : List Entry) → sum_by (λ m. length m.waiting) (map (member_after h) us) ≡ sum_by (λ a. length (answers_of a.client (entries_of h)) - length (collects_of a.client (entries_of h))) us
 waiting-rows h [] = refl

@@ -17,8 +17,8 @@ use Rattle.smx_history.specs.declared.request.Request.{Request}
 use Rattle.smx_history.specs.declared.place.Place.{Place}
 use Rattle.smx_history.specs.declared.note.Note.{Note}
 use Rattle.smx_history.specs.Prefixes.{RiseAbove, first_or}
-use Rattle.smx_history.specs.Entries.{is_accept, has_name, name_of, Name, accepts, takes, unanswered, own_of, command_of, is_settled, numbers}
-use Rattle.smx_history.specs.Legal.{IsFifo, IsOnce, owed}
+use Rattle.smx_history.specs.Entries.{is_accept, has_name, name_of, Name, accepts, takes, unanswered_takes, own_of, command_of, is_settled, numbers}
+use Rattle.smx_history.specs.Legal.{IsFifo, IsOnce, owed_count}
 use Rattle.smx_history.specs.History.{entry_by, note, marks_of, entries_of, requests, request_in}
 use Rattle.smx_history.specs.Contents.{AgreesWith, Content, place_of, window_after}
 use Rattle.smx_history.proofs.Updates.{taken, place_for, following}
@@ -98,11 +98,11 @@ next_name es r y zs next =
     front_of zero (x ∷ xs) h = cc
     front_of (suc n) (x ∷ xs) h = front_of n xs h
 
-owed-taken : (es : List Entry) (by : ℕ) (r : Request) (u t : ℕ) → is_settled r.client r.ordinal es ≡ false → length (takes es) < length (accepts es) → owed (es ++ entry_by by (Take r.client r.ordinal u t) ∷ []) + 1 ≡ owed es
+owed-taken : (es : List Entry) (by : ℕ) (r : Request) (u t : ℕ) → is_settled r.client r.ordinal es ≡ false → length (takes es) < length (accepts es) → owed_count (es ++ entry_by by (Take r.client r.ordinal u t) ∷ []) + 1 ≡ owed_count es
 owed-taken es by r u t none lt =
     let e = entry_by by (Take r.client r.ordinal u t) in
     rw (unanswered_taken es e refl none, waiting-other es e refl refl refl refl, present-other es e refl refl, accepts-other es e refl, takes_push es e refl, is_up-other es e refl)
-    (omega (arith, length-append es (e ∷ []), length-append (takes es) (e ∷ []), length-append (unanswered es) (e ∷ [])))
+    (omega (arith, length-append es (e ∷ []), length-append (takes es) (e ∷ []), length-append (unanswered_takes es) (e ∷ [])))
 
 -- the accept with the name of the next request is the next one
 named_next : (es : List Entry) (r : Request) (y : Entry) (zs : List Entry) → IsNext es r y zs → IsOnce es → filter (λ e. is_accept e.kind && has_name r.client r.ordinal e) es ≡ y ∷ filter (has_name r.client r.ordinal) zs
@@ -164,8 +164,8 @@ AgreesWith-taken_at h v by r rest u t y zs next a front may_be =
     let command : command_of r.client r.ordinal (entries_of (h ++ n ∷ [])) ≡ r.command =
     ap (command_of r.client r.ordinal) push ∙ ap (λ xs. first_or 0 (map (λ x. x.command) xs)) (filter_other (λ x. is_accept x.kind && has_name r.client r.ordinal x) es e refl ∙ named) ∙ next.command in
     let place : place_of (h ++ n ∷ []) e ≡ place_for r u t = cong_place own command (moment_of-taken r.client r.ordinal u t by h untaken) in
-    let unused : list_any (λ k. nat_eq k u) (map (λ x. x.number) (unanswered es)) ≡ false =
-    ap (list_any (λ k. nat_eq k u)) (sym (places_numbers h (unanswered es))) ∙ any-map (λ k. nat_eq k u) (λ (p : Place). p.upstream) (window_after h)
+    let unused : list_any (λ k. nat_eq k u) (map (λ x. x.number) (unanswered_takes es)) ≡ false =
+    ap (list_any (λ k. nat_eq k u)) (sym (places_numbers h (unanswered_takes es))) ∙ any-map (λ k. nat_eq k u) (λ (p : Place). p.upstream) (window_after h)
     ∙ any-same (λ (p : Place). p.upstream == u) (window_after h) v.window a.after.window may_be.free in
     let here : IsNextNumber v.limits.window (generations_after v.limits.window (numbers es)) u = subst (λ gs. IsNextNumber v.limits.window gs u) a.after.generations may_be.next in
     let numbered = numbered_taken v.limits.window u (numbers es) a.numbered here in
@@ -176,14 +176,14 @@ AgreesWith-taken_at h v by r rest u t y zs next a front may_be =
       within = may_be.within;
       next = next_name es r y zs next;
       first = untaken;
-      free = count_numbered u (unanswered es) (free_numbers u (map (λ x. x.number) (unanswered es)) unused);
+      free = count_numbered u (unanswered_takes es) (free_numbers u (map (λ x. x.number) (unanswered_takes es)) unused);
       window = omega (arith, length-window h v a.after, may_be.room);
       up = sym a.after.up ∙ may_be.up;
       spaced = spaced_placed (numbers es ++ u ∷ []) numbered.placed;
     } in
     let window : window_after (h ++ n ∷ []) ≡ window_after h ++ place_for r u t ∷ [] =
-    ap (map (place_of (h ++ n ∷ []))) (ap unanswered push ∙ unanswered_taken es e refl unsettled)
-    ∙ map-append (place_of (h ++ n ∷ [])) (unanswered es) (e ∷ []) ∙ ap (λ xs. xs ++ place_of (h ++ n ∷ []) e ∷ []) (places-kept h (n ∷ []) fifo) ∙ ap (λ x. window_after h ++ x ∷ []) place in
+    ap (map (place_of (h ++ n ∷ []))) (ap unanswered_takes push ∙ unanswered_taken es e refl unsettled)
+    ∙ map-append (place_of (h ++ n ∷ [])) (unanswered_takes es) (e ∷ []) ∙ ap (λ xs. xs ++ place_of (h ++ n ∷ []) e ∷ []) (places-kept h (n ∷ []) fifo) ∙ ap (λ x. window_after h ++ x ∷ []) place in
     record {
       legal = rw (marks_of-push h n e refl) (IsLegal-next v.limits (marks_of h) e a.legal (take_fit v.limits es e a.legal.rules refl may) (let was = IsLegal-within v.limits (marks_of h) a.legal in omega (arith, owed-taken es by r u t unsettled (next-lt es r y zs next), was)));
       numbered = rw grown numbered;

@@ -5,7 +5,7 @@ use Rattle.smx_history.specs.declared.limits.Limits.{Limits}
 use Rattle.smx_history.specs.declared.request.Request.{Request}
 use Rattle.smx_history.specs.declared.note.Note.{Note}
 use Rattle.smx_history.specs.Prefixes.{last_or, SameCounts}
-use Rattle.smx_history.specs.Entries.{admits, takes, accepts_of, collects_of, unanswered, own_of, command_of, present, is_up, numbers}
+use Rattle.smx_history.specs.Entries.{admits, takes, accepts_of, collects_of, unanswered_takes, own_of, command_of, present, is_up, numbers}
 use Rattle.smx_history.specs.Numbers.{generations_after, AreNumbered}
 use Rattle.smx_history.specs.Legal.{IsLegal}
 use Rattle.smx_history.specs.declared.place.Place.{Place}
@@ -41,8 +41,8 @@ pub record Content : Type 0 where
   pub entries : List Entry
 
 -- as a client sees a response: with its own number (SMPP 3.4, section 5.1.4)
-abbrev pub shown : List Entry → ℕ → Response → Response
-shown es c r = record { ordinal = r.ordinal; pdu = record { command = r.pdu.command; status = r.pdu.status; number = own_of c r.ordinal es; body = r.pdu.body } }
+abbrev pub as_shown : List Entry → ℕ → Response → Response
+as_shown es c r = record { ordinal = r.ordinal; pdu = record { command = r.pdu.command; status = r.pdu.status; number = own_of c r.ordinal es; body = r.pdu.body } }
 
 -- the place of a take in the window
 abbrev pub place_of : List Note → Entry → Place
@@ -64,7 +64,7 @@ member_after h admit =
       by = admit.by;
       last = last_or 0 (map (λ e. e.ordinal) (accepts_of admit.client (entries_of h)));
       pending = length (accepts_of admit.client (entries_of h)) - length (collects_of admit.client (entries_of h));
-      waiting = drop (length (collects_of admit.client (entries_of h))) (map (shown (entries_of h) admit.client) (responses admit.client h));
+      waiting = drop (length (collects_of admit.client (entries_of h))) (map (as_shown (entries_of h) admit.client) (responses admit.client h));
     }
 
 -- the rows of the clients that are present
@@ -77,7 +77,7 @@ queue_after h = drop (length (takes (entries_of h))) (requests h)
 
 -- the takes without an answer
 abbrev pub window_after : List Note → List Place
-window_after h = map (place_of h) (unanswered (entries_of h))
+window_after h = map (place_of h) (unanswered_takes (entries_of h))
 
 -- the greatest client admitted, or 0
 abbrev pub greatest_after : List Note → ℕ

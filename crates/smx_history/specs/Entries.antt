@@ -103,8 +103,8 @@ abbrev pub is_settled : ℕ → ℕ → List Entry → Bool
 is_settled c n es = list_any (λ e. is_settling e.kind && has_name c n e) es
 
 -- the takes that have no answer, in time or late, and did not fail
-abbrev pub unanswered : List Entry → List Entry
-unanswered es = filter (λ t. not (is_settled t.client t.ordinal es)) (takes es)
+abbrev pub unanswered_takes : List Entry → List Entry
+unanswered_takes es = filter (λ t. not (is_settled t.client t.ordinal es)) (takes es)
 
 -- what the client called the request of that name, and its command
 abbrev pub own_of : ℕ → ℕ → List Entry → ℕ

@@ -9,7 +9,7 @@ use Rattle.smx_history.specs.declared.note.Note.{Note}
 use Rattle.smx_history.specs.declared.response.Response.{Response}
 use Rattle.std.specs.Option.{option_map}
 use Rattle.smx_history.specs.Prefixes.{first_or, last_or}
-use Rattle.smx_history.specs.Shifts.{noted, stored}
+use Rattle.smx_history.specs.Shifts.{entries_among, stored_among}
 use Rattle.smx_history.specs.Failures.{failure}
 
 -- the entry of an event
@@ -35,11 +35,11 @@ marks_of h = map entry_in h
 
 -- the entries of a history, over all shifts
 abbrev pub entries_of : List Note → List Entry
-entries_of h = noted (marks_of h)
+entries_of h = entries_among (marks_of h)
 
 -- what a lane stores of a history: the entries after the last shift
 abbrev pub stored_of : List Note → List Entry
-stored_of h = stored (marks_of h)
+stored_of h = stored_among (marks_of h)
 
 -- the request that an event accepts
 abbrev pub request_in : Option Event → Option Request

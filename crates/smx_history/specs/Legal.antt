@@ -6,10 +6,10 @@ use Rattle.smx_history.specs.declared.entry.Kind.TheVariants.{Admit, Accept, Tak
 use Rattle.smx_history.specs.declared.entry.Entry.{Entry}
 use Rattle.smx_history.specs.declared.limits.Limits.{Limits}
 use Rattle.smx_pdu.specs.Command.{is_forwarded, is_response_to}
-use Rattle.smx_history.specs.Shifts.{noted, stored}
+use Rattle.smx_history.specs.Shifts.{entries_among, stored_among}
 use Rattle.smx_history.specs.Failures.{failure_command}
 use Rattle.smx_history.specs.Prefixes.{AtEachPrefix, AtEach, StartsWith, RiseAbove}
-use Rattle.smx_history.specs.Entries.{is_take, is_settling, is_retire, name_of, has_name, admits, accepts, takes, accepts_of, answers_of, collects_of, is_retired, is_admitted, is_accepted, is_settled, unanswered, command_of, present, is_up, numbers}
+use Rattle.smx_history.specs.Entries.{is_take, is_settling, is_retire, name_of, has_name, admits, accepts, takes, accepts_of, answers_of, collects_of, is_retired, is_admitted, is_accepted, is_settled, unanswered_takes, command_of, present, is_up, numbers}
 use Rattle.smx_history.specs.Numbers.{AreSpaced}
 
 -- the entry speaks of no client
@@ -57,7 +57,7 @@ StandsWell Late before e = is_retired e.client before ≡ true
 StandsWell Collect before e = IsServed before e
 StandsWell Retire before e = IsServed before e
 StandsWell Down before e = is_up before ≡ true
-StandsWell Up before e = (is_up before ≡ false) × (unanswered before ≡ [])
+StandsWell Up before e = (is_up before ≡ false) × (unanswered_takes before ≡ [])
 StandsWell _ before e = Unit {0}
 
 -- an answer or a failure follows the take with its name and number, is the first to do so, and has a command that answers the request's
@@ -78,11 +78,11 @@ IsPaired _ before e = Unit {0}
 
 -- the numbers of takes without an answer are pairwise different
 abbrev pub AreApart : List Entry → Type 0
-AreApart es = IsDistinct nat_eq (map (λ e. e.number) (unanswered es))
+AreApart es = IsDistinct nat_eq (map (λ e. e.number) (unanswered_takes es))
 
 -- requests accepted and not taken
-abbrev pub queued : List Entry → ℕ
-queued es = length (accepts es) - length (takes es)
+abbrev pub queued_count : List Entry → ℕ
+queued_count es = length (accepts es) - length (takes es)
 
 -- responses not collected, of the clients that are present
 abbrev pub waiting : List Entry → ℕ
@@ -90,17 +90,17 @@ waiting es = sum_by (λ a. length (answers_of a.client es) - length (collects_of
 
 -- room for all that may still follow: a queued request has its take, its answer and its response to come,
 -- a taken one its answer and its response, a response that waits its collect, a present client its retire, and a lane that is up its down
-abbrev pub owed : List Entry → ℕ
-owed es = 3 * queued es + 2 * length (unanswered es) + waiting es + length (present es) + (if is_up es then 1 else 0)
+abbrev pub owed_count : List Entry → ℕ
+owed_count es = 3 * queued_count es + 2 * length (unanswered_takes es) + waiting es + length (present es) + (if is_up es then 1 else 0)
 
 -- what is stored since the last shift, and what is owed by all that was noted
 abbrev pub size : List (Option Entry) → ℕ
-size marks = length (stored marks) + owed (noted marks)
+size marks = length (stored_among marks) + owed_count (entries_among marks)
 
 -- what is queued, in the window and of one present client at one time keeps to the limits
 pub record IsBounded (limits : Limits) (es : List Entry) : Type 0 where
   pub queue : length (accepts es) ≤ length (takes es) + limits.queue
-  pub window : length (unanswered es) ≤ limits.window
+  pub window : length (unanswered_takes es) ≤ limits.window
   pub client : (c : ℕ) → is_retired c es ≡ false → length (accepts_of c es) ≤ length (collects_of c es) + limits.client
 
 -- and so does the size
@@ -121,5 +121,5 @@ pub record KeepsRules (limits : Limits) (es : List Entry) : Type 0 where
 
 -- a legal history: all entries keep the rules, and at each moment the size since the last shift is within the limit
 pub record IsLegal (limits : Limits) (marks : List (Option Entry)) : Type 0 where
-  pub rules : KeepsRules limits (noted marks)
+  pub rules : KeepsRules limits (entries_among marks)
   pub size : AtEachPrefix (IsWithin limits) marks

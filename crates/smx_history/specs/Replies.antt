@@ -91,5 +91,5 @@ abbrev pub expired_in : Content → ℕ → ℕ → Option Place
 expired_in v now age = find (is_expired (moment_at v now) age) v.window
 
 -- what a shift leaves: the entries were handed out
-abbrev pub turned : Content → Content
-turned v = record v { entries = [] }
+abbrev pub after_shift : Content → Content
+after_shift v = record v { entries = [] }

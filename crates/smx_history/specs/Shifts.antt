@@ -3,8 +3,8 @@ use Rattle.std.specs.Prelude.{List, [], ◌∷◌, ◌++◌, map, filter_map, Op
 use Rattle.smx_history.specs.declared.entry.Entry.{Entry}
 
 -- the entries, over all shifts
-abbrev pub noted : List (Option Entry) → List Entry
-noted marks = filter_map (λ mark. mark) marks
+abbrev pub entries_among : List (Option Entry) → List Entry
+entries_among marks = filter_map (λ mark. mark) marks
 
 -- what is stored after those entries and these marks
 abbrev pub since : List Entry → List (Option Entry) → List Entry
@@ -13,8 +13,8 @@ since es (None ∷ marks) = since [] marks
 since es (Some e ∷ marks) = since (es ++ e ∷ []) marks
 
 -- the entries after the last shift
-abbrev pub stored : List (Option Entry) → List Entry
-stored marks = since [] marks
+abbrev pub stored_among : List (Option Entry) → List Entry
+stored_among marks = since [] marks
 
 -- lists of entries, each of one shift, as marks: each begins with a shift (one at the very start leaves the size as it is)
 abbrev pub marks_in : List (List Entry) → List (Option Entry)

@@ -5,7 +5,7 @@ use Rattle.std.proofs.lemmas.List.Elements.{filter_map-append}
 use Rattle.smx_history.specs.declared.entry.Entry.{Entry}
 use Rattle.smx_history.specs.declared.note.Note.{Note}
 use Rattle.smx_history.specs.declared.note.Event.{Event}
-use Rattle.smx_history.specs.Shifts.{noted, marks_in}
+use Rattle.smx_history.specs.Shifts.{entries_among, marks_in}
 use Rattle.smx_history.specs.Legal.{IsLegal}
 use Rattle.smx_history.specs.History.{note, shift, entry_by, marks_of, entries_of}
 use Rattle.smx_history.specs.Contents.{Content, AgreesWith}
@@ -19,7 +19,7 @@ use Rattle.smx_lane.specs.Calls.{GoesOn, IsHandedOut, HandsOut, HandsOutLegal, l
 from_marks : (before : List Entry) (notes : List Note) (lists : List (List Entry)) (stored : List Entry) → marks_in (lists ++ stored ∷ []) ≡ None ∷ map Some before ++ marks_of notes → IsHandedOut before notes lists stored
 from_marks before notes lists stored marks = record {
   marks = marks;
-  joined = sym (noted-lists (lists ++ stored ∷ [])) ∙ ap noted marks ∙ filter_map-append (λ mark. mark) (map Some before) (marks_of notes) ∙ ap (λ es. es ++ entries_of notes) (noted-some before);
+  joined = sym (noted-lists (lists ++ stored ∷ [])) ∙ ap entries_among marks ∙ filter_map-append (λ mark. mark) (map Some before) (marks_of notes) ∙ ap (λ es. es ++ entries_of notes) (noted-some before);
 }
 
 one_list : (es : List Entry) → marks_in (es ∷ []) ≡ None ∷ map Some es

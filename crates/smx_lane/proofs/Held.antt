@@ -11,20 +11,20 @@ use Rattle.smx_history.specs.Prefixes.{SameCounts}
 use Rattle.smx_history.proofs.Counts.{count_by-push, length-same}
 use Rattle.std.proofs.lemmas.List.Sums.{sum_by-cons}
 use Rattle.smx_lane.specs.Private.Places.{IsPlaceOf}
-use Rattle.smx_lane.specs.Private.Window.{held, AreNumbered, IsEmptyAt}
+use Rattle.smx_lane.specs.Private.Window.{places_in, AreNumbered, IsEmptyAt}
 
 count_by-cons : {X : Type 0} (p : X → Bool) (x : X) (xs : List X) → count_by p (x ∷ xs) ≡ cond (p x) 1 0 + count_by p xs
 count_by-cons p x xs = sum_by-cons (λ y. cond (p y) 1 0) x xs
 
 -- a request that is held has a row
-pub row_of_held : (rows : List (Option Place)) (i : ℕ) (q : Place) → slice_get (held rows) i ≡ Some q → (k : ℕ) × (slice_get rows k ≡ Some (Some q))
+pub row_of_held : (rows : List (Option Place)) (i : ℕ) (q : Place) → slice_get (places_in rows) i ≡ Some q → (k : ℕ) × (slice_get rows k ≡ Some (Some q))
 row_of_held [] i q at = cc
 row_of_held (None ∷ rows) i q at = let r = row_of_held rows i q at in (suc r.0, r.1)
 row_of_held (Some p ∷ rows) zero q at = (0, ap Some at)
 row_of_held (Some p ∷ rows) (suc i) q at = let r = row_of_held rows i q at in (suc r.0, r.1)
 
 -- to empty a row is to take its request out
-pub cleared : (rows : List (Option Place)) (k : ℕ) (q : Place) → slice_get rows k ≡ Some (Some q) → (j : ℕ) × (slice_get (held rows) j ≡ Some q) × (held (set rows k None) ≡ remove (held rows) j)
+pub cleared : (rows : List (Option Place)) (k : ℕ) (q : Place) → slice_get rows k ≡ Some (Some q) → (j : ℕ) × (slice_get (places_in rows) j ≡ Some q) × (places_in (set rows k None) ≡ remove (places_in rows) j)
 cleared [] k q at = cc
 cleared (None ∷ rows) zero q at = cc
 cleared (None ∷ rows) (suc k) q at = cleared rows k q at
@@ -32,31 +32,31 @@ cleared (Some p ∷ rows) zero q at = let same : p ≡ q = cc in (0, ap Some sam
 cleared (Some p ∷ rows) (suc k) q at = let r = cleared rows k q at in (suc r.0, r.1, ap (λ xs. p ∷ xs) r.2)
 
 -- to write a request into an empty row is to add it
-pub filled : (rows : List (Option Place)) (k : ℕ) (q : Place) → slice_get rows k ≡ Some None → SameCounts (held rows ++ q ∷ []) (held (set rows k (Some q)))
+pub filled : (rows : List (Option Place)) (k : ℕ) (q : Place) → slice_get rows k ≡ Some None → SameCounts (places_in rows ++ q ∷ []) (places_in (set rows k (Some q)))
 filled [] k q at = λ test. cc
-filled (None ∷ rows) zero q at = λ test. omega (arith, count_by-cons test q (held rows), count_by-push test (held rows) q)
+filled (None ∷ rows) zero q at = λ test. omega (arith, count_by-cons test q (places_in rows), count_by-push test (places_in rows) q)
 filled (None ∷ rows) (suc k) q at = filled rows k q at
 filled (Some p ∷ rows) zero q at = λ test. cc
-filled (Some p ∷ rows) (suc k) q at = λ test. omega (arith, filled rows k q at test, count_by-cons test p (held rows ++ q ∷ []), count_by-cons test p (held (set rows k (Some q))))
+filled (Some p ∷ rows) (suc k) q at = λ test. omega (arith, filled rows k q at test, count_by-cons test p (places_in rows ++ q ∷ []), count_by-cons test p (places_in (set rows k (Some q))))
 
 length-removed : {X : Type 0} (xs : List X) (j : ℕ) (x : X) → slice_get xs j ≡ Some x → length (remove xs j) + 1 ≡ length xs
 length-removed [] j x at = cc
 length-removed (y ∷ xs) zero x at = omega arith
 length-removed (y ∷ xs) (suc j) x at = omega (arith, length-removed xs j x at)
 
-pub length-cleared : (rows : List (Option Place)) (k : ℕ) (q : Place) → slice_get rows k ≡ Some (Some q) → length (held (set rows k None)) + 1 ≡ length (held rows)
+pub length-cleared : (rows : List (Option Place)) (k : ℕ) (q : Place) → slice_get rows k ≡ Some (Some q) → length (places_in (set rows k None)) + 1 ≡ length (places_in rows)
 length-cleared rows k q at =
     let r = cleared rows k q at in
-    omega (arith, ap length r.2, length-removed (held rows) r.0 q r.1)
+    omega (arith, ap length r.2, length-removed (places_in rows) r.0 q r.1)
 
-pub length-filled : (rows : List (Option Place)) (k : ℕ) (q : Place) → slice_get rows k ≡ Some None → length (held (set rows k (Some q))) ≡ length (held rows) + 1
-length-filled rows k q at = length-same (held rows ++ q ∷ []) (held (set rows k (Some q))) (filled rows k q at) ∙ length-append (held rows) (q ∷ [])
+pub length-filled : (rows : List (Option Place)) (k : ℕ) (q : Place) → slice_get rows k ≡ Some None → length (places_in (set rows k (Some q))) ≡ length (places_in rows) + 1
+length-filled rows k q at = length-same (places_in rows ++ q ∷ []) (places_in (set rows k (Some q))) (filled rows k q at) ∙ length-append (places_in rows) (q ∷ [])
 
 numbered-rest : (n : ℕ) (row : Option Place) (rows : List (Option Place)) → AreNumbered n (row ∷ rows) → AreNumbered (suc n) rows
 numbered-rest n row rows numbered k q at = let h = numbered (suc k) q at in (h.0, omega (arith, h.1))
 
 -- the row that a number names has the one request with the number
-pub found_at : (fits : Place → Bool) (rows : List (Option Place)) (n k u : ℕ) (q : Place) → AreNumbered n rows → slice_get rows k ≡ Some (Some q) → q.upstream ≡ u → fits q ≡ true → find (λ x. (x.upstream == u) && fits x) (held rows) ≡ Some q
+pub found_at : (fits : Place → Bool) (rows : List (Option Place)) (n k u : ℕ) (q : Place) → AreNumbered n rows → slice_get rows k ≡ Some (Some q) → q.upstream ≡ u → fits q ≡ true → find (λ x. (x.upstream == u) && fits x) (places_in rows) ≡ Some q
 found_at fits [] n k u q numbered at is good = cc
 found_at fits (None ∷ rows) n zero u q numbered at is good = cc
 found_at fits (None ∷ rows) n (suc k) u q numbered at is good = found_at fits rows (suc n) k u q (numbered-rest n None rows numbered) at is good
@@ -73,7 +73,7 @@ found_at fits (Some p ∷ rows) n (suc k) u q numbered at is good =
     rw other (found_at fits rows (suc n) k u q (numbered-rest n (Some p) rows numbered) at is good)
 
 -- no request is found where none that has the number fits
-pub not_found : (fits : Place → Bool) (rows : List (Option Place)) (u : ℕ) → ((k : ℕ) (q : Place) → slice_get rows k ≡ Some (Some q) → q.upstream ≡ u → fits q ≡ false) → find (λ x. (x.upstream == u) && fits x) (held rows) ≡ None
+pub not_found : (fits : Place → Bool) (rows : List (Option Place)) (u : ℕ) → ((k : ℕ) (q : Place) → slice_get rows k ≡ Some (Some q) → q.upstream ≡ u → fits q ≡ false) → find (λ x. (x.upstream == u) && fits x) (places_in rows) ≡ None
 not_found fits [] u none = refl
 not_found fits (None ∷ rows) u none = not_found fits rows u (λ k q at is. none (suc k) q at is)
 not_found fits (Some p ∷ rows) u none =
@@ -87,14 +87,14 @@ not_found fits (Some p ∷ rows) u none =
     ]
 
 -- no request has the number of an empty row
-pub none_numbered : (rows : List (Option Place)) (n k u : ℕ) → AreNumbered n rows → slice_get rows k ≡ Some None → place_in u ≡ n + k → list_any (λ q. q.upstream == u) (held rows) ≡ false
+pub none_numbered : (rows : List (Option Place)) (n k u : ℕ) → AreNumbered n rows → slice_get rows k ≡ Some None → place_in u ≡ n + k → list_any (λ q. q.upstream == u) (places_in rows) ≡ false
 none_numbered rows n k u numbered at is = none_of rows (λ j q there e.
     let here = (numbered j q there).1 in
     let same : j ≡ k = omega (arith, here, is, ap place_in e) in
     let clash : Some (Some q) ≡ Some None = sym there ∙ ap (slice_get rows) same ∙ at in
     cc)
   where
-    none_of : (rs : List (Option Place)) → ((j : ℕ) (q : Place) → slice_get rs j ≡ Some (Some q) → q.upstream ≡ u → ⊥) → list_any (λ q. q.upstream == u) (held rs) ≡ false
+    none_of : (rs : List (Option Place)) → ((j : ℕ) (q : Place) → slice_get rs j ≡ Some (Some q) → q.upstream ≡ u → ⊥) → list_any (λ q. q.upstream == u) (places_in rs) ≡ false
     none_of [] none = refl
     none_of (None ∷ rs) none = none_of rs (λ j q there e. none (suc j) q there e)
     none_of (Some p ∷ rs) none =
@@ -184,7 +184,7 @@ once-pushed free u once absent i j v a b = elim (cases_eq i (length free)) [
 ]
 
 -- rows that are all empty hold nothing, and each of their numbers is free
-pub held-replicate : (n : ℕ) → held (replicate n None) ≡ []
+pub held-replicate : (n : ℕ) → places_in (replicate n None) ≡ []
 held-replicate zero = refl
 held-replicate (suc n) = held-replicate n
 
@@ -221,7 +221,7 @@ pub numbered-replicate : (n : ℕ) → AreNumbered 0 (replicate n None)
 numbered-replicate n k q at = let e : Some q ≡ None = only-replicate n k None (Some q) at in cc
 
 -- a request that is there has the row that its number names
-pub row_at_number : (rows : List (Option Place)) (number : ℕ) (q : Place) → AreNumbered 0 rows → IsPlaceOf (held rows) number q → slice_get rows (place_in number) ≡ Some (Some q)
+pub row_at_number : (rows : List (Option Place)) (number : ℕ) (q : Place) → AreNumbered 0 rows → IsPlaceOf (places_in rows) number q → slice_get rows (place_in number) ≡ Some (Some q)
 row_at_number rows number q numbered place =
     let r = row_of_held rows place.index q place.there in
     let named = (numbered r.0 q r.1).1 in
@@ -229,31 +229,31 @@ row_at_number rows number q numbered place =
     ap (slice_get rows) k ∙ r.1
 
 -- the request in a row is there
-pub place_at_number : (rows : List (Option Place)) (number k : ℕ) (q : Place) → q.upstream ≡ number → slice_get rows k ≡ Some (Some q) → IsPlaceOf (held rows) number q
+pub place_at_number : (rows : List (Option Place)) (number k : ℕ) (q : Place) → q.upstream ≡ number → slice_get rows k ≡ Some (Some q) → IsPlaceOf (places_in rows) number q
 place_at_number rows number k q is at =
     let r = cleared rows k q at in
     record { index = r.0; there = r.1; number_is = is }
 
 -- no row has a request
-pub none_held : (rows : List (Option Place)) → ((k : ℕ) → k < length rows → slice_get rows k ≡ Some None) → slice_get (held rows) 0 ≡ None
+pub none_held : (rows : List (Option Place)) → ((k : ℕ) → k < length rows → slice_get rows k ≡ Some None) → slice_get (places_in rows) 0 ≡ None
 none_held [] empty = refl
 none_held (None ∷ rows) empty = none_held rows (λ k within. empty (suc k) (omega (arith, within)))
 none_held (Some q ∷ rows) empty = let clash : Some (Some q) ≡ Some None = empty 0 (omega arith) in cc
 
 -- the first row that has one has the first
-pub first_held : (rows : List (Option Place)) (k : ℕ) (q : Place) → ((j : ℕ) → j < k → slice_get rows j ≡ Some None) → slice_get rows k ≡ Some (Some q) → slice_get (held rows) 0 ≡ Some q
+pub first_held : (rows : List (Option Place)) (k : ℕ) (q : Place) → ((j : ℕ) → j < k → slice_get rows j ≡ Some None) → slice_get rows k ≡ Some (Some q) → slice_get (places_in rows) 0 ≡ Some q
 first_held [] k q empty at = cc
-first_held (row ∷ rows) zero q empty at = let same : row ≡ Some q = cc in ap (λ r. slice_get (held (r ∷ rows)) 0) same
+first_held (row ∷ rows) zero q empty at = let same : row ≡ Some q = cc in ap (λ r. slice_get (places_in (r ∷ rows)) 0) same
 first_held (None ∷ rows) (suc k) q empty at = first_held rows k q (λ j below. empty (suc j) (omega (arith, below))) at
 first_held (Some p ∷ rows) (suc k) q empty at = let clash : Some (Some p) ≡ Some None = empty 0 (omega arith) in cc
 
 -- the first request that passes
-pub none_passes : (test : Place → Bool) (rows : List (Option Place)) → ((k : ℕ) (q : Place) → slice_get rows k ≡ Some (Some q) → test q ≡ false) → find test (held rows) ≡ None
+pub none_passes : (test : Place → Bool) (rows : List (Option Place)) → ((k : ℕ) (q : Place) → slice_get rows k ≡ Some (Some q) → test q ≡ false) → find test (places_in rows) ≡ None
 none_passes test [] none = refl
 none_passes test (None ∷ rows) none = none_passes test rows (λ k q at. none (suc k) q at)
 none_passes test (Some p ∷ rows) none = rw (none 0 p refl) (none_passes test rows (λ k q at. none (suc k) q at))
 
-pub first_passes : (test : Place → Bool) (rows : List (Option Place)) (k : ℕ) (q : Place) → ((j : ℕ) (p : Place) → j < k → slice_get rows j ≡ Some (Some p) → test p ≡ false) → slice_get rows k ≡ Some (Some q) → test q ≡ true → find test (held rows) ≡ Some q
+pub first_passes : (test : Place → Bool) (rows : List (Option Place)) (k : ℕ) (q : Place) → ((j : ℕ) (p : Place) → j < k → slice_get rows j ≡ Some (Some p) → test p ≡ false) → slice_get rows k ≡ Some (Some q) → test q ≡ true → find test (places_in rows) ≡ Some q
 first_passes test [] k q before at good = cc
 first_passes test (None ∷ rows) zero q before at good = cc
 first_passes test (Some p ∷ rows) zero q before at good =

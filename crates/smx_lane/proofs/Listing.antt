@@ -9,7 +9,7 @@ use Rattle.smx_history.specs.Numbers.{place_in}
 use Rattle.smx_history.proofs.Spacing.{still_there, at_end}
 use Rattle.smx_lane.specs.declared.ages.Aged.{Aged}
 use Rattle.smx_lane.specs.Private.Places.{HasAt, KeepsListed, aged_of}
-use Rattle.smx_lane.specs.Private.Window.{AreNumbered, held}
+use Rattle.smx_lane.specs.Private.Window.{AreNumbered, places_in}
 use Rattle.smx_lane.proofs.Held.{at-set, none_passes}
 use Rattle.smx_history.specs.Replies.{is_expired}
 use Rattle.std.specs.List.{find}
@@ -105,5 +105,5 @@ young rows aged now age numbered listed all k q at =
     lt-leb (q.moment + age) now (omega (arith, below, ap (λ (y : Aged). y.moment) in_it.2))
 
 -- so none of them is found to be old
-pub none_found : (rows : List (Option Place)) (aged : List Aged) (now age : ℕ) → AreNumbered 0 rows → KeepsListed rows aged → All (λ x. now < x.moment + age) aged → None ≡ find (is_expired now age) (held rows)
+pub none_found : (rows : List (Option Place)) (aged : List Aged) (now age : ℕ) → AreNumbered 0 rows → KeepsListed rows aged → All (λ x. now < x.moment + age) aged → None ≡ find (is_expired now age) (places_in rows)
 none_found rows aged now age numbered listed all = sym (none_passes (is_expired now age) rows (λ k q at. young rows aged now age numbered listed all k q at))

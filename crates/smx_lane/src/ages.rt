@@ -50,7 +50,8 @@ pub(crate) fn is_expired(moment: u64, now: u64, age: u64) -> bool
 impl Ages {
     // No request, and room for so many, answered ones included.
     pub(crate) fn new(alloc: Global, places: usize) -> Result<Ages, AllocError>
-        ensures { IfOk result (λ ages. (ages.aged ≡ []) × (ages.latest ≡ 0) × (places ≤ ages.places)) }
+        ensures { IfOk result (λ ages. (ages.aged ≡ []) × (ages.latest ≡ 0)
+            × (places ≤ ages.places)) }
     {
         Ok(Ages {
             list: Vec::with_capacity(alloc, places)?,
@@ -83,7 +84,8 @@ impl Ages {
     // Sees that there is room for one more: where there is none, it lists those alone that are in their rows.
     pub(crate) fn make_room(&mut self, rows: &Rows)
         requires few { length rows.now < self.old.places }
-        requires before { (k : ℕ) (q : Place) → slice_get rows.now k ≡ Some (Some q) → q.moment ≤ self.old.latest }
+        requires before { (k : ℕ) (q : Place) → slice_get rows.now k ≡ Some (Some q)
+            → q.moment ≤ self.old.latest }
         ensures each { KeepsListed rows.now self.old.aged → KeepsListed rows.now self.new.aged }
         ensures left { 0 < self.new.left }
         ensures latest { self.new.latest ≡ self.old.latest }

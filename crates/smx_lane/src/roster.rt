@@ -80,7 +80,8 @@ impl Roster {
 
     // The index of the client's row.
     pub(crate) fn find(&self, client: u64) -> Option<usize>
-        ensures { MatchOption result (member_with client self.now.members ≡ None) (λ i. (m : Member) × IsRowOf self.now.members client i m) }
+        ensures { MatchOption result (member_with client self.now.members ≡ None)
+            (λ i. (m : Member) × IsRowOf self.now.members client i m) }
     {
         self.rows
             .binary_search_by_key(&client, |row| row.client)
@@ -114,7 +115,8 @@ impl Roster {
     // Whether the box of the client at the index is empty.
     pub(crate) fn is_box_empty(&self, at: usize) -> bool
         requires { at < length self.now.members }
-        ensures { (m : Member) → slice_get self.now.members at ≡ Some m → result ≡ (length m.waiting == 0) }
+        ensures { (m : Member) → slice_get self.now.members at ≡ Some m
+            → result ≡ (length m.waiting == 0) }
     {
         self.rows[at].waiting.is_empty()
     }
@@ -122,7 +124,8 @@ impl Roster {
     // Adds a client above all others, with an empty box.
     pub(crate) fn add(&mut self, by: u64, client: u64) -> Result<(), AllocError>
         requires { RiseAbove 0 (map (λ m. m.client) (self.old.members ++ new_row by client ∷ [])) }
-        ensures ok { OnOk result (self.new ≡ record self.old { members = self.old.members ++ new_row by client ∷ [] }) }
+        ensures ok { OnOk result (self.new
+            ≡ record self.old { members = self.old.members ++ new_row by client ∷ [] }) }
         ensures err { OnErr result (self.new ≡ self.old) }
     {
         let waiting = HeapCircularBuffer::with_capacity(self.alloc, self.places as usize)?;
@@ -150,7 +153,8 @@ impl Roster {
 
     // Puts a response into the box of the client at the index.
     pub(crate) fn put(&mut self, at: usize, response: Response)
-        requires room { (m : Member) × (slice_get self.old.members at ≡ Some m) × (length m.waiting < self.old.places) }
+        requires room { (m : Member) × (slice_get self.old.members at ≡ Some m)
+            × (length m.waiting < self.old.places) }
         requires few { waiting_of self.old.members ≤ 1000000 }
         ensures members { (m : Member) → slice_get self.old.members at ≡ Some m →
             self.new.members ≡ with_row m.client (λ n. record n { waiting = n.waiting ++ response ∷ [] }) self.old.members }
@@ -166,8 +170,10 @@ impl Roster {
 
     // Takes the oldest response out of the box of the client at the index.
     pub(crate) fn get(&mut self, at: usize) -> Response
-        requires { (m : Member) × (slice_get self.old.members at ≡ Some m) × (0 < length m.waiting) × (1 ≤ m.pending) }
-        ensures oldest { (m : Member) → slice_get self.old.members at ≡ Some m → m.waiting ≡ result ∷ drop 1 m.waiting }
+        requires { (m : Member) × (slice_get self.old.members at ≡ Some m)
+            × (0 < length m.waiting) × (1 ≤ m.pending) }
+        ensures oldest { (m : Member) → slice_get self.old.members at ≡ Some m
+            → m.waiting ≡ result ∷ drop 1 m.waiting }
         ensures members { (m : Member) → slice_get self.old.members at ≡ Some m →
             self.new.members ≡ with_row m.client (λ n. record n { pending = n.pending - 1; waiting = drop 1 n.waiting }) self.old.members }
         ensures places { self.new.places ≡ self.old.places }
@@ -182,7 +188,8 @@ impl Roster {
     // Drops the row and the box of the client at the index.
     pub(crate) fn remove(&mut self, at: usize)
         requires { at < length self.old.members }
-        ensures members { (m : Member) → slice_get self.old.members at ≡ Some m → self.new.members ≡ without m.client self.old.members }
+        ensures members { (m : Member) → slice_get self.old.members at ≡ Some m
+            → self.new.members ≡ without m.client self.old.members }
         ensures places { self.new.places ≡ self.old.places }
     {
         let row = self.rows.remove(at).unwrap();

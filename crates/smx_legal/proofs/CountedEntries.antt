@@ -8,7 +8,7 @@ use Rattle.smx_history.specs.declared.entry.Kind.TheVariants as kind
 use Rattle.smx_history.specs.declared.limits.Limits.{Limits}
 use Rattle.smx_legal.specs.declared.totals.Totals.{Totals}
 use Rattle.smx_history.specs.Prefixes.{RiseAbove}
-use Rattle.smx_history.specs.Entries.{is_link, is_admit, is_accept, is_take, is_answer, is_collect, is_retire, is_settling, admits, accepts, takes, answers_of, collects_of, unanswered, present}
+use Rattle.smx_history.specs.Entries.{is_link, is_admit, is_accept, is_take, is_answer, is_collect, is_retire, is_settling, admits, accepts, takes, answers_of, collects_of, unanswered_takes, present}
 use Rattle.smx_history.specs.Legal.{KeepsRules, IsFifo, StandsWell, waiting}
 use Rattle.smx_history.proofs.Fitting.{Fits}
 use Rattle.smx_legal.specs.Checks.{Counted, takes_as}
@@ -82,13 +82,13 @@ counted_take limits t es e legal counted fits k =
           let p : Entry → Bool = λ x. is_take x.kind && (x.number == u) in
           let bearing : takes_as u (es ++ e ∷ []) ≡ takes_as u es + cond (e.number == u) 1 0 =
           length-filter p (es ++ e ∷ []) ∙ count_by-push p es e ∙ ap (λ b. count_by p es + cond (b && (e.number == u)) 1 0) (ap is_take k) ∙ ap (λ n. n + cond (e.number == u) 1 0) (sym (length-filter p es)) in
-          let open' : count_by (λ x. x.number == u) (unanswered (es ++ e ∷ [])) ≡ count_by (λ x. x.number == u) (unanswered es) + cond (e.number == u) 1 0 =
-          ap (count_by (λ x. x.number == u)) push ∙ count_by-push (λ x. x.number == u) (unanswered es) e in
+          let open' : count_by (λ x. x.number == u) (unanswered_takes (es ++ e ∷ [])) ≡ count_by (λ x. x.number == u) (unanswered_takes es) + cond (e.number == u) 1 0 =
+          ap (count_by (λ x. x.number == u)) push ∙ count_by-push (λ x. x.number == u) (unanswered_takes es) e in
           omega (arith, bearing, open', settlings_as-other u es e (ap is_settling k), counted.numbers u);
       greatest = rw (admits-other es e (ap is_admit k)) counted.greatest;
       taken = rw (takes_push es e k) (omega (arith, length-append (takes es) (e ∷ []), counted.taken));
       queued = rw (takes_push es e k, accepts-other es e (ap is_accept k)) (omega (arith, length-append (takes es) (e ∷ []), counted.queued, more));
-      unanswered = rw push (omega (arith, length-append (unanswered es) (e ∷ []), counted.unanswered));
+      unanswered = rw push (omega (arith, length-append (unanswered_takes es) (e ∷ []), counted.unanswered));
       waiting = rw (waiting-other es e (ap is_admit k) (ap is_retire k) (ap is_answer k) (ap is_collect k)) counted.waiting;
       present = rw (present-other es e (ap is_admit k) (ap is_retire k)) counted.present;
       up = rw (is_up-other es e (ap is_link k)) counted.up;

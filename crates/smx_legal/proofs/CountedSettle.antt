@@ -7,7 +7,7 @@ use Rattle.smx_history.specs.declared.entry.Kind.{Kind}
 use Rattle.smx_history.specs.declared.entry.Kind.TheVariants as kind
 use Rattle.smx_history.specs.declared.limits.Limits.{Limits}
 use Rattle.smx_legal.specs.declared.totals.Totals.{Totals}
-use Rattle.smx_history.specs.Entries.{is_link, is_admit, is_accept, is_take, is_answer, is_collect, is_retire, is_settling, has_name, takes, admits, answers_of, collects_of, is_retired, is_settled, unanswered, present}
+use Rattle.smx_history.specs.Entries.{is_link, is_admit, is_accept, is_take, is_answer, is_collect, is_retire, is_settling, has_name, takes, admits, answers_of, collects_of, is_retired, is_settled, unanswered_takes, present}
 use Rattle.smx_history.specs.Legal.{KeepsRules, IsFifo, StandsWell, IsPaired, Answers, waiting}
 use Rattle.smx_history.proofs.Fitting.{Fits}
 use Rattle.smx_legal.specs.Checks.{Counted, takes_as, settlings_as}
@@ -20,7 +20,7 @@ use Rattle.smx_legal.proofs.Counting.{count_agree, count_implies, sum_more, leng
 use Rattle.smx_history.proofs.Presence.{present_once, accepted_admitted}
 
 -- a test of the unanswered takes of a name that was not settled is a test of the takes of that name
-unanswered_named : (es : List Entry) (c n : ℕ) (r : Entry → Bool) → is_settled c n es ≡ false → count_by (λ x. r x && has_name c n x) (unanswered es) ≡ count_by (λ x. (is_take x.kind && has_name c n x) && r x) es
+unanswered_named : (es : List Entry) (c n : ℕ) (r : Entry → Bool) → is_settled c n es ≡ false → count_by (λ x. r x && has_name c n x) (unanswered_takes es) ≡ count_by (λ x. (is_take x.kind && has_name c n x) && r x) es
 unanswered_named es c n r none =
     count_by-filter (λ x. r x && has_name c n x) (λ t. not (is_settled t.client t.ordinal es)) (takes es)
     ∙ count_by-filter (λ x. (r x && has_name c n x) && not (is_settled x.client x.ordinal es)) (λ t. is_take t.kind) es
@@ -47,8 +47,8 @@ unanswered_named es c n r none =
 
 -- one unanswered take has the name of an answer, and it has the answer's number
 pub record IsOne (es : List Entry) (e : Entry) : Type 0 where
-  pub named : count_by (has_name e.client e.ordinal) (unanswered es) ≡ 1
-  pub numbered : (u : ℕ) → count_by (λ x. (x.number == u) && has_name e.client e.ordinal x) (unanswered es) ≡ cond (e.number == u) 1 0
+  pub named : count_by (has_name e.client e.ordinal) (unanswered_takes es) ≡ 1
+  pub numbered : (u : ℕ) → count_by (λ x. (x.number == u) && has_name e.client e.ordinal x) (unanswered_takes es) ≡ cond (e.number == u) 1 0
 
 is_one : (limits : Limits) (es : List Entry) (e : Entry) → KeepsRules limits es → Answers es e → IsOne es e
 is_one limits es e legal p =
@@ -68,7 +68,7 @@ is_one limits es e legal p =
       numbered = λ u. elim (cases_eq e.number u) [
         | inl same ↦
             let one : cond (e.number == u) 1 0 ≡ 0 + 1 = ap {B = ℕ} (λ b. cond b 1 0) (eq-eqb e.number u same) in
-            let there : count_by (λ x. (x.number == u) && has_name c n x) (unanswered es) ≡ count_by (λ x. t x && (x.number == e.number)) es =
+            let there : count_by (λ x. (x.number == u) && has_name c n x) (unanswered_takes es) ≡ count_by (λ x. t x && (x.number == e.number)) es =
             unanswered_named es c n (λ x. x.number == u) p.first ∙ ap (λ i. count_by (λ (x : Entry). t x && (x.number == i)) es) (sym same) in
             omega (arith, there, few, some, split, one)
         | inr apart ↦
@@ -87,8 +87,8 @@ is_one limits es e legal p =
 
 -- what an answer, in time or late, changes in the window
 pub record Closes (es : List Entry) (e : Entry) : Type 0 where
-  pub numbers : (u : ℕ) → count_by (λ x. x.number == u) (unanswered es) + settlings_as u es ≡ takes_as u es → count_by (λ x. x.number == u) (unanswered (es ++ e ∷ [])) + settlings_as u (es ++ e ∷ []) ≡ takes_as u (es ++ e ∷ [])
-  pub fewer : length (unanswered (es ++ e ∷ [])) + 1 ≡ length (unanswered es)
+  pub numbers : (u : ℕ) → count_by (λ x. x.number == u) (unanswered_takes es) + settlings_as u es ≡ takes_as u es → count_by (λ x. x.number == u) (unanswered_takes (es ++ e ∷ [])) + settlings_as u (es ++ e ∷ []) ≡ takes_as u (es ++ e ∷ [])
+  pub fewer : length (unanswered_takes (es ++ e ∷ [])) + 1 ≡ length (unanswered_takes es)
 
 pub closes : (limits : Limits) (es : List Entry) (e : Entry) → KeepsRules limits es → Settles e.kind → Answers es e → Closes es e
 closes limits es e legal s p =
@@ -100,10 +100,10 @@ closes limits es e legal s p =
           let q : Entry → Bool = λ x. is_settling x.kind && (x.number == u) in
           let settlings : settlings_as u (es ++ e ∷ []) ≡ settlings_as u es + cond (e.number == u) 1 0 =
           length-filter q (es ++ e ∷ []) ∙ count_by-push q es e ∙ ap (λ b. count_by q es + cond (b && (e.number == u)) 1 0) s.settling ∙ ap (λ n. n + cond (e.number == u) 1 0) (sym (length-filter q es)) in
-          let left : count_by (λ x. x.number == u) (unanswered (es ++ e ∷ [])) ≡ count_by (λ x. (x.number == u) && not (named x)) (unanswered es) =
-          ap (count_by (λ x. x.number == u)) gone ∙ count_by-filter (λ x. x.number == u) (λ x. not (named x)) (unanswered es) in
-          omega (arith, settlings, left, one.numbered u, count_split (λ (x : Entry). x.number == u) named (unanswered es), takes_as-other u es e s.take, was);
-      fewer = let l = length_without named (unanswered es) in omega (arith, l, one.named, ap length gone);
+          let left : count_by (λ x. x.number == u) (unanswered_takes (es ++ e ∷ [])) ≡ count_by (λ x. (x.number == u) && not (named x)) (unanswered_takes es) =
+          ap (count_by (λ x. x.number == u)) gone ∙ count_by-filter (λ x. x.number == u) (λ x. not (named x)) (unanswered_takes es) in
+          omega (arith, settlings, left, one.numbered u, count_split (λ (x : Entry). x.number == u) named (unanswered_takes es), takes_as-other u es e s.take, was);
+      fewer = let l = length_without named (unanswered_takes es) in omega (arith, l, one.named, ap length gone);
     }
 
 -- an answer in time adds one response of a client that is present

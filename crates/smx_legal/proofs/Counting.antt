@@ -5,7 +5,7 @@ use Rattle.std.proofs.lemmas.List.Sums.{sum_by-cons, length-filter}
 use Rattle.std.proofs.lemmas.List.Filters.{sum_by-filter_both}
 use Rattle.std.proofs.lemmas.Bool.{and_from, and_parts, and_left}
 use Rattle.smx_history.specs.declared.entry.Entry.{Entry}
-use Rattle.smx_history.specs.Entries.{is_admit, is_take, is_settling, answers_of, collects_of, is_admitted, unanswered}
+use Rattle.smx_history.specs.Entries.{is_admit, is_take, is_settling, answers_of, collects_of, is_admitted, unanswered_takes}
 use Rattle.smx_history.specs.Legal.{IsFifo}
 use Rattle.smx_legal.specs.Checks.{takes_as, settlings_as}
 use Rattle.smx_history.proofs.Growing.{filter_other, StartsWith-length}
@@ -71,5 +71,5 @@ pub settlings_as-other : (u : ℕ) (es : List Entry) (e : Entry) → is_settling
 settlings_as-other u es e h = ap length (filter_other (λ x. is_settling x.kind && (x.number == u)) es e (and_left _ _ h))
 
 -- an entry that neither takes nor settles leaves the numbers
-pub numbers_kept : (es : List Entry) (e : Entry) → is_take e.kind ≡ false → is_settling e.kind ≡ false → ((u : ℕ) → count_by (λ x. x.number == u) (unanswered es) + settlings_as u es ≡ takes_as u es) → (u : ℕ) → count_by (λ x. x.number == u) (unanswered (es ++ e ∷ [])) + settlings_as u (es ++ e ∷ []) ≡ takes_as u (es ++ e ∷ [])
+pub numbers_kept : (es : List Entry) (e : Entry) → is_take e.kind ≡ false → is_settling e.kind ≡ false → ((u : ℕ) → count_by (λ x. x.number == u) (unanswered_takes es) + settlings_as u es ≡ takes_as u es) → (u : ℕ) → count_by (λ x. x.number == u) (unanswered_takes (es ++ e ∷ [])) + settlings_as u (es ++ e ∷ []) ≡ takes_as u (es ++ e ∷ [])
 numbers_kept es e t s h u = omega (arith, h u, takes_as-other u es e t, settlings_as-other u es e s, ap (count_by (λ x. x.number == u)) (unanswered-other es e t s))

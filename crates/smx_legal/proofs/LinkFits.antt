@@ -5,7 +5,7 @@ use Rattle.smx_history.specs.declared.entry.Entry.{Entry}
 use Rattle.smx_history.specs.declared.entry.Kind.TheVariants as kind
 use Rattle.smx_history.specs.declared.limits.Limits.{Limits}
 use Rattle.smx_legal.specs.declared.totals.Totals.{Totals}
-use Rattle.smx_history.specs.Entries.{is_link, unanswered}
+use Rattle.smx_history.specs.Entries.{is_link, unanswered_takes}
 use Rattle.smx_history.specs.Legal.{KeepsRules, HasForm, StandsWell, IsBare}
 use Rattle.smx_history.proofs.Fitting.{Fits}
 use Rattle.smx_history.proofs.Kept.{HasForm-by, StandsWell-by}
@@ -38,7 +38,7 @@ up_iff limits t es e b legal counted k is = (
   λ h. let w = and_parts _ _ (sym is ∙ h) in
       let x = and_parts _ _ w.0 in
       link_fit limits es e legal (ap is_link k) (HasForm-by e kind.Up k (bare_from e x.0))
-      (StandsWell-by es e kind.Up k (sym counted.up ∙ not-true _ x.1, empty_of (unanswered es) (sym counted.unanswered ∙ eqb-true _ _ w.1))),
+      (StandsWell-by es e kind.Up k (sym counted.up ∙ not-true _ x.1, empty_of (unanswered_takes es) (sym counted.unanswered ∙ eqb-true _ _ w.1))),
   λ fits.
       let form : HasForm kind.Up e = rw k at fits.form in
       let standing : StandsWell kind.Up es e = rw k at fits.standing in

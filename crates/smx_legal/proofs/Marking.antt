@@ -7,8 +7,8 @@ use Rattle.std.proofs.lemmas.List.{append-nil, map-append, take-append-drop}
 use Rattle.std.proofs.lemmas.List.Elements.{filter_map-append}
 use Rattle.smx_history.specs.declared.entry.Entry.{Entry}
 use Rattle.smx_history.specs.declared.limits.Limits.{Limits}
-use Rattle.smx_history.specs.Shifts.{noted, since, stored, marks_in}
-use Rattle.smx_history.specs.Legal.{IsLegal, KeepsRules, owed}
+use Rattle.smx_history.specs.Shifts.{entries_among, since, stored_among, marks_in}
+use Rattle.smx_history.specs.Legal.{IsLegal, KeepsRules, owed_count}
 use Rattle.smx_history.proofs.Fitting.{Fits}
 use Rattle.smx_history.proofs.Joining.{marks_in-append}
 use Rattle.smx_history.proofs.Shifting.{noted-some, IsLegal-within, IsLegal-next, IsLegal-shift, IsLegal-start}
@@ -32,27 +32,27 @@ since-shift xs [] es = since-some [] es
 since-shift xs (None ∷ marks) es = since-shift [] marks es
 since-shift xs (Some e ∷ marks) es = since-shift (xs ++ e ∷ []) marks es
 
-pub stored-so_far : (marks : List (Option Entry)) (es : List Entry) → stored (so_far marks es) ≡ es
+pub stored-so_far : (marks : List (Option Entry)) (es : List Entry) → stored_among (so_far marks es) ≡ es
 unfolding so_far
 stored-so_far marks es = since-shift [] marks es
 
-noted-so_far : (marks : List (Option Entry)) (before : List Entry) → noted marks ≡ before → (es : List Entry) → noted (so_far marks es) ≡ before ++ es
+noted-so_far : (marks : List (Option Entry)) (before : List Entry) → entries_among marks ≡ before → (es : List Entry) → entries_among (so_far marks es) ≡ before ++ es
 unfolding so_far
-noted-so_far marks before is es = filter_map-append (λ mark. mark) marks (None ∷ map Some es) ∙ ap (λ xs. noted marks ++ xs) (noted-some es) ∙ ap (λ xs. xs ++ es) is
+noted-so_far marks before is es = filter_map-append (λ mark. mark) marks (None ∷ map Some es) ∙ ap (λ xs. entries_among marks ++ xs) (noted-some es) ∙ ap (λ xs. xs ++ es) is
 
 -- what is legal so far keeps the rules, and its size is within the limit
-pub so_far-rules : (limits : Limits) (marks : List (Option Entry)) (before : List Entry) → noted marks ≡ before → (es : List Entry) → IsLegal limits (so_far marks es) → KeepsRules limits (before ++ es)
+pub so_far-rules : (limits : Limits) (marks : List (Option Entry)) (before : List Entry) → entries_among marks ≡ before → (es : List Entry) → IsLegal limits (so_far marks es) → KeepsRules limits (before ++ es)
 so_far-rules limits marks before is es h = subst (λ (xs : List Entry). KeepsRules limits xs) (noted-so_far marks before is es) h.rules
 
-so_far-within : (limits : Limits) (marks : List (Option Entry)) (before : List Entry) → noted marks ≡ before → (es : List Entry) → IsLegal limits (so_far marks es) → length es + owed (before ++ es) ≤ limits.history
+so_far-within : (limits : Limits) (marks : List (Option Entry)) (before : List Entry) → entries_among marks ≡ before → (es : List Entry) → IsLegal limits (so_far marks es) → length es + owed_count (before ++ es) ≤ limits.history
 so_far-within limits marks before is es h =
     let was = IsLegal-within limits (so_far marks es) h in
-    let s : length (stored (so_far marks es)) ≡ length es = ap length (stored-so_far marks es) in
-    let o : owed (noted (so_far marks es)) ≡ owed (before ++ es) = ap owed (noted-so_far marks before is es) in
+    let s : length (stored_among (so_far marks es)) ≡ length es = ap length (stored-so_far marks es) in
+    let o : owed_count (entries_among (so_far marks es)) ≡ owed_count (before ++ es) = ap owed_count (noted-so_far marks before is es) in
     omega (arith, was, s, o)
 
 -- one entry more
-pub so_far-next : (limits : Limits) (marks : List (Option Entry)) (before : List Entry) → noted marks ≡ before → (es : List Entry) (e : Entry) → IsLegal limits (so_far marks es) → Fits limits (before ++ es) e → length es + 1 + owed ((before ++ es) ++ e ∷ []) ≤ limits.history → IsLegal limits (so_far marks (es ++ e ∷ []))
+pub so_far-next : (limits : Limits) (marks : List (Option Entry)) (before : List Entry) → entries_among marks ≡ before → (es : List Entry) (e : Entry) → IsLegal limits (so_far marks es) → Fits limits (before ++ es) e → length es + 1 + owed_count ((before ++ es) ++ e ∷ []) ≤ limits.history → IsLegal limits (so_far marks (es ++ e ∷ []))
 so_far-next limits marks before is es e h fits within = rw (so_far-push marks es e)
     (IsLegal-next limits (so_far marks es) e h (rw (noted-so_far marks before is es) fits) (rw (stored-so_far marks es, noted-so_far marks before is es) within))
 
@@ -79,16 +79,16 @@ pub lists-start : (limits : Limits) (xs ys : List (List Entry)) → IsLegal limi
 lists-start limits xs ys h = IsLegal-start limits (marks_in xs) (marks_in ys) (subst (λ (zs : List (Option Entry)). IsLegal limits zs) (marks_in-append xs ys) h)
 
 -- what the totals add up to is the size
-pub size_within : (limits : Limits) (marks : List (Option Entry)) (before : List Entry) → noted marks ≡ before → (es : List Entry) (t : Totals) → IsLegal limits (so_far marks es) → Counted (before ++ es) t → length es + 3 * t.queued + 2 * t.unanswered + t.waiting + t.present + (if t.up then 1 else 0) ≤ limits.history
+pub size_within : (limits : Limits) (marks : List (Option Entry)) (before : List Entry) → entries_among marks ≡ before → (es : List Entry) (t : Totals) → IsLegal limits (so_far marks es) → Counted (before ++ es) t → length es + 3 * t.queued + 2 * t.unanswered + t.waiting + t.present + (if t.up then 1 else 0) ≤ limits.history
 size_within limits marks before is es t legal counted =
     let within = so_far-within limits marks before is es legal in
     omega (arith, within, counted.queued, counted.unanswered, counted.waiting, counted.present, ap {B = ℕ} (λ b. if b then 1 else 0) counted.up)
 
 -- the entries of the lists are those of their marks
-pub noted-earlier : (lists : List (Vec Entry)) → noted (marks_in (lists_of lists)) ≡ entries_in lists
+pub noted-earlier : (lists : List (Vec Entry)) → entries_among (marks_in (lists_of lists)) ≡ entries_in lists
 noted-earlier [] = refl
 noted-earlier (es ∷ lists) =
-    filter_map-append (λ mark. mark) (map Some es.items) (marks_in (lists_of lists)) ∙ ap (λ xs. xs ++ noted (marks_in (lists_of lists))) (noted-some es.items) ∙ ap (λ xs. es.items ++ xs) (noted-earlier lists)
+    filter_map-append (λ mark. mark) (map Some es.items) (marks_in (lists_of lists)) ∙ ap (λ xs. xs ++ entries_among (marks_in (lists_of lists))) (noted-some es.items) ∙ ap (λ xs. es.items ++ xs) (noted-earlier lists)
 
 entries_in-append : (xs ys : List (Vec Entry)) → entries_in (xs ++ ys) ≡ entries_in xs ++ entries_in ys
 entries_in-append [] ys = refl

@@ -4,11 +4,11 @@ use Rattle.std.proofs.Common.{◌≡◌, ℕ, List, [], ◌∷◌, ◌++◌, sym
 use Rattle.std.proofs.lemmas.List.{take-append-drop}
 use Rattle.smx_history.specs.declared.entry.Entry.{Entry}
 use Rattle.smx_history.specs.declared.limits.Limits.{Limits}
-use Rattle.smx_history.specs.Legal.{KeepsRules, IsFifo, AreApart, IsBounded, HasForm, StandsWell, IsPaired, IsLegal, owed}
+use Rattle.smx_history.specs.Legal.{KeepsRules, IsFifo, AreApart, IsBounded, HasForm, StandsWell, IsPaired, IsLegal, owed_count}
 use Rattle.smx_history.proofs.Fitting.{Fits}
 use Rattle.smx_history.proofs.Growing.{AtEach-last, AtEachPrefix-whole}
 use Rattle.std.proofs.Math.Seq.{take-suc, take-length}
-use Rattle.smx_history.specs.Shifts.{noted}
+use Rattle.smx_history.specs.Shifts.{entries_among}
 use Rattle.smx_legal.specs.declared.totals.Totals.{Totals}
 use Rattle.smx_legal.specs.Checks.{Counted}
 use Rattle.smx_legal.proofs.Marking.{so_far, so_far-next, so_far-start, so_far-rules, size_within}
@@ -34,9 +34,9 @@ long : (es : List Entry) (i : ℕ) → i < length es → length (take i es) ≡ 
 long es i within = omega (arith, length-take i es)
 
 -- the entry at an index fits and the size keeps to the limit
-pub legal_step : (limits : Limits) (marks : List (Option Entry)) (before : List Entry) → noted marks ≡ before → (es : List Entry) (i n : ℕ) (d : Entry) (t : Totals) → i < length es → IsLegal limits (so_far marks (take i es)) → Fits limits (before ++ take i es) (get_or es i d) → Counted ((before ++ take i es) ++ get_or es i d ∷ []) t → n ≡ i + 1 + 3 * t.queued + 2 * t.unanswered + t.waiting + t.present + (if t.up then 1 else 0) → n ≤ limits.history → IsLegal limits (so_far marks (take (i + 1) es))
+pub legal_step : (limits : Limits) (marks : List (Option Entry)) (before : List Entry) → entries_among marks ≡ before → (es : List Entry) (i n : ℕ) (d : Entry) (t : Totals) → i < length es → IsLegal limits (so_far marks (take i es)) → Fits limits (before ++ take i es) (get_or es i d) → Counted ((before ++ take i es) ++ get_or es i d ∷ []) t → n ≡ i + 1 + 3 * t.queued + 2 * t.unanswered + t.waiting + t.present + (if t.up then 1 else 0) → n ≤ limits.history → IsLegal limits (so_far marks (take (i + 1) es))
 legal_step limits marks before noted_is es i n d t within legal fits counted is le =
-    let size : length (take i es) + 1 + owed ((before ++ take i es) ++ get_or es i d ∷ []) ≤ limits.history =
+    let size : length (take i es) + 1 + owed_count ((before ++ take i es) ++ get_or es i d ∷ []) ≤ limits.history =
     omega (arith, long es i within, counted.queued, counted.unanswered, counted.waiting, counted.present, ap {B = ℕ} (λ b. if b then 1 else 0) counted.up, is, le) in
     subst (λ (xs : List Entry). IsLegal limits (so_far marks xs)) (sym (up_to es i d within)) (so_far-next limits marks before noted_is (take i es) (get_or es i d) legal fits size)
 
@@ -51,7 +51,7 @@ legal_prefix limits marks es i d within legal =
     (so_far-start limits marks (take (i + 1) es) (drop (i + 1) es) (subst (λ (xs : List Entry). IsLegal limits (so_far marks xs)) (sym (take-append-drop (i + 1) es)) legal))
 
 -- an entry of a legal list fits
-pub entry_fits : (limits : Limits) (marks : List (Option Entry)) (before : List Entry) → noted marks ≡ before → (es : List Entry) (i : ℕ) (d : Entry) → i < length es → IsLegal limits (so_far marks es) → Fits limits (before ++ take i es) (get_or es i d)
+pub entry_fits : (limits : Limits) (marks : List (Option Entry)) (before : List Entry) → entries_among marks ≡ before → (es : List Entry) (i : ℕ) (d : Entry) → i < length es → IsLegal limits (so_far marks es) → Fits limits (before ++ take i es) (get_or es i d)
 entry_fits limits marks before noted_is es i d within legal =
     KeepsRules-fits limits (before ++ take i es) (get_or es i d)
     (subst (λ (xs : List Entry). KeepsRules limits xs) (sym (append_assoc before (take i es) (get_or es i d ∷ [])))
@@ -68,7 +68,7 @@ counted_end before es i t past within counted =
     subst (λ (xs : List Entry). Counted (before ++ xs) t) (ap (λ k. take k es) all ∙ take-length es) counted
 
 -- the size with one entry more is that of a legal prefix
-pub within_counted : (limits : Limits) (marks : List (Option Entry)) (before : List Entry) → noted marks ≡ before → (es : List Entry) (i n : ℕ) (d : Entry) (t : Totals) → i < length es → Counted ((before ++ take i es) ++ get_or es i d ∷ []) t → n ≡ i + 1 + 3 * t.queued + 2 * t.unanswered + t.waiting + t.present + (if t.up then 1 else 0) → IsLegal limits (so_far marks (take i es ++ get_or es i d ∷ [])) → n ≤ limits.history
+pub within_counted : (limits : Limits) (marks : List (Option Entry)) (before : List Entry) → entries_among marks ≡ before → (es : List Entry) (i n : ℕ) (d : Entry) (t : Totals) → i < length es → Counted ((before ++ take i es) ++ get_or es i d ∷ []) t → n ≡ i + 1 + 3 * t.queued + 2 * t.unanswered + t.waiting + t.present + (if t.up then 1 else 0) → IsLegal limits (so_far marks (take i es ++ get_or es i d ∷ [])) → n ≤ limits.history
 within_counted limits marks before noted_is es i n d t within counted is legal =
     let up = up_to es i d within in
     let there : Counted (before ++ (take i es ++ get_or es i d ∷ [])) t = subst (λ (xs : List Entry). Counted xs t) (append_assoc before (take i es) (get_or es i d ∷ [])) counted in
@@ -76,7 +76,7 @@ within_counted limits marks before noted_is es i n d t within counted is legal =
     omega (arith, le, is, ap length up, length-take (i + 1) es, within)
 
 -- the totals so far are small
-pub totals_small : (limits : Limits) (marks : List (Option Entry)) (before : List Entry) → noted marks ≡ before → (es : List Entry) (i : ℕ) (t : Totals) → i < length es → IsLegal limits (so_far marks (take i es)) → Counted (before ++ take i es) t → i + 3 * t.queued + 2 * t.unanswered + t.waiting + t.present + (if t.up then 1 else 0) ≤ limits.history
+pub totals_small : (limits : Limits) (marks : List (Option Entry)) (before : List Entry) → entries_among marks ≡ before → (es : List Entry) (i : ℕ) (t : Totals) → i < length es → IsLegal limits (so_far marks (take i es)) → Counted (before ++ take i es) t → i + 3 * t.queued + 2 * t.unanswered + t.waiting + t.present + (if t.up then 1 else 0) ≤ limits.history
 totals_small limits marks before noted_is es i t within legal counted =
     let small = size_within limits marks before noted_is (take i es) t legal counted in
     omega (arith, small, long es i within)

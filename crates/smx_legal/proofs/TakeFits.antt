@@ -11,7 +11,7 @@ use Rattle.smx_history.specs.declared.entry.Kind.TheVariants as kind
 use Rattle.smx_history.specs.declared.limits.Limits.{Limits}
 use Rattle.smx_legal.specs.declared.totals.Totals.{Totals}
 use Rattle.smx_history.specs.Prefixes.{StartsWith}
-use Rattle.smx_history.specs.Entries.{is_accept, is_take, name_of, has_name, accepts, takes, unanswered, numbers}
+use Rattle.smx_history.specs.Entries.{is_accept, is_take, name_of, has_name, accepts, takes, unanswered_takes, numbers}
 use Rattle.smx_history.specs.Numbers.{AreSpaced}
 use Rattle.smx_history.specs.Legal.{KeepsRules, HasForm, IsPaired, StandsWell}
 use Rattle.smx_history.proofs.Fitting.{Fits, is_taken}
@@ -71,9 +71,9 @@ take_from limits es e legal k fits =
     let push = unanswered_taken es e k (untaken_unsettled es e.client e.ordinal legal.pairing first) in
     let starts : StartsWith (map name_of (accepts es)) (map name_of (takes es) ++ name_of e ∷ []) =
     rw (takes_push es e k, accepts-other es e (ap is_accept k), map-append name_of (takes es) (e ∷ [])) at fits.fifo.taken in
-    let distinct : IsDistinct nat_eq (map (λ x. x.number) (unanswered es) ++ e.number ∷ []) =
-    subst (λ (xs : List ℕ). IsDistinct nat_eq xs) (ap (map (λ (x : Entry). x.number)) push ∙ map-append (λ x. x.number) (unanswered es) (e ∷ [])) fits.apart in
-    let window : length (unanswered es ++ e ∷ []) ≤ limits.window = rw push at fits.bounds.window in
+    let distinct : IsDistinct nat_eq (map (λ x. x.number) (unanswered_takes es) ++ e.number ∷ []) =
+    subst (λ (xs : List ℕ). IsDistinct nat_eq xs) (ap (map (λ (x : Entry). x.number)) push ∙ map-append (λ x. x.number) (unanswered_takes es) (e ∷ [])) fits.apart in
+    let window : length (unanswered_takes es ++ e ∷ []) ≤ limits.window = rw push at fits.bounds.window in
     record {
       up = standing;
       command = form;
@@ -81,8 +81,8 @@ take_from limits es e legal k fits =
       within = paired.1;
       next = StartsWith-end (map name_of (accepts es)) (map name_of (takes es)) (name_of e) starts;
       first = first;
-      free = count_numbered e.number (unanswered es) (IsDistinct-end (map (λ x. x.number) (unanswered es)) e.number distinct);
-      window = omega (arith, window, length-append (unanswered es) (e ∷ []));
+      free = count_numbered e.number (unanswered_takes es) (IsDistinct-end (map (λ x. x.number) (unanswered_takes es)) e.number distinct);
+      window = omega (arith, window, length-append (unanswered_takes es) (e ∷ []));
       spaced = subst (λ (ns : List ℕ). AreSpaced ns) (numbers_push es e k) fits.spaced;
     }
 

@@ -10,11 +10,11 @@ use Rattle.smx_legal.specs.declared.part.Part.TheVariants as part
 use Rattle.smx_legal.specs.declared.past.Past.{Past}
 use Rattle.smx_pdu.specs.Command.{is_forwarded, is_response_to}
 use Rattle.smx_history.specs.Prefixes.{last_or}
-use Rattle.smx_history.specs.Entries.{is_admit, is_accept, is_take, is_answer, is_collect, is_retire, is_settling, has_name, admits, accepts, takes, accepts_of, answers_of, collects_of, is_retired, is_admitted, is_settled, unanswered, present, is_up, numbers}
+use Rattle.smx_history.specs.Entries.{is_admit, is_accept, is_take, is_answer, is_collect, is_retire, is_settling, has_name, admits, accepts, takes, accepts_of, answers_of, collects_of, is_retired, is_admitted, is_settled, unanswered_takes, present, is_up, numbers}
 use Rattle.smx_history.specs.Numbers.{recent}
 use Rattle.smx_history.specs.Failures.{failure_command}
 use Rattle.smx_history.specs.Shifts.{marks_in}
-use Rattle.smx_history.specs.Legal.{IsLegal, queued, waiting}
+use Rattle.smx_history.specs.Legal.{IsLegal, queued_count, waiting}
 use Rattle.smx_history.proofs.Fitting.{is_taken}
 
 -- the lists that the shifts handed out
@@ -60,11 +60,11 @@ is_recent u es = list_any (λ n. n == u) (recent (numbers es))
 -- the totals are those of the list
 pub record Counted (es : List Entry) (t : Totals) : Type 0 where
   -- the numbers that are taken and not settled are those of the unanswered takes
-  pub numbers : (u : ℕ) → count_by (λ e. e.number == u) (unanswered es) + settlings_as u es ≡ takes_as u es
+  pub numbers : (u : ℕ) → count_by (λ e. e.number == u) (unanswered_takes es) + settlings_as u es ≡ takes_as u es
   pub greatest : t.greatest ≡ last_or 0 (map (λ e. e.client) (admits es))
   pub taken : t.taken ≡ length (takes es)
-  pub queued : t.queued ≡ queued es
-  pub unanswered : t.unanswered ≡ length (unanswered es)
+  pub queued : t.queued ≡ queued_count es
+  pub unanswered : t.unanswered ≡ length (unanswered_takes es)
   pub waiting : t.waiting ≡ waiting es
   pub present : t.present ≡ length (present es)
   pub up : t.up ≡ is_up es

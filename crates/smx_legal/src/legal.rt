@@ -232,7 +232,8 @@ fn fits(limits: Limits, totals: Totals, past: Past<'_>, entry: Entry) -> bool
 // How many responses wait for the client.
 fn waiting_of(past: Past<'_>, client: u64) -> u128
     requires { IsFifo (entries_before past) }
-    ensures { result ≡ length (answers_of client (entries_before past.entry)) - length (collects_of client (entries_before past.entry)) }
+    ensures { result ≡ length (answers_of client (entries_before past.entry)) - length
+        (collects_of client (entries_before past.entry)) }
 {
     past.count(Part::AnswersOf { client }) - past.count(Part::CollectsOf { client })
 }

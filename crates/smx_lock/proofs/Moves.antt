@@ -23,7 +23,7 @@ use Rattle.smx_ticket_core.proofs.Reach.{reached_sound, reached_start, runs_on, 
 use Rattle.smx_lock.specs.declared.views.Case.{Case}
 use Rattle.smx_lock.specs.declared.views.View.{View}
 use Rattle.smx_lock.specs.Notes.{notes_of}
-use Rattle.smx_lock.specs.Rule.{caller, shown, LockState, Seated, Knows, Agrees, Ruled}
+use Rattle.smx_lock.specs.Rule.{caller, machine_of, LockState, Seated, Knows, Agrees, Ruled}
 use Rattle.smx_lock.specs.Steps.{turned, read_next, drew, Takes, looked, held, left, released, read_serving, tried, host, guest, newcomer, message, meeting, gone, compared}
 use Rattle.smx_lock.proofs.Lists.{prefix_self, prefix_more, set_there, begins_other}
 use Rattle.smx_lock.proofs.OwnNotes.{all_own, own_all, own_none}
@@ -44,8 +44,8 @@ module _ {S N F : Type 0} (writer : N → ℕ) (fixed_of : S → F) (suits : S �
   abbrev R : St → Type 0
   R = Ruled writer fixed_of suits first fixed
 
-  sound : (s : St) (r : R s) → Sound (shown r.next r.serving s.views)
-  sound s r = reached_sound first (shown r.next r.serving s.views) r.low r.reached
+  sound : (s : St) (r : R s) → Sound (machine_of r.next r.serving s.views)
+  sound s r = reached_sound first (machine_of r.next r.serving s.views) r.low r.reached
 
   fits : (s : St) (r : R s) (id : ℕ) (v : V) → get_elem? s.views id ≡ some v → Fits r.next r.serving v.caller
   fits s r id v at = (sound s r).each id v.caller (at_map caller s.views id v at)
@@ -67,8 +67,8 @@ module _ {S N F : Type 0} (writer : N → ℕ) (fixed_of : S → F) (suits : S �
       r.apart i j a.0 b.0 a.1 b.1 a.3 b.3 (a.2 ∙ same ∙ sym b.2)
 
   -- the run goes on by one row of the table, and the seat id has the view w
-  goes_on : (s : St) (r : R s) (id : ℕ) (v w : V) (e : Event) (n' s' : ℕ) → who e ≡ id → get_elem? s.views id ≡ some v → row r.next r.serving e v.caller ≡ Ok (n', (s', w.caller)) → Reached first (shown n' s' (set s.views id w))
-  goes_on s r id v w e n' s' is at row_is = let m : Machine = shown r.next r.serving s.views in
+  goes_on : (s : St) (r : R s) (id : ℕ) (v w : V) (e : Event) (n' s' : ℕ) → who e ≡ id → get_elem? s.views id ≡ some v → row r.next r.serving e v.caller ≡ Ok (n', (s', w.caller)) → Reached first (machine_of n' s' (set s.views id w))
+  goes_on s r id v w e n' s' is at row_is = let m : Machine = machine_of r.next r.serving s.views in
       let c = runs_on first m e v.caller (n', (s', w.caller)) r.reached (ap (get_elem? m.callers) is ∙ at_map caller s.views id v at) row_is in
       subst (λ (l : List Caller). Reached first record { next = n'; serving = s'; callers = l }) (ap (λ (k : ℕ). set m.callers k w.caller) is ∙ sym (map-set caller s.views id w)) c
 
@@ -353,7 +353,7 @@ module _ {S N F : Type 0} (writer : N → ℕ) (fixed_of : S → F) (suits : S �
     words = r.words;
     reached = subst (λ (l : List Caller). Reached first record { next = r.next; serving = r.serving; callers = l })
         (sym (map-append caller (set s.views id w) (g ∷ []) ∙ ap (λ (c : Caller). map caller (set s.views id w) ++ c ∷ []) idle ∙ ap (λ (l : List Caller). l ++ Idle ∷ []) (map-set caller s.views id w ∙ set_again (map caller s.views) id w.caller (at_map caller s.views id v at ∙ ap some (sym same)))))
-        (reached_more first (shown r.next r.serving s.views) r.reached);
+        (reached_more first (machine_of r.next r.serving s.views) r.reached);
     place = place;
     each_seat = λ j u there. ⊎_elim (λ (z : get_elem? (set s.views id w) j ≡ some u). ⊎_elim (λ (y : (j ≡ id) × (w ≡ u)). subst (KnowsAt r.history r.serving seats' (s.homes ≡ none ∷ [])) y.1 mine)
         (λ (y : (j ≢ id) × (get_elem? s.views j ≡ some u)). others j u y.0 y.1) (at_set s.views id j w u z))

@@ -17,8 +17,8 @@ abbrev pub caller : {N F : Type 0} → View N F → Caller
 caller v = v.caller
 
 -- the ticket machine that the words and the views show
-abbrev pub shown : {N F : Type 0} → ℕ → ℕ → List (View N F) → Machine
-shown next serving views = record { next = next; serving = serving; callers = map caller views }
+abbrev pub machine_of : {N F : Type 0} → ℕ → ℕ → List (View N F) → Machine
+machine_of next serving views = record { next = next; serving = serving; callers = map caller views }
 
 -- the words, the slot and all views
 abbrev pub LockState : Type 0 → Type 0 → Type 0 → Type 0
@@ -63,7 +63,7 @@ pub record Ruled {S N F : Type 0} (writer : N → ℕ) (fixed_of : S → F) (sui
   pub seats : ℕ
   pub words : s.words ≡ next ∷ serving ∷ []
   -- a run of the ticket machine reaches what the words and the views show
-  pub reached : Reached first (shown next serving s.views)
+  pub reached : Reached first (machine_of next serving s.views)
   -- the value is at home and agrees with the history, or it is out and a caller holds
   pub place : ((x : Case S) × (s.homes ≡ some (Some x) ∷ []) × Agrees fixed_of suits fixed history seats x)
       ⊎ ((s.homes ≡ none ∷ []) × ((i : ℕ) × (t : ℕ) × (v : View N F) × (get_elem? s.views i ≡ some v) × (v.caller ≡ Holding t)))

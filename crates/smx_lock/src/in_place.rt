@@ -54,11 +54,14 @@ impl<S: Kept> SeatInPlace<S> {
         section: C,
     ) -> Result<C::Answer, (C, Spent)>
         requires lock { self.old.lock ≡ lock.now }
-        requires may { (h : Hold S S.Note S.Fixed) → Finds S.writer S.fixed S.agrees self.old h → C.may section h.number h.value }
-        requires leaves { Leaves S.writer S.fixed S.agrees self.old (C.does section) (C.notes section) }
+        requires may { (h : Hold S S.Note S.Fixed) → Finds S.writer S.fixed S.agrees self.old h
+            → C.may section h.number h.value }
+        requires leaves { Leaves S.writer S.fixed S.agrees self.old (C.does section)
+            (C.notes section) }
         ensures lock { self.new.lock ≡ self.old.lock }
         ensures idle { IfOk result (λ _. self.old.caller ≡ Idle) }
-        ensures done { IfOk result (λ answer. Runs S.writer S.fixed S.agrees self.old self.new (C.does section) (C.notes section) answer) }
+        ensures done { IfOk result (λ answer. Runs S.writer S.fixed S.agrees self.old self.new
+            (C.does section) (C.notes section) answer) }
         ensures back { IfErr result (λ e. e.0 ≡ section) }
         ensures spent { IfErr result (λ _. IsSpent self.old self.new) }
         ensures stays { IfErr result (λ _. (self.old.caller ≡ Idle) ⊎ (self.new ≡ self.old)) }
@@ -83,11 +86,14 @@ impl<S: Kept> SeatInPlace<S> {
         section: C,
     ) -> Result<C::Answer, (C, TryFault)>
         requires lock { self.old.lock ≡ lock.now }
-        requires may { (h : Hold S S.Note S.Fixed) → Finds S.writer S.fixed S.agrees self.old h → C.may section h.number h.value }
-        requires leaves { Leaves S.writer S.fixed S.agrees self.old (C.does section) (C.notes section) }
+        requires may { (h : Hold S S.Note S.Fixed) → Finds S.writer S.fixed S.agrees self.old h
+            → C.may section h.number h.value }
+        requires leaves { Leaves S.writer S.fixed S.agrees self.old (C.does section)
+            (C.notes section) }
         ensures lock { self.new.lock ≡ self.old.lock }
         ensures idle { IfOk result (λ _. self.old.caller ≡ Idle) }
-        ensures done { IfOk result (λ answer. Runs S.writer S.fixed S.agrees self.old self.new (C.does section) (C.notes section) answer) }
+        ensures done { IfOk result (λ answer. Runs S.writer S.fixed S.agrees self.old self.new
+            (C.does section) (C.notes section) answer) }
         ensures back { IfErr result (λ e. e.0 ≡ section) }
         ensures refused { IfErr result (λ e. Refused self.old self.new e.1) }
         ensures stays { IfErr result (λ _. (self.old.caller ≡ Idle) ⊎ (self.new ≡ self.old)) }
@@ -136,7 +142,8 @@ impl<S: Kept> SeatInPlace<S> {
         requires own { self.old.lock ≡ lock.now }
         requires other { other.old.lock ≡ lock.now }
         ensures same { (self.new ≡ self.old) × (other.new ≡ other.old) }
-        ensures one_history { IsPrefix self.old.seen other.old.seen ⊎ IsPrefix other.old.seen self.old.seen }
+        ensures one_history { IsPrefix self.old.seen other.old.seen
+            ⊎ IsPrefix other.old.seen self.old.seen }
     {
         let mut mine = standing(self.seat.take());
         let mut theirs = standing(other.seat.take());

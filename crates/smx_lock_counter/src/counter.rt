@@ -61,7 +61,9 @@ impl Counter {
     /// Adds, and answers whether the sum kept the limit. Where it does not, nothing changes.
     pub fn add(&mut self, amount: u64) -> bool
         ensures limit { self.new.limit ≡ self.old.limit }
-        ensures added { MatchBool result ((self.new.count ≡ self.old.count + amount) × (self.old.count + amount ≤ self.old.limit)) ((self.new.count ≡ self.old.count) × (self.old.limit < self.old.count + amount)) }
+        ensures added { MatchBool result ((self.new.count ≡ self.old.count + amount)
+            × (self.old.count + amount ≤ self.old.limit))
+            ((self.new.count ≡ self.old.count) × (self.old.limit < self.old.count + amount)) }
     {
         if self.count <= self.limit && amount <= self.limit - self.count {
             self.count += amount;

@@ -7,7 +7,7 @@ use Rattle.std.proofs.lemmas.List.Elements.{All-cons, All-head, All-tail}
 use Rattle.smx_routes.specs.declared.mo_window.Waiting.{Waiting}
 use Rattle.smx_routes.specs.Window.{AreApart, IsFirst, without}
 use Rattle.smx_routes.proofs.Apart.{without-other}
-use Rattle.smx_mailbox.specs.Mailbox.{Mailbox, among, rising, unanswered}
+use Rattle.smx_mailbox.specs.Mailbox.{Mailbox, among, rising, unanswered_messages}
 
 among-first : (w : Waiting) (vs : List Waiting) → All (λ v. w.given ≤ v.given) vs → among w vs ≡ w ∷ vs
 among-first w [] least = refl
@@ -56,5 +56,5 @@ pub length-rising : (ws : List Waiting) → length (rising ws) ≡ length ws
 length-rising [] = refl
 length-rising (w ∷ ws) = omega (arith, length-among w (rising ws), length-rising ws)
 
-pub length-unanswered : (m : Mailbox) → length (unanswered m) ≡ length m.window.waiting + length m.waiting
+pub length-unanswered : (m : Mailbox) → length (unanswered_messages m) ≡ length m.window.waiting + length m.waiting
 length-unanswered m = simp (length-append, length-map, length-rising) refl

@@ -5,7 +5,7 @@ use Rattle.std.proofs.lemmas.Bool.{cases_lt, le-leb, lt-leb}
 use Rattle.smx_pdu.specs.declared.pdu.Pdu.{Pdu}
 use Rattle.smx_routes.specs.Window.{Window, IsNext, number_behind, waits}
 use Rattle.smx_mailbox.specs.declared.message.Message.{Message}
-use Rattle.smx_mailbox.specs.Mailbox.{next_number, given, sent_as, sent, after_sent}
+use Rattle.smx_mailbox.specs.Mailbox.{next_number, with_given, sent_as, pdus_sent, after_sent}
 
 -- the first place in a range that passes is found
 find_first : (p : ℕ → Bool) (f : ℕ → ℕ) (n a j : ℕ) → a ≤ j → j < a + n → p (f j) ≡ true → ((i : ℕ) → a ≤ i → i < j → p (f i) ≡ false) → find p (map f (range_with_len a n)) ≡ Some (f j)
@@ -33,7 +33,7 @@ first_and_rest : {X : Type 0} (xs : List X) (x : X) → slice_get xs 0 ≡ Some 
 first_and_rest [] x is = cc
 first_and_rest (y ∷ ys) x is = let same : y ≡ x = cc in ap (λ z. z ∷ ys) same
 
-pub sent-full : (w : Window) (ms : List Message) → length w.waiting ≡ w.places → sent w ms ≡ []
+pub sent-full : (w : Window) (ms : List Message) → length w.waiting ≡ w.places → pdus_sent w ms ≡ []
 sent-full w [] full = refl
 sent-full w (m ∷ ms) full = rw (le-leb w.places (length w.waiting) (omega arith)) refl
 
@@ -48,13 +48,13 @@ under number w m = record w {
   waiting = w.waiting ++ record { given = number; lane = m.lane; number = m.pdu.number; command = m.pdu.command } ∷ [];
 }
 
-given_is : (w : Window) (m : Message) (number : ℕ) → IsNext w number → given w m ≡ under number w m
+given_is : (w : Window) (m : Message) (number : ℕ) → IsNext w number → with_given w m ≡ under number w m
 given_is w m number next = ap (λ n. under n w m) (next_is w number next)
 
-sent-more : (w : Window) (m : Message) (ms : List Message) → length w.waiting < w.places → sent w (m ∷ ms) ≡ sent_as m (next_number w) ∷ sent (given w m) ms
+sent-more : (w : Window) (m : Message) (ms : List Message) → length w.waiting < w.places → pdus_sent w (m ∷ ms) ≡ sent_as m (next_number w) ∷ pdus_sent (with_given w m) ms
 sent-more w m ms room = rw (lt-leb w.places (length w.waiting) room) refl
 
-after_sent-more : (w : Window) (m : Message) (ms : List Message) → length w.waiting < w.places → after_sent w (m ∷ ms) ≡ after_sent (given w m) ms
+after_sent-more : (w : Window) (m : Message) (ms : List Message) → length w.waiting < w.places → after_sent w (m ∷ ms) ≡ after_sent (with_given w m) ms
 after_sent-more w m ms room = rw (lt-leb w.places (length w.waiting) room) refl
 
 -- the window has given the first message that waited this number
@@ -65,27 +65,27 @@ pub record GaveFirst (w v : Window) (ms rest : List Message) (m : Message) (numb
   pub first : slice_get ms 0 ≡ Some m
   pub rest_is : rest ≡ drop 1 ms
 
-pub sent-gave : (w v : Window) (ms rest : List Message) (m : Message) (number : ℕ) → GaveFirst w v ms rest m number → sent w ms ≡ sent_as m number ∷ sent v rest
+pub sent-gave : (w v : Window) (ms rest : List Message) (m : Message) (number : ℕ) → GaveFirst w v ms rest m number → pdus_sent w ms ≡ sent_as m number ∷ pdus_sent v rest
 sent-gave w v ms rest m number gave =
     let split : ms ≡ m ∷ rest = first_and_rest ms m gave.first ∙ ap (λ (xs : List Message). m ∷ xs) (sym gave.rest_is) in
-    let one = ap (λ xs. sent w xs) split ∙ sent-more w m rest gave.room in
-    let window : given w m ≡ v = given_is w m number gave.next ∙ sym gave.window in
-    let left : sent_as m (next_number w) ∷ sent (given w m) rest ≡ sent_as m number ∷ sent v rest = λ i. sent_as m (next_is w number gave.next i) ∷ sent (window i) rest in
+    let one = ap (λ xs. pdus_sent w xs) split ∙ sent-more w m rest gave.room in
+    let window : with_given w m ≡ v = given_is w m number gave.next ∙ sym gave.window in
+    let left : sent_as m (next_number w) ∷ pdus_sent (with_given w m) rest ≡ sent_as m number ∷ pdus_sent v rest = λ i. sent_as m (next_is w number gave.next i) ∷ pdus_sent (window i) rest in
     one ∙ left
 
 pub after_sent-gave : (w v : Window) (ms rest : List Message) (m : Message) (number : ℕ) → GaveFirst w v ms rest m number → after_sent w ms ≡ after_sent v rest
 after_sent-gave w v ms rest m number gave =
     let split : ms ≡ m ∷ rest = first_and_rest ms m gave.first ∙ ap (λ (xs : List Message). m ∷ xs) (sym gave.rest_is) in
-    let window : given w m ≡ v = given_is w m number gave.next ∙ sym gave.window in
+    let window : with_given w m ≡ v = given_is w m number gave.next ∙ sym gave.window in
     ap (λ xs. after_sent w xs) split ∙ after_sent-more w m rest gave.room ∙ ap (λ u. after_sent u rest) window
 
 -- no more is sent than waits
-pub length-sent : (w : Window) (ms : List Message) → length (sent w ms) ≤ length ms
+pub length-sent : (w : Window) (ms : List Message) → length (pdus_sent w ms) ≤ length ms
 length-sent w [] = omega arith
 length-sent w (m ∷ ms) =
     elim (cases_lt (length w.waiting) w.places) [
-      | inl room ↦ omega (arith, ap (λ (ps : List Pdu). length ps) (sent-more w m ms room), length-sent (given w m) ms)
+      | inl room ↦ omega (arith, ap (λ (ps : List Pdu). length ps) (sent-more w m ms room), length-sent (with_given w m) ms)
       | inr full ↦
-          let nothing : sent w (m ∷ ms) ≡ [] = rw (le-leb w.places (length w.waiting) full) refl in
+          let nothing : pdus_sent w (m ∷ ms) ≡ [] = rw (le-leb w.places (length w.waiting) full) refl in
           omega (arith, ap (λ (ps : List Pdu). length ps) nothing)
     ]

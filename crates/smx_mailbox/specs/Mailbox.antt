@@ -32,8 +32,8 @@ abbrev pub next_number : Window → ℕ
 next_number w = unwrap_or (find (λ n. not (waits n w.waiting)) (map (number_behind w.last) (range_with_len 0 w.places))) 0
 
 -- the message waits under the next number
-abbrev pub given : Window → Message → Window
-given w message = record w {
+abbrev pub with_given : Window → Message → Window
+with_given w message = record w {
   last = next_number w;
   waiting = w.waiting ++ record { given = next_number w; lane = message.lane; number = message.pdu.number; command = message.pdu.command } ∷ [];
 }
@@ -43,19 +43,19 @@ abbrev pub sent_as : Message → ℕ → Pdu
 sent_as message number = record { command = message.pdu.command; status = 0; number = number; body = message.pdu.body }
 
 -- the messages that the client is sent: one after another, as long as the window has a place
-abbrev pub sent : Window → List Message → List Pdu
-sent w [] = []
-sent w (message ∷ messages) = if nat_le w.places (length w.waiting) then [] else sent_as message (next_number w) ∷ sent (given w message) messages
+abbrev pub pdus_sent : Window → List Message → List Pdu
+pdus_sent w [] = []
+pdus_sent w (message ∷ messages) = if nat_le w.places (length w.waiting) then [] else sent_as message (next_number w) ∷ pdus_sent (with_given w message) messages
 
 -- the mailbox that this leaves
 abbrev pub after_sent : Window → List Message → Mailbox
 after_sent w [] = record { waiting = []; window = w }
 after_sent w (message ∷ messages) =
-    if nat_le w.places (length w.waiting) then record { waiting = message ∷ messages; window = w } else after_sent (given w message) messages
+    if nat_le w.places (length w.waiting) then record { waiting = message ∷ messages; window = w } else after_sent (with_given w message) messages
 
 -- the message under the number was answered
-abbrev pub settled : ℕ → Mailbox → Mailbox
-settled number m = record m { window = record m.window { waiting = without number m.window.waiting } }
+abbrev pub after_settling : ℕ → Mailbox → Mailbox
+after_settling number m = record m { window = record m.window { waiting = without number m.window.waiting } }
 
 -- a message among others in rising order of the numbers given
 abbrev pub among : Waiting → List Waiting → List Waiting
@@ -73,8 +73,8 @@ abbrev pub unanswered_waiting : Message → Unanswered
 unanswered_waiting message = record { lane = message.lane; number = message.pdu.number; command = message.pdu.command }
 
 -- the messages without an answer: those that the client was sent, in rising order of their numbers, and then those that wait
-abbrev pub unanswered : Mailbox → List Unanswered
-unanswered m = map unanswered_sent (rising m.window.waiting) ++ map unanswered_waiting m.waiting
+abbrev pub unanswered_messages : Mailbox → List Unanswered
+unanswered_messages m = map unanswered_sent (rising m.window.waiting) ++ map unanswered_waiting m.waiting
 
-abbrev pub emptied : Mailbox → Mailbox
-emptied m = record { waiting = []; window = record m.window { waiting = [] } }
+abbrev pub empty_mailbox : Mailbox → Mailbox
+empty_mailbox m = record { waiting = []; window = record m.window { waiting = [] } }

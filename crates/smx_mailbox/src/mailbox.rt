@@ -1,8 +1,8 @@
 //! A client's mailbox.
 ghost use Rattle.std.specs.Prelude.{◌≡◌, ◌≤◌, [], ◌∷◌, true, false, Some, None, IfOk, OnOk, IfErr, OnErr, IfSome, IfNone, MatchOption};
 ghost use Rattle.smx_routes.specs.declared.mo_window.Waiting.{Waiting};
-ghost use Rattle.smx_routes.specs.Window.{IsSize, IsWindowFault, answered, greatest};
-ghost use Rattle.smx_mailbox.specs.Mailbox.{new_mailbox, mailbox_after, is_full, with_message, sent, after_sent, settled, unanswered, emptied};
+ghost use Rattle.smx_routes.specs.Window.{IsSize, IsWindowFault, message_for, greatest};
+ghost use Rattle.smx_mailbox.specs.Mailbox.{new_mailbox, mailbox_after, is_full, with_message, pdus_sent, after_sent, after_settling, unanswered_messages, empty_mailbox};
 
 use crate::message::{Message, Unanswered};
 use circular_buffer::HeapCircularBuffer;
@@ -82,8 +82,8 @@ impl Mailbox {
     // The oldest message that waits, as the client is sent it. None where none waits or the window is full.
     fn send_one(&mut self) -> Option<Pdu>
         ensures sent { MatchOption result
-            (sent self.old.window self.old.waiting ≡ [])
-            (λ pdu. sent self.old.window self.old.waiting ≡ pdu ∷ sent self.new.window self.new.waiting) }
+            (pdus_sent self.old.window self.old.waiting ≡ [])
+            (λ pdu. pdus_sent self.old.window self.old.waiting ≡ pdu ∷ pdus_sent self.new.window self.new.waiting) }
         ensures after { MatchOption result
             (after_sent self.old.window self.old.waiting ≡ self.new)
             (λ _. after_sent self.old.window self.old.waiting ≡ after_sent self.new.window self.new.waiting) }
@@ -107,7 +107,7 @@ impl Mailbox {
     /// bears a number of its own, under which it waits from then on for its answer. Where there is no memory
     /// for the list, nothing is sent.
     pub fn send(&mut self) -> Result<Vec<Pdu>, AllocError>
-        ensures ok { IfOk result (λ pdus. pdus.items ≡ sent self.old.window self.old.waiting) }
+        ensures ok { IfOk result (λ pdus. pdus.items ≡ pdus_sent self.old.window self.old.waiting) }
         ensures after { OnOk result (self.new ≡ after_sent self.old.window self.old.waiting) }
         ensures err { OnErr result (self.new ≡ self.old) }
     {
@@ -123,11 +123,12 @@ impl Mailbox {
     /// request.
     pub fn settle(&mut self, number: u32, command: u32) -> Option<(usize, u32)>
         ensures some { IfSome result (λ r. (w : Waiting)
-            × (answered number command self.old.window.waiting ≡ Some w)
+            × (message_for number command self.old.window.waiting ≡ Some w)
             × (r.0 ≡ w.lane)
             × (r.1 ≡ w.number)
-            × (self.new ≡ settled number self.old)) }
-        ensures none { IfNone result ((answered number command self.old.window.waiting ≡ None) × (self.new ≡ self.old)) }
+            × (self.new ≡ after_settling number self.old)) }
+        ensures none { IfNone result ((message_for number command self.old.window.waiting ≡ None)
+            × (self.new ≡ self.old)) }
     {
         self.window.settle(number, command)
     }
@@ -136,11 +137,11 @@ impl Mailbox {
     // else of those that wait the oldest. None where there is none.
     fn take_unanswered(&mut self) -> Option<Unanswered>
         ensures taken { MatchOption result
-            (unanswered self.old ≡ [])
-            (λ message. unanswered self.old ≡ message ∷ unanswered self.new) }
+            (unanswered_messages self.old ≡ [])
+            (λ message. unanswered_messages self.old ≡ message ∷ unanswered_messages self.new) }
         ensures left { MatchOption result
-            (emptied self.old ≡ self.new)
-            (λ _. emptied self.old ≡ emptied self.new) }
+            (empty_mailbox self.old ≡ self.new)
+            (λ _. empty_mailbox self.old ≡ empty_mailbox self.new) }
     {
         if let Some((lane, number, command)) = self.window.take_first() {
             return Some(Unanswered {
@@ -161,8 +162,8 @@ impl Mailbox {
     /// client was sent, in rising order of their numbers, and then those that wait. Where there is no memory for
     /// the list, nothing is taken.
     pub fn empty(&mut self) -> Result<Vec<Unanswered>, AllocError>
-        ensures ok { IfOk result (λ messages. messages.items ≡ unanswered self.old) }
-        ensures after { OnOk result (self.new ≡ emptied self.old) }
+        ensures ok { IfOk result (λ messages. messages.items ≡ unanswered_messages self.old) }
+        ensures after { OnOk result (self.new ≡ empty_mailbox self.old) }
         ensures err { OnErr result (self.new ≡ self.old) }
     {
         // Room for a message at each place of the window and of those that wait.

@@ -26,5 +26,5 @@ abbrev pub unknown : ℕ → Pdu
 unknown number = header_only GENERIC_NACK ESME_RINVCMDID number
 
 -- generic_nack of what can't be decoded, with the number 0 (4.3.1)
-abbrev pub undecoded : Pdu
-undecoded = header_only GENERIC_NACK ESME_RINVCMDLEN 0
+abbrev pub nack_of_undecoded : Pdu
+nack_of_undecoded = header_only GENERIC_NACK ESME_RINVCMDLEN 0

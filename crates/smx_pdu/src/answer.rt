@@ -1,6 +1,6 @@
 //! PDUs that answer others, and those that are a header alone.
 ghost use Rattle.std.specs.Prelude.{◌≡◌, ◌<◌, []};
-ghost use Rattle.smx_pdu.specs.Answers.{header_only, response, refusal, unknown, undecoded};
+ghost use Rattle.smx_pdu.specs.Answers.{header_only, response, refusal, unknown, nack_of_undecoded};
 
 use crate::body::Body;
 use crate::command::{GENERIC_NACK, RESPONSE, response_id};
@@ -63,7 +63,7 @@ impl Pdu {
     /// generic_nack of what can't be decoded, with the sequence_number 0 (section 4.3.1). It takes
     /// no memory.
     pub fn undecoded(alloc: Global) -> Pdu
-        ensures { result ≡ undecoded }
+        ensures { result ≡ nack_of_undecoded }
     {
         Pdu::header_only(alloc, GENERIC_NACK, ESME_RINVCMDLEN, 0)
     }

@@ -77,7 +77,8 @@ fn bind_of(body: &[u8]) -> Result<Bind<'_>, BodyFault>
 pub fn read_bind(body: &[u8]) -> Result<Bind<'_>, BodyFault>
     // What is read stands there, and what stands there is read.
     ensures found { IfOk result (λ b. Holds bind_fields (in_order (said_by b)) body.now) }
-    ensures only { (b : BindFields) → Holds bind_fields (in_order b) body.now → Gives said_by result (Ok b) }
+    ensures only { (b : BindFields) → Holds bind_fields (in_order b) body.now
+        → Gives said_by result (Ok b) }
 
     // The fault is the first one, and there is one only where no bind is.
     ensures fault { IfErr result (λ e. FirstFault bind_fields e body.now) }
@@ -94,7 +95,8 @@ pub fn read_bind(body: &[u8]) -> Result<Bind<'_>, BodyFault>
 fn append_bind(bind: &Bind<'_>, out: &mut Vec<u8>)
     requires { vec_len out.old + (length bind.now.system_id.now + length bind.now.password.now + length bind.now.system_type.now
         + length bind.now.address_range.now + 7) ≤ vec_capacity out.old }
-    ensures { out.new.items ≡ out.old.items ++ all_octets bind_fields (in_order (said_by bind.now)) }
+    ensures { out.new.items ≡ out.old.items ++ all_octets bind_fields
+        (in_order (said_by bind.now)) }
 {
     append_text(out, bind.system_id);
     append_text(out, bind.password);
@@ -109,7 +111,8 @@ fn append_bind(bind: &Bind<'_>, out: &mut Vec<u8>)
 /// unchanged.
 pub fn write_bind(bind: &Bind<'_>, out: &mut Vec<u8>) -> Result<(), AllocError>
     requires { BindFits (said_by bind.now) }
-    ensures ok { OnOk result (out.new.items ≡ out.old.items ++ all_octets bind_fields (in_order (said_by bind.now))) }
+    ensures ok { OnOk result (out.new.items
+        ≡ out.old.items ++ all_octets bind_fields (in_order (said_by bind.now))) }
     ensures err { OnErr result (out.new.items ≡ out.old.items) }
 
     // Memory is wanted only where there is no room for the body.
@@ -118,7 +121,8 @@ pub fn write_bind(bind: &Bind<'_>, out: &mut Vec<u8>) -> Result<(), AllocError>
         + length bind.now.address_range.now + 7)) }
 
     // What was written is read as the same bind, whatever follows it.
-    ensures again { OnOk result ((more : List ℕ) → bind_at (drop (length out.old.items) out.new.items ++ more) ≡ Ok (said_by bind.now)) }
+    ensures again { OnOk result ((more : List ℕ)
+        → bind_at (drop (length out.old.items) out.new.items ++ more) ≡ Ok (said_by bind.now)) }
 {
     let texts = bind.system_id.len()
         + bind.password.len()

@@ -21,7 +21,8 @@ pub fn decode(alloc: Global, octets: &[u8]) -> Result<Pdu, PduFault>
         ↔ ((length_field octets.now ≡ length octets.now) × (65536 < length octets.now)) }
 
     // What is spelled is read, unless memory runs out, which is said of nothing else.
-    ensures only { (p : _) → Spells p octets.now → (result ≡ Ok p) ⊎ IsErrOf result PduFault.NoMemory }
+    ensures only { (p : _) → Spells p octets.now → (result ≡ Ok p)
+        ⊎ IsErrOf result PduFault.NoMemory }
     ensures memory { IsErrOf result PduFault.NoMemory → IsSome (pdu_of octets.now) }
 
     // The same, said by the function that reads octets.
@@ -93,7 +94,8 @@ pub fn encode(pdu: &Pdu, out: &mut Vec<u8>) -> Result<(), AllocError>
     ensures err { OnErr result (out.new.items ≡ out.old.items) }
 
     // Memory is wanted only where there is no room for the PDU.
-    ensures memory { OnErr result (vec_capacity out.old < vec_len out.old + (16 + length pdu.now.body)) }
+    ensures memory { OnErr result (vec_capacity out.old
+        < vec_len out.old + (16 + length pdu.now.body)) }
 {
     out.reserve(16 + pdu.body.len())?;
     append_pdu(pdu, out);

@@ -34,8 +34,10 @@ fn destination_of(body: &[u8]) -> Result<&[u8], BodyFault>
 /// no memory.
 pub fn read_destination(body: &[u8]) -> Result<&[u8], BodyFault>
     // What is read stands there, and what stands there is read.
-    ensures found { IfOk result (λ d. (said : AllSaid message_fields) × (Holds message_fields said body.now × (d.now ≡ destination_in said))) }
-    ensures only { (said : AllSaid message_fields) → Holds message_fields said body.now → Gives (λ d. d.now) result (Ok (destination_in said)) }
+    ensures found { IfOk result (λ d. (said : AllSaid message_fields)
+        × (Holds message_fields said body.now × (d.now ≡ destination_in said))) }
+    ensures only { (said : AllSaid message_fields) → Holds message_fields said body.now
+        → Gives (λ d. d.now) result (Ok (destination_in said)) }
 
     // The fault is the first one, and there is one only where no destination is.
     ensures fault { IfErr result (λ e. FirstFault message_fields e body.now) }

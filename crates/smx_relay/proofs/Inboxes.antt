@@ -3,14 +3,14 @@ use Rattle.std.proofs.Common.{◌≡◌, ◌∷◌, ℕ, List, [], Option, Some,
 use Rattle.std.proofs.lemmas.Bool.{cases_lt, le-leb, lt-leb}
 use Rattle.smx_routes.specs.Window.{Window}
 use Rattle.smx_mailbox.specs.declared.message.Message.{Message}
-use Rattle.smx_mailbox.specs.Mailbox.{Mailbox, given, after_sent}
+use Rattle.smx_mailbox.specs.Mailbox.{Mailbox, with_given, after_sent}
 use Rattle.smx_relay.specs.Private.Inboxes.{made_or_empty}
 
 after_sent-places : (w : Window) (ms : List Message) → (after_sent w ms).window.places ≡ w.places
 after_sent-places w [] = refl
 after_sent-places w (m ∷ ms) =
     elim (cases_lt (length w.waiting) w.places) [
-      | inl room ↦ rw (lt-leb w.places (length w.waiting) room) (after_sent-places (given w m) ms)
+      | inl room ↦ rw (lt-leb w.places (length w.waiting) room) (after_sent-places (with_given w m) ms)
       | inr full ↦ rw (le-leb w.places (length w.waiting) full) refl
     ]
 

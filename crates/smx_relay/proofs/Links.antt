@@ -6,7 +6,7 @@ use Rattle.smx_pdu.specs.declared.pdu.Pdu.{Pdu}
 use Rattle.smx_session.specs.declared.act.Act.{Act}
 use Rattle.smx_session.specs.declared.up_act.UpAct.{UpAct}
 use Rattle.smx_session.specs.declared.client_state.ClientState.TheVariants.{Ended}
-use Rattle.smx_pdu.specs.Answers.{undecoded}
+use Rattle.smx_pdu.specs.Answers.{nack_of_undecoded}
 use Rattle.smx_relay.specs.declared.state.State.{State}
 use Rattle.smx_relay.specs.Links.{ClientLink, CentreLink, has_left}
 use Rattle.smx_relay.specs.Texts.{pdu_line, up_lane, down_line}
@@ -103,10 +103,10 @@ left_by_all old new s c a leaves keeps clients links routes = record {
 }
 
 -- a client was hung up
-pub client_ended : (new : State) (s : Relay) (c : ℕ) (k after : ClientLink) (answer : Pdu) (text : List ℕ) → slice_get s.links c ≡ Some k → after ≡ record k { session = Ended } → answer ≡ undecoded → Turned (hang_up c answer (with_link s c after)) new text → Turned (client_end c true s) new text
+pub client_ended : (new : State) (s : Relay) (c : ℕ) (k after : ClientLink) (answer : Pdu) (text : List ℕ) → slice_get s.links c ≡ Some k → after ≡ record k { session = Ended } → answer ≡ nack_of_undecoded → Turned (hang_up c answer (with_link s c after)) new text → Turned (client_end c true s) new text
 client_ended new s c k after answer text at link said turned =
-    let named : Turned (hang_up c undecoded (with_link s c after)) new text = subst (λ (p : Pdu). Turned (hang_up c p (with_link s c after)) new text) said turned in
-    rw (client_end_some s c k at) (subst (λ (l : ClientLink). Turned (hang_up c undecoded (with_link s c l)) new text) link named)
+    let named : Turned (hang_up c nack_of_undecoded (with_link s c after)) new text = subst (λ (p : Pdu). Turned (hang_up c p (with_link s c after)) new text) said turned in
+    rw (client_end_some s c k at) (subst (λ (l : ClientLink). Turned (hang_up c nack_of_undecoded (with_link s c l)) new text) link named)
 
 pub lanes_reached : (old : State) → IsReached old → AreReached old.lanes.items
 lanes_reached old reached = (reached.0.limits, reached.0.clients, reached.0.lanes, reached.1.lanes)
@@ -178,7 +178,7 @@ centre_end_left s i true gone = rw gone refl
 centre_end_left s i false gone = refl
 
 -- a bad length came
-pub centre_ended : (state : State) (s : Relay) (i : ℕ) (answer : Pdu) (text : List ℕ) → has_left (lane_at s i).link ≡ false → answer ≡ undecoded → text ≡ pdu_line (up_lane i) answer ++ down_line i → Agrees state (going_on s i lower_lane) → Turned (centre_end i true s) state text
+pub centre_ended : (state : State) (s : Relay) (i : ℕ) (answer : Pdu) (text : List ℕ) → has_left (lane_at s i).link ≡ false → answer ≡ nack_of_undecoded → text ≡ pdu_line (up_lane i) answer ++ down_line i → Agrees state (going_on s i lower_lane) → Turned (centre_end i true s) state text
 unfolding centre_end
 centre_ended state s i answer text here said e a =
     rw here (subst (λ (p : Pdu). Turned (pdu_line (up_lane i) p ++ down_line i, going_on s i lower_lane) state text) said (record { text = e; left = a }))

@@ -8,11 +8,11 @@ use Rattle.smx_pdu.specs.declared.status.TheConstants.{ESME_RINVCMDLEN, ESME_RMS
 use Rattle.smx_pdu.specs.Answers.{refusal}
 use Rattle.smx_pdu.specs.Reading.{destination_at}
 use Rattle.smx_routes.specs.declared.mo_window.Waiting.{Waiting}
-use Rattle.smx_routes.specs.Window.{answered}
-use Rattle.smx_routes.specs.Routing.{Route, IsRouted, routed}
+use Rattle.smx_routes.specs.Window.{message_for}
+use Rattle.smx_routes.specs.Routing.{Route, IsRouted, client_for}
 use Rattle.smx_routes.proofs.Routed.{routed_is}
 use Rattle.smx_mailbox.specs.declared.message.Unanswered.{Unanswered}
-use Rattle.smx_mailbox.specs.Mailbox.{with_message, is_full, sent, after_sent, settled, unanswered, emptied}
+use Rattle.smx_mailbox.specs.Mailbox.{with_message, is_full, pdus_sent, after_sent, after_settling, unanswered_messages, empty_mailbox}
 use Rattle.smx_relay.specs.declared.state.State.{State}
 use Rattle.smx_relay.specs.Links.{ClientLink}
 use Rattle.smx_relay.specs.Texts.{text_line, pdu_line, to_client, up_lane}
@@ -56,7 +56,7 @@ message_unread s i p fault state text at a e = rw at (record { text = e; left = 
 pub message_read : (s : Relay) (i : ℕ) (p : Pdu) (address : List ℕ) (rs : List Route) (o : Option ℕ) (state : State) (text : List ℕ) → destination_at p.body ≡ Ok address → IsRouted rs address o → rs ≡ s.routes → Turned (put_to s i p o) state text → Turned (message_turn i p s) state text
 unfolding message_turn
 message_read s i p address rs o state text at is same turned =
-    let goes : o ≡ routed s.routes address = routed_is rs address o is ∙ ap (λ (xs : List Route). routed xs address) same in
+    let goes : o ≡ client_for s.routes address = routed_is rs address o is ∙ ap (λ (xs : List Route). client_for xs address) same in
     rw at (subst (λ (x : Option ℕ). Turned (put_to s i p x) state text) goes turned)
 
 -- ---- a client answers
@@ -65,16 +65,16 @@ pub answer_nowhere : (s : Relay) (c : ℕ) (p : Pdu) (state : State) (text : Lis
 unfolding answer_turn
 answer_nowhere s c p state text at a e = rw at (record { text = e; left = a })
 
-pub answer_dropped : (s : Relay) (c : ℕ) (p : Pdu) (k : ClientLink) (state : State) (text : List ℕ) → slice_get s.links c ≡ Some k → answered p.number p.command k.mailbox.window.waiting ≡ None → Agrees state s → text ≡ [] → Turned (answer_turn c p s) state text
+pub answer_dropped : (s : Relay) (c : ℕ) (p : Pdu) (k : ClientLink) (state : State) (text : List ℕ) → slice_get s.links c ≡ Some k → message_for p.number p.command k.mailbox.window.waiting ≡ None → Agrees state s → text ≡ [] → Turned (answer_turn c p s) state text
 unfolding answer_turn
 answer_dropped s c p k state text at none a e = rw (at, none) (record { text = e; left = a })
 
-pub answer_passed : (old new : State) (s : Relay) (c : ℕ) (p : Pdu) (k after : ClientLink) (w : Waiting) (lane number : ℕ) (text : List ℕ) → Agrees old s → slice_get s.links c ≡ Some k → answered p.number p.command k.mailbox.window.waiting ≡ Some w → IsLinked old new c after
-    → after ≡ record k { mailbox = settled p.number k.mailbox } → lane ≡ w.lane → number ≡ w.number → text ≡ pdu_line (up_lane lane) (record p { number = number }) → Turned (answer_turn c p s) new text
+pub answer_passed : (old new : State) (s : Relay) (c : ℕ) (p : Pdu) (k after : ClientLink) (w : Waiting) (lane number : ℕ) (text : List ℕ) → Agrees old s → slice_get s.links c ≡ Some k → message_for p.number p.command k.mailbox.window.waiting ≡ Some w → IsLinked old new c after
+    → after ≡ record k { mailbox = after_settling p.number k.mailbox } → lane ≡ w.lane → number ≡ w.number → text ≡ pdu_line (up_lane lane) (record p { number = number }) → Turned (answer_turn c p s) new text
 unfolding answer_turn
 answer_passed old new s c p k after w lane number text a at some is same from under e = rw (at, some) (record {
   text = e ∙ ap (λ l. pdu_line (up_lane l) (record p { number = number })) from ∙ ap (λ n. pdu_line (up_lane w.lane) (record p { number = n })) under;
-  left = gone_on old new s c after (record k { mailbox = settled p.number k.mailbox }) a is same;
+  left = gone_on old new s c after (record k { mailbox = after_settling p.number k.mailbox }) a is same;
 })
 
 -- ---- a client leaves
@@ -83,12 +83,12 @@ pub leave_nowhere : (s : Relay) (c : ℕ) (state : State) (text : List ℕ) → 
 unfolding leave_turn
 leave_nowhere s c state text at a e = rw at (record { text = e; left = a })
 
-pub leave_emptied : (mid new : State) (s : Relay) (c : ℕ) (k after : ClientLink) (messages : List Unanswered) (text : List ℕ) → Agrees mid (leave_lanes c s) → slice_get s.links c ≡ Some k → IsLinked mid new c after → after ≡ record k { mailbox = emptied k.mailbox } → messages ≡ unanswered k.mailbox
+pub leave_emptied : (mid new : State) (s : Relay) (c : ℕ) (k after : ClientLink) (messages : List Unanswered) (text : List ℕ) → Agrees mid (leave_lanes c s) → slice_get s.links c ≡ Some k → IsLinked mid new c after → after ≡ record k { mailbox = empty_mailbox k.mailbox } → messages ≡ unanswered_messages k.mailbox
     → text ≡ flat_map left_line messages → Turned (leave_turn c s) new text
 unfolding leave_turn
 leave_emptied mid new s c k after messages text a at is same all e = rw at (record {
   text = e ∙ ap (flat_map left_line) all;
-  left = gone_on mid new (leave_lanes c s) c after (record k { mailbox = emptied k.mailbox }) a is same;
+  left = gone_on mid new (leave_lanes c s) c after (record k { mailbox = empty_mailbox k.mailbox }) a is same;
 })
 
 -- ---- a client collects
@@ -98,7 +98,7 @@ unfolding send_turn
 send_nowhere s c state text at a e = rw at (record { text = e; left = a })
 
 pub send_some : (old new : State) (s : Relay) (c : ℕ) (k after : ClientLink) (pdus : List Pdu) (text : List ℕ) → Agrees old s → slice_get s.links c ≡ Some k → IsLinked old new c after → after ≡ record k { mailbox = after_sent k.mailbox.window k.mailbox.waiting }
-    → pdus ≡ sent k.mailbox.window k.mailbox.waiting → text ≡ flat_map (pdu_line (to_client c)) pdus → Turned (send_turn c s) new text
+    → pdus ≡ pdus_sent k.mailbox.window k.mailbox.waiting → text ≡ flat_map (pdu_line (to_client c)) pdus → Turned (send_turn c s) new text
 unfolding send_turn
 send_some old new s c k after pdus text a at is same all e = rw at (record {
   text = e ∙ ap (flat_map (pdu_line (to_client c))) all;

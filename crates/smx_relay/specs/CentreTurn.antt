@@ -4,7 +4,7 @@ use Rattle.smx_pdu.specs.declared.pdu.Pdu.{Pdu}
 use Rattle.smx_frame.specs.Stream.{Stream}
 use Rattle.smx_session.specs.declared.up_act.UpAct.{UpAct}
 use Rattle.smx_session.specs.declared.up_act.UpAct.TheVariants.{Up, Failed, ToLane, Mo, Answer, Leave, Closed, Ignore}
-use Rattle.smx_pdu.specs.Answers.{undecoded}
+use Rattle.smx_pdu.specs.Answers.{nack_of_undecoded}
 use Rattle.smx_session.specs.Moments.{Upstream, act_on, after_pdu}
 use Rattle.smx_relay.specs.Texts.{pdu_line, up_lane, down_line}
 use Rattle.smx_relay.specs.Links.{CentreLink, Receives, has_failed, has_left}
@@ -53,7 +53,7 @@ centre_pdu i p s = if has_left (lane_at s i).link then ([], s) else link_pdu i p
 -- at a bad length the link is lost, unless the centre has unbound
 unfoldable pub centre_end : ℕ → Bool → Relay → List ℕ × Relay
 centre_end i false s = ([], s)
-centre_end i true s = if has_left (lane_at s i).link then ([], s) else lose_lane i (answer_centre i undecoded) s
+centre_end i true s = if has_left (lane_at s i).link then ([], s) else lose_lane i (answer_centre i nack_of_undecoded) s
 
 -- each PDU that the octets complete is decided
 abbrev pub OnUp : Relay → ℕ → List ℕ → CentreLink → Option (List ℕ × Relay) → Type 0

@@ -7,7 +7,7 @@ use Rattle.smx_session.specs.declared.act.Act.{Act}
 use Rattle.smx_session.specs.declared.act.Act.TheVariants.{Answer, Bind, Forward, MoAnswer, Leave, Hangup, Ignore}
 use Rattle.smx_session.specs.declared.client_state.ClientState.{ClientState}
 use Rattle.smx_session.specs.declared.client_state.ClientState.TheVariants.{Ended}
-use Rattle.smx_pdu.specs.Answers.{undecoded}
+use Rattle.smx_pdu.specs.Answers.{nack_of_undecoded}
 use Rattle.smx_session.specs.ClientTable.{client_decides}
 use Rattle.smx_history.specs.declared.request.Request.{Request}
 use Rattle.smx_relay.specs.Texts.{pdu_line, to_client, closed_line}
@@ -68,7 +68,7 @@ client_pdu c p s = client_pdu_at c p s (slice_get s.links c)
 
 abbrev pub client_end_at : ℕ → Relay → Option ClientLink → List ℕ × Relay
 client_end_at c s None = ([], s)
-client_end_at c s (Some k) = hang_up c undecoded (with_link s c (record k { session = Ended }))
+client_end_at c s (Some k) = hang_up c nack_of_undecoded (with_link s c (record k { session = Ended }))
 
 -- at a bad length the client is hung up
 unfoldable pub client_end : ℕ → Bool → Relay → List ℕ × Relay

@@ -7,10 +7,10 @@ use Rattle.smx_pdu.specs.declared.body_fault.BodyFault.{BodyFault}
 use Rattle.smx_pdu.specs.declared.status.TheConstants.{ESME_RINVCMDLEN, ESME_RMSGQFUL, ESME_RX_T_APPN}
 use Rattle.smx_pdu.specs.Reading.{destination_at}
 use Rattle.smx_routes.specs.declared.mo_window.Waiting.{Waiting}
-use Rattle.smx_routes.specs.Window.{answered}
-use Rattle.smx_routes.specs.Routing.{routed}
+use Rattle.smx_routes.specs.Window.{message_for}
+use Rattle.smx_routes.specs.Routing.{client_for}
 use Rattle.smx_mailbox.specs.declared.message.Unanswered.{Unanswered}
-use Rattle.smx_mailbox.specs.Mailbox.{with_message, is_full, sent, after_sent, settled, unanswered, emptied}
+use Rattle.smx_mailbox.specs.Mailbox.{with_message, is_full, pdus_sent, after_sent, after_settling, unanswered_messages, empty_mailbox}
 use Rattle.smx_relay.specs.Texts.{text_line, pdu_line, to_client, up_lane}
 use Rattle.smx_pdu.specs.Answers.{refusal}
 use Rattle.smx_relay.specs.Links.{ClientLink}
@@ -34,7 +34,7 @@ put_to s i p None = refuse s i p ESME_RX_T_APPN
 put_to s i p (Some c) = put_at s i p c (slice_get s.links c)
 
 abbrev pub message_to : Relay → ℕ → Pdu → Result (List ℕ) BodyFault → List ℕ × Relay
-message_to s i p (Ok address) = put_to s i p (routed s.routes address)
+message_to s i p (Ok address) = put_to s i p (client_for s.routes address)
 message_to s i p (Err e) = refuse s i p ESME_RINVCMDLEN
 
 -- a message of the centre goes to the client to which its destination is routed
@@ -43,11 +43,11 @@ message_turn i p s = message_to s i p (destination_at p.body)
 
 abbrev pub answer_with : Relay → ℕ → Pdu → ClientLink → Option Waiting → List ℕ × Relay
 answer_with s c p k None = ([], s)
-answer_with s c p k (Some w) = (pdu_line (up_lane w.lane) (record p { number = w.number }), with_link s c (record k { mailbox = settled p.number k.mailbox }))
+answer_with s c p k (Some w) = (pdu_line (up_lane w.lane) (record p { number = w.number }), with_link s c (record k { mailbox = after_settling p.number k.mailbox }))
 
 abbrev pub answer_at : Relay → ℕ → Pdu → Option ClientLink → List ℕ × Relay
 answer_at s c p None = ([], s)
-answer_at s c p (Some k) = answer_with s c p k (answered p.number p.command k.mailbox.window.waiting)
+answer_at s c p (Some k) = answer_with s c p k (message_for p.number p.command k.mailbox.window.waiting)
 
 -- a client's answer to a message that waits for it goes to the message's lane, under the centre's number
 unfoldable pub answer_turn : ℕ → Pdu → Relay → List ℕ × Relay
@@ -59,7 +59,7 @@ left_line u = pdu_line (up_lane u.lane) (refusal u.command ESME_RX_T_APPN u.numb
 
 abbrev pub empty_at : ℕ → Relay → Option ClientLink → List ℕ × Relay
 empty_at c s None = ([], s)
-empty_at c s (Some k) = (flat_map left_line (unanswered k.mailbox), with_link s c (record k { mailbox = emptied k.mailbox }))
+empty_at c s (Some k) = (flat_map left_line (unanswered_messages k.mailbox), with_link s c (record k { mailbox = empty_mailbox k.mailbox }))
 
 -- a client leaves each lane, and each of its messages is answered
 unfoldable pub leave_turn : ℕ → Relay → List ℕ × Relay
@@ -67,7 +67,7 @@ leave_turn c s = empty_at c (leave_lanes c s) (slice_get s.links c)
 
 abbrev pub send_at : ℕ → Relay → Option ClientLink → List ℕ × Relay
 send_at c s None = ([], s)
-send_at c s (Some k) = (flat_map (pdu_line (to_client c)) (sent k.mailbox.window k.mailbox.waiting), with_link s c (record k { mailbox = after_sent k.mailbox.window k.mailbox.waiting }))
+send_at c s (Some k) = (flat_map (pdu_line (to_client c)) (pdus_sent k.mailbox.window k.mailbox.waiting), with_link s c (record k { mailbox = after_sent k.mailbox.window k.mailbox.waiting }))
 
 -- the client is sent the messages that its window has places for
 unfoldable pub send_turn : ℕ → Relay → List ℕ × Relay

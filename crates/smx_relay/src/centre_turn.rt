@@ -1,6 +1,6 @@
 //! Octets of the centre on a lane: the lane's session decides each PDU.
 ghost use Rattle.std.specs.Prelude.{◌≡◌, ◌<◌, length, IfOk};
-ghost use Rattle.smx_pdu.specs.Answers.{undecoded};
+ghost use Rattle.smx_pdu.specs.Answers.{nack_of_undecoded};
 ghost use Rattle.smx_relay.specs.Relay.{Relay};
 ghost use Rattle.smx_relay.specs.ClientTurn.{each_pdu};
 ghost use Rattle.smx_relay.specs.CentreTurn.{BackTurn, centre_act, centre_end, centre_pdu, to_lane};

@@ -1,10 +1,10 @@
 //! A client's mailbox, which is made at its first message and goes when the client leaves.
 ghost use Rattle.std.specs.Prelude.{◌≡◌, true, false, Some, None, IfOk, IfErr, IfSome, IfNone};
 ghost use Rattle.std.specs.Prelude.{OnOk};
-ghost use Rattle.smx_routes.specs.Window.{answered};
+ghost use Rattle.smx_routes.specs.Window.{message_for};
 ghost use Rattle.smx_routes.specs.declared.mo_window.Waiting.{Waiting};
-ghost use Rattle.smx_mailbox.specs.Mailbox.{new_mailbox, with_message, is_full, sent, after_sent};
-ghost use Rattle.smx_mailbox.specs.Mailbox.{settled, unanswered, emptied};
+ghost use Rattle.smx_mailbox.specs.Mailbox.{new_mailbox, with_message, is_full, pdus_sent, after_sent};
+ghost use Rattle.smx_mailbox.specs.Mailbox.{after_settling, unanswered_messages, empty_mailbox};
 
 use smx_mailbox::{Mailbox, Message, Unanswered};
 use smx_pdu::Pdu;
@@ -66,7 +66,7 @@ impl Inbox {
 
     /// The messages that the client is sent now.
     pub(crate) fn send(&mut self) -> Result<Vec<Pdu>, AllocError>
-        ensures ok { IfOk result (λ pdus. pdus.items ≡ sent self.old.window self.old.waiting) }
+        ensures ok { IfOk result (λ pdus. pdus.items ≡ pdus_sent self.old.window self.old.waiting) }
         ensures after { OnOk result (self.new ≡ after_sent self.old.window self.old.waiting) }
     {
         let Some(mailbox) = &mut self.mailbox else {
@@ -78,12 +78,12 @@ impl Inbox {
     /// The lane and the centre's number of the message that a response answers. It waits no longer.
     pub(crate) fn settle(&mut self, number: u32, command: u32) -> Option<(usize, u32)>
         ensures some { IfSome result (λ r. (w : Waiting)
-            × (answered number command self.old.window.waiting ≡ Some w)
+            × (message_for number command self.old.window.waiting ≡ Some w)
             × (r.0 ≡ w.lane)
             × (r.1 ≡ w.number)
-            × (self.new ≡ settled number self.old)) }
+            × (self.new ≡ after_settling number self.old)) }
         ensures none { IfNone result
-            ((answered number command self.old.window.waiting ≡ None) × (self.new ≡ self.old)) }
+            ((message_for number command self.old.window.waiting ≡ None) × (self.new ≡ self.old)) }
     {
         match &mut self.mailbox {
             Some(mailbox) => mailbox.settle(number, command),
@@ -93,8 +93,8 @@ impl Inbox {
 
     /// The messages that the client leaves without an answer.
     pub(crate) fn empty(&mut self) -> Result<Vec<Unanswered>, AllocError>
-        ensures ok { IfOk result (λ messages. messages.items ≡ unanswered self.old) }
-        ensures after { OnOk result (self.new ≡ emptied self.old) }
+        ensures ok { IfOk result (λ messages. messages.items ≡ unanswered_messages self.old) }
+        ensures after { OnOk result (self.new ≡ empty_mailbox self.old) }
     {
         let Some(mailbox) = &mut self.mailbox else {
             return Ok(Vec::new(self.alloc));

@@ -33,12 +33,12 @@ impl Model for ClientLink {
 
 impl ClientLink {
     ghost use Rattle.smx_session.specs.declared.client_state.ClientState.TheVariants.{Ended};
-    ghost use Rattle.smx_pdu.specs.Answers.{undecoded};
+    ghost use Rattle.smx_pdu.specs.Answers.{nack_of_undecoded};
     ghost use Rattle.smx_relay.specs.ClientTurn.{decides};
-    ghost use Rattle.smx_routes.specs.Window.{answered};
+    ghost use Rattle.smx_routes.specs.Window.{message_for};
     ghost use Rattle.smx_routes.specs.declared.mo_window.Waiting.{Waiting};
-    ghost use Rattle.smx_mailbox.specs.Mailbox.{with_message, is_full, sent, after_sent, settled};
-    ghost use Rattle.smx_mailbox.specs.Mailbox.{unanswered, emptied};
+    ghost use Rattle.smx_mailbox.specs.Mailbox.{with_message, is_full, pdus_sent, after_sent, after_settling};
+    ghost use Rattle.smx_mailbox.specs.Mailbox.{unanswered_messages, empty_mailbox};
 
     /// The link of a client that is bound so, or is still to bind, and whose mailbox has so many
     /// places.
@@ -95,7 +95,7 @@ impl ClientLink {
 
     /// Ends the session at a bad length, and gives what the client gets last.
     pub(crate) fn end(&mut self) -> Pdu
-        ensures answer { result ≡ undecoded }
+        ensures answer { result ≡ nack_of_undecoded }
         ensures link { self.new ≡ record self.old { session = Ended } }
     {
         match self.session.on_fault() {
@@ -117,7 +117,7 @@ impl ClientLink {
     /// The messages that the client is sent now.
     pub(crate) fn send(&mut self) -> Result<Vec<Pdu>, AllocError>
         ensures ok { IfOk result (λ pdus.
-            pdus.items ≡ sent self.old.mailbox.window self.old.mailbox.waiting) }
+            pdus.items ≡ pdus_sent self.old.mailbox.window self.old.mailbox.waiting) }
         ensures after { OnOk result (self.new ≡ record self.old {
           mailbox = after_sent self.old.mailbox.window self.old.mailbox.waiting;
         }) }
@@ -128,12 +128,12 @@ impl ClientLink {
     /// The lane and the centre's number of the message that a response answers. It waits no longer.
     pub(crate) fn settle(&mut self, number: u32, command: u32) -> Option<(usize, u32)>
         ensures some { IfSome result (λ r. (w : Waiting)
-            × (answered number command self.old.mailbox.window.waiting ≡ Some w)
+            × (message_for number command self.old.mailbox.window.waiting ≡ Some w)
             × (r.0 ≡ w.lane)
             × (r.1 ≡ w.number)
-            × (self.new ≡ record self.old { mailbox = settled number self.old.mailbox })) }
+            × (self.new ≡ record self.old { mailbox = after_settling number self.old.mailbox })) }
         ensures none { IfNone result (
-            (answered number command self.old.mailbox.window.waiting ≡ None)
+            (message_for number command self.old.mailbox.window.waiting ≡ None)
             × (self.new ≡ self.old)) }
     {
         self.mailbox.settle(number, command)
@@ -141,9 +141,10 @@ impl ClientLink {
 
     /// The messages that the client leaves without an answer.
     pub(crate) fn empty(&mut self) -> Result<Vec<Unanswered>, AllocError>
-        ensures ok { IfOk result (λ messages. messages.items ≡ unanswered self.old.mailbox) }
+        ensures ok { IfOk result (λ messages. messages.items
+            ≡ unanswered_messages self.old.mailbox) }
         ensures after { OnOk result
-            (self.new ≡ record self.old { mailbox = emptied self.old.mailbox }) }
+            (self.new ≡ record self.old { mailbox = empty_mailbox self.old.mailbox }) }
     {
         self.mailbox.empty()
     }

@@ -5,7 +5,7 @@ use Rattle.std.proofs.lemmas.Bool.{eq-eqb, ne_eqb, eqb-true}
 use Rattle.std.proofs.lemmas.List.Elements.{All-tail}
 use Rattle.smx_pdu.specs.Command.{is_response_to}
 use Rattle.smx_routes.specs.declared.mo_window.Waiting.{Waiting}
-use Rattle.smx_routes.specs.Window.{AreApart, without, answered}
+use Rattle.smx_routes.specs.Window.{AreApart, without, message_for}
 
 -- nothing is taken out where nothing waits under the number
 pub without-other : (number : ℕ) (ws : List Waiting) → All (λ w. w.given ≢ number) ws → without number ws ≡ ws
@@ -43,7 +43,7 @@ first_so true b h = refl
 first_so false b h = cc
 
 -- one message is settled
-pub length-settled : (ws : List Waiting) (number command : ℕ) (w : Waiting) → AreApart ws → answered number command ws ≡ Some w → length (without number ws) + 1 ≡ length ws
+pub length-settled : (ws : List Waiting) (number command : ℕ) (w : Waiting) → AreApart ws → message_for number command ws ≡ Some w → length (without number ws) + 1 ≡ length ws
 length-settled ws number command w apart is =
     let there = found (λ (v : Waiting). (v.given == number) && is_response_to v.command command) ws w is in
     let same : w.given ≡ number = eqb-true w.given number (first_so (w.given == number) (is_response_to w.command command) there.1) in

@@ -8,7 +8,7 @@ use Rattle.std.proofs.lemmas.List.Elements.{All-contains, All-filter, All-contai
 use Rattle.std.proofs.lemmas.List.Folds.{list_any_at}
 use Rattle.std.proofs.lemmas.Map.Views.{Contains-from_any}
 use Rattle.std.proofs.lemmas.Slice.Eq.{starts_is, bytes_eq-Decides}
-use Rattle.smx_routes.specs.Routing.{Route, BeginsWith, IsLongest, IsRouted, is_preferred, preferred, best, routed, is_route, has_route}
+use Rattle.smx_routes.specs.Routing.{Route, BeginsWith, IsLongest, IsRouted, is_preferred, better_of, best, client_for, is_route, has_route}
 
 -- the first route is not preferred to the second
 record IsBelow (s r : Route) : Type 0 where
@@ -79,7 +79,7 @@ contained r s rs (suc k, within, is) = inr (k, omega arith, is)
 behind : (r s : Route) (rs : List Route) → Contains rs s → Contains (r ∷ rs) s
 behind r s rs has = (suc has.0, omega (arith, has.1), has.2)
 
-best_of : (r : Route) (rs : List Route) (o : Option Route) → MatchOption o (rs ≡ []) (IsBest rs) → IsBest (r ∷ rs) (preferred r o)
+best_of : (r : Route) (rs : List Route) (o : Option Route) → MatchOption o (rs ≡ []) (IsBest rs) → IsBest (r ∷ rs) (better_of r o)
 best_of r rs None none = record {
   there = (0, omega arith, refl);
   unbeaten = λ s has. elim (contained r s rs has) [
@@ -156,7 +156,7 @@ module _ (rs : List Route) (address : List ℕ) where
   none_is none (Some b) is = let from = from_fitting b is.there in absurd (none b from.0 from.1)
 
 -- an address goes to one client
-pub routed_is : (rs : List Route) (address : List ℕ) (o : Option ℕ) → IsRouted rs address o → o ≡ routed rs address
+pub routed_is : (rs : List Route) (address : List ℕ) (o : Option ℕ) → IsRouted rs address o → o ≡ client_for rs address
 routed_is rs address None is = none_is rs address is (best (filter (fits rs address) rs)) (best_is (filter (fits rs address) rs))
 routed_is rs address (Some client) is = ap (λ n. Some n) (sym is.2) ∙ longest_is rs address is.0 is.1 (best (filter (fits rs address) rs)) (best_is (filter (fits rs address) rs))
 

@@ -34,18 +34,18 @@ abbrev pub is_preferred : Route → Route → Bool
 is_preferred r s = nat_lt (length s.prefix) (length r.prefix) || ((length r.prefix == length s.prefix) && nat_lt r.client s.client)
 
 -- the route, or the one that is preferred to it
-abbrev pub preferred : Route → Option Route → Route
-preferred r None = r
-preferred r (Some s) = if is_preferred s r then s else r
+abbrev pub better_of : Route → Option Route → Route
+better_of r None = r
+better_of r (Some s) = if is_preferred s r then s else r
 
 -- the route with the longest prefix, and of those with as long a prefix the one with the least client
 abbrev pub best : List Route → Option Route
 best [] = None
-best (r ∷ rs) = Some (preferred r (best rs))
+best (r ∷ rs) = Some (better_of r (best rs))
 
 -- the client to which an address goes: that of the best route of those whose prefix begins the address
-abbrev pub routed : List Route → List ℕ → Option ℕ
-routed routes address = option_map (λ r. r.client) (best (filter (λ r. starts_with nat_eq address r.prefix) routes))
+abbrev pub client_for : List Route → List ℕ → Option ℕ
+client_for routes address = option_map (λ r. r.client) (best (filter (λ r. starts_with nat_eq address r.prefix) routes))
 
 -- the routes are one
 abbrev pub is_route : Route → Route → Bool

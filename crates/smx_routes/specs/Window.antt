@@ -41,8 +41,8 @@ pub record IsNext (w : Window) (number : ℕ) : Type 0 where
   pub others : (k : ℕ) → k < passed → waits (number_behind w.last k) w.waiting ≡ true
 
 -- the message that a response with this number and command answers (SMPP 3.4, sections 4.3 and 5.1.2.1)
-abbrev pub answered : ℕ → ℕ → List Waiting → Option Waiting
-answered number command messages = find (λ w. (w.given == number) && is_response_to w.command command) messages
+abbrev pub message_for : ℕ → ℕ → List Waiting → Option Waiting
+message_for number command messages = find (λ w. (w.given == number) && is_response_to w.command command) messages
 
 -- no message has a smaller number
 pub record IsFirst (messages : List Waiting) (w : Waiting) : Type 0 where

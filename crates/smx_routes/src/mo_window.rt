@@ -1,7 +1,7 @@
 //! The messages that a client was sent and has not answered.
 ghost use Rattle.std.specs.Prelude.{◌≡◌, ◌≤◌, ◌<◌, ◌+◌, ◌↔◌, [], ◌∷◌, ◌++◌, length, Some, None, IsTrue, IsErr, IfOk, IfErr, IfSome, IfNone, OnSome, OnErr, MatchOption};
 ghost use Rattle.smx_pdu.specs.Command.{is_response_to};
-ghost use Rattle.smx_routes.specs.Window.{IsSize, IsWindowFault, greatest, waits, without, answered, AreApart, IsNext, IsFirst};
+ghost use Rattle.smx_routes.specs.Window.{IsSize, IsWindowFault, greatest, waits, without, message_for, AreApart, IsNext, IsFirst};
 
 use crate::fault::WindowFault;
 use smx_pdu::is_response_to;
@@ -51,7 +51,7 @@ impl Model for MoWindow {
 
 // The message that a response with the number and the command answers.
 fn answered(waiting: &[Waiting], number: u32, command: u32) -> Option<Waiting>
-    ensures { result ≡ answered number command waiting.now }
+    ensures { result ≡ message_for number command waiting.now }
 {
     waiting.iter().copied().find(|message| message.given == number
         && is_response_to(message.command, command))
@@ -60,7 +60,8 @@ fn answered(waiting: &[Waiting], number: u32, command: u32) -> Option<Waiting>
 impl MoWindow {
     /// A window of 1 to 256 places, all of which it reserves.
     pub fn new(alloc: Global, places: u32) -> Result<MoWindow, WindowFault>
-        ensures ok { IfOk result (λ window. IsSize places × (window ≡ record { places = places; last = 0; waiting = [] })) }
+        ensures ok { IfOk result (λ window. IsSize places
+            × (window ≡ record { places = places; last = 0; waiting = [] })) }
         ensures err { IfErr result (IsWindowFault places) }
     {
         MoWindow::after(alloc, places, 0)
@@ -169,12 +170,13 @@ impl MoWindow {
     /// request.
     pub fn settle(&mut self, number: u32, command: u32) -> Option<(usize, u32)>
         ensures settled { IfSome result (λ r. (w : Waiting)
-            × (answered number command self.old.waiting ≡ Some w)
+            × (message_for number command self.old.waiting ≡ Some w)
             × (r.0 ≡ w.lane)
             × (r.1 ≡ w.number)
             × (self.new ≡ record self.old { waiting = without number self.old.waiting })) }
         ensures one { OnSome result (length self.new.waiting + 1 ≡ length self.old.waiting) }
-        ensures none { IfNone result ((answered number command self.old.waiting ≡ None) × (self.new ≡ self.old)) }
+        ensures none { IfNone result ((message_for number command self.old.waiting ≡ None)
+            × (self.new ≡ self.old)) }
     {
         let message = answered(self.waiting.as_slice(), number, command)?;
         self.remove(number);

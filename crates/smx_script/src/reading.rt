@@ -91,7 +91,8 @@ fn account_command(alloc: Global, id: &[u8], password: &[u8]) -> Result<Option<C
 
 // A prefix of a client.
 fn route_command(alloc: Global, client: &[u8], word: &[u8]) -> Result<Option<Command>, AllocError>
-    ensures { IfOk result (λ command. command ≡ route_command (number_of client.now) (prefix_of word.now)) }
+    ensures { IfOk result (λ command. command
+        ≡ route_command (number_of client.now) (prefix_of word.now)) }
 {
     let Some(client) = number(client) else {
         return Ok(None);

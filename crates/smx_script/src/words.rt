@@ -8,7 +8,8 @@ use std::alloc::{AllocError, Global};
 
 /// The parts of octets round each octet of one value.
 pub(crate) fn parts_of(alloc: Global, octets: &[u8], at: u8) -> Result<Vec<&[u8]>, AllocError>
-    ensures { IfOk result (λ parts. map (λ part. part.now) parts.items ≡ slice_split (λ octet. octet == at) octets.now) }
+    ensures { IfOk result (λ parts. map (λ part. part.now) parts.items
+        ≡ slice_split (λ octet. octet == at) octets.now) }
 {
     octets.split(|octet| *octet == at).collect(alloc)
 }

@@ -89,7 +89,8 @@ impl Entrant {
 
     // Whether there is a sender for each lane, and places as a window has them.
     fn fits_ends(&self, ends: &ClientEnds, places: u32) -> bool
-        ensures { result ≡ true → (length ends.now.senders.items ≡ length self.now.port.fronts) × (1 ≤ places) × (places ≤ 256) }
+        ensures { result ≡ true → (length ends.now.senders.items ≡ length self.now.port.fronts)
+            × (1 ≤ places) × (places ≤ 256) }
     {
         ends.senders.len() == self.port.lanes() && (1..=256).contains(&places)
     }

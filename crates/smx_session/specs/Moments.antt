@@ -99,8 +99,8 @@ farewell Unbinding = None
 farewell Ended = None
 
 -- and then its answer is waited for
-abbrev pub stopped : UpstreamState → UpstreamState
-stopped Binding = Binding
-stopped Bound = Unbinding
-stopped Unbinding = Unbinding
-stopped Ended = Ended
+abbrev pub state_after_stop : UpstreamState → UpstreamState
+state_after_stop Binding = Binding
+state_after_stop Bound = Unbinding
+state_after_stop Unbinding = Unbinding
+state_after_stop Ended = Ended

@@ -1,6 +1,6 @@
 //! A client's session.
 ghost use Rattle.std.specs.Prelude.{◌≡◌, IfOk, OnOk, OnErr};
-ghost use Rattle.smx_pdu.specs.Answers.{undecoded};
+ghost use Rattle.smx_pdu.specs.Answers.{nack_of_undecoded};
 ghost use Rattle.smx_session.specs.ClientTable.{bound_state, client_decides, client_cell, client_row, Binds};
 
 use crate::account::Account;
@@ -127,7 +127,7 @@ impl ClientSession {
 
     /// Ends the session at a length that no PDU has, with generic_nack. It takes no memory.
     pub fn on_fault(&mut self) -> Act
-        ensures act { result ≡ Act.Hangup undecoded }
+        ensures act { result ≡ Act.Hangup nack_of_undecoded }
         ensures state { self.new ≡ ClientState.Ended }
     {
         self.state = ClientState::Ended;

@@ -52,7 +52,7 @@ impl UpstreamSession {
     ghost use Rattle.smx_pdu.specs.Reading.{in_order};
     ghost use Rattle.smx_session.specs.Binds.{own_bind};
     ghost use Rattle.smx_session.specs.UpstreamTable.{bind_number};
-    ghost use Rattle.smx_session.specs.Moments.{at, act_on, after_pdu, enquiry, after_moment, is_silent, farewell, stopped};
+    ghost use Rattle.smx_session.specs.Moments.{at, act_on, after_pdu, enquiry, after_moment, is_silent, farewell, state_after_stop};
 
     /// A session that isn't bound yet, with the texts of its bind, without their ending 0, the
     /// silence after which it enquires, in milliseconds, and the moment now. It takes no memory.
@@ -241,7 +241,7 @@ impl UpstreamSession {
     /// The proxy's unbind (SMPP 3.4, section 4.2), once, where it is bound. It takes no memory.
     pub fn stop(&mut self) -> Option<Pdu>
         ensures unbind { result ≡ farewell self.old.state }
-        ensures session { self.new ≡ record self.old { state = stopped self.old.state } }
+        ensures session { self.new ≡ record self.old { state = state_after_stop self.old.state } }
     {
         if self.state != Bound {
             return None;

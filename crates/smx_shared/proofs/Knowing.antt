@@ -33,10 +33,10 @@ use Rattle.smx_shared.specs.declared.fault.UpFault.TheVariants as ups
 use Rattle.smx_shared.specs.Serving.{OneHold, CallServes, Takes, TriesTake, Brings, Turns, TurnServes, StaysServes, GoesDown, Fails, Expires, ComesUp}
 use Rattle.std.specs.Option.{option_map}
 use Rattle.smx_history.specs.declared.entry.Entry.{Entry}
-use Rattle.smx_shared.specs.Taps.{Queued, known, known_of, known_by_take, known_by_answer}
+use Rattle.smx_shared.specs.Taps.{Queued, known_from, known_of, known_by_take, known_by_answer}
 
 more : (f g : Front Note Limits) (ns : List Note) → g.mine ≡ f.mine ++ ns → known_of g.mine ≡ known_of f.mine ++ known_of ns
-more f g ns mine = ap known_of mine ∙ filter_map-append (λ n. known n.event) f.mine ns
+more f g ns mine = ap known_of mine ∙ filter_map-append (λ n. known_from n.event) f.mine ns
 
 same : (f g : Front Note Limits) → g.mine ≡ f.mine → known_of g.mine ≡ known_of f.mine ++ []
 same f g mine = ap known_of mine ∙ sym (append-nil (known_of f.mine))

@@ -14,15 +14,15 @@ pub data Known : Type 0 where
   Queued : (client : ℕ) → (response : Pdu) → Known
   CameLate : (upstream command : ℕ) → Known
 
-abbrev pub known : Option Event → Option Known
-known (Some (event.Take c n u t)) = Some (Took c u)
-known (Some (event.Answer c n p)) = Some (Queued c p)
-known (Some (event.Late c n u k)) = Some (CameLate u k)
-known _ = None
+abbrev pub known_from : Option Event → Option Known
+known_from (Some (event.Take c n u t)) = Some (Took c u)
+known_from (Some (event.Answer c n p)) = Some (Queued c p)
+known_from (Some (event.Late c n u k)) = Some (CameLate u k)
+known_from _ = None
 
 -- what is known of these notes, in order
 abbrev pub known_of : List Note → List Known
-known_of h = filter_map (λ n. known n.event) h
+known_of h = filter_map (λ n. known_from n.event) h
 
 -- what a take adds to it
 abbrev pub known_by_take : {E : Type 0} → Result Sent E → List Known

@@ -52,8 +52,10 @@ impl Exchange {
         lanes: usize,
     ) -> Result<(Exchange, Door, Vec<Tap>), Unmade>
         ensures ok { IfOk result (λ made. Opens lanes limits first_starts made.0 made.1 made.2.items) }
-        ensures taps { IfOk result (λ made. All (λ t. slice_get made.0 t.lane ≡ Some t.front.lock) made.2.items) }
-        ensures empty { IfOk result (λ made. All IsUnused made.1.fronts × All (λ t. IsUnused t.front) made.2.items) }
+        ensures taps { IfOk result (λ made. All
+            (λ t. slice_get made.0 t.lane ≡ Some t.front.lock) made.2.items) }
+        ensures empty { IfOk result (λ made. All IsUnused made.1.fronts
+            × All (λ t. IsUnused t.front) made.2.items) }
         ensures err { IfErr result (IsUnmadeFor lanes limits) }
     {
         Exchange::new_at(rt, alloc, limits, lanes, Starts::FIRST)
@@ -69,8 +71,10 @@ impl Exchange {
     ) -> Result<(Exchange, Door, Vec<Tap>), Unmade>
         requires { AreStarts starts }
         ensures ok { IfOk result (λ made. Opens lanes limits starts made.0 made.1 made.2.items) }
-        ensures taps { IfOk result (λ made. All (λ t. slice_get made.0 t.lane ≡ Some t.front.lock) made.2.items) }
-        ensures empty { IfOk result (λ made. All IsUnused made.1.fronts × All (λ t. IsUnused t.front) made.2.items) }
+        ensures taps { IfOk result (λ made. All
+            (λ t. slice_get made.0 t.lane ≡ Some t.front.lock) made.2.items) }
+        ensures empty { IfOk result (λ made. All IsUnused made.1.fronts
+            × All (λ t. IsUnused t.front) made.2.items) }
         ensures err { IfErr result (IsUnmadeFor lanes limits) }
     {
         if lanes == 0 || lanes > 16 {

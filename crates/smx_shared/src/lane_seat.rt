@@ -76,7 +76,8 @@ impl LaneSeat {
     ) -> Result<LaneSeat, Spent>
         requires lock { self.old.lock ≡ lock.now }
         ensures lock { self.new.lock ≡ self.old.lock }
-        ensures served { MatchResult result (λ s. SplitServes self.old self.new s) (λ _. SplitFails self.old self.new) }
+        ensures served { MatchResult result (λ s. SplitServes self.old self.new s)
+            (λ _. SplitFails self.old self.new) }
     {
         match self.seat.split(rt, lock) {
             Ok(seat) => Ok(LaneSeat { seat }),

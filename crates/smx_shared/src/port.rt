@@ -99,7 +99,8 @@ impl Port {
         requires { locks_of self.old.fronts ≡ at.now }
         ensures ok { IfOk result (Submitted self.old offer self.new) }
         ensures err { IfErr result (λ e. (e.0 ≡ offer) × Refuses self.old offer self.new e.1) }
-        ensures listed { (all : List Accepted) → HasAccepted self.old all → HasAccepted self.new (all ++ accepted_by offer result) }
+        ensures listed { (all : List Accepted) → HasAccepted self.old all
+            → HasAccepted self.new (all ++ accepted_by offer result) }
         ensures locks { locks_of self.new.fronts ≡ locks_of self.old.fronts }
     {
         if self.next > MOST {
@@ -127,7 +128,8 @@ impl Port {
         requires lane { lane < length self.old.fronts }
         ensures served { Collects lane self.old self.new result }
         ensures same { self.new ≡ record self.old { fronts = self.new.fronts } }
-        ensures listed { (all : List Accepted) → HasAccepted self.old all → HasAccepted self.new all }
+        ensures listed { (all : List Accepted) → HasAccepted self.old all
+            → HasAccepted self.new all }
         ensures locks { locks_of self.new.fronts ≡ locks_of self.old.fronts }
     {
         let client = self.client;
@@ -143,7 +145,8 @@ impl Port {
         requires lane { lane < length self.old.fronts }
         ensures served { TriesCollect lane self.old self.new result }
         ensures same { self.new ≡ record self.old { fronts = self.new.fronts } }
-        ensures listed { (all : List Accepted) → HasAccepted self.old all → HasAccepted self.new all }
+        ensures listed { (all : List Accepted) → HasAccepted self.old all
+            → HasAccepted self.new all }
         ensures locks { locks_of self.new.fronts ≡ locks_of self.old.fronts }
     {
         let client = self.client;

@@ -21,7 +21,8 @@ pub(crate) fn retire_all<R: Wait>(
     client: u64,
 ) -> bool
     requires locks { locks_of seats.old.items ≡ locks.now }
-    requires own { (k : ℕ) (f : Front Note Limits) → slice_get seats.old.items k ≡ Some f → IsMemberBy client f }
+    requires own { (k : ℕ) (f : Front Note Limits) → slice_get seats.old.items k ≡ Some f
+        → IsMemberBy client f }
     ensures left { Left (length seats.old.items) client seats.old.items seats.new.items }
     ensures all { Retired result (length seats.old.items) client seats.old.items seats.new.items }
 {

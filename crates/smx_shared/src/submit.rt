@@ -26,7 +26,8 @@ fn try_lanes<R: Wait>(
     requires own { MayAccept request seats.old.items }
     requires ordinal { 0 < request.ordinal }
     ensures ok { IfOk result (Accepts from to request seats.old.items seats.new.items) }
-    ensures err { IfErr result (λ e. (e.0 ≡ request) × Stops from to request seats.old.items seats.new.items e.1) }
+    ensures err { IfErr result (λ e. (e.0 ≡ request)
+        × Stops from to request seats.old.items seats.new.items e.1) }
 {
     let mut rest = request;
     for lane in from..to {
@@ -52,7 +53,8 @@ pub(crate) fn try_ring<R: Wait>(
     requires own { MayAccept request seats.old.items }
     requires ordinal { 0 < request.ordinal }
     ensures ok { IfOk result (AcceptsOn start request seats.old.items seats.new.items) }
-    ensures err { IfErr result (λ e. (e.0 ≡ request) × StopsOn start request seats.old.items seats.new.items e.1) }
+    ensures err { IfErr result (λ e. (e.0 ≡ request)
+        × StopsOn start request seats.old.items seats.new.items e.1) }
 {
     let count = seats.len();
     let rest = match try_lanes(rt, seats, locks, start, count, request) {

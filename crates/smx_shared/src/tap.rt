@@ -53,9 +53,11 @@ impl Tap {
     /// may wait.
     pub fn take<R: Wait>(&mut self, at: &Exchange, rt: &R, now: u64) -> Result<Sent, TakeFault>
         requires { slice_get at.now self.old.lane ≡ Some self.old.front.lock }
-        ensures same { (self.new.lane ≡ self.old.lane) × (self.new.front.lock ≡ self.old.front.lock) }
+        ensures same { (self.new.lane ≡ self.old.lane)
+            × (self.new.front.lock ≡ self.old.front.lock) }
         ensures served { Takes self.old.front self.new.front now result }
-        ensures known { known_of self.new.front.mine ≡ known_of self.old.front.mine ++ known_by_take result }
+        ensures known { known_of self.new.front.mine
+            ≡ known_of self.old.front.mine ++ known_by_take result }
     {
         match self.seat.hold(rt, &at.locks[self.lane], Taking { now }) {
             Ok(Ok(sent)) => Ok(sent),
@@ -67,9 +69,11 @@ impl Tap {
     /// The same without waiting: `Busy` where another caller has the lane.
     pub fn try_take(&mut self, at: &Exchange, now: u64) -> Result<Sent, TryTakeFault>
         requires { slice_get at.now self.old.lane ≡ Some self.old.front.lock }
-        ensures same { (self.new.lane ≡ self.old.lane) × (self.new.front.lock ≡ self.old.front.lock) }
+        ensures same { (self.new.lane ≡ self.old.lane)
+            × (self.new.front.lock ≡ self.old.front.lock) }
         ensures served { TriesTake self.old.front self.new.front now result }
-        ensures known { known_of self.new.front.mine ≡ known_of self.old.front.mine ++ known_by_take result }
+        ensures known { known_of self.new.front.mine
+            ≡ known_of self.old.front.mine ++ known_by_take result }
     {
         match self.seat.try_hold(&at.locks[self.lane], Taking { now }) {
             Ok(Ok(sent)) => Ok(sent),
@@ -93,7 +97,8 @@ impl Tap {
         least: usize,
     ) -> Result<Option<Vec<Entry>>, TurnFault>
         requires { slice_get at.now self.old.lane ≡ Some self.old.front.lock }
-        ensures same { (self.new.lane ≡ self.old.lane) × (self.new.front.lock ≡ self.old.front.lock) }
+        ensures same { (self.new.lane ≡ self.old.lane)
+            × (self.new.front.lock ≡ self.old.front.lock) }
         ensures served { Turns (λ es. es.items) self.old.front self.new.front least result }
         ensures known { known_of self.new.front.mine ≡ known_of self.old.front.mine }
     {
@@ -115,9 +120,11 @@ impl Tap {
         response: Pdu,
     ) -> Result<Answered, (Pdu, Spent)>
         requires { slice_get at.now self.old.lane ≡ Some self.old.front.lock }
-        ensures same { (self.new.lane ≡ self.old.lane) × (self.new.front.lock ≡ self.old.front.lock) }
+        ensures same { (self.new.lane ≡ self.old.lane)
+            × (self.new.front.lock ≡ self.old.front.lock) }
         ensures served { Brings self.old.front self.new.front response result }
-        ensures known { known_of self.new.front.mine ≡ known_of self.old.front.mine ++ known_by_answer response result }
+        ensures known { known_of self.new.front.mine
+            ≡ known_of self.old.front.mine ++ known_by_answer response result }
     {
         match self
             .seat

@@ -33,7 +33,8 @@ pub trait Token: HasSeat {
         requires fits { Self.fits self.old at.now lane }
         requires other { T.fits other.old at.now lane }
         ensures same { (self.new ≡ self.old) × (other.new ≡ other.old) }
-        ensures one_history { SawOneHistory (Self.front_on self.old lane) (T.front_on other.old lane) };
+        ensures one_history { SawOneHistory (Self.front_on self.old lane)
+            (T.front_on other.old lane) };
 }
 
 impl HasSeat for Door {

@@ -34,7 +34,8 @@ impl SocketLink {
 
     // Counts a fault. False where the count can't rise, and the fault is told no more.
     fn count_fault(&mut self) -> bool
-        ensures risen { result ≡ true → self.new ≡ record self.old { failures = self.old.failures + 1 } }
+        ensures risen { result ≡ true → self.new
+            ≡ record self.old { failures = self.old.failures + 1 } }
         ensures last { result ≡ false → self.new ≡ self.old }
     {
         if self.failures == u64::MAX {

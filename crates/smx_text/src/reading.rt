@@ -27,7 +27,8 @@ pub fn read_octets<R: Read>(
     reader: &mut R,
     most: usize,
 ) -> Result<Vec<u8>, ReadFault>
-    ensures ok { IfOk result (λ octets. IfSome (R.remaining reader.old) (λ all. octets.items ≡ all)) }
+    ensures ok { IfOk result (λ octets. IfSome (R.remaining reader.old)
+        (λ all. octets.items ≡ all)) }
     ensures short { IfOk result (λ octets. length octets.items ≤ most) }
     ensures too_long { IsErrOf result ReadFault.TooLong
         → IfSome (R.remaining reader.old) (λ all. most < length all) }

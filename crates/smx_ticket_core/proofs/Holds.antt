@@ -6,7 +6,7 @@ use Rattle.std.proofs.lemmas.List.{append-nil}
 use Rattle.smx_ticket_core.specs.declared.callers.Caller.{Caller}
 use Rattle.smx_ticket_core.specs.declared.callers.Caller.TheVariants.{Idle, Read, Saw, Waiting, Holding}
 use Rattle.smx_ticket_core.specs.declared.callers.Event.{Event}
-use Rattle.smx_ticket_core.specs.Machine.{Machine, most, who, Turn, start, holding, begins, begun, Run, InTicketOrder, ExclusionLaw, Fits, ticket, Sound}
+use Rattle.smx_ticket_core.specs.Machine.{Machine, most, who, Turn, start, holding, begins, begins_between, Run, InTicketOrder, ExclusionLaw, Fits, ticket, Sound}
 use Rattle.smx_ticket_core.proofs.Changes.{Change, row_changes}
 use Rattle.smx_ticket_core.proofs.Lists.{sum_by, set_here, sum_set, sum_zero, at_copies, at_end}
 use Rattle.smx_ticket_core.proofs.Rows.{changed, after_row}
@@ -35,8 +35,8 @@ no_holder m i c s at free why = sum_zero holding m.callers (λ j d there. one j 
     one j (Holding x) there f = ⊎_elim (λ (mine : ticket c ≡ m.serving + 1). let g : ticket c ≡ x + 1 = omega arith in let p : 0 < ticket c = omega arith in let same : i ≡ j = s.apart i j c (Holding x) at there p g in
         let e : c ≡ Holding x = some-injective c (Holding x) (sym at ∙ ap (get_elem? m.callers) same ∙ there) in let h : holding c ≡ 1 = ap holding e in absurd (omega arith)) (λ (all : m.next ≡ m.serving). absurd (omega arith)) why
 
-begun_is : (o p : Option Caller) (c d : Caller) → o ≡ some c → p ≡ some d → begun o p ≡ begins c d
-begun_is o p c d e f = ap (λ (x : Option Caller). begun x p) e ∙ ap (begun (some c)) f
+begun_is : (o p : Option Caller) (c d : Caller) → o ≡ some c → p ≡ some d → begins_between o p ≡ begins c d
+begun_is o p c d e f = ap (λ (x : Option Caller). begins_between x p) e ∙ ap (begins_between (some c)) f
 
 grows : (first : ℕ) (m : Machine) (i : ℕ) (c : Caller) (t : Turn) (past new : List ℕ) → Sound m → Counted first m past → get_elem? m.callers i ≡ some c → Change m.next m.serving c t → new ≡ begins c t.1.1
     → Counted first (changed m i t) (past ++ new)
@@ -53,7 +53,7 @@ run_counted callers first [] m holds le r = subst (λ (z : Machine × List ℕ).
 run_counted callers first (e ∷ es) m holds le r = let b = r.0 in let s = run_sound callers first es b r.1 le r.2 in let w = after_row b e m r.3 in
     let ch = row_changes b.next b.serving e w.0 w.1 w.3 s.behind s.bounded (s.each (who e) w.0 w.2) in
     let there : get_elem? m.callers (who e) ≡ some w.1.1.1 = ap (λ (z : Machine). get_elem? z.callers (who e)) w.4 ∙ set_here b.callers (who e) w.1.1.1 w.0 w.2 in
-    let new = begun (get_elem? b.callers (who e)) (get_elem? m.callers (who e)) in
+    let new = begins_between (get_elem? b.callers (who e)) (get_elem? m.callers (who e)) in
     subst (λ (z : Machine × List ℕ). Counted first z.0 z.1) (λ k. (sym w.4 k, sym r.4 k)) (grows first b (who e) w.0 w.1 r.1 new s (run_counted callers first es b r.1 le r.2) w.2 ch (begun_is _ _ w.0 w.1.1.1 w.2 there))
 
 pub exclusion : ExclusionLaw

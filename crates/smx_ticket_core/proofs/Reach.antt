@@ -7,7 +7,7 @@ use Rattle.smx_ticket_core.specs.declared.callers.Caller.TheVariants.{Idle, Read
 use Rattle.smx_ticket_core.specs.declared.callers.Event.{Event}
 use Rattle.smx_ticket_core.specs.declared.callers.Event.TheVariants.{Draw, Look, TryDraw}
 use Rattle.smx_ticket_core.specs.declared.callers.Illegal.TheVariants.{Spent}
-use Rattle.smx_ticket_core.specs.Machine.{Machine, most, who, Turn, draw, row, start, begun, Run, Reached, Sound}
+use Rattle.smx_ticket_core.specs.Machine.{Machine, most, who, Turn, draw, row, start, begins_between, Run, Reached, Sound}
 use Rattle.smx_ticket_core.proofs.Changes.{ok}
 use Rattle.smx_ticket_core.proofs.Lists.{set_here}
 use Rattle.smx_ticket_core.proofs.Rows.{changed, row_after, after_row}
@@ -22,7 +22,7 @@ reached_start callers first e = ([], [], (ap (λ (k : ℕ). start k first) (sym 
 pub runs_on : (first : ℕ) (m : Machine) (e : Event) (c : Caller) (t : Turn) → Reached first m → get_elem? m.callers (who e) ≡ some c → row m.next m.serving e c ≡ Ok t → Reached first (changed m (who e) t)
 runs_on first m e c t r at is = (
   e ∷ r.0,
-  r.1 ++ begun (get_elem? m.callers (who e)) (get_elem? (set m.callers (who e) t.1.1) (who e)),
+  r.1 ++ begins_between (get_elem? m.callers (who e)) (get_elem? (set m.callers (who e) t.1.1) (who e)),
   (
     m,
     r.1,
@@ -60,7 +60,7 @@ run_more n first (e ∷ es) m holds r = let b : Machine = r.0 in let w = after_r
       r.1,
       run_more n first es b r.1 r.2,
       row_after (more b) e w.0 w.1 here w.3 ∙ ap (λ (l : List Caller). Ok record { next = w.1.0; serving = w.1.1.0; callers = l }) (set_front b.callers (Idle ∷ []) i w.1.1.1 w.0 w.2) ∙ ap (λ (z : Machine). Ok (more z)) (sym w.4),
-      r.4 ∙ ap (λ (z : Option Caller × Option Caller). r.1 ++ begun z.0 z.1) (λ k. ((w.2 ∙ sym here) k, (now ∙ sym there) k)),
+      r.4 ∙ ap (λ (z : Option Caller × Option Caller). r.1 ++ begins_between z.0 z.1) (λ k. ((w.2 ∙ sym here) k, (now ∙ sym there) k)),
     )
 
 pub reached_more : (first : ℕ) (m : Machine) → Reached first m → Reached first (more m)

@@ -44,13 +44,13 @@ row n s (ReadServing i) Idle = Ok (n, (s, Saw s))
 row n s (TryDraw i) (Saw x) = if n == x then draw n s x (Holding x) else Ok (n, (s, Idle))
 row n s _ _ = Err WrongState
 
-abbrev pub turned : Machine → ℕ → Result Turn Illegal → Result Machine Illegal
-turned m i (Ok t) = Ok record { next = t.0; serving = t.1.0; callers = set m.callers i t.1.1 }
-turned m i (Err x) = Err x
+abbrev pub after_turn : Machine → ℕ → Result Turn Illegal → Result Machine Illegal
+after_turn m i (Ok t) = Ok record { next = t.0; serving = t.1.0; callers = set m.callers i t.1.1 }
+after_turn m i (Err x) = Err x
 
 abbrev pub at_caller : Machine → Event → Option Caller → Result Machine Illegal
 at_caller m e none = Err NoCaller
-at_caller m e (some c) = turned m (who e) (row m.next m.serving e c)
+at_caller m e (some c) = after_turn m (who e) (row m.next m.serving e c)
 
 -- what one event does
 abbrev pub after : Machine → Event → Result Machine Illegal
@@ -72,15 +72,15 @@ begins (Holding u) d = []
 begins c (Holding t) = t ∷ []
 begins c d = []
 
-abbrev pub begun : Option Caller → Option Caller → List ℕ
-begun (some c) (some d) = begins c d
-begun c d = []
+abbrev pub begins_between : Option Caller → Option Caller → List ℕ
+begins_between (some c) (some d) = begins c d
+begins_between c d = []
 
 -- A run of so many callers from first. It did these events, the newest first, it reached m, and its holds had these tickets, the oldest first
 abbrev pub Run : ℕ → ℕ → List Event → Machine → List ℕ → Type 0
 Run callers first [] m holds = (m ≡ start callers first) × (holds ≡ [])
 Run callers first (e ∷ es) m holds = (b : Machine) × (past : List ℕ) × Run callers first es b past × (after b e ≡ Ok m)
-    × (holds ≡ past ++ begun (get_elem? b.callers (who e)) (get_elem? m.callers (who e)))
+    × (holds ≡ past ++ begins_between (get_elem? b.callers (who e)) (get_elem? m.callers (who e)))
 
 abbrev pub Reached : ℕ → Machine → Type 0
 Reached first m = (es : List Event) × (holds : List ℕ) × Run (length m.callers) first es m holds

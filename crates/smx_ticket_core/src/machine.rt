@@ -41,7 +41,8 @@ impl Core {
 
     /// Does one event, as the event table says. A refused event changes nothing.
     pub fn step(&mut self, event: Event) -> Result<(), Illegal>
-        ensures { MatchResult result (λ _. after self.old event ≡ Ok self.new) (λ x. (after self.old event ≡ Err x) × (self.new ≡ self.old)) }
+        ensures { MatchResult result (λ _. after self.old event ≡ Ok self.new)
+            (λ x. (after self.old event ≡ Err x) × (self.new ≡ self.old)) }
     {
         let i = caller_of(event);
         if i >= self.callers.len() {

@@ -33,7 +33,8 @@ pub(crate) fn caller_of(event: Event) -> usize
 // A draw of the ticket `next`.
 fn drawn(next: u64, serving: u64, won: Caller) -> Result<(u64, u64, Caller), Illegal>
     requires { next ≤ most }
-    ensures { MatchResult result (λ t. draw next serving next won ≡ Ok (t.0, (t.1, t.2))) (λ x. draw next serving next won ≡ Err x) }
+    ensures { MatchResult result (λ t. draw next serving next won ≡ Ok (t.0, (t.1, t.2)))
+        (λ x. draw next serving next won ≡ Err x) }
 {
     if next == MOST {
         Err(Illegal::Spent)
@@ -51,7 +52,8 @@ pub(crate) fn turn(
 ) -> Result<(u64, u64, Caller), Illegal>
     requires fits { Fits next serving caller }
     requires bounded { next ≤ most }
-    ensures { MatchResult result (λ t. row next serving event caller ≡ Ok (t.0, (t.1, t.2))) (λ x. row next serving event caller ≡ Err x) }
+    ensures { MatchResult result (λ t. row next serving event caller ≡ Ok (t.0, (t.1, t.2)))
+        (λ x. row next serving event caller ≡ Err x) }
 {
     match (event, caller) {
         (Event::ReadNext(_), Caller::Idle | Caller::Read(_)) => Ok((

@@ -11,7 +11,7 @@ use Rattle.smx_box.specs.declared.receiver.Got.{Got}
 use Rattle.smx_box.specs.declared.receiver.Got.TheVariants as got
 use Rattle.smx_shared.specs.declared.fault.TakeFault.{TakeFault}
 use Rattle.smx_shared.specs.declared.fault.TakeFault.TheVariants as takes
-use Rattle.smx_pdu.specs.Answers.{refusal, undecoded}
+use Rattle.smx_pdu.specs.Answers.{refusal, nack_of_undecoded}
 use Rattle.smx_session.specs.declared.up_act.UpAct.{UpAct}
 use Rattle.smx_session.specs.declared.up_act.UpAct.TheVariants as act
 use Rattle.smx_turns.specs.declared.directory.Query.{Query}
@@ -85,7 +85,7 @@ out_of (Shifted least r) = []
 out_of (Sought r) = got_out r.value
 out_of (Decided p now a f) = act_out a.value ++ fate_out p.value f
 out_of (Took r) = taken_out r.value
-out_of Broke = undecoded ∷ []
+out_of Broke = nack_of_undecoded ∷ []
 out_of (Unbound p) = those p.value
 
 -- the PDU that still waits after this fate

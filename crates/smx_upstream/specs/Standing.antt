@@ -18,7 +18,7 @@ use Rattle.smx_box.specs.declared.receiver.Got.{Got}
 use Rattle.smx_box.specs.Boxes.{Sending, Receiving, GetServes, Hands}
 use Rattle.smx_session.specs.Binds.{own_bind}
 use Rattle.smx_session.specs.UpstreamTable.{bind_number}
-use Rattle.smx_session.specs.Moments.{Upstream, at, act_on, after_pdu, enquiry, after_moment, is_silent, farewell, stopped}
+use Rattle.smx_session.specs.Moments.{Upstream, at, act_on, after_pdu, enquiry, after_moment, is_silent, farewell, state_after_stop}
 use Rattle.smx_session.specs.declared.up_act.UpAct.{UpAct}
 use Rattle.smx_session.specs.declared.up_act.UpAct.TheVariants as act
 use Rattle.smx_shared.specs.Views.{TapView}
@@ -109,4 +109,4 @@ Does s (Decided p now a f) t = (a.value ≡ act_on s.session p.value) × Becomes
 Does s (Took r) t = Takes s.tap.front t.tap.front s.session.latest r.value × (t.tap.lane ≡ s.tap.lane) × (t ≡ record s { tap = t.tap; age = noted_more (take_notes r.value) s.age })
 Does s Broke t = t ≡ s
 Does s (Unbound p) t = (p.value ≡ farewell s.session.state)
-    × (t ≡ record s { session = record s.session { state = stopped s.session.state } })
+    × (t ≡ record s { session = record s.session { state = state_after_stop s.session.state } })

@@ -68,7 +68,8 @@ impl<L: Link + Drop> UpstreamWorker<L> {
             ≡ Some self.old.stand.tap.front.lock }
         ensures lock { slice_get at.now self.new.stand.tap.lane
             ≡ Some self.new.stand.tap.front.lock }
-        ensures phase { (left : _) → phase_of log.old ≡ Watched left → phase_of log.new ≡ Swept left }
+        ensures phase { (left : _) → phase_of log.old ≡ Watched left
+            → phase_of log.new ≡ Swept left }
         ensures err { OnErr result (result ≡ Err Fault.Spent) }
         ensures spent { result ≡ Err Fault.Spent → EndsSpent log.new }
         ensures goes { (turn queries : _) → Goes turn

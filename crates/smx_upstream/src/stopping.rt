@@ -1,7 +1,7 @@
 //! The end of a session in order.
 ghost use Rattle.std.specs.Prelude.{◌≡◌, ◌≤◌, ◌++◌, [], ◌∷◌, Option, Err, IfOk, OnOk, OnErr};
 ghost use Rattle.smx_link.specs.Wiring.{spellings};
-ghost use Rattle.smx_session.specs.Moments.{is_bound, farewell, stopped};
+ghost use Rattle.smx_session.specs.Moments.{is_bound, farewell, state_after_stop};
 ghost use Rattle.smx_upstream.specs.declared.event.Event.TheVariants.{Unbound};
 ghost use Rattle.smx_upstream.specs.Events.{those};
 
@@ -26,7 +26,7 @@ impl<L: Link + Drop> UpstreamWorker<L> {
         ensures unsent { self.new.wire.unsent ≡ self.old.wire.unsent
             ++ spellings (those (farewell self.old.stand.session.state)) }
         ensures state { self.new.stand.session
-            ≡ record self.old.stand.session { state = stopped self.old.stand.session.state } }
+            ≡ record self.old.stand.session { state = state_after_stop self.old.stand.session.state } }
         ensures same { self.new ≡ record self.old {
           wire = record self.old.wire {
             said = self.new.wire.said;
@@ -59,7 +59,7 @@ impl<L: Link + Drop> UpstreamWorker<L> {
         ensures unsent { OnOk result (self.new.wire.unsent ≡ self.old.wire.unsent
             ++ spellings (those (farewell self.old.stand.session.state))) }
         ensures state { OnOk result (self.new.stand.session
-            ≡ record self.old.stand.session { state = stopped self.old.stand.session.state }) }
+            ≡ record self.old.stand.session { state = state_after_stop self.old.stand.session.state }) }
         ensures same { self.new ≡ record self.old {
           wire = record self.old.wire {
             said = self.new.wire.said;

@@ -6,11 +6,11 @@ use Rattle.smx_lane.specs.declared.window.Window.TheInside.{Inside}
 use Rattle.smx_lane.specs.Private.Places.{Places, KeepsListed}
 
 -- the requests in the rows
-abbrev pub held : List (Option Place) → List Place
-held rows = filter_map (λ row. row) rows
+abbrev pub places_in : List (Option Place) → List Place
+places_in rows = filter_map (λ row. row) rows
 
 abbrev pub places_of : Inside → Places
-places_of a = record { most = length a.rows; taken = held a.rows; generations = a.generations.items; latest = a.ages.latest }
+places_of a = record { most = length a.rows; taken = places_in a.rows; generations = a.generations.items; latest = a.ages.latest }
 
 -- the numbers of the requests name their rows, counted from n
 abbrev pub AreNumbered : ℕ → List (Option Place) → Type 0
@@ -24,7 +24,7 @@ pub record KeepsPlaces (a : Inside) : Type 0 where
   pub numbered : AreNumbered 0 a.rows
   pub empty : (j k : ℕ) → slice_get a.free.items j ≡ Some k → IsEmptyAt a.rows k
   pub distinct : (i j k : ℕ) → slice_get a.free.items i ≡ Some k → slice_get a.free.items j ≡ Some k → i ≡ j
-  pub count : length a.free.items + length (held a.rows) ≡ length a.rows
+  pub count : length a.free.items + length (places_in a.rows) ≡ length a.rows
   pub few : length a.rows ≤ 1024
   pub room : length a.rows ≤ vec_capacity a.free
   pub generations : length a.generations.items ≡ length a.rows

@@ -37,7 +37,8 @@ impl Lane {
 
     /// Admits a client, and makes its row and its box.
     pub fn admit(&mut self, by: u64, client: u64) -> Result<(), AdmitFault>
-        ensures reply { MatchResult result (λ _. admit_refusal self.old client ≡ None) (IsAdmitFault (admit_refusal self.old client)) }
+        ensures reply { MatchResult result (λ _. admit_refusal self.old client ≡ None)
+            (IsAdmitFault (admit_refusal self.old client)) }
         ensures agrees { OnOk result ((h : List Note) → AgreesWith h self.old →
             AgreesWith (h ++ note by (Admit client) ∷ []) self.new) }
         ensures err { OnErr result (self.new ≡ self.old) }

@@ -47,7 +47,8 @@ impl Lane {
     /// submit_sm, submit_multi and data_sm with ESME_RSUBMITFAIL, for the others generic_nack with ESME_RSYSERR (SMPP
     /// 3.4, section 5.1.3), each without a body. Which of them it is, depends on the numbers that they bear. It takes no memory.
     pub fn fail(&mut self, by: u64) -> Result<Failed, FailRefusal>
-        ensures reply { MatchResult result (λ _. fail_refusal self.old ≡ None) (λ e. fail_refusal self.old ≡ Some e) }
+        ensures reply { MatchResult result (λ _. fail_refusal self.old ≡ None)
+            (λ e. fail_refusal self.old ≡ Some e) }
         ensures failed { IfOk result (λ failed. IsFailed self.old by failed self.new) }
         ensures err { OnErr result (self.new ≡ self.old) }
         ensures limits { self.new.limits ≡ self.old.limits }
@@ -63,7 +64,8 @@ impl Lane {
 
     /// There is a link upstream again: requests are accepted and taken as before. It takes no memory.
     pub fn up(&mut self, by: u64) -> Result<(), UpRefusal>
-        ensures reply { MatchResult result (λ _. up_refusal self.old ≡ None) (λ e. up_refusal self.old ≡ Some e) }
+        ensures reply { MatchResult result (λ _. up_refusal self.old ≡ None)
+            (λ e. up_refusal self.old ≡ Some e) }
         ensures agrees { OnOk result ((h : List Note) → AgreesWith h self.old →
             AgreesWith (h ++ note by Up ∷ []) self.new) }
         ensures err { OnErr result (self.new ≡ self.old) }

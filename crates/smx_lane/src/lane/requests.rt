@@ -73,7 +73,8 @@ impl Lane {
     /// after 2,097,151 takes at the least, and the greatest is 2,147,482,624 (SMPP 3.4, section 5.1.4). The moment is in
     /// milliseconds, from any start; one below that of the last take counts as that. It takes no memory.
     pub fn take(&mut self, by: u64, now: u64) -> Result<Sent, TakeRefusal>
-        ensures reply { MatchResult result (λ _. take_refusal self.old ≡ None) (λ e. take_refusal self.old ≡ Some e) }
+        ensures reply { MatchResult result (λ _. take_refusal self.old ≡ None)
+            (λ e. take_refusal self.old ≡ Some e) }
         ensures oldest { IfOk result (λ sent. slice_get self.old.queue 0 ≡ Some sent.request) }
         ensures agrees { IfOk result (λ sent. (h : List Note) → AgreesWith h self.old →
             AgreesWith (h ++ taking self.old by now sent ∷ []) self.new) }

@@ -17,7 +17,8 @@ impl Lane {
     /// was. The entries are handed out as the list that they stand in, without a copy and without a look at them: with
     /// the list handed out its memory is the caller's.
     pub fn turn_over(&mut self, by: u64, least: usize) -> Result<Option<Vec<Entry>>, AllocError>
-        ensures turned { IfOk result (λ list. IsTurned self.old by least (option_map (λ es. es.items) list) self.new) }
+        ensures turned { IfOk result (λ list. IsTurned self.old by least
+            (option_map (λ es. es.items) list) self.new) }
         ensures err { OnErr result (self.new ≡ self.old) }
         ensures limits { self.new.limits ≡ self.old.limits }
     {

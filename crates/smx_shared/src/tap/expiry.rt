@@ -23,7 +23,8 @@ impl Tap {
         age: u64,
     ) -> Result<Failed, ExpiryFault>
         requires { slice_get at.now self.old.lane ≡ Some self.old.front.lock }
-        ensures same { (self.new.lane ≡ self.old.lane) × (self.new.front.lock ≡ self.old.front.lock) }
+        ensures same { (self.new.lane ≡ self.old.lane)
+            × (self.new.front.lock ≡ self.old.front.lock) }
         ensures served { Expires self.old.front self.new.front now age result }
         ensures known { known_of self.new.front.mine ≡ known_of self.old.front.mine }
     {

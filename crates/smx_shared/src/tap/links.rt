@@ -16,7 +16,8 @@ impl Tap {
     /// and takes no memory.
     pub fn down<R: Wait>(&mut self, at: &Exchange, rt: &R) -> Result<(), DownFault>
         requires { slice_get at.now self.old.lane ≡ Some self.old.front.lock }
-        ensures same { (self.new.lane ≡ self.old.lane) × (self.new.front.lock ≡ self.old.front.lock) }
+        ensures same { (self.new.lane ≡ self.old.lane)
+            × (self.new.front.lock ≡ self.old.front.lock) }
         ensures served { GoesDown self.old.front self.new.front result }
         ensures known { known_of self.new.front.mine ≡ known_of self.old.front.mine }
     {
@@ -33,7 +34,8 @@ impl Tap {
     /// may wait, and takes no memory.
     pub fn fail<R: Wait>(&mut self, at: &Exchange, rt: &R) -> Result<Failed, FailFault>
         requires { slice_get at.now self.old.lane ≡ Some self.old.front.lock }
-        ensures same { (self.new.lane ≡ self.old.lane) × (self.new.front.lock ≡ self.old.front.lock) }
+        ensures same { (self.new.lane ≡ self.old.lane)
+            × (self.new.front.lock ≡ self.old.front.lock) }
         ensures served { Fails self.old.front self.new.front result }
         ensures known { known_of self.new.front.mine ≡ known_of self.old.front.mine }
     {
@@ -48,7 +50,8 @@ impl Tap {
     /// and takes no memory.
     pub fn up<R: Wait>(&mut self, at: &Exchange, rt: &R) -> Result<(), UpFault>
         requires { slice_get at.now self.old.lane ≡ Some self.old.front.lock }
-        ensures same { (self.new.lane ≡ self.old.lane) × (self.new.front.lock ≡ self.old.front.lock) }
+        ensures same { (self.new.lane ≡ self.old.lane)
+            × (self.new.front.lock ≡ self.old.front.lock) }
         ensures served { ComesUp self.old.front self.new.front result }
         ensures known { known_of self.new.front.mine ≡ known_of self.old.front.mine }
     {

@@ -4,7 +4,7 @@ use Rattle.smx_history.specs.declared.place.Place.{Place}
 use Rattle.smx_history.specs.Numbers.{place_in, generation_in}
 use Rattle.smx_history.proofs.Updates.{place_for, following}
 use Rattle.smx_lane.specs.Private.Places.{Places}
-use Rattle.smx_lane.specs.Private.Window.{held}
+use Rattle.smx_lane.specs.Private.Window.{places_in}
 use Rattle.smx_lane.proofs.Held.{AreEmpty, AreOnce, filled, length-filled, none_numbered, numbered-filled, empty-filled, once-front, at-set}
 use Rattle.smx_lane.proofs.Listing.{listed_more}
 use Rattle.smx_lane.proofs.Giving.{place_of_number, generation_of_number, given, turn_of}
@@ -112,7 +112,7 @@ returns-clause-taken c = λ test.
     let q = place_for c.args.request.now c.number_of-upstream.result c.push-moment.result in
     let g = given c.self.inside c.pop.new.self.items c.pop.result at c.self.invariant c.pop.ensures.items c.unwrap-at.ensures in
     let is : c.set.new.self ≡ set rows at (Some q) = c.set.ensures in
-    ap (λ rs. count_by test (held rs)) is ∙ filled rows at q g.empty test ∙ ap (λ (v : Places). count_by test (v.taken ++ q ∷ [])) c.self.view_is
+    ap (λ rs. count_by test (places_in rs)) is ∙ filled rows at q g.empty test ∙ ap (λ (v : Places). count_by test (v.taken ++ q ∷ [])) c.self.view_is
 
 pub returns-clause-generations : goal.returns-clause-generations
 returns-clause-generations c =

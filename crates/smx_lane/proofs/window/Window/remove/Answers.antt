@@ -4,14 +4,14 @@ use Rattle.std.proofs.lemmas.Option.{slice_get_within}
 use Rattle.smx_history.specs.declared.place.Place.{Place}
 use Rattle.smx_history.specs.Numbers.{place_in}
 use Rattle.smx_lane.specs.Private.Places.{IsPlaceOf, Places}
-use Rattle.smx_lane.specs.Private.Window.{held}
+use Rattle.smx_lane.specs.Private.Window.{places_in}
 use Rattle.smx_lane.proofs.Held.{cleared, length-cleared, numbered-cleared, empty-cleared, once-pushed, row_at_number, at-set}
 use Rattle.smx_lane.proofs.Listing.{listed_less}
 use Rattle.smx_lane.proofs.window.Window.remove.Goals as goal
 
 pub set-requires : goal.set-requires
 set-requires c =
-    let h : (q : Place) × IsPlaceOf (held c.self.inside.rows) c.args.number q = rw (← c.self.view_is) at c.requires in
+    let h : (q : Place) × IsPlaceOf (places_in c.self.inside.rows) c.args.number q = rw (← c.self.view_is) at c.requires in
     rw c.place_in-at.ensures (slice_get_within c.self.inside.rows (place_in c.args.number) (Some h.0) (row_at_number c.self.inside.rows c.args.number h.0 c.self.invariant.numbered h.1))
 
 pub invariant_of-self : goal.invariant_of-self
@@ -19,7 +19,7 @@ invariant_of-self c =
     let rows = c.self.inside.rows in
     let free = c.self.inside.free.items in
     let k = place_in c.args.number in
-    let h : (q : Place) × IsPlaceOf (held rows) c.args.number q = rw (← c.self.view_is) at c.requires in
+    let h : (q : Place) × IsPlaceOf (places_in rows) c.args.number q = rw (← c.self.view_is) at c.requires in
     let r = row_at_number rows c.args.number h.0 c.self.invariant.numbered h.1 in
     let within = slice_get_within rows k (Some h.0) r in
     let is : c.set.new.self ≡ set rows k None = c.set.ensures ∙ ap (λ j. set rows j None) c.place_in-at.ensures in
@@ -51,7 +51,7 @@ returns c = record {
   taken = λ q place.
       let rows = c.self.inside.rows in
       let k = place_in c.args.number in
-      let p : IsPlaceOf (held rows) c.args.number q = rw (← c.self.view_is) at place in
+      let p : IsPlaceOf (places_in rows) c.args.number q = rw (← c.self.view_is) at place in
       let r = cleared rows k q (row_at_number rows c.args.number q c.self.invariant.numbered p) in
       let is : c.set.new.self ≡ set rows k None = c.set.ensures ∙ ap (λ j. set rows j None) c.place_in-at.ensures in
       let same = length-set rows k None in
