@@ -170,7 +170,7 @@ entered_present h v c a =
     let rise = rise_split 0 (map (λ x. x.client) (admits es)) c (subst (RiseAbove 0) grown legal.membership.clients) in
     let none = none_admitted es c rise.0 rise.1 in
     let new = unseen c es (AtEach-init (λ before x. StandsWell x.kind before x) es e legal.standing) (AtEach-init (λ before x. IsPaired x.kind before x) es e legal.pairing) none in
-    is_present-any (entered c h) c ∙ ap (λ xs. list_any (λ x. x.client == c) (present xs)) push ∙ ap (list_any (λ x. x.client == c)) (present_admitted es e refl new.retired) ∙ any_push (λ (x : Entry). x.client == c) (present es) e (eq-eqb c c refl)
+    is_present-any (enter_lane c h) c ∙ ap (λ xs. list_any (λ x. x.client == c) (present xs)) push ∙ ap (list_any (λ x. x.client == c)) (present_admitted es e refl new.retired) ∙ any_push (λ (x : Entry). x.client == c) (present es) e (eq-eqb c c refl)
 
 member_there : (c : ℕ) (h : List Note) (lane : Content) → AgreesWith (enter_lane c h) lane → (o : Option Member) → member_with c lane.members ≡ o → IsSome o
 member_there c h lane a (Some m) e = search rules

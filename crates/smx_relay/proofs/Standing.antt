@@ -80,7 +80,7 @@ stands_bad_part a b c old new i lines script line text same at stands turns e wr
     let here : SoFar (i + 1) s (line ∷ drop (i + 1) lines) lines stands.2 = subst (λ (ls : List (List ℕ)). SoFar (i + 1) s ls lines stands.2) at stands.4 in
     let whole = so_far_bad (i + 1) s line (drop (i + 1) lines) lines stands.2 here (prints_none (Lines s line) new (turns s stands.1)) in
     let parts : stands.2 ++ bad_line (i + 1) ≡ (stands.2 ++ wrote.0) ++ wrote.1 ∷ wrote.2 = ap (λ (t : List ℕ). stands.2 ++ t) (sym e ∙ wrote.3) ∙ sym (append_assoc stands.2 wrote.0 (wrote.1 ∷ wrote.2)) in
-    (stands.2 ++ wrote.0, Appends-trans a b c stands.2 wrote.0 stands.3 wrote.4, (wrote.1, wrote.2, Some (i + 1), subst (λ (ls : List (List ℕ)). Runs 1 start ls ((stands.2 ++ wrote.0) ++ wrote.1) (Some (i + 1))) same (subst (λ (t : List ℕ). Runs 1 start lines t (Some (i + 1))) parts whole)))
+    (stands.2 ++ wrote.0, Appends-trans a b c stands.2 wrote.0 stands.3 wrote.4, (wrote.1, wrote.2, Some (i + 1), subst (λ (ls : List (List ℕ)). Runs 1 start ls ((stands.2 ++ wrote.0) ++ wrote.1 ∷ wrote.2) (Some (i + 1))) same (subst (λ (t : List ℕ). Runs 1 start lines t (Some (i + 1))) parts whole)))
 
 -- nothing was written
 pub stands_nothing : (known : Option (List ℕ)) (script : List ℕ) → (out : List ℕ) × Appends known known out × BeginsRelay script out
