@@ -109,14 +109,7 @@ fn run<R: Print + Threads + Wait + AllocGlobal + Sync>(
     if served != (true, true) {
         return Err(Difference::Port.into());
     }
-    let Done { tally, lists, .. } = done;
-    let wanted = Tally {
-        queued: 2 * REQUESTS,
-        unknown: 2 * REQUESTS,
-    };
-    if tally != wanted {
-        return Err(Difference::Tap(tally).into());
-    }
+    let lists = lists_of(done)?;
     let handed = lists.len();
     let Ok(mut lanes) = exchange.finish(door) else {
         return Err(Difference::NoLane.into());
@@ -124,6 +117,20 @@ fn run<R: Print + Threads + Wait + AllocGlobal + Sync>(
     let entries = check(lists, lanes.pop())?;
     println!(rt; "{name}: {handed} lists handed out, {entries} entries in all, legal")?;
     Ok(())
+}
+
+// The lists that the tap's turns over handed out, where it has the counts that it should have.
+fn lists_of(done: Done) -> Result<Vec<Vec<Entry>>, Difference> {
+    let Done { tally, lists, .. } = done;
+    let wanted = Tally {
+        queued: 2 * REQUESTS,
+        unknown: 2 * REQUESTS,
+    };
+    if tally == wanted {
+        Ok(lists)
+    } else {
+        Err(Difference::Tap(tally))
+    }
 }
 
 // The tap of the only lane.
