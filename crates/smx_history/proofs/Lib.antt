@@ -8,7 +8,6 @@ pub mod Sizes
 pub mod Members
 pub mod Refusals
 pub mod Keeping
-pub mod Numbers
 pub mod Spacing
 pub mod Moments
 pub mod Places
