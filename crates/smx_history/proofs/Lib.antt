@@ -44,3 +44,4 @@ pub mod ShiftAgrees
 pub mod Joining
 pub mod Unchanged
 pub mod LinkAgrees
+pub mod Ring

@@ -9,3 +9,4 @@ pub mod Room
 pub mod Answering
 pub mod Shifts
 pub mod Failures
+pub mod Ring

@@ -14,13 +14,14 @@ use Rattle.smx_history.proofs.Refusals.{accept_refusal_same}
 use Rattle.smx_relay.specs.declared.state.State.{State}
 use Rattle.smx_relay.specs.Texts.{text_line, pdu_line, to_client, refusal_of}
 use Rattle.smx_relay.specs.declared.state.LinkedLane.{LinkedLane}
-use Rattle.smx_relay.specs.Relay.{Relay, ring, history_of, lane_after, lane_at, last_of, lane_for, in_turn_at, new_lane, request_of, with_request}
+use Rattle.smx_relay.specs.Relay.{Relay, history_of, lane_after, lane_at, last_of, lane_for, in_turn_at, new_lane, request_of, with_request}
 use Rattle.smx_relay.specs.ClientTurn.{forward}
 use Rattle.smx_relay.proofs.Offers.{request_named}
 use Rattle.smx_relay.specs.Private.OnLane.{OnLane, IsLane}
 use Rattle.smx_relay.specs.Private.Agrees.{Agrees, Turned, MayAccept, accepts_in}
 use Rattle.smx_relay.proofs.Lanes.{zip-length, zip-set, zip-weaker, find-agree, reordered_on}
-use Rattle.smx_relay.proofs.Ring.{ring_within}
+use Rattle.smx_history.specs.Ring.{ring}
+use Rattle.smx_history.proofs.Ring.{ring_within}
 use Rattle.smx_relay.proofs.StateTurns.{lane_is}
 use Rattle.smx_relay.proofs.Rows.{rows_below}
 use Rattle.smx_relay.proofs.Keeping.{KeepsSettings, kept_links}

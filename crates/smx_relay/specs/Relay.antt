@@ -1,6 +1,6 @@
 -- What each line of a script does and prints, over the histories of the lanes.
 use Rattle.std.specs.Prelude.{◌≡◌, refl, ℕ, ◌+◌, ◌%◌, Bool, true, false, List, [], ◌∷◌, ◌++◌, length, map, filter, not, ◌==◌, take, drop, set, replicate, position, codes, Option, Some, None, get_or, is_none, is_some, ◌||◌, max, nat_lt, nat_le, slice_get, if◌then◌else◌}
-use Rattle.std.specs.List.{flat_map, find, range_with_len}
+use Rattle.std.specs.List.{flat_map, find}
 use Rattle.std.specs.Fmt.{decimal}
 use Rattle.smx_pdu.specs.declared.pdu.Pdu.{Pdu}
 use Rattle.smx_pdu.specs.Command.{is_forwarded}
@@ -14,6 +14,7 @@ use Rattle.smx_history.specs.declared.note.Event.TheVariants as event
 use Rattle.smx_history.specs.History.{note, shift, stored_of, entries_of, latest_after}
 use Rattle.smx_history.specs.Entries.{is_up}
 use Rattle.smx_history.specs.Contents.{content_after, queue_after, window_after}
+use Rattle.smx_history.specs.Ring.{ring}
 use Rattle.smx_history.specs.Replies.{accept_refusal, admit_refusal, answers_place, is_present, waiting_after}
 use Rattle.smx_routes.specs.Routing.{Route}
 use Rattle.smx_script.specs.declared.command.Setting.{Setting}
@@ -149,10 +150,6 @@ request_if c n p false e = None
 -- a client's request with this ordinal, of a PDU that is passed on
 unfoldable pub request_of : ℕ → ℕ → Pdu → Option Request
 request_of c n p = request_if c n p (is_forwarded p.command) refl
-
--- all lanes, from one on
-abbrev pub ring : ℕ → ℕ → List ℕ
-ring first count = map (λ k. (first + k) % count) (range_with_len 0 count)
 
 -- the first lane that accepts a client's next request, from the one that its ordinal names on
 unfoldable pub lane_for : Relay → ℕ → ℕ → Option ℕ
