@@ -67,7 +67,7 @@ pub record SettlesPlace (n : Note) (e : Entry) (q : Place) : Type 0 where
   pub others : (c : ℕ) → (q.client ≡ c → ⊥) → response_in c n.event ≡ None
 
 -- and brings its client that response
-pub record Brings (n : Note) (e : Entry) (p : Pdu) (q : Place) : Type 0 where
+pub record BringsResponse (n : Note) (e : Entry) (p : Pdu) (q : Place) : Type 0 where
   pub place : SettlesPlace n e q
   pub response : response_in q.client n.event ≡ Some (record { ordinal = q.ordinal; pdu = p })
 
@@ -92,7 +92,7 @@ after_settled h v n e q i ms b a within is rows =
 others_kept : (h : List Note) (v : Content) (n : Note) (e : Entry) (q : Place) → SettlesPlace n e q → AgreesWith h v → (x : Entry) → (x.client ≡ q.client → ⊥) → member_after (h ++ n ∷ []) x ≡ member_after h x
 others_kept h v n e q b a x apart = row-other h n e x b.entry b.settles.accept b.settles.collect (b.others x.client (λ of. apart (sym of))) a.legal.rules.pairing
 
-pub IsAfter-settled : (h : List Note) (v : Content) (n : Note) (e : Entry) (p : Pdu) (q : Place) (i : ℕ) → Brings n e p q → AgreesWith h v → i < length v.window → q ≡ get_or v.window i q → IsAfter (h ++ n ∷ []) (settled v e p q i)
+pub IsAfter-settled : (h : List Note) (v : Content) (n : Note) (e : Entry) (p : Pdu) (q : Place) (i : ℕ) → BringsResponse n e p q → AgreesWith h v → i < length v.window → q ≡ get_or v.window i q → IsAfter (h ++ n ∷ []) (settled v e p q i)
 IsAfter-settled h v n e p q i brings a within is =
     let b = brings.place in
     let s = b.settles in
@@ -107,7 +107,7 @@ pub IsAfter-settled_late : (h : List Note) (v : Content) (n : Note) (e : Entry) 
 IsAfter-settled_late h v n e q i b a within is gone =
     after_settled h v n e q i v.members b a within is (rows-beside h n e v b.entry b.settles.admit b.settles.retire a.after q.client gone (others_kept h v n e q b a))
 
-answer_brings : (by : ℕ) (p : Pdu) (q : Place) → Brings (note by (Answer q.client q.ordinal p)) (entry_by by (Answer q.client q.ordinal p)) p q
+answer_brings : (by : ℕ) (p : Pdu) (q : Place) → BringsResponse (note by (Answer q.client q.ordinal p)) (entry_by by (Answer q.client q.ordinal p)) p q
 answer_brings by p q = record {
   place = record {
     entry = refl;

@@ -1,6 +1,6 @@
 -- A collect takes a lane that agrees with a history to one that agrees with the longer history.
 use Rattle.smx_history.proofs.FitsCollect.{collect_fit, collected_other, oldest_next}
-use Rattle.std.proofs.Common.{◌≡◌, ◌+◌, ◌-◌, ◌==◌, ℕ, ◌&&◌, List, [], ◌∷◌, ◌++◌, length, map, drop, refl, sym, ◌∙◌, ap, arith, length-append, Some, suc, zero, add-one}
+use Rattle.std.proofs.Common.{◌≡◌, ◌+◌, ◌-◌, ◌==◌, ℕ, Bool, true, false, cond, ◌&&◌, List, [], ◌∷◌, ◌++◌, length, map, drop, refl, sym, ◌∙◌, ap, arith, length-append, Some, suc, zero, add-one}
 use Rattle.std.proofs.lemmas.Bool.{eq-eqb}
 use Rattle.smx_history.specs.declared.note.Event.TheVariants.{Collect}
 use Rattle.smx_history.specs.declared.entry.Entry.{Entry}
@@ -12,7 +12,7 @@ use Rattle.smx_history.specs.Legal.{IsFifo, IsPaired, IsServed}
 use Rattle.smx_history.specs.History.{entry_by, note, entries_of, responses}
 use Rattle.smx_history.specs.Contents.{AgreesWith, IsAfter, Content, Member, as_shown, member_after, members_after}
 use Rattle.smx_history.proofs.Room.{KeepsRoom}
-use Rattle.smx_history.specs.Replies.{member_with}
+use Rattle.smx_history.specs.Replies.{member_with, waiting_in, waiting_after}
 use Rattle.smx_history.proofs.Updates.{collected, with_row}
 use Rattle.smx_history.proofs.Growing.{filter_push, AtEachPrefix-whole}
 use Rattle.smx_history.proofs.Frames.{accepts_of-other}
@@ -58,13 +58,29 @@ row-collected h by c n a paired same =
     rw (entries_of-push h x e refl, count, responses-other a.client h x refl, shown-kept a.client h (e ∷ []) paired) (sym (drop_more k (map (as_shown es a.client) (responses a.client h)))) in
     λ i. record { client = a.client; by = a.by; last = sym last i; pending = sym pending i; waiting = sym waiting i }
 
-pub rows_collected : (h : List Note) (v : Content) (by c n : ℕ) → AgreesWith h v → with_row c (λ x. record x { pending = x.pending - 1; waiting = drop 1 x.waiting }) v.members ≡ members_after (h ++ note by (Collect c n) ∷ [])
+rows_collected : (h : List Note) (v : Content) (by c n : ℕ) → AgreesWith h v → with_row c (λ x. record x { pending = x.pending - 1; waiting = drop 1 x.waiting }) v.members ≡ members_after (h ++ note by (Collect c n) ∷ [])
 rows_collected h v by c n a =
     let es = entries_of h in
     let e = entry_by by (Collect c n) in
     rows-changed h (note by (Collect c n)) e v refl refl refl a.after c (λ x. record x { pending = x.pending - 1; waiting = drop 1 x.waiting })
     (λ x same. row-collected h by c n x a.legal.rules.pairing same)
     (λ x apart. row-same h (note by (Collect c n)) e x refl (accepts_of-other x.client es e refl) (collected_other x.client es e refl (λ of. apart (sym of))) refl a.legal.rules.pairing)
+
+-- it waits no more
+pub waiting-collected : (h : List Note) (v : Content) (by c n : ℕ) → AgreesWith h v → waiting_after (h ++ note by (Collect c n) ∷ []) c ≡ drop 1 (waiting_after h c)
+unfolding waiting_after
+waiting-collected h v by c n a = ap (λ ms. waiting_in (member_with c ms)) (sym (rows_collected h v by c n a)) ∙ taken_off v.members ∙ ap (λ ms. drop 1 (waiting_in (member_with c ms))) a.after.members
+  where
+    f : Member → Member
+    f x = record x { pending = x.pending - 1; waiting = drop 1 x.waiting }
+
+    taken_off : (ms : List Member) → waiting_in (member_with c (with_row c f ms)) ≡ drop 1 (waiting_in (member_with c ms))
+    taken_off [] = refl
+    taken_off (m ∷ ms) = at (m.client == c) refl (taken_off ms)
+      where
+        at : (b : Bool) → (m.client == c) ≡ b → waiting_in (member_with c (with_row c f ms)) ≡ drop 1 (waiting_in (member_with c ms)) → waiting_in (member_with c (cond b (f m) m ∷ with_row c f ms)) ≡ drop 1 (waiting_in (cond b (Some m) (member_with c ms)))
+        at true e later = rw e refl
+        at false e later = rw e later
 
 IsAfter-collected : (h : List Note) (v : Content) (by c : ℕ) (r : Response) → AgreesWith h v → IsAfter (h ++ note by (Collect c r.ordinal) ∷ []) (collected v by c r)
 IsAfter-collected h v by c r a =

@@ -18,7 +18,7 @@ use Rattle.smx_history.proofs.Updates.{failing_entry, failed, failed_late}
 use Rattle.smx_history.proofs.FitsSettle.{settles_fail, fail_fit}
 use Rattle.smx_history.proofs.SettleAgrees.{place_taken, place_answers}
 use Rattle.smx_history.proofs.Unchanged.{agrees-next}
-use Rattle.smx_history.proofs.AnswerAgrees.{SettlesPlace, Brings, IsAfter-settled, IsAfter-settled_late}
+use Rattle.smx_history.proofs.AnswerAgrees.{SettlesPlace, BringsResponse, IsAfter-settled, IsAfter-settled_late}
 
 -- what tells a client of a failure answers its request
 failure_answers : (request : ℕ) → is_response_to request (failure_command request) ≡ true
@@ -41,7 +41,7 @@ fail_settles by q =
       others = λ c apart. ap (λ b. cond b (Some (record { ordinal = q.ordinal; pdu = p })) None) (ne_eqb q.client c apart);
     }
 
-fail_brings : (by : ℕ) (q : Place) → Brings (failing by q) (failing_entry by q) (failure (failure_command q.command) q.upstream) q
+fail_brings : (by : ℕ) (q : Place) → BringsResponse (failing by q) (failing_entry by q) (failure (failure_command q.command) q.upstream) q
 fail_brings by q =
     let p = failure (failure_command q.command) q.upstream in
     record {

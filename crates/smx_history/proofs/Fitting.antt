@@ -1,9 +1,8 @@
 -- What an entry keeps to that may follow a list.
-use Rattle.std.specs.Prelude.{◌&&◌, ℕ, Bool, List, [], ◌∷◌, ◌++◌}
-use Rattle.std.specs.List.{list_any}
+use Rattle.std.specs.Prelude.{List, [], ◌∷◌, ◌++◌}
 use Rattle.smx_history.specs.declared.entry.Entry.{Entry}
 use Rattle.smx_history.specs.declared.limits.Limits.{Limits}
-use Rattle.smx_history.specs.Entries.{is_take, has_name, numbers}
+use Rattle.smx_history.specs.Entries.{numbers}
 use Rattle.smx_history.specs.Numbers.{AreSpaced}
 use Rattle.smx_history.specs.Legal.{HasForm, IsFifo, IsOnce, IsMembership, StandsWell, IsPaired, AreApart, IsBounded}
 
@@ -18,7 +17,3 @@ pub record Fits (limits : Limits) (es : List Entry) (e : Entry) : Type 0 where
   pub apart : AreApart (es ++ e ∷ [])
   pub spaced : AreSpaced (numbers (es ++ e ∷ []))
   pub bounds : IsBounded limits (es ++ e ∷ [])
-
--- the request of that name was taken
-abbrev pub is_taken : ℕ → ℕ → List Entry → Bool
-is_taken c n es = list_any (λ e. is_take e.kind && has_name c n e) es

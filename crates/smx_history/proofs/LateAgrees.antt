@@ -1,6 +1,5 @@
 -- A late answer takes a lane that agrees with a history to one that agrees with the longer history.
-use Rattle.std.proofs.Common.{◌≡◌, ◌<◌, ◌==◌, ℕ, true, false, List, [], ◌∷◌, ◌++◌, length, get_or, refl, sym, ◌∙◌, ap, arith, inl, inr, None}
-use Rattle.std.specs.Prelude.{is_some}
+use Rattle.std.proofs.Common.{◌≡◌, ◌<◌, ◌==◌, ℕ, true, false, List, [], ◌∷◌, ◌++◌, length, get_or, refl, sym, ◌∙◌, arith, inl, inr, None}
 use Rattle.std.specs.List.{list_any}
 use Rattle.std.proofs.lemmas.Bool.{cases_Bool}
 use Rattle.smx_pdu.specs.declared.pdu.Pdu.{Pdu}
@@ -20,7 +19,7 @@ use Rattle.smx_history.proofs.Counts.{none_count}
 use Rattle.smx_history.proofs.SettleAgrees.{place_taken, place_answers}
 use Rattle.smx_history.proofs.FitsSettle.{settles_late, late_fit}
 use Rattle.smx_history.proofs.Presence.{present_once, accepted_admitted}
-use Rattle.smx_history.proofs.Rows.{row_present}
+use Rattle.smx_history.proofs.Rows.{absent, is_present-any}
 use Rattle.smx_history.proofs.Unchanged.{agrees-next}
 use Rattle.smx_history.proofs.AnswerAgrees.{SettlesPlace, IsAfter-settled_late}
 
@@ -32,7 +31,7 @@ retired_if_gone h v c n a accepted none =
       | inl gone ↦ gone
       | inr here ↦
           let once = present_once es c a.legal.rules.membership (accepted_admitted v.limits es c n a.legal.rules accepted) here in
-          let nobody : list_any (λ x. x.client == c) (present es) ≡ false = sym (row_present h c (present es)) ∙ ap (λ ms. is_some (member_with c ms)) (sym a.after.members) ∙ ap is_some none in
+          let nobody : list_any (λ x. x.client == c) (present es) ≡ false = sym (is_present-any h c) ∙ absent h v c a none in
           absurd (omega (arith, once, none_count (λ (x : Entry). x.client == c) (present es) nobody))
     ]
 

@@ -8,7 +8,6 @@ pub mod Sizes
 pub mod Members
 pub mod Refusals
 pub mod Keeping
-pub mod Numbers
 pub mod Spacing
 pub mod Moments
 pub mod Places
@@ -45,3 +44,4 @@ pub mod ShiftAgrees
 pub mod Joining
 pub mod Unchanged
 pub mod LinkAgrees
+pub mod Ring

@@ -9,9 +9,8 @@ use Rattle.smx_history.specs.declared.note.Event.TheVariants.{Admit, Accept, Tak
 use Rattle.smx_history.specs.declared.entry.Entry.{Entry}
 use Rattle.smx_history.specs.declared.note.Note.{Note}
 use Rattle.smx_history.specs.Prefixes.{first_or}
-use Rattle.smx_history.specs.Entries.{is_take, has_name, takes}
+use Rattle.smx_history.specs.Entries.{is_take, has_name, takes, is_taken}
 use Rattle.smx_history.specs.History.{entry_by, note, entries_of, moment_named, moment_of}
-use Rattle.smx_history.proofs.Fitting.{is_taken}
 use Rattle.smx_history.proofs.Reading.{All-from_get, All-filtered, any_at}
 
 -- an event without such a moment is no take of that name

@@ -82,7 +82,7 @@ generation-beside k u ns apart =
     ap (λ n. n % 2097151) same
 
 -- the number is that of a place of the window, and of its next generation
-pub record IsNext (window : ℕ) (gs : List ℕ) (u : ℕ) : Type 0 where
+pub record IsNextNumber (window : ℕ) (gs : List ℕ) (u : ℕ) : Type 0 where
   pub within : place_in u < window
   pub generation : slice_get gs (place_in u) ≡ Some (generation_in u)
 
@@ -97,17 +97,17 @@ generation_at window k ns lt =
     slice_get-get_or (generations_after window ns) k 0 (omega (arith, lt, length-map-range_with_len (λ j. generation_after j ns) 0 window))
     ∙ ap Some (get_or-map-range_with_len (λ j. generation_after j ns) 0 window k k 0 lt (omega arith))
 
-generation_is : (window u : ℕ) (ns : List ℕ) → IsNext window (generations_after window ns) u → generation_in u ≡ generation_after (place_in u) ns
+generation_is : (window u : ℕ) (ns : List ℕ) → IsNextNumber window (generations_after window ns) u → generation_in u ≡ generation_after (place_in u) ns
 generation_is window u ns next = let same : Some (generation_in u) ≡ Some (generation_after (place_in u) ns) = sym next.generation ∙ generation_at window (place_in u) ns next.within in cc
 
 -- a take that bears such a number
-pub numbered_taken : (window u : ℕ) (ns : List ℕ) → AreNumbered window ns → IsNext window (generations_after window ns) u → AreNumbered window (ns ++ u ∷ [])
+pub numbered_taken : (window u : ℕ) (ns : List ℕ) → AreNumbered window ns → IsNextNumber window (generations_after window ns) u → AreNumbered window (ns ++ u ∷ [])
 numbered_taken window u ns before next = record {
   within = All-push (λ m. place_in m < window) ns u before.within next.within;
   placed = AtEach-push (λ earlier m. generation_in m ≡ generation_after (place_in m) earlier) ns u before.placed (generation_is window u ns next);
 }
 
-pub generations_taken : (window u : ℕ) (ns : List ℕ) → IsNext window (generations_after window ns) u → set (generations_after window ns) (place_in u) (following (generation_in u)) ≡ generations_after window (ns ++ u ∷ [])
+pub generations_taken : (window u : ℕ) (ns : List ℕ) → IsNextNumber window (generations_after window ns) u → set (generations_after window ns) (place_in u) (following (generation_in u)) ≡ generations_after window (ns ++ u ∷ [])
 generations_taken window u ns next =
     let gs = generations_after window ns in
     let g = following (generation_in u) in

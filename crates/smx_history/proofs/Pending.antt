@@ -16,7 +16,7 @@ use Rattle.smx_history.proofs.Frames.{sum_by-agree}
 use Rattle.smx_history.proofs.Growing.{AtEachPrefix-whole, StartsWith-length}
 use Rattle.smx_history.proofs.Reading.{answers_accepted}
 
-found_at : (x : ℕ) (ys : List ℕ) → 1 ≤ count_by (λ y. y == x) ys → (i : ℕ) × (i < length ys) × (x ≡ get_or ys i x)
+pub found_at : (x : ℕ) (ys : List ℕ) → 1 ≤ count_by (λ y. y == x) ys → (i : ℕ) × (i < length ys) × (x ≡ get_or ys i x)
 found_at x [] some = absurd (omega (arith, some))
 found_at x (y ∷ ys) some = at (y == x) refl (found_at x ys)
   where

@@ -3,11 +3,10 @@ use Rattle.std.proofs.Common.{◌≡◌, Bool, true, false, not, List, [], ◌�
 use Rattle.std.specs.List.{AllByRecursion}
 use Rattle.smx_history.specs.declared.entry.Entry.{Entry}
 use Rattle.smx_history.specs.declared.note.Note.{Note}
-use Rattle.smx_history.specs.Entries.{is_take, is_settling, takes, unanswered_takes, is_accepted, is_settled}
+use Rattle.smx_history.specs.Entries.{is_take, is_settling, takes, unanswered_takes, is_accepted, is_taken, is_settled}
 use Rattle.smx_history.specs.Legal.{IsFifo}
 use Rattle.smx_history.specs.History.{entry_in, entries_of}
 use Rattle.smx_history.specs.Contents.{place_of, window_after}
-use Rattle.smx_history.proofs.Fitting.{is_taken}
 use Rattle.smx_history.proofs.Reading.{own_of-kept, command_of-kept, map_agree, All-each, All-kept, takes_accepted, entries_of-append, entries_of-push}
 use Rattle.smx_history.proofs.Frames.{unanswered-other}
 use Rattle.smx_history.proofs.Moments.{moment_of-kept, takes_named}

@@ -1,9 +1,10 @@
--- Which refusal `accept_refusal` is, from what the code tests.
-use Rattle.std.proofs.Common.{◌≡◌, ◌<◌, ◌≤◌, ◌+◌, Bool, true, false, length, refl, sym, ◌∙◌, Some, None, inl, inr}
+-- Which refusal `accept_refusal` is, from what the code tests; and that no refusal tells the order of the window.
+use Rattle.std.proofs.Common.{◌≡◌, ◌<◌, ◌≤◌, ◌+◌, ℕ, Bool, true, false, length, refl, sym, ◌∙◌, ap, Option, Some, None, inl, inr}
 use Rattle.std.proofs.lemmas.Bool.{le-leb, lt-leb, leb-true, cases_lt, cases_Bool}
 use Rattle.smx_history.specs.declared.reply.Refusal.TheVariants.{ClientFull, QueueFull, HistoryFull, Down}
-use Rattle.smx_history.specs.Contents.{Content, Member, size_of}
-use Rattle.smx_history.specs.Replies.{has_room, refusal_for}
+use Rattle.smx_history.specs.Contents.{Content, IsReordered, Member, size_of}
+use Rattle.smx_history.specs.Replies.{accept_refusal, admit_refusal, has_room, member_with, refusal_for, up_refusal}
+use Rattle.smx_history.proofs.Counts.{length-same}
 
 pub refused_client : (v : Content) (m : Member) → v.limits.client ≤ m.pending → refusal_for v (Some m) ≡ Some ClientFull
 refused_client v m h = rw (le-leb v.limits.client m.pending h) refl
@@ -41,3 +42,19 @@ allowed v m h =
       ]
       | inr p ↦ absurd (let x : Some ClientFull ≡ None = sym (refused_client v m p) ∙ h in cc)
     ]
+
+room_same : (one other : Content) → IsReordered one other → has_room other ≡ has_room one
+room_same one other r = rw (r.limits, r.entries, r.queue, length-same one.window other.window r.window, r.members, r.up) refl
+
+refusal_for_same : (one other : Content) (row : Option Member) → IsReordered one other → refusal_for other row ≡ refusal_for one row
+refusal_for_same one other None r = refl
+refusal_for_same one other (Some m) r = rw (room_same one other r, r.limits, r.queue, r.up) refl
+
+pub accept_refusal_same : (one other : Content) (c : ℕ) → IsReordered one other → accept_refusal other c ≡ accept_refusal one c
+accept_refusal_same one other c r = ap (λ ms. refusal_for other (member_with c ms)) r.members ∙ refusal_for_same one other (member_with c one.members) r
+
+pub admit_refusal_same : (one other : Content) (c : ℕ) → IsReordered one other → admit_refusal other c ≡ admit_refusal one c
+admit_refusal_same one other c r = rw (room_same one other r, r.greatest) refl
+
+pub up_refusal_same : (one other : Content) → IsReordered one other → up_refusal other ≡ up_refusal one
+up_refusal_same one other r = rw (room_same one other r, length-same one.window other.window r.window, r.up) refl

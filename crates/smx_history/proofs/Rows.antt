@@ -9,8 +9,8 @@ use Rattle.smx_history.specs.Prefixes.{AtEach, last_or}
 use Rattle.smx_history.specs.Entries.{is_admit, is_accept, is_collect, is_retire, accepts_of, collects_of, is_admitted, is_retired, present}
 use Rattle.smx_history.specs.Legal.{IsPaired}
 use Rattle.smx_history.specs.History.{entry_in, entries_of, responses, response_in}
-use Rattle.smx_history.specs.Contents.{IsAfter, Content, Member, as_shown, member_after, members_after}
-use Rattle.smx_history.specs.Replies.{member_with}
+use Rattle.smx_history.specs.Contents.{AgreesWith, IsAfter, Content, Member, as_shown, member_after, members_after}
+use Rattle.smx_history.specs.Replies.{member_with, is_present, waiting_in, waiting_after}
 use Rattle.smx_history.proofs.Updates.{with_row}
 use Rattle.smx_history.proofs.Frames.{accepts_of-other, collects_of-other, present-other}
 use Rattle.smx_history.proofs.Reading.{entries_of-push, responses-other, shown-kept, All-to_map, All-each}
@@ -44,13 +44,30 @@ each_row P Q h v each all a =
     subst (λ ms. AllByRecursion Q ms) (sym a.members) (All-to_map Q (member_after h) (present (entries_of h)) (All-each P (λ x. Q (member_after h x)) each (present (entries_of h)) all))
 
 -- a client has a row where it is present
-pub row_present : (h : List Note) (c : ℕ) (us : List Entry) → is_some (member_with c (map (member_after h) us)) ≡ list_any (λ a. a.client == c) us
+row_present : (h : List Note) (c : ℕ) (us : List Entry) → is_some (member_with c (map (member_after h) us)) ≡ list_any (λ a. a.client == c) us
 row_present h c [] = refl
 row_present h c (a ∷ us) = at (a.client == c) (row_present h c us)
   where
     at : (b : Bool) → is_some (member_with c (map (member_after h) us)) ≡ list_any (λ x. x.client == c) us → is_some (cond b (Some (member_after h a)) (member_with c (map (member_after h) us))) ≡ (b || list_any (λ x. x.client == c) us)
     at true later = refl
     at false later = later
+
+pub is_present-any : (h : List Note) (c : ℕ) → is_present c h ≡ list_any (λ a. a.client == c) (present (entries_of h))
+unfolding is_present
+is_present-any h c = row_present h c (present (entries_of h))
+
+pub absent : (h : List Note) (v : Content) (c : ℕ) → AgreesWith h v → member_with c v.members ≡ None → is_present c h ≡ false
+unfolding is_present
+absent h v c a none = ap (λ ms. is_some (member_with c ms)) (sym a.after.members) ∙ ap is_some none
+
+pub found_present : (h : List Note) (v : Content) (c : ℕ) (m : Member) → AgreesWith h v → member_with c v.members ≡ Some m → is_present c h ≡ true
+unfolding is_present
+found_present h v c m a found = ap (λ ms. is_some (member_with c ms)) (sym a.after.members) ∙ ap is_some found
+
+-- and its responses wait there
+pub waiting_same : (h : List Note) (v : Content) (c : ℕ) → AgreesWith h v → waiting_in (member_with c v.members) ≡ waiting_after h c
+unfolding waiting_after
+waiting_same h v c a = ap (λ ms. waiting_in (member_with c ms)) a.after.members
 
 -- a note that adds no accept, collect and response of a client leaves its row
 pub row-same : (h : List Note) (n : Note) (e a : Entry) → entry_in n ≡ Some e → accepts_of a.client (entries_of h ++ e ∷ []) ≡ accepts_of a.client (entries_of h) → collects_of a.client (entries_of h ++ e ∷ []) ≡ collects_of a.client (entries_of h)

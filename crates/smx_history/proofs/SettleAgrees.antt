@@ -32,13 +32,13 @@ pub record IsTaken (es : List Entry) (q : Place) : Type 0 where
   pub command : command_of q.client q.ordinal es ≡ q.command
 
 -- the same as a test
-is_taken : List Entry → Place → Bool
-is_taken es q =
+has_take : List Entry → Place → Bool
+has_take es q =
     list_any (λ t. is_take t.kind && (has_name q.client q.ordinal t && (t.number == q.upstream))) es
     && (not (is_settled q.client q.ordinal es) && (is_accepted q.client q.ordinal es && ((own_of q.client q.ordinal es == q.own) && (command_of q.client q.ordinal es == q.command))))
 
-taken_places : (h : List Note) → IsFifo (entries_of h) → AllByRecursion (λ t. is_taken (entries_of h) (place_of h t) ≡ true) (unanswered_takes (entries_of h))
-unfolding is_taken
+taken_places : (h : List Note) → IsFifo (entries_of h) → AllByRecursion (λ t. has_take (entries_of h) (place_of h t) ≡ true) (unanswered_takes (entries_of h))
+unfolding has_take
 taken_places h fifo =
     let es = entries_of h in
     let taken : AllByRecursion (λ t. list_any (λ x. is_take x.kind && (has_name t.client t.ordinal x && (x.number == t.number))) es ≡ true) (takes es) =
@@ -46,16 +46,16 @@ taken_places h fifo =
     (All-from_get (λ t. is_take t.kind ≡ true → list_any (λ x. is_take x.kind && (has_name t.client t.ordinal x && (x.number == t.number))) es ≡ true) es (λ k t at take.
     any_at (λ x. is_take x.kind && (has_name t.client t.ordinal x && (x.number == t.number))) es k t at
     (and_from _ _ take (and_from _ _ (and_from _ _ (eq-eqb t.client t.client refl) (eq-eqb t.ordinal t.ordinal refl)) (eq-eqb t.number t.number refl))))) in
-    All-filtered (λ t. is_taken es (place_of h t) ≡ true) (λ t. not (is_settled t.client t.ordinal es)) (takes es)
+    All-filtered (λ t. has_take es (place_of h t) ≡ true) (λ t. not (is_settled t.client t.ordinal es)) (takes es)
     (both (takes es) taken (takes_accepted es fifo))
   where
-    both : (us : List Entry) → AllByRecursion (λ t. list_any (λ x. is_take x.kind && (has_name t.client t.ordinal x && (x.number == t.number))) (entries_of h) ≡ true) us → AllByRecursion (λ t. is_accepted t.client t.ordinal (entries_of h) ≡ true) us → AllByRecursion (λ t. not (is_settled t.client t.ordinal (entries_of h)) ≡ true → is_taken (entries_of h) (place_of h t) ≡ true) us
+    both : (us : List Entry) → AllByRecursion (λ t. list_any (λ x. is_take x.kind && (has_name t.client t.ordinal x && (x.number == t.number))) (entries_of h) ≡ true) us → AllByRecursion (λ t. is_accepted t.client t.ordinal (entries_of h) ≡ true) us → AllByRecursion (λ t. not (is_settled t.client t.ordinal (entries_of h)) ≡ true → has_take (entries_of h) (place_of h t) ≡ true) us
     both [] a b = tt
     both (t ∷ us) a b =
         ((λ n. and_from _ _ a.0 (and_from _ _ n (and_from _ _ b.0 (and_from _ _ (eq-eqb (own_of t.client t.ordinal (entries_of h)) _ refl) (eq-eqb (command_of t.client t.ordinal (entries_of h)) _ refl))))), both us a.1 b.1)
 
-taken_from : (es : List Entry) (q : Place) → is_taken es q ≡ true → IsTaken es q
-unfolding is_taken
+taken_from : (es : List Entry) (q : Place) → has_take es q ≡ true → IsTaken es q
+unfolding has_take
 taken_from es q h =
     let w = and_parts _ _ h in
     let x = and_parts _ _ w.1 in
@@ -68,11 +68,11 @@ pub place_taken : (h : List Note) (v : Content) (i : ℕ) (q : Place) → Agrees
 place_taken h v i q a within is =
     let es = entries_of h in
     let fifo = AtEachPrefix-whole IsFifo es a.legal.rules.fifo in
-    let none : list_any (λ x. not (is_taken es x)) (window_after h) ≡ false =
+    let none : list_any (λ x. not (has_take es x)) (window_after h) ≡ false =
     any_map_none (unanswered_takes es) (taken_places h fifo) in
-    taken_from es q (All-same (is_taken es) (window_after h) v.window a.after.window none i q within is)
+    taken_from es q (All-same (has_take es) (window_after h) v.window a.after.window none i q within is)
   where
-    any_map_none : (us : List Entry) → AllByRecursion (λ t. is_taken (entries_of h) (place_of h t) ≡ true) us → list_any (λ x. not (is_taken (entries_of h) x)) (map (place_of h) us) ≡ false
+    any_map_none : (us : List Entry) → AllByRecursion (λ t. has_take (entries_of h) (place_of h t) ≡ true) us → list_any (λ x. not (has_take (entries_of h) x)) (map (place_of h) us) ≡ false
     any_map_none [] all = refl
     any_map_none (t ∷ us) all = rw (all.0, any_map_none us all.1) refl
 

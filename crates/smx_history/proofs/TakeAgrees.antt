@@ -28,26 +28,26 @@ use Rattle.smx_history.proofs.Reading.{requests_are_accepts, unsigned, entries_o
 use Rattle.smx_history.proofs.Sizes.{length-window}
 use Rattle.smx_history.proofs.Places.{places-kept}
 use Rattle.smx_history.proofs.Moments.{moment_of-taken}
-use Rattle.smx_history.proofs.Numbering.{numbered_taken, generations_taken, latest_taken, IsNext as IsNextNumber}
+use Rattle.smx_history.proofs.Numbering.{numbered_taken, generations_taken, latest_taken, IsNextNumber}
 use Rattle.smx_history.proofs.Spacing.{spaced_placed}
 use Rattle.smx_history.proofs.Rows.{row-other, rows-kept}
 use Rattle.smx_history.specs.Numbers.{place_in, generation_in, generations_after}
 
 -- the entry of the accept that is next to be taken
-pub record IsNext (es : List Entry) (r : Request) (y : Entry) (zs : List Entry) : Type 0 where
+pub record IsNextAccept (es : List Entry) (r : Request) (y : Entry) (zs : List Entry) : Type 0 where
   pub there : drop (length (takes es)) (accepts es) ≡ y ∷ zs
   pub client : y.client ≡ r.client
   pub ordinal : y.ordinal ≡ r.ordinal
   pub own : y.number ≡ r.own
   pub command : y.command ≡ r.command
 
-next_in : (es ws : List Entry) (r : Request) (rest : List Entry) → drop (length (takes es)) (accepts es) ≡ ws → map unsigned ws ≡ entry_by 0 (Accept r) ∷ rest → (y : Entry) × (zs : List Entry) × IsNext es r y zs
+next_in : (es ws : List Entry) (r : Request) (rest : List Entry) → drop (length (takes es)) (accepts es) ≡ ws → map unsigned ws ≡ entry_by 0 (Accept r) ∷ rest → (y : Entry) × (zs : List Entry) × IsNextAccept es r y zs
 next_in es [] r rest at same = cc
 next_in es (y ∷ zs) r rest at same =
     let e : unsigned y ≡ entry_by 0 (Accept r) = cc in
     (y, zs, record { there = at; client = ap (λ (x : Entry). x.client) e; ordinal = ap (λ (x : Entry). x.ordinal) e; own = ap (λ (x : Entry). x.number) e; command = ap (λ (x : Entry). x.command) e })
 
-pub next_accept : (h : List Note) (r : Request) (rest : List Request) → r ∷ rest ≡ drop (length (takes (entries_of h))) (requests h) → (y : Entry) × (zs : List Entry) × IsNext (entries_of h) r y zs
+pub next_accept : (h : List Note) (r : Request) (rest : List Request) → r ∷ rest ≡ drop (length (takes (entries_of h))) (requests h) → (y : Entry) × (zs : List Entry) × IsNextAccept (entries_of h) r y zs
 next_accept h r rest q =
     let es = entries_of h in
     let n = length (takes es) in
@@ -55,7 +55,7 @@ next_accept h r rest q =
     (sym (drop-map unsigned n (accepts es)) ∙ ap (drop n) (sym (requests_are_accepts h)) ∙ drop-map (λ x. entry_by 0 (Accept x)) n (requests h) ∙ ap (map (λ x. entry_by 0 (Accept x))) (sym q))
 
 -- no accept before the next one has its name
-before_next : (es : List Entry) (r : Request) (y : Entry) (zs : List Entry) → IsNext es r y zs → IsOnce es → AllByRecursion (λ x. has_name r.client r.ordinal x ≡ false) (take (length (takes es)) (accepts es))
+before_next : (es : List Entry) (r : Request) (y : Entry) (zs : List Entry) → IsNextAccept es r y zs → IsOnce es → AllByRecursion (λ x. has_name r.client r.ordinal x ≡ false) (take (length (takes es)) (accepts es))
 before_next es r y zs next once =
     let n = length (takes es) in
     let whole : accepts es ≡ take n (accepts es) ++ y ∷ zs = drop-split n (accepts es) y zs next.there in
@@ -71,7 +71,7 @@ abbrev is_named : ℕ → ℕ → Name → Bool
 is_named c n x = (x.client == c) && (x.ordinal == n)
 
 -- so no take has it
-no_take : (es : List Entry) (r : Request) (y : Entry) (zs : List Entry) → IsNext es r y zs → IsFifo es → IsOnce es → AllByRecursion (λ t. has_name r.client r.ordinal t ≡ false) (takes es)
+no_take : (es : List Entry) (r : Request) (y : Entry) (zs : List Entry) → IsNextAccept es r y zs → IsFifo es → IsOnce es → AllByRecursion (λ t. has_name r.client r.ordinal t ≡ false) (takes es)
 no_take es r y zs next fifo once =
     let n = length (takes es) in
     let P : Name → Type 0 = λ x. is_named r.client r.ordinal x ≡ false in
@@ -83,11 +83,11 @@ no_take es r y zs next fifo once =
 cong_name : {a b c d : ℕ} → a ≡ b → c ≡ d → ◌≡◌ {A = Name} (record { client = a; ordinal = c }) (record { client = b; ordinal = d })
 cong_name p q = λ i. record { client = p i; ordinal = q i }
 
-next-lt : (es : List Entry) (r : Request) (y : Entry) (zs : List Entry) → IsNext es r y zs → length (takes es) < length (accepts es)
+next-lt : (es : List Entry) (r : Request) (y : Entry) (zs : List Entry) → IsNextAccept es r y zs → length (takes es) < length (accepts es)
 next-lt es r y zs next = omega (arith, ap length next.there, length-drop (length (takes es)) (accepts es))
 
 -- its name is that of the next accept
-next_name : (es : List Entry) (r : Request) (y : Entry) (zs : List Entry) → IsNext es r y zs → slice_get (map name_of (accepts es)) (length (map name_of (takes es))) ≡ Some (record { client = r.client; ordinal = r.ordinal })
+next_name : (es : List Entry) (r : Request) (y : Entry) (zs : List Entry) → IsNextAccept es r y zs → slice_get (map name_of (accepts es)) (length (map name_of (takes es))) ≡ Some (record { client = r.client; ordinal = r.ordinal })
 next_name es r y zs next =
     ap (slice_get (map name_of (accepts es))) (length-map (takes es) name_of) ∙ slice_get-map name_of (accepts es) (length (takes es))
     ∙ ap (option_map name_of) (front_of (length (takes es)) (accepts es) next.there) ∙ ap Some (cong_name next.client next.ordinal)
@@ -105,7 +105,7 @@ owed-taken es by r u t none lt =
     (omega (arith, length-append es (e ∷ []), length-append (takes es) (e ∷ []), length-append (unanswered_takes es) (e ∷ [])))
 
 -- the accept with the name of the next request is the next one
-named_next : (es : List Entry) (r : Request) (y : Entry) (zs : List Entry) → IsNext es r y zs → IsOnce es → filter (λ e. is_accept e.kind && has_name r.client r.ordinal e) es ≡ y ∷ filter (has_name r.client r.ordinal) zs
+named_next : (es : List Entry) (r : Request) (y : Entry) (zs : List Entry) → IsNextAccept es r y zs → IsOnce es → filter (λ e. is_accept e.kind && has_name r.client r.ordinal e) es ≡ y ∷ filter (has_name r.client r.ordinal) zs
 named_next es r y zs next once =
     let n = length (takes es) in
     let here : has_name r.client r.ordinal y ≡ true = and_from _ _ (eq-eqb y.client r.client next.client) (eq-eqb y.ordinal r.ordinal next.ordinal) in
@@ -148,7 +148,7 @@ pub record MayBeTaken (v : Content) (u : ℕ) : Type 0 where
   pub free : list_any (λ (p : Place). p.upstream == u) v.window ≡ false
   pub next : IsNextNumber v.limits.window v.generations u
 
-AgreesWith-taken_at : (h : List Note) (v : Content) (by : ℕ) (r : Request) (rest : List Request) (u t : ℕ) (y : Entry) (zs : List Entry) → IsNext (entries_of h) r y zs → AgreesWith h v → v.queue ≡ r ∷ rest → MayBeTaken v u → AgreesWith (h ++ note by (Take r.client r.ordinal u t) ∷ []) (taken v by r u t)
+AgreesWith-taken_at : (h : List Note) (v : Content) (by : ℕ) (r : Request) (rest : List Request) (u t : ℕ) (y : Entry) (zs : List Entry) → IsNextAccept (entries_of h) r y zs → AgreesWith h v → v.queue ≡ r ∷ rest → MayBeTaken v u → AgreesWith (h ++ note by (Take r.client r.ordinal u t) ∷ []) (taken v by r u t)
 AgreesWith-taken_at h v by r rest u t y zs next a front may_be =
     let es = entries_of h in
     let e = entry_by by (Take r.client r.ordinal u t) in

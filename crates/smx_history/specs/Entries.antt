@@ -99,6 +99,9 @@ is_admitted by c es = list_any (λ e. is_admit e.kind && ((e.client == c) && (e.
 abbrev pub is_accepted : ℕ → ℕ → List Entry → Bool
 is_accepted c n es = list_any (λ e. is_accept e.kind && has_name c n e) es
 
+abbrev pub is_taken : ℕ → ℕ → List Entry → Bool
+is_taken c n es = list_any (λ e. is_take e.kind && has_name c n e) es
+
 abbrev pub is_settled : ℕ → ℕ → List Entry → Bool
 is_settled c n es = list_any (λ e. is_settling e.kind && has_name c n e) es
 

@@ -7,6 +7,6 @@ pub mod Contents
 pub mod Replies
 pub mod Room
 pub mod Answering
-pub mod Finding
 pub mod Shifts
 pub mod Failures
+pub mod Ring

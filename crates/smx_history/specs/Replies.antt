@@ -1,5 +1,5 @@
--- What the calls answer, and what they leave.
-use Rattle.std.specs.Prelude.{◌+◌, ◌==◌, ◌&&◌, nat_le, max, ℕ, Bool, not, List, [], length, Option, Some, None, if◌then◌else◌}
+-- What the calls answer, and what they leave. Of a history they are said of the content that it leaves.
+use Rattle.std.specs.Prelude.{◌+◌, ◌==◌, ◌&&◌, nat_le, max, ℕ, Bool, not, List, [], length, Option, Some, None, is_some, if◌then◌else◌}
 use Rattle.std.specs.List.{find}
 use Rattle.smx_history.specs.declared.reply.AdmitFault.{AdmitFault}
 use Rattle.smx_history.specs.declared.reply.AdmitFault.TheVariants.{Known, HistoryFull as AdmitHistoryFull}
@@ -15,16 +15,25 @@ use Rattle.smx_history.specs.declared.reply.FailRefusal.{FailRefusal}
 use Rattle.smx_history.specs.declared.reply.FailRefusal.TheVariants.{Up, WindowEmpty}
 use Rattle.smx_history.specs.declared.reply.UpRefusal.{UpRefusal}
 use Rattle.smx_history.specs.declared.reply.UpRefusal.TheVariants.{AlreadyUp, WindowNotEmpty, HistoryFull as UpHistoryFull}
-use Rattle.smx_history.specs.Contents.{Content, Member, size_of}
+use Rattle.smx_history.specs.declared.note.Note.{Note}
+use Rattle.smx_history.specs.Contents.{Content, Member, members_after, size_of}
 
 -- the client's row
 abbrev pub member_with : ℕ → List Member → Option Member
 member_with c ms = find (λ m. m.client == c) ms
 
+-- the client was admitted and has not retired
+unfoldable pub is_present : ℕ → List Note → Bool
+is_present c h = is_some (member_with c (members_after h))
+
 -- the responses that wait in a row, the oldest first; none where there is no row
 abbrev pub waiting_in : Option Member → List Response
 waiting_in None = []
 waiting_in (Some m) = m.waiting
+
+-- those that wait for the client after a history
+unfoldable pub waiting_after : List Note → ℕ → List Response
+waiting_after h c = waiting_in (member_with c (members_after h))
 
 -- there is room for one more accept or admit, and all that follows from it
 abbrev pub has_room : Content → Bool

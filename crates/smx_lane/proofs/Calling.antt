@@ -40,19 +40,19 @@ use Rattle.smx_lane.specs.Calls.{GoesOn, IsReply, Tells, Ran, HandsOut}
 use Rattle.smx_lane.proofs.Handing.{hands_nothing, hands_event, hands_list}
 
 -- a call with its reply and its notes
-abbrev pub IsMade : Content → Call → Reply → Content → Type 0
-IsMade old made came new = (own : List Note) × IsReply old made came own new × GoesOn old own new × HandsOut old (came ∷ []) own new
+abbrev pub RanOne : Content → Call → Reply → Content → Type 0
+RanOne old made came new = (own : List Note) × IsReply old made came own new × GoesOn old own new × HandsOut old (came ∷ []) own new
 
 pub stays : (old new : Content) → new ≡ old → GoesOn old [] new
 stays old new same = λ h was. rw (append-nil h) (subst (AgreesWith h) (sym same) was)
 
 pub admit_made : (old new : Content) (by c : ℕ) (r : Result (Unit {0}) AdmitFault) → MatchResult r (λ _. admit_refusal old c ≡ None) (IsAdmitFault (admit_refusal old c))
-    → OnOk r (GoesOn old (note by (event.Admit c) ∷ []) new) → OnErr r (new ≡ old) → IsMade old (call.Admit by c) (reply.Admitted r) new
+    → OnOk r (GoesOn old (note by (event.Admit c) ∷ []) new) → OnErr r (new ≡ old) → RanOne old (call.Admit by c) (reply.Admitted r) new
 admit_made old new by c (Ok x) told goes same = (note by (event.Admit c) ∷ [], (told, refl), goes, hands_event old new by (event.Admit c) goes)
 admit_made old new by c (Err e) told goes same = ([], (told, (refl, same)), stays old new same, λ h was. hands_nothing old new same)
 
 pub accept_made : (old new : Content) (by : ℕ) (q : Request) (r : Result (Unit {0}) (Request × Refusal)) → IsNext old by q.client q.ordinal → MatchResult r (λ _. accept_refusal old q.client ≡ None) (λ e. (e.0 ≡ q) × (accept_refusal old q.client ≡ Some e.1))
-    → OnOk r (GoesOn old (note by (event.Accept q) ∷ []) new) → OnErr r (new ≡ old) → IsMade old (call.Accept by q) (reply.Accepted r) new
+    → OnOk r (GoesOn old (note by (event.Accept q) ∷ []) new) → OnErr r (new ≡ old) → RanOne old (call.Accept by q) (reply.Accepted r) new
 accept_made old new by q (Ok x) kept told goes same = (note by (event.Accept q) ∷ [], (kept, told, refl), goes, hands_event old new by (event.Accept q) goes)
 accept_made old new by q (Err e) kept told goes same = ([], (kept, told.0, told.1, (refl, same)), stays old new same, λ h was. hands_nothing old new same)
 
@@ -60,34 +60,34 @@ abbrev taken_event : Content → ℕ → Sent → Event
 taken_event old now s = event.Take s.request.client s.request.ordinal s.upstream (moment_at old now)
 
 pub take_made : (old new : Content) (by now : ℕ) (r : Result Sent TakeRefusal) → MatchResult r (λ _. take_refusal old ≡ None) (λ e. take_refusal old ≡ Some e)
-    → IfOk r (λ s. slice_get old.queue 0 ≡ Some s.request) → IfOk r (λ s. GoesOn old (taking old by now s ∷ []) new) → OnErr r (new ≡ old) → IsMade old (call.Take by now) (reply.Taken r) new
+    → IfOk r (λ s. slice_get old.queue 0 ≡ Some s.request) → IfOk r (λ s. GoesOn old (taking old by now s ∷ []) new) → OnErr r (new ≡ old) → RanOne old (call.Take by now) (reply.Taken r) new
 take_made old new by now (Ok s) told oldest goes same = (taking old by now s ∷ [], (told, oldest, refl), goes, hands_event old new by (taken_event old now s) goes)
 take_made old new by now (Err e) told oldest goes same = ([], (told, (refl, same)), stays old new same, λ h was. hands_nothing old new same)
 
-pub answer_made : (old new : Content) (by : ℕ) (p : Pdu) (r : Answered) → IsAnswered old by p r new → IsMade old (call.Answer by p) (reply.Answered r) new
+pub answer_made : (old new : Content) (by : ℕ) (p : Pdu) (r : Answered) → IsAnswered old by p r new → RanOne old (call.Answer by p) (reply.Answered r) new
 answer_made old new by p (answered.Queued c) told = (note by (event.Answer told.0.client told.0.ordinal p) ∷ [], (told.0, told.2, told.3, ap is_some told.4, refl), told.5, hands_event old new by (event.Answer told.0.client told.0.ordinal p) told.5)
 answer_made old new by p answered.Late told = (note by (event.Late told.0.client told.0.ordinal p.number p.command) ∷ [], (told.0, told.1, told.2, refl), told.3, hands_event old new by (event.Late told.0.client told.0.ordinal p.number p.command) told.3)
 answer_made old new by p (answered.Unknown back) told = ([], (told.0, told.1, (refl, told.2)), stays old new told.2, λ h was. hands_nothing old new told.2)
 
-pub collect_made : (old new : Content) (by c : ℕ) (r : Option Pdu) → IsOwn old by c → IsCollected old by c r new → IsMade old (call.Collect by c) (reply.Collected r) new
+pub collect_made : (old new : Content) (by c : ℕ) (r : Option Pdu) → IsOwn old by c → IsCollected old by c r new → RanOne old (call.Collect by c) (reply.Collected r) new
 collect_made old new by c (Some p) kept told = (note by (event.Collect c told.0.ordinal) ∷ [], (kept, told.0, told.1, told.2, refl), told.3, hands_event old new by (event.Collect c told.0.ordinal) told.3)
 collect_made old new by c None kept told = ([], (kept, told.0, (refl, told.1)), stays old new told.1, λ h was. hands_nothing old new told.1)
 
 pub retire_made : (old new : Content) (by c : ℕ) (r : Result (Unit {0}) NotAdmitted) → IsOwn old by c → MatchResult r (λ _. IsSome (member_with c old.members)) (λ _. member_with c old.members ≡ None)
-    → OnOk r (GoesOn old (note by (event.Retire c) ∷ []) new) → OnErr r (new ≡ old) → IsMade old (call.Retire by c) (reply.Retired r) new
+    → OnOk r (GoesOn old (note by (event.Retire c) ∷ []) new) → OnErr r (new ≡ old) → RanOne old (call.Retire by c) (reply.Retired r) new
 retire_made old new by c (Ok x) kept told goes same = (note by (event.Retire c) ∷ [], (kept, told, refl), goes, hands_event old new by (event.Retire c) goes)
 retire_made old new by c (Err e) kept told goes same = ([], (kept, told, (refl, same)), stays old new same, λ h was. hands_nothing old new same)
 
-pub turn_made : (old new : Content) (by least : ℕ) (r : Result (Option (Vec Entry)) _) → IfOk r (λ list. IsTurned old by least (option_map (λ es. es.items) list) new) → OnErr r (new ≡ old) → IsMade old (call.TurnOver by least) (reply.TurnedOver r) new
+pub turn_made : (old new : Content) (by least : ℕ) (r : Result (Option (Vec Entry)) _) → IfOk r (λ list. IsTurned old by least (option_map (λ es. es.items) list) new) → OnErr r (new ≡ old) → RanOne old (call.TurnOver by least) (reply.TurnedOver r) new
 turn_made old new by least (Ok (Some list)) told same = (shift by ∷ [], (told, refl), told.3, λ h was. hands_list old new by list.items told.1 (ap (λ (v : Content). v.entries) told.2))
 turn_made old new by least (Ok None) told same = ([], (told, refl), stays old new told.1, λ h was. hands_nothing old new told.1)
 turn_made old new by least (Err e) told same = ([], (refl, same), stays old new same, λ h was. hands_nothing old new same)
 
-pub down_made : (old new : Content) (by : ℕ) (r : Result (Unit {0}) AlreadyDown) → MatchResult r (λ _. old.up ≡ true) (λ _. old.up ≡ false) → OnOk r (GoesOn old (note by event.Down ∷ []) new) → OnErr r (new ≡ old) → IsMade old (call.Down by) (reply.WentDown r) new
+pub down_made : (old new : Content) (by : ℕ) (r : Result (Unit {0}) AlreadyDown) → MatchResult r (λ _. old.up ≡ true) (λ _. old.up ≡ false) → OnOk r (GoesOn old (note by event.Down ∷ []) new) → OnErr r (new ≡ old) → RanOne old (call.Down by) (reply.WentDown r) new
 down_made old new by (Ok x) told goes same = (note by event.Down ∷ [], (told, refl), goes, hands_event old new by event.Down goes)
 down_made old new by (Err e) told goes same = ([], (told, (refl, same)), stays old new same, λ h was. hands_nothing old new same)
 
-pub up_made : (old new : Content) (by : ℕ) (r : Result (Unit {0}) UpRefusal) → MatchResult r (λ _. up_refusal old ≡ None) (λ e. up_refusal old ≡ Some e) → OnOk r (GoesOn old (note by event.Up ∷ []) new) → OnErr r (new ≡ old) → IsMade old (call.Up by) (reply.CameUp r) new
+pub up_made : (old new : Content) (by : ℕ) (r : Result (Unit {0}) UpRefusal) → MatchResult r (λ _. up_refusal old ≡ None) (λ e. up_refusal old ≡ Some e) → OnOk r (GoesOn old (note by event.Up ∷ []) new) → OnErr r (new ≡ old) → RanOne old (call.Up by) (reply.CameUp r) new
 up_made old new by (Ok x) told goes same = (note by event.Up ∷ [], (told, refl), goes, hands_event old new by event.Up goes)
 up_made old new by (Err e) told goes same = ([], (told, (refl, same)), stays old new same, λ h was. hands_nothing old new same)
 
@@ -102,13 +102,13 @@ given_up_tells : (old new : Content) (by : ℕ) (q : Place) (f : Failed) → IsG
 given_up_tells old new by q (failed.Queued c) is = (is.0, is.1)
 given_up_tells old new by q failed.Late is = is.0
 
-pub fail_made : (old new : Content) (by : ℕ) (r : Result Failed FailRefusal) → MatchResult r (λ _. fail_refusal old ≡ None) (λ e. fail_refusal old ≡ Some e) → IfOk r (λ f. IsFailed old by f new) → OnErr r (new ≡ old) → IsMade old (call.Fail by) (reply.Failed r) new
+pub fail_made : (old new : Content) (by : ℕ) (r : Result Failed FailRefusal) → MatchResult r (λ _. fail_refusal old ≡ None) (λ e. fail_refusal old ≡ Some e) → IfOk r (λ f. IsFailed old by f new) → OnErr r (new ≡ old) → RanOne old (call.Fail by) (reply.Failed r) new
 fail_made old new by (Ok f) told is same =
     let goes = given_up_goes old new by is.0 f is.2 in
     (failing by is.0 ∷ [], (told, is.0, is.1, given_up_tells old new by is.0 f is.2, refl), goes, hands_event old new by (failed_event is.0) goes)
 fail_made old new by (Err e) told is same = ([], (told, (refl, same)), stays old new same, λ h was. hands_nothing old new same)
 
-pub expiry_made : (old new : Content) (by now age : ℕ) (r : Result Failed NoneExpired) → IfOk r (λ f. IsExpired old by now age f new) → IfErr r (λ _. expired_in old now age ≡ None) → OnErr r (new ≡ old) → IsMade old (call.FailExpired by now age) (reply.Expired r) new
+pub expiry_made : (old new : Content) (by now age : ℕ) (r : Result Failed NoneExpired) → IfOk r (λ f. IsExpired old by now age f new) → IfErr r (λ _. expired_in old now age ≡ None) → OnErr r (new ≡ old) → RanOne old (call.FailExpired by now age) (reply.Expired r) new
 expiry_made old new by now age (Ok f) is none same =
     let goes = given_up_goes old new by is.0 f is.2 in
     (failing by is.0 ∷ [], (is.0, is.1, given_up_tells old new by is.0 f is.2, refl), goes, hands_event old new by (failed_event is.0) goes)

@@ -11,7 +11,7 @@ use Rattle.smx_history.specs.Prefixes.{SameCounts}
 use Rattle.smx_history.proofs.Counts.{count_by-push, length-same}
 use Rattle.std.proofs.lemmas.List.Sums.{sum_by-cons}
 use Rattle.smx_lane.specs.Private.Places.{IsPlaceOf}
-use Rattle.smx_lane.specs.Private.Window.{places_in, AreNumbered, IsEmptyAt}
+use Rattle.smx_lane.specs.Private.Window.{places_in, NameTheirRows, IsEmptyAt}
 
 count_by-cons : {X : Type 0} (p : X → Bool) (x : X) (xs : List X) → count_by p (x ∷ xs) ≡ cond (p x) 1 0 + count_by p xs
 count_by-cons p x xs = sum_by-cons (λ y. cond (p y) 1 0) x xs
@@ -52,11 +52,11 @@ length-cleared rows k q at =
 pub length-filled : (rows : List (Option Place)) (k : ℕ) (q : Place) → slice_get rows k ≡ Some None → length (places_in (set rows k (Some q))) ≡ length (places_in rows) + 1
 length-filled rows k q at = length-same (places_in rows ++ q ∷ []) (places_in (set rows k (Some q))) (filled rows k q at) ∙ length-append (places_in rows) (q ∷ [])
 
-numbered-rest : (n : ℕ) (row : Option Place) (rows : List (Option Place)) → AreNumbered n (row ∷ rows) → AreNumbered (suc n) rows
+numbered-rest : (n : ℕ) (row : Option Place) (rows : List (Option Place)) → NameTheirRows n (row ∷ rows) → NameTheirRows (suc n) rows
 numbered-rest n row rows numbered k q at = let h = numbered (suc k) q at in (h.0, omega (arith, h.1))
 
 -- the row that a number names has the one request with the number
-pub found_at : (fits : Place → Bool) (rows : List (Option Place)) (n k u : ℕ) (q : Place) → AreNumbered n rows → slice_get rows k ≡ Some (Some q) → q.upstream ≡ u → fits q ≡ true → find (λ x. (x.upstream == u) && fits x) (places_in rows) ≡ Some q
+pub found_at : (fits : Place → Bool) (rows : List (Option Place)) (n k u : ℕ) (q : Place) → NameTheirRows n rows → slice_get rows k ≡ Some (Some q) → q.upstream ≡ u → fits q ≡ true → find (λ x. (x.upstream == u) && fits x) (places_in rows) ≡ Some q
 found_at fits [] n k u q numbered at is good = cc
 found_at fits (None ∷ rows) n zero u q numbered at is good = cc
 found_at fits (None ∷ rows) n (suc k) u q numbered at is good = found_at fits rows (suc n) k u q (numbered-rest n None rows numbered) at is good
@@ -87,7 +87,7 @@ not_found fits (Some p ∷ rows) u none =
     ]
 
 -- no request has the number of an empty row
-pub none_numbered : (rows : List (Option Place)) (n k u : ℕ) → AreNumbered n rows → slice_get rows k ≡ Some None → place_in u ≡ n + k → list_any (λ q. q.upstream == u) (places_in rows) ≡ false
+pub none_numbered : (rows : List (Option Place)) (n k u : ℕ) → NameTheirRows n rows → slice_get rows k ≡ Some None → place_in u ≡ n + k → list_any (λ q. q.upstream == u) (places_in rows) ≡ false
 none_numbered rows n k u numbered at is = none_of rows (λ j q there e.
     let here = (numbered j q there).1 in
     let same : j ≡ k = omega (arith, here, is, ap place_in e) in
@@ -111,7 +111,7 @@ at-set xs k j w y at = elim (cases_eq j k) [
   | inr other ↦ inr (sym (slice_get-set_other xs k j w other) ∙ at)
 ]
 
-pub numbered-filled : (rows : List (Option Place)) (k : ℕ) (q : Place) → AreNumbered 0 rows → 0 < q.upstream → place_in q.upstream ≡ k → AreNumbered 0 (set rows k (Some q))
+pub numbered-filled : (rows : List (Option Place)) (k : ℕ) (q : Place) → NameTheirRows 0 rows → 0 < q.upstream → place_in q.upstream ≡ k → NameTheirRows 0 (set rows k (Some q))
 numbered-filled rows k q numbered above is j p at = elim (at-set rows k j (Some q) (Some p) at) [
   | inl new ↦
       let same : p ≡ q = (let e : Some p ≡ Some q = new.1 in cc) in
@@ -120,7 +120,7 @@ numbered-filled rows k q numbered above is j p at = elim (at-set rows k j (Some 
   | inr old ↦ numbered j p old
 ]
 
-pub numbered-cleared : (rows : List (Option Place)) (k : ℕ) → AreNumbered 0 rows → AreNumbered 0 (set rows k None)
+pub numbered-cleared : (rows : List (Option Place)) (k : ℕ) → NameTheirRows 0 rows → NameTheirRows 0 (set rows k None)
 numbered-cleared rows k numbered j p at = elim (at-set rows k j None (Some p) at) [
   | inl new ↦ let e : Some p ≡ None = new.1 in cc
   | inr old ↦ numbered j p old
@@ -217,11 +217,11 @@ empty-falling n free falling count j u at = slice_get-replicate n u None (omega 
 pub once-falling : (n : ℕ) (free : List ℕ) → AreFalling n free → AreOnce free
 once-falling n free falling i j u a b = omega (arith, falling i u a, falling j u b)
 
-pub numbered-replicate : (n : ℕ) → AreNumbered 0 (replicate n None)
+pub numbered-replicate : (n : ℕ) → NameTheirRows 0 (replicate n None)
 numbered-replicate n k q at = let e : Some q ≡ None = only-replicate n k None (Some q) at in cc
 
 -- a request that is there has the row that its number names
-pub row_at_number : (rows : List (Option Place)) (number : ℕ) (q : Place) → AreNumbered 0 rows → IsPlaceOf (places_in rows) number q → slice_get rows (place_in number) ≡ Some (Some q)
+pub row_at_number : (rows : List (Option Place)) (number : ℕ) (q : Place) → NameTheirRows 0 rows → IsPlaceOf (places_in rows) number q → slice_get rows (place_in number) ≡ Some (Some q)
 row_at_number rows number q numbered place =
     let r = row_of_held rows place.index q place.there in
     let named = (numbered r.0 q r.1).1 in

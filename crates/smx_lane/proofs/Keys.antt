@@ -18,14 +18,14 @@ some-within (x ∷ xs) zero h = omega arith
 some-within (x ∷ xs) (suc k) h = let r = some-within xs k h in omega (arith, r)
 
 -- the keys are apart, and the slab has each
-abbrev pub AreApart : List ℕ → Type 0
-AreApart keys = (j k : ℕ) → j < k → k < length keys → slice_index keys j ≢ slice_index keys k
+abbrev pub AreDifferent : List ℕ → Type 0
+AreDifferent keys = (j k : ℕ) → j < k → k < length keys → slice_index keys j ≢ slice_index keys k
 
 abbrev pub ArePresent : Slab (Option Place) → List ℕ → Type 0
 ArePresent s keys = (k : ℕ) → k < length keys → IsSome (get s (slice_index keys k))
 
 -- a write under the key of a place is a write of its row
-pub written : (s : Slab (Option Place)) (keys : List ℕ) (at : ℕ) (row : Option Place) → at < length keys → AreApart keys → ArePresent s keys
+pub written : (s : Slab (Option Place)) (keys : List ℕ) (at : ℕ) (row : Option Place) → at < length keys → AreDifferent keys → ArePresent s keys
     → map (row_under (with_value s (slice_index keys at) row)) keys ≡ set (map (row_under s) keys) at row
 written s keys at row within apart present =
     let key = get_or keys at 0 in

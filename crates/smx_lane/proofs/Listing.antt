@@ -9,7 +9,7 @@ use Rattle.smx_history.specs.Numbers.{place_in}
 use Rattle.smx_history.proofs.Spacing.{still_there, at_end}
 use Rattle.smx_lane.specs.declared.ages.Aged.{Aged}
 use Rattle.smx_lane.specs.Private.Places.{HasAt, KeepsListed, aged_of}
-use Rattle.smx_lane.specs.Private.Window.{AreNumbered, places_in}
+use Rattle.smx_lane.specs.Private.Window.{NameTheirRows, places_in}
 use Rattle.smx_lane.proofs.Held.{at-set, none_passes}
 use Rattle.smx_history.specs.Replies.{is_expired}
 use Rattle.std.specs.List.{find}
@@ -96,7 +96,7 @@ none_older list at now age a order there young k d lt =
     old_enough m n le = le-leb m n le
 
 -- a request that is in its row and listed is as young as all that are
-pub young : (rows : List (Option Place)) (aged : List Aged) (now age : ℕ) → AreNumbered 0 rows → KeepsListed rows aged → All (λ x. now < x.moment + age) aged → (k : ℕ) (q : Place) → slice_get rows k ≡ Some (Some q) → nat_le (q.moment + age) now ≡ false
+pub young : (rows : List (Option Place)) (aged : List Aged) (now age : ℕ) → NameTheirRows 0 rows → KeepsListed rows aged → All (λ x. now < x.moment + age) aged → (k : ℕ) (q : Place) → slice_get rows k ≡ Some (Some q) → nat_le (q.moment + age) now ≡ false
 young rows aged now age numbered listed all k q at =
     let named = (numbered k q at).1 in
     let there : slice_get rows (place_in q.upstream) ≡ Some (Some q) = ap (slice_get rows) (omega (arith, named)) ∙ at in
@@ -105,5 +105,5 @@ young rows aged now age numbered listed all k q at =
     lt-leb (q.moment + age) now (omega (arith, below, ap (λ (y : Aged). y.moment) in_it.2))
 
 -- so none of them is found to be old
-pub none_found : (rows : List (Option Place)) (aged : List Aged) (now age : ℕ) → AreNumbered 0 rows → KeepsListed rows aged → All (λ x. now < x.moment + age) aged → None ≡ find (is_expired now age) (places_in rows)
+pub none_found : (rows : List (Option Place)) (aged : List Aged) (now age : ℕ) → NameTheirRows 0 rows → KeepsListed rows aged → All (λ x. now < x.moment + age) aged → None ≡ find (is_expired now age) (places_in rows)
 none_found rows aged now age numbered listed all = sym (none_passes (is_expired now age) rows (λ k q at. young rows aged now age numbered listed all k q at))

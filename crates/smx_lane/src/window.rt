@@ -7,7 +7,7 @@ ghost use Rattle.smx_history.specs.declared.place.Place.{Place};
 ghost use Rattle.smx_history.specs.Numbers.{place_in as place_of_number, generation_in};
 ghost use Rattle.smx_history.specs.Prefixes.{SameCounts};
 ghost use Rattle.smx_history.specs.Replies.{is_expired as is_so_old};
-ghost use Rattle.smx_history.proofs.Numbering.{IsNext};
+ghost use Rattle.smx_history.proofs.Numbering.{IsNextNumber};
 ghost use Rattle.smx_history.proofs.Updates.{place_for, following as following_on};
 ghost use Rattle.smx_lane.specs.Private.Places.{IsPlaceOf};
 
@@ -89,7 +89,7 @@ impl Window {
         requires { length self.old.taken < self.old.most }
         ensures place { result ≡ place_for request.now result.upstream (max now self.old.latest) }
         ensures range { (0 < result.upstream) × (result.upstream ≤ 2147482624) }
-        ensures next { IsNext self.old.most self.old.generations result.upstream }
+        ensures next { IsNextNumber self.old.most self.old.generations result.upstream }
         ensures free { list_any (λ q. q.upstream == result.upstream) self.old.taken ≡ false }
         ensures taken { SameCounts (self.old.taken ++ result ∷ []) self.new.taken }
         ensures generations { self.new.generations ≡ set self.old.generations

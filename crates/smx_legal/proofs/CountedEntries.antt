@@ -136,11 +136,11 @@ counted_collect limits t es e legal counted fits k =
     }
 
 -- the client that retires, and what waits for it
-pub record Leaves (es : List Entry) (e : Entry) : Type 0 where
+pub record LeavesCounts (es : List Entry) (e : Entry) : Type 0 where
   pub waiting : waiting (es ++ e ∷ []) + (length (answers_of e.client es) - length (collects_of e.client es)) ≡ waiting es
   pub present : length (present (es ++ e ∷ [])) + 1 ≡ length (present es)
 
-pub leaves : (limits : Limits) (es : List Entry) (e : Entry) → KeepsRules limits es → Fits limits es e → e.kind ≡ kind.Retire → Leaves es e
+pub leaves : (limits : Limits) (es : List Entry) (e : Entry) → KeepsRules limits es → Fits limits es e → e.kind ≡ kind.Retire → LeavesCounts es e
 unfolding waits
 leaves limits es e legal fits k =
     let served : StandsWell kind.Retire es e = rw k at fits.standing in

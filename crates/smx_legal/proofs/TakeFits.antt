@@ -11,10 +11,10 @@ use Rattle.smx_history.specs.declared.entry.Kind.TheVariants as kind
 use Rattle.smx_history.specs.declared.limits.Limits.{Limits}
 use Rattle.smx_legal.specs.declared.totals.Totals.{Totals}
 use Rattle.smx_history.specs.Prefixes.{StartsWith}
-use Rattle.smx_history.specs.Entries.{is_accept, is_take, name_of, has_name, accepts, takes, unanswered_takes, numbers}
+use Rattle.smx_history.specs.Entries.{is_accept, is_take, name_of, has_name, accepts, takes, unanswered_takes, numbers, is_taken}
 use Rattle.smx_history.specs.Numbers.{AreSpaced}
 use Rattle.smx_history.specs.Legal.{KeepsRules, HasForm, IsPaired, StandsWell}
-use Rattle.smx_history.proofs.Fitting.{Fits, is_taken}
+use Rattle.smx_history.proofs.Fitting.{Fits}
 use Rattle.smx_legal.specs.Checks.{Counted, take_fits, takes_as, settlings_as}
 use Rattle.smx_history.proofs.Counts.{count_none_any}
 use Rattle.smx_history.proofs.Frames.{accepts-other}

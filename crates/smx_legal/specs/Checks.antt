@@ -10,12 +10,11 @@ use Rattle.smx_legal.specs.declared.part.Part.TheVariants as part
 use Rattle.smx_legal.specs.declared.past.Past.{Past}
 use Rattle.smx_pdu.specs.Command.{is_forwarded, is_response_to}
 use Rattle.smx_history.specs.Prefixes.{last_or}
-use Rattle.smx_history.specs.Entries.{is_admit, is_accept, is_take, is_answer, is_collect, is_retire, is_settling, has_name, admits, accepts, takes, accepts_of, answers_of, collects_of, is_retired, is_admitted, is_settled, unanswered_takes, present, is_up, numbers}
+use Rattle.smx_history.specs.Entries.{is_admit, is_accept, is_take, is_answer, is_collect, is_retire, is_settling, has_name, admits, accepts, takes, accepts_of, answers_of, collects_of, is_retired, is_admitted, is_settled, unanswered_takes, present, is_up, numbers, is_taken}
 use Rattle.smx_history.specs.Numbers.{recent}
 use Rattle.smx_history.specs.Failures.{failure_command}
 use Rattle.smx_history.specs.Shifts.{marks_in}
 use Rattle.smx_history.specs.Legal.{IsLegal, queued_count, waiting}
-use Rattle.smx_history.proofs.Fitting.{is_taken}
 
 -- the lists that the shifts handed out
 abbrev pub lists_of : List (Vec Entry) → List (List Entry)

@@ -9,12 +9,12 @@ use Rattle.smx_history.specs.declared.note.Event.TheVariants.{Collect}
 use Rattle.smx_history.specs.declared.response.Response.{Response}
 use Rattle.smx_history.specs.History.{note, entries_of, entry_by}
 use Rattle.smx_history.specs.Contents.{AgreesWith, Content}
-use Rattle.smx_history.specs.Replies.{member_with, waiting_in}
+use Rattle.smx_history.specs.Replies.{member_with, waiting_in, waiting_after}
 use Rattle.smx_history.specs.Answering.{IsCollected}
-use Rattle.smx_history.specs.Finding.{waiting_after}
 use Rattle.smx_history.proofs.Growing.{All-push}
 use Rattle.smx_history.proofs.Reading.{entries_of-push}
-use Rattle.smx_history.proofs.Finding.{waiting-collected, waiting_same, oldest_same}
+use Rattle.smx_history.proofs.CollectAgrees.{waiting-collected}
+use Rattle.smx_history.proofs.Rows.{waiting_same}
 use Rattle.smx_relay.specs.Texts.{pdu_line, to_client}
 use Rattle.smx_relay.specs.Relay.{collect_text, collect_lane}
 use Rattle.smx_relay.specs.Private.OnLane.{TurnsLane, AreOurs}
@@ -51,7 +51,7 @@ collecting_more c old v new p text more got e so_far h a =
     let done = x.0 in
     let r = got.0 in
     let g = h ++ collects c done in
-    let front : x.1 ≡ r ∷ drop 1 x.1 = first_of x.1 r (ap (λ rs. slice_get rs 0) (sym x.2.left) ∙ sym (oldest_same g v c x.2.agrees) ∙ got.1) in
+    let front : x.1 ≡ r ∷ drop 1 x.1 = first_of x.1 r (ap (λ rs. slice_get rs 0) (sym x.2.left) ∙ ap (λ rs. slice_get rs 0) (sym (waiting_same g v c x.2.agrees)) ∙ got.1) in
     let history : h ++ collects c (done ++ r ∷ []) ≡ g ++ note 0 (Collect c r.ordinal) ∷ [] =
     ap (λ ns. h ++ ns) (map_push (λ (q : Response). note 0 (Collect c q.ordinal)) done r) ∙ sym (append_assoc h (collects c done) (note 0 (Collect c r.ordinal) ∷ [])) in
     let printed : lines c (done ++ r ∷ []) ≡ lines c done ++ pdu_line (to_client c) r.pdu =
@@ -75,7 +75,7 @@ unfolding collects lines
 collecting_end c old v new text got limits so_far h a =
     let x = so_far h a in
     let g = h ++ collects c x.0 in
-    let none : x.1 ≡ [] = none_left x.1 (ap (λ rs. slice_get rs 0) (sym x.2.left) ∙ sym (oldest_same g v c x.2.agrees) ∙ got.0) in
+    let none : x.1 ≡ [] = none_left x.1 (ap (λ rs. slice_get rs 0) (sym x.2.left) ∙ ap (λ rs. slice_get rs 0) (sym (waiting_same g v c x.2.agrees)) ∙ got.0) in
     let whole : x.0 ≡ waiting_after h c = sym (x.2.all ∙ ap (λ rs. x.0 ++ rs) none ∙ append-nil x.0) in
     record {
       text = x.2.printed ∙ ap (λ rs. lines c rs) whole;
@@ -97,6 +97,6 @@ box_smaller c v new p got fed =
     let h = fed.0 in
     let longer = got.3 h fed.1 in
     let was = waiting_same h v c fed.1 in
-    let front = first_of (waiting_after h c) got.0 (sym (oldest_same h v c fed.1) ∙ got.1) in
+    let front = first_of (waiting_after h c) got.0 (ap (λ rs. slice_get rs 0) (sym was) ∙ got.1) in
     let is : waiting_in (member_with c new.members) ≡ drop 1 (waiting_after h c) = waiting_same (h ++ note 0 (Collect c got.0.ordinal) ∷ []) new c longer ∙ waiting-collected h v 0 c got.0.ordinal fed.1 in
     omega (arith, ap length is, ap length was, ap length front)

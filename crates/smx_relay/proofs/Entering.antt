@@ -15,25 +15,25 @@ use Rattle.smx_history.specs.Prefixes.{RiseAbove, last_or}
 use Rattle.smx_history.specs.Entries.{admits, present, is_admit}
 use Rattle.smx_history.specs.Legal.{KeepsRules, StandsWell, IsPaired}
 use Rattle.smx_history.specs.History.{note, entry_by, entries_of}
-use Rattle.smx_history.specs.Contents.{AgreesWith, Content, Member}
-use Rattle.smx_history.specs.Replies.{admit_refusal, member_with}
-use Rattle.smx_history.specs.Finding.{admit_refusal_after, is_present}
+use Rattle.smx_history.specs.Contents.{AgreesWith, Content, Member, content_after}
+use Rattle.smx_history.specs.Replies.{admit_refusal, is_present, member_with}
 use Rattle.smx_history.proofs.Growing.{AtEach-init, any_push, any_other, filter_push}
 use Rattle.smx_history.proofs.Reading.{entries_of-push}
 use Rattle.smx_history.proofs.Unseen.{none_admitted, unseen}
 use Rattle.smx_history.proofs.Presence.{present_admitted}
-use Rattle.smx_history.proofs.Finding.{admit_refusal_same, absent, is_present-any}
+use Rattle.smx_history.proofs.Refusals.{admit_refusal_same}
+use Rattle.smx_history.proofs.Rows.{absent, is_present-any}
 use Rattle.smx_relay.specs.declared.state.LinkedLane.{LinkedLane}
 use Rattle.smx_relay.specs.Relay.{RelayLane, enter_lane, enter_and_leave_lane, collect_text, collect_lane, lane_after}
 use Rattle.smx_relay.specs.Private.OnLane.{OnLane, IsLane, TurnsLane, AreOurs}
 use Rattle.smx_relay.specs.Private.Agrees.{AreOn, AreReached, Enters, HaveEntered}
-use Rattle.smx_relay.proofs.Lanes.{zip-length, zip-get, zip-set, zip-middle, zip-middle_set, lane_goes}
+use Rattle.smx_relay.proofs.Lanes.{zip-length, zip-get, zip-set, zip-middle, zip-middle_set, lane_goes, reordered_on}
 use Rattle.smx_relay.proofs.Rows.{rows_ours, ours_of_own}
 use Rattle.smx_relay.proofs.Passing.{IsPassing, passing_start, passing_at, passing_more, passing_end, first_place, no_place}
 use Rattle.smx_relay.proofs.OwnNotes.{own_entered, own_left, own_collected}
 
 abbrev pub refuses : Limits → ℕ → RelayLane → Bool
-refuses limits c l = is_some (admit_refusal_after limits l.history c)
+refuses limits c l = is_some (admit_refusal (content_after limits l.history) c)
 
 take_front : {X : Type 0} (xs ys : List X) → take (length xs) (xs ++ ys) ≡ xs
 take_front [] ys = refl
@@ -65,7 +65,7 @@ entering_more c old lanes i k after so_far lt is allowed goes kept limits client
     let l = at.0 in
     let h = l.history in
     let there : IsLane limits clients l k = subst (IsLane limits clients l) (sym is) at.3 in
-    let free : refuses limits c l ≡ false = ap is_some (ap (λ b. admit_refusal_after b h c) (sym there.on.limits_are) ∙ sym (admit_refusal_same h k.lane c there.on.agrees) ∙ allowed) in
+    let free : refuses limits c l ≡ false = ap is_some (sym (admit_refusal_same (content_after limits h) k.lane c (reordered_on limits clients h k.lane there.on)) ∙ allowed) in
     let longer : OnLane limits clients (enter_lane c h) after = record { agrees = goes h there.on.agrees; limits_are = kept ∙ there.on.limits_are; own = own_entered clients c h there.on.own } in (
       x.0 ++ l ∷ [],
       at.1,
@@ -83,7 +83,7 @@ entering_refused c old lanes new i k e so_far lt is refused same limits clients 
     let l = at.0 in
     let h = l.history in
     let there : IsLane limits clients l k = subst (IsLane limits clients l) (sym is) at.3 in
-    let full : refuses limits c l ≡ true = ap is_some (ap (λ b. admit_refusal_after b h c) (sym there.on.limits_are) ∙ sym (admit_refusal_same h k.lane c there.on.agrees) ∙ refused) in
+    let full : refuses limits c l ≡ true = ap is_some (sym (admit_refusal_same (content_after limits h) k.lane c (reordered_on limits clients h k.lane there.on)) ∙ refused) in
     let whole : ls ≡ x.0 ++ l ∷ at.1 = x.2.passing.all ∙ ap (λ xs. x.0 ++ xs) at.2 in
     let place : position (refuses limits c) ls ≡ Some i = ap (position (refuses limits c)) whole ∙ first_place (refuses limits c) x.0 l at.1 x.2.none full ∙ ap (λ n. Some n) x.2.passing.count in
     let front : take i ls ≡ x.0 = ap (take i) x.2.passing.all ∙ ap (λ n. take n (x.0 ++ x.1)) (sym x.2.passing.count) ∙ take_front x.0 x.1 in

@@ -15,11 +15,10 @@ use Rattle.smx_history.specs.Entries.{is_up, present}
 use Rattle.smx_history.specs.History.{entries_of, latest_after}
 use Rattle.smx_history.specs.Contents.{AgreesWith, Content, Member, window_after}
 use Rattle.smx_history.specs.Answering.{IsExpired, failing}
-use Rattle.smx_history.specs.Finding.{is_present}
-use Rattle.smx_history.specs.Replies.{expired_in, is_expired, member_with, moment_at}
+use Rattle.smx_history.specs.Replies.{expired_in, is_expired, is_present, member_with, moment_at}
 use Rattle.smx_history.proofs.AdmitAgrees.{empty_of}
 use Rattle.smx_history.proofs.Counts.{count_and-le, count_by-filter, count_by-push, count_by-remove}
-use Rattle.smx_history.proofs.Finding.{absent, found_present, is_present-any}
+use Rattle.smx_history.proofs.Rows.{absent, found_present, is_present-any}
 use Rattle.smx_history.proofs.FitsSettle.{settles_fail}
 use Rattle.smx_history.proofs.Frames.{present-other}
 use Rattle.smx_history.proofs.Growing.{All-push}

@@ -14,14 +14,16 @@ use Rattle.smx_history.specs.declared.reply.TakeRefusal.TheVariants.{QueueEmpty,
 use Rattle.smx_history.specs.Legal.{IsLegal}
 use Rattle.smx_history.specs.History.{marks_of, entries_of, note}
 use Rattle.smx_history.specs.Contents.{AgreesWith, Content, queue_after, window_after}
-use Rattle.smx_history.specs.Replies.{moment_at, take_refusal}
+use Rattle.smx_history.specs.Replies.{is_present, moment_at, take_refusal}
 use Rattle.smx_history.specs.Answering.{IsAnswered}
-use Rattle.smx_history.specs.Finding.{IsFree, is_present, place_answered}
 use Rattle.smx_history.proofs.Counts.{length-same}
-use Rattle.smx_history.proofs.Finding.{some_free, taken_free, place_same, absent, found_present}
+use Rattle.smx_history.proofs.Finding.{place_same}
+use Rattle.smx_history.proofs.Rows.{absent, found_present}
 use Rattle.smx_relay.specs.Texts.{text_line, pdu_line, up_lane, upstream_of, down_line}
 use Rattle.smx_relay.specs.Relay.{moment_on, take_with, take_on, back_on}
+use Rattle.smx_relay.specs.Turns.{IsFree}
 use Rattle.smx_relay.specs.Private.OnLane.{TurnsLane}
+use Rattle.smx_relay.proofs.FreeNumbers.{some_free, taken_free}
 
 window_length : (h : List Note) (v : Content) → AgreesWith h v → length v.window ≡ length (window_after h)
 window_length h v a = length-same (window_after h) v.window a.after.window
@@ -103,7 +105,7 @@ pub answered_queued : (h : List Note) (old new : Content) (p : Pdu) (c : ℕ) (t
     → text ≡ text_line (codes "queued " ++ decimal c) → TurnsLane (back_on p h) old new text
 unfolding back_on
 answered_queued h old new p c text a x limits e =
-    let found : place_answered h p ≡ Some x.0 = sym (place_same h old p a) ∙ x.2 in
+    let found = place_same h old p a ∙ x.2 in
     let here : is_present x.0.client h ≡ true = subst (λ d. is_present d h ≡ true) (sym x.3) (found_present h old c x.1 a x.4) in
     rw (found, here) (record { text = e ∙ ap (λ d. text_line (codes "queued " ++ decimal d)) (sym x.3); agrees = x.5 h a; limits_are = limits })
 
@@ -111,7 +113,7 @@ pub answered_late : (h : List Note) (old new : Content) (p : Pdu) (text : List �
     → text ≡ text_line (codes "late") → TurnsLane (back_on p h) old new text
 unfolding back_on
 answered_late h old new p text a x limits e =
-    let found : place_answered h p ≡ Some x.0 = sym (place_same h old p a) ∙ x.1 in
+    let found = place_same h old p a ∙ x.1 in
     let gone : is_present x.0.client h ≡ false = absent h old x.0.client a x.2 in
     rw (found, gone) (record { text = e; agrees = x.3 h a; limits_are = limits })
 
@@ -119,5 +121,4 @@ pub answered_unknown : (h : List Note) (old new : Content) (p back : Pdu) (text 
     → text ≡ text_line (codes "unknown") → TurnsLane (back_on p h) old new text
 unfolding back_on
 answered_unknown h old new p back text a x e =
-    let none : place_answered h p ≡ None = sym (place_same h old p a) ∙ x.0 in
-    rw none (record { text = e; agrees = rw x.2 a; limits_are = ap (λ (v : Content). v.limits) x.2 })
+    rw (place_same h old p a ∙ x.0) (record { text = e; agrees = rw x.2 a; limits_are = ap (λ (v : Content). v.limits) x.2 })

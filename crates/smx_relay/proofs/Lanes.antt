@@ -1,11 +1,11 @@
 -- Lanes and their histories, place by place.
-use Rattle.std.proofs.Common.{◌≡◌, ◌<◌, ◌+◌, ℕ, zero, suc, Bool, true, false, List, [], ◌∷◌, ◌++◌, length, get_or, set, refl, sym, ◌∙◌, ap, arith, Option, Some, slice_get, ◌||◌}
+use Rattle.std.proofs.Common.{◌≡◌, ◌<◌, ◌+◌, ℕ, zero, suc, Bool, true, false, List, [], ◌∷◌, ◌++◌, length, get_or, set, refl, sym, ◌∙◌, ap, subst, arith, Option, Some, slice_get, ◌||◌}
 use Rattle.std.proofs.lemmas.Option.{slice_get-get_or}
 use Rattle.std.proofs.lemmas.List.{set-get_or}
 use Rattle.std.specs.List.{AllByRecursion, AllZip, find, list_any, position_or_len}
 use Rattle.smx_history.specs.declared.limits.Limits.{Limits}
 use Rattle.smx_history.specs.declared.note.Note.{Note}
-use Rattle.smx_history.specs.Contents.{Content}
+use Rattle.smx_history.specs.Contents.{Content, IsReordered, content_after}
 use Rattle.smx_relay.specs.declared.state.LinkedLane.{LinkedLane}
 use Rattle.smx_relay.specs.Links.{CentreLink}
 use Rattle.smx_relay.specs.Relay.{RelayLane, lane_after}
@@ -99,6 +99,10 @@ at_index xs i x lt e = slice_get-get_or xs i x lt ∙ ap (λ y. Some y) (sym e)
 -- what is written back unchanged changes nothing
 pub written_back : {X : Type 0} (xs : List X) (i : ℕ) (x y : X) → x ≡ get_or xs i x → y ≡ x → set xs i y ≡ xs
 written_back xs i x y e same = ap (λ z. set xs i z) (same ∙ e) ∙ set-get_or xs i x
+
+-- the lane is what its history leaves, in some order of the window
+pub reordered_on : (limits : Limits) (clients : List (Option ℕ)) (h : List Note) (v : Content) → OnLane limits clients h v → IsReordered (content_after limits h) v
+reordered_on limits clients h v on = subst (λ l. IsReordered (content_after l h) v) on.limits_are on.agrees.after
 
 -- the history of a lane went on, or its link did
 pub lane_goes : (limits : Limits) (clients : List (Option ℕ)) (f : List Note → List Note) (l : RelayLane) (k : LinkedLane) (after : Content) → IsLane limits clients l k → OnLane limits clients (f l.history) after → IsLane limits clients (lane_after f l) (record k { lane = after })

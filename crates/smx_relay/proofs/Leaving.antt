@@ -6,7 +6,7 @@ use Rattle.smx_history.specs.declared.note.Event.TheVariants.{Retire}
 use Rattle.smx_history.specs.History.{note}
 use Rattle.smx_history.specs.Contents.{AgreesWith, Content, Member}
 use Rattle.smx_history.specs.Replies.{member_with}
-use Rattle.smx_history.proofs.Finding.{absent, found_present}
+use Rattle.smx_history.proofs.Rows.{absent, found_present}
 use Rattle.smx_lane.specs.declared.fault.NotAdmitted.{NotAdmitted}
 use Rattle.smx_relay.specs.declared.state.LinkedLane.{LinkedLane}
 use Rattle.smx_relay.specs.Relay.{RelayLane, lane_after, leave_lane}

@@ -16,7 +16,8 @@ use Rattle.std.proofs.lemmas.List.Sorted.{IsPermutation-refl}
 use Rattle.smx_routes.specs.Routing.{Route, route}
 use Rattle.smx_relay.specs.Turns.{AddRoute, is_bad_route, RouteAt, RouteOf, RouteTurn, TakeTurn, ExpireTurn, Acts, Does, OnCommand, Lines}
 use Rattle.smx_relay.proofs.Receiving.{some_received}
-use Rattle.smx_relay.proofs.StateTurns.{some_expired_on, some_free_on}
+use Rattle.smx_relay.proofs.FreeNumbers.{some_free}
+use Rattle.smx_relay.proofs.StateTurns.{some_expired_on}
 
 abbrev Some_of : (Option (List ℕ × Relay) → Type 0) → Type 0
 Some_of May = (x : Option (List ℕ × Relay)) × May x
@@ -77,7 +78,7 @@ some_back s i octets = some_index s i octets (has_lane s i)
 
 some_take : (s : Relay) (i : ℕ) → Some_of (TakeTurn s i)
 some_take s i =
-    let u = some_free_on s i in
+    let u = some_free (history_of s i) in
     (_, (u.0, u.1, refl))
 
 some_expired : (s : Relay) (i age : ℕ) → Some_of (ExpireTurn s i age)

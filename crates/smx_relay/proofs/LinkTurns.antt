@@ -1,6 +1,5 @@
 -- The link of a lane is lost, and there is one again: turns of the whole state.
-use Rattle.std.proofs.Common.{◌≡◌, ◌<◌, ◌≤◌, ◌==◌, ◌&&◌, ◌++◌, ◌∷◌, ℕ, Bool, true, false, List, [], length, get_or, refl, sym, ◌∙◌, ap, subst, Option, Some, None}
-use Rattle.std.specs.Prelude.{not, if◌then◌else◌}
+use Rattle.std.proofs.Common.{◌≡◌, ◌<◌, ◌≤◌, ◌++◌, ◌∷◌, ℕ, Bool, true, false, List, [], length, get_or, refl, sym, ◌∙◌, ap, subst, Option, Some, None}
 use Rattle.std.specs.Global.{Vec}
 use Rattle.smx_history.specs.declared.note.Note.{Note}
 use Rattle.smx_history.specs.declared.note.Event.TheVariants as event
@@ -8,22 +7,19 @@ use Rattle.smx_history.specs.declared.place.Place.{Place}
 use Rattle.smx_history.specs.declared.reply.UpRefusal.{UpRefusal}
 use Rattle.smx_history.specs.declared.reply.UpRefusal.TheVariants.{AlreadyUp, WindowNotEmpty, HistoryFull}
 use Rattle.smx_history.specs.History.{note}
-use Rattle.smx_history.specs.Contents.{AgreesWith, Content, window_after}
-use Rattle.smx_history.proofs.Finding.{has_room_same}
-use Rattle.smx_history.specs.Finding.{has_room_after}
-use Rattle.smx_history.specs.Replies.{has_room, up_refusal}
-use Rattle.smx_history.proofs.Counts.{length-same}
+use Rattle.smx_history.specs.Contents.{AgreesWith, Content, content_after}
+use Rattle.smx_history.specs.Replies.{up_refusal}
+use Rattle.smx_history.proofs.Refusals.{up_refusal_same}
 use Rattle.smx_relay.specs.declared.state.State.{State}
 use Rattle.smx_relay.specs.Texts.{bound_line, down_line, unbound_line}
 use Rattle.smx_relay.specs.Links.{CentreLink, bound_centre}
 use Rattle.smx_relay.specs.declared.state.LinkedLane.{LinkedLane}
 use Rattle.smx_relay.specs.Relay.{Relay, going_on, has_lane, history_of}
-use Rattle.smx_relay.specs.LaneLinks.{AreTakenOn, LosesLink, LosesWhere, LoseTurn, bind_turn, bind_where, give_up_lane, is_up_at, lower_lane, may_rise, raise_lane, with_centre}
-use Rattle.smx_relay.specs.Private.OnLane.{OnLane}
+use Rattle.smx_relay.specs.LaneLinks.{AreTakenOn, LosesLink, LosesWhere, LoseTurn, bind_turn, bind_by, give_up_lane, is_up_at, lower_lane, raise_lane, with_centre}
 use Rattle.smx_relay.specs.Private.Agrees.{Agrees, MayPrint, Prints}
 use Rattle.smx_relay.proofs.GivingUp.{GivenUp}
 use Rattle.smx_relay.proofs.Keeping.{kept_links}
-use Rattle.smx_relay.proofs.Lanes.{lane_back}
+use Rattle.smx_relay.proofs.Lanes.{lane_back, reordered_on}
 use Rattle.smx_relay.proofs.Links.{IsCentre, centred}
 use Rattle.smx_relay.proofs.OwnNotes.{own_given_up, own_lowered, own_raised}
 use Rattle.smx_relay.proofs.StateTurns.{IsTurned, a_lane_at, goes_on, lane_is, no_lane_at}
@@ -83,54 +79,23 @@ pub bound_nowhere : (old new : State) (s : Relay) (i : ℕ) → Agrees old s →
 unfolding bind_turn
 bound_nowhere old new s i a past = rw (no_lane_at old s i a past) tt
 
-may_rise_same : (h : List Note) (v : Content) → AgreesWith h v → may_rise v.limits h ≡ ((length v.window == 0) && has_room v)
-may_rise_same h v a =
-    let room : has_room_after v.limits h ≡ has_room v = sym (has_room_same h v a) in
-    ap (λ n. (n == 0) && has_room_after v.limits h) (sym (length-same (window_after h) v.window a.after.window)) ∙ ap (λ b. (length v.window == 0) && b) room
-
--- by the three tests
-record IsRisable (v : Content) (o : Option UpRefusal) : Type 0 where
-  pub rises : o ≡ None → (v.up ≡ false) × (((length v.window == 0) && has_room v) ≡ true)
-  pub already : o ≡ Some AlreadyUp → v.up ≡ true
-  pub taken : o ≡ Some WindowNotEmpty → (v.up ≡ false) × (((length v.window == 0) && has_room v) ≡ false)
-  pub full : o ≡ Some HistoryFull → (v.up ≡ false) × (((length v.window == 0) && has_room v) ≡ false)
-
-up_refusal_by : (v : Content) (u n r : Bool) → v.up ≡ u → (length v.window == 0) ≡ n → has_room v ≡ r
-    → IsRisable v (if u then Some AlreadyUp else if not n then Some WindowNotEmpty else if not r then Some HistoryFull else None)
-up_refusal_by v true n r u w h = record { rises = λ x. cc; already = λ x. u; taken = λ x. cc; full = λ x. cc }
-up_refusal_by v false false r u w h = record { rises = λ x. cc; already = λ x. cc; taken = λ x. (u, rw w refl); full = λ x. cc }
-up_refusal_by v false true false u w h = record { rises = λ x. cc; already = λ x. cc; taken = λ x. cc; full = λ x. (u, rw (w, h) refl) }
-up_refusal_by v false true true u w h = record { rises = λ x. (u, rw (w, h) refl); already = λ x. cc; taken = λ x. cc; full = λ x. cc }
-
-risable : (v : Content) → IsRisable v (up_refusal v)
-risable v = up_refusal_by v v.up (length v.window == 0) (has_room v) refl refl refl
-
--- by whether the lane is up, and may come up
-bind_says : (s : Relay) (i : ℕ) (up may : Bool) → has_lane s i ≡ true → is_up_at s i ≡ up → may_rise s.limits (history_of s i) ≡ may → bind_turn s i ≡ Some (bind_where s i up may)
+-- by what the lane answers
+bind_says : (old : State) (s : Relay) (i : ℕ) (k : LinkedLane) (o : Option UpRefusal) → Agrees old s → i < length old.lanes.items → k ≡ get_or old.lanes.items i k → up_refusal k.lane ≡ o → bind_turn s i ≡ Some (bind_by s i o)
 unfolding bind_turn
-bind_says s i up may at is rises = rw at (ap (λ b. Some (bind_where s i b (may_rise s.limits (history_of s i)))) is ∙ ap (λ b. Some (bind_where s i up b)) rises)
-
-may_rise_at : (s : Relay) (h : List Note) (v : Content) (b : Bool) → OnLane s.limits s.clients h v → ((length v.window == 0) && has_room v) ≡ b → may_rise s.limits h ≡ b
-may_rise_at s h v b on is = ap (λ l. may_rise l h) (sym on.limits_are) ∙ may_rise_same h v on.agrees ∙ is
+bind_says old s i k o a within here is =
+    let h = history_of s i in
+    let same = up_refusal_same (content_after s.limits h) k.lane (reordered_on s.limits s.clients h k.lane (lane_is old s i k a within here).on) in
+    rw (a_lane_at old s i a within) (ap (λ r. Some (bind_by s i r)) (sym same ∙ is))
 
 -- the lane stayed as it was
 pub bind_up : (old new : State) (s : Relay) (i : ℕ) (k : LinkedLane) (text : Vec ℕ) → Agrees old s → Agrees new s → i < length old.lanes.items → k ≡ get_or old.lanes.items i k → up_refusal k.lane ≡ Some AlreadyUp → text.items ≡ bound_line i → Prints (bind_turn s i) new (Some text)
-bind_up old new s i k text a b within here refused e =
-    let on = (lane_is old s i k a within here).on in
-    let up = sym on.agrees.after.up ∙ (risable k.lane).already refused in
-    rw (bind_says s i true (may_rise s.limits (history_of s i)) (a_lane_at old s i a within) up refl) (record { text = e; left = b })
-
-bind_stays : (old new : State) (s : Relay) (i : ℕ) (k : LinkedLane) (text : Vec ℕ) → Agrees old s → Agrees new s → i < length old.lanes.items → k ≡ get_or old.lanes.items i k → (k.lane.up ≡ false) × (((length k.lane.window == 0) && has_room k.lane) ≡ false) → text.items ≡ unbound_line i
-    → Prints (bind_turn s i) new (Some text)
-bind_stays old new s i k text a b within here is e =
-    let on = (lane_is old s i k a within here).on in
-    rw (bind_says s i false false (a_lane_at old s i a within) (sym on.agrees.after.up ∙ is.0) (may_rise_at s (history_of s i) k.lane false on is.1)) (record { text = e; left = b })
+bind_up old new s i k text a b within here refused e = rw (bind_says old s i k (Some AlreadyUp) a within here refused) (record { text = e; left = b })
 
 pub bind_taken : (old new : State) (s : Relay) (i : ℕ) (k : LinkedLane) (text : Vec ℕ) → Agrees old s → Agrees new s → i < length old.lanes.items → k ≡ get_or old.lanes.items i k → up_refusal k.lane ≡ Some WindowNotEmpty → text.items ≡ unbound_line i → Prints (bind_turn s i) new (Some text)
-bind_taken old new s i k text a b within here refused e = bind_stays old new s i k text a b within here ((risable k.lane).taken refused) e
+bind_taken old new s i k text a b within here refused e = rw (bind_says old s i k (Some WindowNotEmpty) a within here refused) (record { text = e; left = b })
 
 pub bind_full : (old new : State) (s : Relay) (i : ℕ) (k : LinkedLane) (text : Vec ℕ) → Agrees old s → Agrees new s → i < length old.lanes.items → k ≡ get_or old.lanes.items i k → up_refusal k.lane ≡ Some HistoryFull → text.items ≡ unbound_line i → Prints (bind_turn s i) new (Some text)
-bind_full old new s i k text a b within here refused e = bind_stays old new s i k text a b within here ((risable k.lane).full refused) e
+bind_full old new s i k text a b within here refused e = rw (bind_says old s i k (Some HistoryFull) a within here refused) (record { text = e; left = b })
 
 -- a lane that came up
 raised_at : (old new : State) (s : Relay) (i : ℕ) (k : LinkedLane) (after : Content) → Agrees old s → IsTurned old new i k after → ((h : List Note) → AgreesWith h k.lane → AgreesWith (h ++ note 0 event.Up ∷ []) after) → after.limits ≡ k.lane.limits → Agrees new (going_on s i raise_lane)
@@ -142,8 +107,6 @@ raised_at old new s i k after a is goes limits =
 pub bind_anew : (old mid new : State) (s : Relay) (i : ℕ) (k m : LinkedLane) (after : Content) (link : CentreLink) (text : Vec ℕ) → Agrees old s → IsTurned old mid i k after → up_refusal k.lane ≡ None → ((h : List Note) → AgreesWith h k.lane → AgreesWith (h ++ note 0 event.Up ∷ []) after)
     → after.limits ≡ k.lane.limits → IsCentre mid new i m link → link ≡ bound_centre → text.items ≡ bound_line i → Prints (bind_turn s i) new (Some text)
 bind_anew old mid new s i k m after link text a is rises goes limits centre bound e =
-    let on = (lane_is old s i k a is.within is.here).on in
-    let may = (risable k.lane).rises rises in
     let there = raised_at old mid s i k after a is goes limits in
     let whole : Agrees new (with_centre (going_on s i raise_lane) i bound_centre) = subst (λ (l : CentreLink). Agrees new (with_centre (going_on s i raise_lane) i l)) bound (centred mid new (going_on s i raise_lane) i m link there centre) in
-    rw (bind_says s i false true (a_lane_at old s i a is.within) (sym on.agrees.after.up ∙ may.0) (may_rise_at s (history_of s i) k.lane true on may.1)) (record { text = e; left = whole })
+    rw (bind_says old s i k None a is.within is.here rises) (record { text = e; left = whole })

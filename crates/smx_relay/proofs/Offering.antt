@@ -8,19 +8,20 @@ use Rattle.smx_history.specs.declared.request.Request.{Request}
 use Rattle.smx_history.specs.declared.note.Note.{Note}
 use Rattle.smx_history.specs.declared.note.Event.TheVariants.{Accept}
 use Rattle.smx_history.specs.History.{entry_by, note}
-use Rattle.smx_history.specs.Contents.{AgreesWith, Content}
-use Rattle.smx_history.specs.Finding.{refusal_after}
-use Rattle.smx_history.proofs.Finding.{refusal_same}
+use Rattle.smx_history.specs.Contents.{AgreesWith, Content, content_after}
+use Rattle.smx_history.specs.Replies.{accept_refusal}
+use Rattle.smx_history.proofs.Refusals.{accept_refusal_same}
 use Rattle.smx_relay.specs.declared.state.State.{State}
 use Rattle.smx_relay.specs.Texts.{text_line, pdu_line, to_client, refusal_of}
 use Rattle.smx_relay.specs.declared.state.LinkedLane.{LinkedLane}
-use Rattle.smx_relay.specs.Relay.{Relay, ring, history_of, lane_after, lane_at, last_of, lane_for, in_turn_at, new_lane, request_of, with_request}
+use Rattle.smx_relay.specs.Relay.{Relay, history_of, lane_after, lane_at, last_of, lane_for, in_turn_at, new_lane, request_of, with_request}
 use Rattle.smx_relay.specs.ClientTurn.{forward}
 use Rattle.smx_relay.proofs.Offers.{request_named}
 use Rattle.smx_relay.specs.Private.OnLane.{OnLane, IsLane}
 use Rattle.smx_relay.specs.Private.Agrees.{Agrees, Turned, MayAccept, accepts_in}
-use Rattle.smx_relay.proofs.Lanes.{zip-length, zip-set, zip-weaker, find-agree}
-use Rattle.smx_relay.proofs.Ring.{ring_within}
+use Rattle.smx_relay.proofs.Lanes.{zip-length, zip-set, zip-weaker, find-agree, reordered_on}
+use Rattle.smx_history.specs.Ring.{ring}
+use Rattle.smx_history.proofs.Ring.{ring_within}
 use Rattle.smx_relay.proofs.StateTurns.{lane_is}
 use Rattle.smx_relay.proofs.Rows.{rows_below}
 use Rattle.smx_relay.proofs.Keeping.{KeepsSettings, kept_links}
@@ -58,14 +59,14 @@ unfolding lane_for
 lane_same state s c last a =
     let n = length s.lanes in
     let size : n ≡ length state.lanes.items = zip-length (IsLane s.limits s.clients) s.lanes state.lanes.items a.lanes in
-    find-agree (λ i. i < n) (λ i. is_none (refusal_after s.limits (history_of s i) c)) (λ i. accepts_in c (slice_get state.lanes.items i)) test (ring (last % n) n) (ring_within (last % n) n)
+    find-agree (λ i. i < n) (λ i. is_none (accept_refusal (content_after s.limits (history_of s i)) c)) (λ i. accepts_in c (slice_get state.lanes.items i)) test (ring (last % n) n) (ring_within (last % n) n)
     ∙ ap (λ m. find (λ i. accepts_in c (slice_get state.lanes.items i)) (ring (last % m) m)) size
   where
-    test : (i : ℕ) → i < length s.lanes → is_none (refusal_after s.limits (history_of s i) c) ≡ accepts_in c (slice_get state.lanes.items i)
+    test : (i : ℕ) → i < length s.lanes → is_none (accept_refusal (content_after s.limits (history_of s i)) c) ≡ accepts_in c (slice_get state.lanes.items i)
     test i lt =
         let w = zip-other (IsLane s.limits s.clients) s.lanes state.lanes.items i new_lane a.lanes lt in
-        let same = refusal_same (history_of s i) w.0.lane c w.2.on.agrees in
-        ap is_none (ap (λ l. refusal_after l (history_of s i) c) (sym w.2.on.limits_are) ∙ sym same) ∙ sym (ap (accepts_in c) w.1)
+        let same = accept_refusal_same (content_after s.limits (history_of s i)) w.0.lane c (reordered_on s.limits s.clients (history_of s i) w.0.lane w.2.on) in
+        ap is_none (sym same) ∙ sym (ap (accepts_in c) w.1)
 
 -- what an accept on the lane at an index leaves
 pub record IsAccepted (old new : State) (last at : ℕ) (r : Request) (k : LinkedLane) (after : Content) : Type 0 where

@@ -1,7 +1,7 @@
 -- What the lines add to the histories is the one caller's.
 use Rattle.std.proofs.Common.{◌≡◌, ◌⊎◌, ◌<◌, ◌≤◌, ◌+◌, ℕ, Bool, true, false, cond, List, [], ◌∷◌, ◌++◌, length, set, refl, sym, ◌∙◌, ap, subst, arith, Option, Some, None, slice_get, inl, inr, zero, suc, codes, map, append_assoc, nat_lt}
 use Rattle.std.specs.Prelude.{unwrap_or}
-use Rattle.std.specs.List.{AllByRecursion}
+use Rattle.std.specs.List.{AllByRecursion, find}
 use Rattle.std.specs.Fmt.{decimal}
 use Rattle.smx_history.specs.declared.note.Event.TheVariants as event
 use Rattle.smx_relay.specs.Texts.{text_line, down_line}
@@ -19,7 +19,7 @@ use Rattle.smx_history.specs.declared.place.Place.{Place}
 use Rattle.smx_history.specs.Entries.{is_accept, is_up}
 use Rattle.smx_history.specs.History.{entry_in, entries_of, note}
 use Rattle.smx_history.specs.Contents.{queue_after, window_after}
-use Rattle.smx_history.specs.Finding.{is_present, place_answered, waiting_after}
+use Rattle.smx_history.specs.Replies.{answers_place, is_present, waiting_after}
 use Rattle.smx_history.proofs.Growing.{All-push}
 use Rattle.smx_history.proofs.ShiftAgrees.{entries_of-shift}
 use Rattle.smx_history.proofs.Reading.{entries_of-push, entries_of-append, All-each}
@@ -85,7 +85,7 @@ own_back_to clients p h (Some q) own = at (is_present q.client h)
 
 pub own_back : (clients : List (Option ℕ)) (p : Pdu) (h : List Note) → AreOwn clients h → AreOwn clients (back_on p h).1
 unfolding back_on
-own_back clients p h own = own_back_to clients p h (place_answered h p) own
+own_back clients p h own = own_back_to clients p h (find (answers_place p) (window_after h)) own
 
 -- a shift has no entry
 pub own_turn : (clients : List (Option ℕ)) (i : ℕ) (h : List Note) → AreOwn clients h → AreOwn clients (turn_on i h).1

@@ -8,18 +8,17 @@ use Rattle.smx_history.specs.declared.note.Note.{Note}
 use Rattle.smx_history.specs.declared.place.Place.{Place}
 use Rattle.smx_history.specs.Prefixes.{SameCounts}
 use Rattle.smx_history.specs.Contents.{AgreesWith, Content}
-use Rattle.smx_history.specs.Finding.{IsFree}
-use Rattle.smx_history.proofs.Finding.{some_free}
 use Rattle.smx_relay.specs.declared.state.State.{State}
 use Rattle.smx_relay.specs.declared.state.LinkedLane.{LinkedLane}
 use Rattle.smx_relay.specs.Relay.{Relay, going_on, has_lane, history_of, lane_after, lane_at, lane_turn, new_lane, on_lane, take_on, back_on, history_on, turn_on}
-use Rattle.smx_relay.specs.Turns.{AreExpiredOn, ExpireTurn, IsFreeOn, TakeTurn}
+use Rattle.smx_relay.specs.Turns.{AreExpiredOn, ExpireTurn, IsFree, TakeTurn}
 use Rattle.smx_relay.specs.Expiring.{expire_on, expired_after}
 use Rattle.smx_relay.specs.Private.OnLane.{IsLane, AreOwn, TurnsLane}
 use Rattle.smx_relay.specs.Private.Agrees.{Agrees, MayPrint, Prints, Turned}
 use Rattle.smx_relay.proofs.Lanes.{zip-length, zip-at, zip-set, lane_goes}
 use Rattle.smx_relay.proofs.OwnNotes.{own_take, own_back, own_expired, own_turn}
 use Rattle.smx_relay.proofs.Expiring.{Expires}
+use Rattle.smx_relay.proofs.FreeNumbers.{some_free}
 use Rattle.smx_relay.proofs.Keeping.{KeepsSettings, kept_links}
 
 -- there is no such lane
@@ -73,20 +72,16 @@ turn_goes old new s i f k after text a is turns own =
 pub lane_turned : (old new : State) (s : Relay) (i : ℕ) (f : List Note → List ℕ × List Note) (k : LinkedLane) (after : Content) (text : Vec ℕ) → Agrees old s → IsTurned old new i k after → TurnsLane (f (history_of s i)) k.lane after text.items → AreOwn s.clients (f (history_of s i)).1 → Prints (on_lane s i f) new (Some text)
 lane_turned old new s i f k after text a is turns own = rw (a_lane_at old s i a is.within) (turn_goes old new s i f k after text.items a is turns own)
 
--- some number is free
-pub some_free_on : (s : Relay) (i : ℕ) → (u : ℕ) × IsFreeOn s i u
-some_free_on s i = some_free (history_of s i)
-
 -- a request is taken
 abbrev pub Takes : Relay → ℕ → State → Option (Vec ℕ) → Type 0
-Takes s i new text = (u : ℕ) × IsFreeOn s i u × Prints (on_lane s i (take_on s.limits s.moment u i)) new text
+Takes s i new text = (u : ℕ) × IsFree (history_of s i) u × Prints (on_lane s i (take_on s.limits s.moment u i)) new text
 
 pub take_turns : (s : Relay) (i : ℕ) (new : State) (text : Option (Vec ℕ)) → Takes s i new text → MayPrint (TakeTurn s i) new text
 take_turns s i new text takes = (on_lane s i (take_on s.limits s.moment takes.0 i), (takes.0, takes.1, refl), takes.2)
 
 pub takes_none : (old new : State) (s : Relay) (i : ℕ) → Agrees old s → length old.lanes.items ≤ i → Takes s i new None
 takes_none old new s i a past =
-    let u = some_free_on s i in
+    let u = some_free (history_of s i) in
     (u.0, u.1, no_lane old new s i (take_on s.limits s.moment u.0 i) a past)
 
 -- the lane gave some free number

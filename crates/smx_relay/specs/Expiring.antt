@@ -9,8 +9,7 @@ use Rattle.smx_history.specs.Entries.{is_up}
 use Rattle.smx_history.specs.History.{entries_of}
 use Rattle.smx_history.specs.Answering.{failing}
 use Rattle.smx_history.specs.Contents.{window_after}
-use Rattle.smx_history.specs.Finding.{is_present}
-use Rattle.smx_history.specs.Replies.{is_expired}
+use Rattle.smx_history.specs.Replies.{is_expired, is_present}
 use Rattle.smx_relay.specs.Texts.{failed_line, kept_line}
 use Rattle.smx_relay.specs.Relay.{moment_on}
 

@@ -1,15 +1,16 @@
 -- A lane's link to the centre is lost, what was taken fails, and there is a link again.
-use Rattle.std.specs.Prelude.{◌≡◌, ◌++◌, ◌∷◌, [], ◌==◌, ◌&&◌, ℕ, Bool, true, false, List, length, map, set, Option, Some, None, if◌then◌else◌}
-use Rattle.smx_history.specs.declared.limits.Limits.{Limits}
+use Rattle.std.specs.Prelude.{◌≡◌, ◌++◌, ◌∷◌, [], ℕ, Bool, true, false, List, map, set, Option, Some, None, if◌then◌else◌}
 use Rattle.smx_history.specs.declared.note.Note.{Note}
 use Rattle.smx_history.specs.declared.note.Event.TheVariants as event
 use Rattle.smx_history.specs.declared.place.Place.{Place}
+use Rattle.smx_history.specs.declared.reply.UpRefusal.{UpRefusal}
+use Rattle.smx_history.specs.declared.reply.UpRefusal.TheVariants.{AlreadyUp}
 use Rattle.smx_history.specs.Prefixes.{SameCounts}
 use Rattle.smx_history.specs.Entries.{is_up}
 use Rattle.smx_history.specs.History.{note, entries_of}
 use Rattle.smx_history.specs.Answering.{failing}
-use Rattle.smx_history.specs.Contents.{window_after}
-use Rattle.smx_history.specs.Finding.{has_room_after}
+use Rattle.smx_history.specs.Contents.{content_after, window_after}
+use Rattle.smx_history.specs.Replies.{up_refusal}
 use Rattle.smx_relay.specs.Texts.{down_line, bound_line, unbound_line}
 use Rattle.smx_relay.specs.Links.{CentreLink, bound_centre}
 use Rattle.smx_relay.specs.Relay.{Relay, going_on, has_lane, history_of, lane_at}
@@ -55,16 +56,12 @@ LosesWhere s i true x = LosesLink s i (is_up_at s i) x
 unfoldable pub LoseTurn : Relay → ℕ → Option (List ℕ × Relay) → Type 0
 LoseTurn s i x = LosesWhere s i (has_lane s i) x
 
--- nothing that was taken is unanswered, and there is room for what may follow
-abbrev pub may_rise : Limits → List Note → Bool
-may_rise limits h = (length (window_after h) == 0) && has_room_after limits h
+-- by what the lane answers
+abbrev pub bind_by : Relay → ℕ → Option UpRefusal → List ℕ × Relay
+bind_by s i None = (bound_line i, with_centre (going_on s i raise_lane) i bound_centre)
+bind_by s i (Some AlreadyUp) = (bound_line i, s)
+bind_by s i (Some _) = (unbound_line i, s)
 
--- whether the lane is up, and whether it may come up
-abbrev pub bind_where : Relay → ℕ → Bool → Bool → List ℕ × Relay
-bind_where s i true may = (bound_line i, s)
-bind_where s i false true = (bound_line i, with_centre (going_on s i raise_lane) i bound_centre)
-bind_where s i false false = (unbound_line i, s)
-
--- a lane that is down gets a new link, which is bound
+-- a lane that is down gets a new link, which is bound, where nothing that was taken is unanswered and there is room
 unfoldable pub bind_turn : Relay → ℕ → Option (List ℕ × Relay)
-bind_turn s i = if has_lane s i then Some (bind_where s i (is_up_at s i) (may_rise s.limits (history_of s i))) else None
+bind_turn s i = if has_lane s i then Some (bind_by s i (up_refusal (content_after s.limits (history_of s i)))) else None

@@ -1,6 +1,6 @@
 -- What each line of a script does and prints, over the histories of the lanes.
 use Rattle.std.specs.Prelude.{◌≡◌, refl, ℕ, ◌+◌, ◌%◌, Bool, true, false, List, [], ◌∷◌, ◌++◌, length, map, filter, not, ◌==◌, take, drop, set, replicate, position, codes, Option, Some, None, get_or, is_none, is_some, ◌||◌, max, nat_lt, nat_le, slice_get, if◌then◌else◌}
-use Rattle.std.specs.List.{flat_map, find, range_with_len}
+use Rattle.std.specs.List.{flat_map, find}
 use Rattle.std.specs.Fmt.{decimal}
 use Rattle.smx_pdu.specs.declared.pdu.Pdu.{Pdu}
 use Rattle.smx_pdu.specs.Command.{is_forwarded}
@@ -13,8 +13,9 @@ use Rattle.smx_history.specs.declared.note.Note.{Note}
 use Rattle.smx_history.specs.declared.note.Event.TheVariants as event
 use Rattle.smx_history.specs.History.{note, shift, stored_of, entries_of, latest_after}
 use Rattle.smx_history.specs.Entries.{is_up}
-use Rattle.smx_history.specs.Contents.{queue_after, window_after}
-use Rattle.smx_history.specs.Finding.{is_present, admit_refusal_after, refusal_after, place_answered, waiting_after}
+use Rattle.smx_history.specs.Contents.{content_after, queue_after, window_after}
+use Rattle.smx_history.specs.Ring.{ring}
+use Rattle.smx_history.specs.Replies.{accept_refusal, admit_refusal, answers_place, is_present, waiting_after}
 use Rattle.smx_routes.specs.Routing.{Route}
 use Rattle.smx_script.specs.declared.command.Setting.{Setting}
 use Rattle.smx_script.specs.declared.command.Setting.TheVariants.{Sizes, Lanes, Places, Account}
@@ -128,7 +129,7 @@ client_turn_at s kind c (Some i) = (
 
 -- the next number is used up either way
 abbrev pub client_turn : Relay → Option Kind → List ℕ × Relay
-client_turn s kind = client_turn_at s kind (length s.clients) (position (λ l. is_some (admit_refusal_after s.limits l.history (length s.clients))) s.lanes)
+client_turn s kind = client_turn_at s kind (length s.clients) (position (λ l. is_some (admit_refusal (content_after s.limits l.history) (length s.clients))) s.lanes)
 
 -- a client leaves a lane, where it is present
 abbrev pub leave_lane : ℕ → List Note → List Note
@@ -150,14 +151,10 @@ request_if c n p false e = None
 unfoldable pub request_of : ℕ → ℕ → Pdu → Option Request
 request_of c n p = request_if c n p (is_forwarded p.command) refl
 
--- all lanes, from one on
-abbrev pub ring : ℕ → ℕ → List ℕ
-ring first count = map (λ k. (first + k) % count) (range_with_len 0 count)
-
 -- the first lane that accepts a client's next request, from the one that its ordinal names on
 unfoldable pub lane_for : Relay → ℕ → ℕ → Option ℕ
 lane_for s c last =
-    find (λ i. is_none (refusal_after s.limits (history_of s i) c)) (ring (last % length s.lanes) (length s.lanes))
+    find (λ i. is_none (accept_refusal (content_after s.limits (history_of s i)) c)) (ring (last % length s.lanes) (length s.lanes))
 
 -- a lane has one request more
 abbrev pub with_request : Request → List Note → List Note
@@ -197,7 +194,7 @@ back_to p h (Some q) =
 
 -- a response comes back
 unfoldable pub back_on : Pdu → List Note → List ℕ × List Note
-back_on p h = back_to p h (place_answered h p)
+back_on p h = back_to p h (find (answers_place p) (window_after h))
 
 abbrev pub collect_text : ℕ → List Note → List ℕ
 collect_text c h = flat_map (λ r. pdu_line (to_client c) r.pdu) (waiting_after h c)

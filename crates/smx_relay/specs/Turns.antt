@@ -1,10 +1,16 @@
 -- What a line may print and leave; none at a bad line.
-use Rattle.std.specs.Prelude.{◌≡◌, ◌++◌, ◌||◌, ℕ, Bool, true, false, not, nat_lt, List, [], ◌∷◌, length, IsPermutation, codes, Option, Some, None, slice_get, if◌then◌else◌}
+use Rattle.std.specs.Prelude.{◌≡◌, ◌++◌, ◌||◌, ◌==◌, ◌<◌, ◌≤◌, ℕ, Bool, true, false, not, nat_lt, List, [], ◌∷◌, length, IsPermutation, codes, Option, Some, None, slice_get, if◌then◌else◌}
+use Rattle.std.specs.List.{list_any}
 use Rattle.std.specs.Fmt.{decimal}
 use Rattle.smx_routes.specs.Routing.{Route, route, has_route}
 use Rattle.smx_history.specs.declared.place.Place.{Place}
 use Rattle.smx_history.specs.Prefixes.{SameCounts}
-use Rattle.smx_history.specs.Finding.{IsFree}
+use Rattle.smx_history.specs.declared.entry.Entry.{Entry}
+use Rattle.smx_history.specs.declared.note.Note.{Note}
+use Rattle.smx_history.specs.Entries.{numbers, unanswered_takes}
+use Rattle.smx_history.specs.Numbers.{recent}
+use Rattle.smx_history.specs.History.{entries_of}
+use Rattle.smx_history.specs.Contents.{window_after}
 use Rattle.smx_script.specs.declared.command.Command.{Command}
 use Rattle.smx_script.specs.declared.command.Command.TheVariants.{Skip, Set, Run}
 use Rattle.smx_script.specs.declared.command.Action.{Action}
@@ -19,13 +25,19 @@ use Rattle.smx_relay.specs.CentreTurn.{BackTurn}
 use Rattle.smx_relay.specs.LaneLinks.{LoseTurn, bind_turn}
 use Rattle.smx_relay.specs.Expiring.{expired_after, expire_on}
 
--- the number is free on the lane
-abbrev pub IsFreeOn : Relay → ℕ → ℕ → Type 0
-IsFreeOn s i u = IsFree (history_of s i) u
+-- the next request may bear the number upstream: it is in range, and that of none that is unanswered and of none of the last 999,999 takes
+pub record MayBear (es : List Entry) (u : ℕ) : Type 0 where
+  pub range : (0 < u) × (u ≤ 2147483644)
+  pub unused : list_any (λ t. t.number == u) (unanswered_takes es) ≡ false
+  pub spaced : list_any (λ n. n == u) (recent (numbers es)) ≡ false
+
+-- the number is free, where the window has room: it has at most 1,024 places, so with room in it there is such a number
+abbrev pub IsFree : List Note → ℕ → Type 0
+IsFree h u = length (window_after h) < 1024 → MayBear (entries_of h) u
 
 -- a request that is taken gets some free number
 abbrev pub TakeTurn : Relay → ℕ → Option (List ℕ × Relay) → Type 0
-TakeTurn s i x = (u : ℕ) × IsFreeOn s i u × (x ≡ on_lane s i (take_on s.limits s.moment u i))
+TakeTurn s i x = (u : ℕ) × IsFree (history_of s i) u × (x ≡ on_lane s i (take_on s.limits s.moment u i))
 
 -- these are all the requests that fail on the lane, in any order
 abbrev pub AreExpiredOn : Relay → ℕ → ℕ → List Place → Type 0

@@ -2,8 +2,8 @@
 ghost use Rattle.std.specs.Prelude.{◌≡◌, ℕ, List, IfOk};
 ghost use Rattle.smx_history.specs.declared.note.Note.{Note};
 ghost use Rattle.smx_history.specs.Contents.{AgreesWith};
-ghost use Rattle.smx_history.specs.Finding.{IsFree};
 ghost use Rattle.smx_relay.specs.Relay.{take_on, back_on, history_on, turn_on};
+ghost use Rattle.smx_relay.specs.Turns.{IsFree};
 ghost use Rattle.smx_relay.specs.Private.OnLane.{TurnsLane};
 
 use crate::texts::{
@@ -87,7 +87,6 @@ pub fn turn_on(alloc: Global, lane: &mut Lane, at: u64) -> Result<Vec<u8>, Alloc
     Ok(text)
 }
 
-ghost use Rattle.std.specs.Prelude.{◌++◌, map};
 ghost use Rattle.smx_history.specs.declared.place.Place.{Place};
 ghost use Rattle.smx_history.specs.Prefixes.{SameCounts};
 ghost use Rattle.smx_history.specs.Contents.{window_after};

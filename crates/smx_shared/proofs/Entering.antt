@@ -1,7 +1,7 @@
 -- Clients that enter, and turn back.
-use Rattle.std.proofs.Common.{◌≡◌, ◌<◌, ◌≤◌, ◌+◌, ◌==◌, ◌&&◌, ◌||◌, ◌^◌, ℕ, true, false, List, [], ◌∷◌, ◌++◌, length, slice_get, get_or, Option, Some, None, Ok, refl, sym, ◌∙◌, ap, arith, append_assoc, inr}
+use Rattle.std.proofs.Common.{◌≡◌, ◌<◌, ◌≤◌, ◌+◌, ◌==◌, ◌&&◌, ◌||◌, ◌^◌, ℕ, true, false, List, [], ◌∷◌, ◌++◌, length, slice_get, Option, Some, None, Ok, refl, sym, ◌∙◌, ap, arith, append_assoc, inr}
 use Rattle.std.proofs.lemmas.Bool.{eq-eqb}
-use Rattle.std.proofs.lemmas.Option.{slice_get-get_or, slice_get_within}
+use Rattle.std.proofs.lemmas.Option.{slice_get_within}
 use Rattle.smx_lock.specs.Fronts.{Front}
 use Rattle.smx_history.specs.declared.limits.Limits.{Limits}
 use Rattle.smx_history.specs.declared.note.Note.{Note}
@@ -15,6 +15,7 @@ use Rattle.smx_shared.specs.Entering.{Enters, Entered, Barred, StopsAt, TurnsBac
 use Rattle.smx_shared.specs.declared.fault.EnterFault.{EnterFault}
 use Rattle.smx_shared.specs.declared.fault.EnterFault.TheVariants.{Exhausted, Spent, HistoryFull, NoMemory, Known}
 use Rattle.smx_shared.proofs.Growing.{on_locks}
+use Rattle.smx_shared.proofs.Passing.{has_at}
 
 pub enters_of : (c : ℕ) (f g s p : Front Note Limits) → SplitServes f g s → AdmitServes s p c (Ok tt) → Enters c f g p
 enters_of c f g s p h a = record {
@@ -40,10 +41,6 @@ member_of c f mine =
       admitted = ap (λ m. is_admitted f.number c (entries_of m)) mine ∙ alone;
       stays = ap (λ m. is_retired c (entries_of m)) mine;
     }
-
-has_at : {X : Type 0} (xs : List X) (k : ℕ) → k < length xs → (x : X) × (slice_get xs k ≡ Some x)
-has_at [] k h = absurd (omega arith)
-has_at (x ∷ xs) k h = (get_or (x ∷ xs) k x, slice_get-get_or (x ∷ xs) k x h)
 
 -- the notes of each seat that was made
 pub made_mine : (to c : ℕ) (old new made : List (Front Note Limits)) → Entered to c old new made → to ≤ length old

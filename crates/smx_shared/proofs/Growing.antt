@@ -1,11 +1,11 @@
 -- What a port keeps, when notes are added to its fronts.
-use Rattle.std.proofs.Common.{◌≡◌, ◌≢◌, ◌<◌, ◌≤◌, ◌+◌, ◌==◌, ◌^◌, ◌||◌, ◌&&◌, ℕ, Bool, true, false, List, [], ◌∷◌, ◌++◌, length, set, slice_get, get_or, Option, Some, None, Ok, Err, Result, refl, sym, ◌∙◌, ap, subst, arith, inl, inr, length-append, if◌then◌else◌}
+use Rattle.std.proofs.Common.{◌≡◌, ◌≢◌, ◌<◌, ◌≤◌, ◌+◌, ◌==◌, ◌^◌, ◌||◌, ◌&&◌, ℕ, Bool, true, false, List, [], ◌∷◌, ◌++◌, length, set, slice_get, Option, Some, None, Ok, Err, Result, refl, sym, ◌∙◌, ap, subst, arith, inl, inr, length-append, if◌then◌else◌}
 use Rattle.std.specs.List.{AllByRecursion}
 use Rattle.std.proofs.lemmas.List.{append-nil, length-set}
 use Rattle.std.proofs.lemmas.List.Elements.{filter_map-append}
 use Rattle.std.proofs.lemmas.List.Folds.{list_any-append}
-use Rattle.std.proofs.lemmas.Bool.{cases_lt, cases_eq, eq-eqb, ne_eqb}
-use Rattle.std.proofs.lemmas.Option.{slice_get_within, slice_get-get_or, get_or_from_slice_get}
+use Rattle.std.proofs.lemmas.Bool.{cases_eq}
+use Rattle.std.proofs.lemmas.Option.{slice_get_within, get_or_from_slice_get}
 use Rattle.std.proofs.Math.Seq.{map-set_same}
 use Rattle.smx_lock.specs.Fronts.{Front, IsSpent, Refused}
 use Rattle.smx_lock.specs.declared.faults.TryFault as tries
@@ -25,13 +25,8 @@ use Rattle.smx_shared.specs.Steps.{IsBelow}
 use Rattle.smx_lane.specs.declared.call.Call.{Call}
 use Rattle.smx_lane.specs.declared.call.Reply.{Reply}
 use Rattle.smx_shared.specs.Serving.{CallServes, CollectServes, Waited, Tried}
-use Rattle.smx_shared.specs.Submits.{Passed, WentBy, AcceptsOn, StopsOn, Refuses, request_of, start_of}
-use Rattle.smx_shared.specs.declared.offer.Offer.{Offer}
-use Rattle.smx_shared.specs.declared.fault.SubmitFault.{SubmitFault}
-use Rattle.smx_shared.specs.declared.fault.SubmitFault.TheVariants as fault
 use Rattle.smx_pdu.specs.declared.pdu.Pdu.{Pdu}
 use Rattle.smx_lock.specs.declared.faults.Spent as spent
-use Rattle.std.specs.Prelude.{nat_le}
 use Rattle.smx_shared.proofs.Lists.{All-both}
 use Rattle.smx_shared.proofs.Passing.{got_same, got_other, some_same}
 
@@ -74,28 +69,9 @@ same_both a b d s w = record {
       (t.0, t.1, u.2 ∙ t.2, u.3 ∙ t.3);
 }
 
-has_at : {X : Type 0} (xs : List X) (k : ℕ) → k < length xs → (x : X) × (slice_get xs k ≡ Some x)
-has_at [] k h = absurd (omega arith)
-has_at (x ∷ xs) k h = (get_or (x ∷ xs) k x, slice_get-get_or (x ∷ xs) k x h)
-
 -- a call with no note leaves the seat's own as they were
-stays_mine : (f g : Front Note Limits) (c : Call) (r : Reply) → (h : CallServes f g c r) → h.own ≡ [] → g.mine ≡ f.mine
+pub stays_mine : (f g : Front Note Limits) (c : Call) (r : Reply) → (h : CallServes f g c r) → h.own ≡ [] → g.mine ≡ f.mine
 stays_mine f g c r h none = h.hold.serves.mine ∙ ap (λ own. f.mine ++ own) none ∙ append-nil f.mine
-
-pub passed_same : (from to : ℕ) (r : Request) (old new : List (Front Note Limits)) → Passed from to r old new → SameNotes old new
-passed_same from to r old new p = record {
-  count = p.count;
-  each = λ k g at. elim (cases_lt k from) [
-    | inl low ↦ (g, sym (p.below k low) ∙ at, refl, refl)
-    | inr from_on ↦ elim (cases_lt k to) [
-      | inl within ↦
-          let was = has_at old k (omega (arith, slice_get_within new k g at, p.count)) in
-          let full = p.full k was.0 g from_on within was.1 at in
-          (was.0, was.1, full.1.hold.serves.number, stays_mine was.0 g _ _ full.1 full.1.told.3.0)
-      | inr past ↦ (g, sym (p.above k past) ∙ at, refl, refl)
-    ]
-  ];
-}
 
 -- one front has more notes
 pub lane_grows : (c n lane : ℕ) (named : List Accepted) (old new : List (Front Note Limits)) (f g : Front Note Limits) (ns : List Note) → slice_get old lane ≡ Some f → new ≡ set old lane g
@@ -119,7 +95,7 @@ none_both : (a b : Bool) → a ≡ false → b ≡ false → (a || b) ≡ false
 none_both true b h g = cc
 none_both false b h g = g
 
-member_more : (c : ℕ) (f g : Front Note Limits) (ns : List Note) → IsMemberBy c f → g.number ≡ f.number → g.mine ≡ f.mine ++ ns → is_retired c (entries_of ns) ≡ false → IsMemberBy c g
+pub member_more : (c : ℕ) (f g : Front Note Limits) (ns : List Note) → IsMemberBy c f → g.number ≡ f.number → g.mine ≡ f.mine ++ ns → is_retired c (entries_of ns) ≡ false → IsMemberBy c g
 member_more c f g ns m number mine stays =
     let is : entries_of g.mine ≡ entries_of f.mine ++ entries_of ns = ap entries_of mine ∙ entries_more f.mine ns in
     record {
@@ -199,27 +175,13 @@ port_same v new port same =
     subst (λ n. IsPort (record { client = v.client; first = v.first; next = n; fronts = new })) zero
     (port_grows v [] new port (same_grows v.client v.next v.fronts new same) (omega (arith, port.ordinals.1)))
 
-pub passed_own : (from to c n : ℕ) (r : Request) (old new : List (Front Note Limits)) → Passed from to r old new
-    → ((k : ℕ) (f : Front Note Limits) → slice_get old k ≡ Some f → IsMemberBy c f × IsBelow n f)
-    → (k : ℕ) (g : Front Note Limits) → slice_get new k ≡ Some g → IsMemberBy c g × IsBelow n g
-passed_own from to c n r old new p own k g at =
-    let w = (passed_same from to r old new p).each k g at in
-    let o = own k w.0 w.1 in (
-      member_more c w.0 g [] o.0 w.2 (w.3 ∙ sym (append-nil w.0.mine)) refl,
-      subst (λ m. AllByRecursion (λ (r : Request). r.ordinal < n) (requests m)) (sym w.3) o.1,
-    )
-
-went_same : (b : Bool) (start count lane : ℕ) (r : Request) (old mid : List (Front Note Limits)) → WentBy b start count lane r old mid → SameNotes old mid
-went_same true start count lane r old mid p = passed_same start lane r old mid p
-went_same false start count lane r old mid p = same_both old p.0 mid (passed_same start count r old p.0 p.1) (passed_same 0 lane r p.0 mid p.2)
-
-spent_same : (f g : Front Note Limits) → IsSpent f g → (g.number ≡ f.number) × (g.mine ≡ f.mine)
+pub spent_same : (f g : Front Note Limits) → IsSpent f g → (g.number ≡ f.number) × (g.mine ≡ f.mine)
 spent_same f g s = elim s [
   | inl e ↦ (ap (λ z. z.number) e, ap (λ z. z.mine) e)
   | inr e ↦ (ap (λ z. z.number) e, ap (λ z. z.mine) e)
 ]
 
-lane_same : (lane : ℕ) (old new : List (Front Note Limits)) (f g : Front Note Limits) → slice_get old lane ≡ Some f → new ≡ set old lane g
+pub lane_same : (lane : ℕ) (old new : List (Front Note Limits)) (f g : Front Note Limits) → slice_get old lane ≡ Some f → new ≡ set old lane g
     → g.number ≡ f.number → g.mine ≡ f.mine → SameNotes old new
 lane_same lane old new f g at is number mine = subst (SameNotes old) (sym is) record {
   count = length-set old lane g;
@@ -230,31 +192,6 @@ lane_same lane old new f g at is number mine = subst (SameNotes old) (sym is) re
     | inr apart ↦ (x, sym (got_other old lane k g apart) ∙ now, refl, refl)
   ];
 }
-
-pub accepts_grows : (start c n : ℕ) (o : Offer) (old new : List (Front Note Limits)) (lane : ℕ) → AcceptsOn start (request_for c n o) old new lane → Grows c n (record { lane = lane; offer = o } ∷ []) old new
-accepts_grows start c n o old new lane a =
-    let on = a.3 in
-    let one = on.5 in
-    let same = went_same (nat_le start lane) start (length old) lane (request_for c n o) old a.0 a.2 in
-    same_then c n (record { lane = lane; offer = o } ∷ []) old a.0 new same
-    (lane_grows c n lane (record { lane = lane; offer = o } ∷ []) a.0 new on.0 on.1 (note on.0.number (event.Accept (request_for c n o)) ∷ []) on.2 on.3 one.hold.serves.number (one.hold.serves.mine ∙ ap (λ own. on.0.mine ++ own) one.told.2) refl
-    (ap (λ b. if b then request_for c n o ∷ [] else []) (sym (eq-eqb lane lane refl)))
-    (λ k apart. ap (λ b. if b then request_for c n o ∷ [] else []) (ne_eqb lane k (λ e. apart (sym e))))
-    (omega (arith, a.1, same.count), tt))
-
-pub stops_same : (start : ℕ) (r : Request) (old new : List (Front Note Limits)) (s : SubmitFault) → StopsOn start r old new s → SameNotes old new
-stops_same start r old new fault.AllFull w = same_both old w.0 new (passed_same start (length old) r old w.0 w.1) (passed_same 0 start r w.0 new w.2)
-stops_same start r old new fault.Spent w =
-    let on = w.4 in
-    let same = spent_same on.0 on.1 on.5 in
-    same_both old w.1 new (went_same (nat_le start w.0) start (length old) w.0 r old w.1 w.3) (lane_same w.0 w.1 new on.0 on.1 on.2 on.3 same.0 same.1)
-stops_same start r old new fault.Exhausted w = absurd w
-
-pub refuses : (v : PortView) (o : Offer) (new : List (Front Note Limits)) (s : SubmitFault) → StopsOn (start_of v) (request_of v o) v.fronts new s
-    → Refuses v o (record { client = v.client; first = v.first; next = v.next; fronts = new }) s
-refuses v o new fault.AllFull w = (w, refl)
-refuses v o new fault.Spent w = (w, refl)
-refuses v o new fault.Exhausted w = absurd w
 
 pub collect_grows : (c n lane : ℕ) (old new : List (Front Note Limits)) (f g : Front Note Limits) (res : Result (Option Pdu) spent.Spent) → slice_get old lane ≡ Some f → new ≡ set old lane g
     → Waited (CollectServes f g c) f g res → Grows c n [] old new
@@ -281,19 +218,3 @@ try_collect_grows c n lane old new f g (Err e) at is w =
 
 pub on_locks : (lane : ℕ) (old new : List (Front Note Limits)) (f g : Front Note Limits) → slice_get old lane ≡ Some f → new ≡ set old lane g → g.lock ≡ f.lock → locks_of new ≡ locks_of old
 on_locks lane old new f g at is lock = ap locks_of is ∙ map-set_same (λ x. x.lock) old lane g f (lock ∙ ap (λ x. x.lock) (sym (get_or_from_slice_get old lane f f at)))
-
-went_locks : (b : Bool) (start count lane : ℕ) (r : Request) (old mid : List (Front Note Limits)) → WentBy b start count lane r old mid → locks_of mid ≡ locks_of old
-went_locks true start count lane r old mid p = p.locks
-went_locks false start count lane r old mid p = p.2.locks ∙ p.1.locks
-
-pub accepts_locks : (start : ℕ) (r : Request) (old new : List (Front Note Limits)) (lane : ℕ) → AcceptsOn start r old new lane → locks_of new ≡ locks_of old
-accepts_locks start r old new lane a =
-    let on = a.3 in
-    on_locks lane a.0 new on.0 on.1 on.2 on.3 on.4 ∙ went_locks (nat_le start lane) start (length old) lane r old a.0 a.2
-
-pub stops_locks : (start : ℕ) (r : Request) (old new : List (Front Note Limits)) (s : SubmitFault) → StopsOn start r old new s → locks_of new ≡ locks_of old
-stops_locks start r old new fault.AllFull w = w.2.locks ∙ w.1.locks
-stops_locks start r old new fault.Spent w =
-    let on = w.4 in
-    on_locks w.0 w.1 new on.0 on.1 on.2 on.3 on.4 ∙ went_locks (nat_le start w.0) start (length old) w.0 r old w.1 w.3
-stops_locks start r old new fault.Exhausted w = absurd w

@@ -2,6 +2,7 @@ pub mod Lists
 pub mod Holding
 pub mod Own
 pub mod Passing
+mod Submitting
 pub mod Growing
 pub mod Leaving
 pub mod Rounds

@@ -1,8 +1,8 @@
 -- Exchanges that are made and ended.
-use Rattle.std.proofs.Common.{◌≡◌, ◌<◌, ◌+◌, ℕ, List, [], ◌∷◌, ◌++◌, length, map, get_or, slice_get, option_map, Option, Some, None, refl, sym, ◌∙◌, ap, subst, arith, length-append}
+use Rattle.std.proofs.Common.{◌≡◌, ◌<◌, ◌+◌, ℕ, List, [], ◌∷◌, ◌++◌, length, map, slice_get, option_map, Option, Some, None, refl, sym, ◌∙◌, ap, subst, arith, length-append}
 use Rattle.std.specs.Prelude.{All}
 use Rattle.std.proofs.lemmas.List.{map-append, length-map}
-use Rattle.std.proofs.lemmas.Option.{slice_get-map, slice_get-get_or, get_or_from_slice_get}
+use Rattle.std.proofs.lemmas.Option.{slice_get-map, get_or_from_slice_get}
 use Rattle.smx_lock.specs.Fronts.{Front, LockId, first_front}
 use Rattle.smx_history.specs.declared.limits.Limits.{Limits}
 use Rattle.smx_history.specs.declared.note.Note.{Note}
@@ -10,6 +10,7 @@ use Rattle.smx_shared.specs.Views.{TapView, locks_of}
 use Rattle.smx_shared.specs.Making.{AreLocks, Tapped, IsUnused, IsStuck}
 use Rattle.smx_shared.specs.Serving.{SplitServes, SplitFails}
 use Rattle.smx_shared.proofs.Lists.{All-both}
+use Rattle.smx_shared.proofs.Passing.{has_at}
 
 pub locks_none : (limits : Limits) → AreLocks 0 limits []
 locks_none limits = record { count = refl; each = tt }
@@ -28,10 +29,6 @@ firsts_push locks l fs f is one = ap (λ xs. xs ++ f ∷ []) is ∙ ap (λ x. ma
 pub locks_of-firsts : (locks : List (LockId Limits)) → locks_of (map first_front locks) ≡ locks
 locks_of-firsts [] = refl
 locks_of-firsts (l ∷ locks) = ap (λ ls. l ∷ ls) (locks_of-firsts locks)
-
-has_at : {X : Type 0} (xs : List X) (k : ℕ) → k < length xs → (x : X) × (slice_get xs k ≡ Some x)
-has_at [] k h = absurd (omega arith)
-has_at (x ∷ xs) k h = (get_or (x ∷ xs) k x, slice_get-get_or (x ∷ xs) k x h)
 
 -- each tap is of the lock of its lane
 pub taps_locks : (lanes : ℕ) (locks : List (LockId Limits)) (new : List (Front Note Limits)) (taps : List TapView) → length locks ≡ lanes → Tapped lanes (map first_front locks) new taps

@@ -20,14 +20,12 @@ use Rattle.smx_history.specs.Legal.{IsMembership, StandsWell}
 use Rattle.smx_history.specs.History.{entry_by, entries_of, request_in, requests}
 use Rattle.smx_history.specs.Contents.{Content, Member, AgreesWith}
 use Rattle.smx_lane.specs.Kept.{writer, limits_of, suits}
-use Rattle.smx_history.specs.Replies.{member_with, refusal_for, accept_refusal, has_room}
+use Rattle.smx_history.specs.Replies.{member_with, is_present, refusal_for, accept_refusal, has_room}
 use Rattle.smx_history.proofs.Growing.{any_kept}
 use Rattle.smx_history.proofs.Reading.{All-from_get, All-filtered, any_at}
 use Rattle.smx_history.proofs.Sizes.{present_served}
-use Rattle.smx_history.proofs.Rows.{each_row}
+use Rattle.smx_history.proofs.Rows.{absent, each_row, is_present-any}
 use Rattle.smx_history.proofs.Taking.{any_none}
-use Rattle.smx_history.proofs.Finding.{absent, is_present-any}
-use Rattle.smx_history.specs.Finding.{is_present}
 use Rattle.smx_shared.proofs.Lists.{All-in_filter, All-at, any_weaken}
 use Rattle.smx_shared.specs.Serving.{OneHold}
 use Rattle.smx_shared.specs.Ports.{IsMemberBy}

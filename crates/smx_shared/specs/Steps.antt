@@ -1,8 +1,8 @@
--- What private functions ask and promise: the notes of one hold, a turn of one lane, and a round over
--- some lanes in a row. No contract of a public function cites this file.
-use Rattle.std.specs.Prelude.{◌≡◌, ◌≤◌, ◌<◌, ℕ, List, [], ◌∷◌, Option, Some, None, Ok, slice_get, All}
+-- What private functions ask and promise: the notes of one hold, and a turn of one lane. No contract
+-- of a public function cites this file.
+use Rattle.std.specs.Prelude.{◌≡◌, ◌<◌, ℕ, List, [], ◌∷◌, Option, Some, None, Ok, slice_get, All}
 use Rattle.std.specs.List.{AllByRecursion}
-use Rattle.smx_lock.specs.Fronts.{Front, Hold, Finds, IsSpent}
+use Rattle.smx_lock.specs.Fronts.{Front, Hold, Finds}
 use Rattle.smx_history.specs.declared.limits.Limits.{Limits}
 use Rattle.smx_history.specs.declared.note.Note.{Note}
 use Rattle.smx_history.specs.declared.note.Event.TheVariants as event
@@ -24,11 +24,7 @@ use Rattle.smx_lane.specs.Taking.{taking}
 use Rattle.smx_lane.specs.Calls.{IsReply, GoesOn, Keeps}
 use Rattle.smx_lane.specs.Kept.{writer, limits_of, suits}
 use Rattle.smx_shared.specs.declared.offer.Offer.{Offer}
-use Rattle.smx_shared.specs.declared.fault.SubmitFault.{SubmitFault}
-use Rattle.smx_shared.specs.declared.fault.SubmitFault.TheVariants as fault
-use Rattle.smx_shared.specs.Serving.{AcceptServes}
 use Rattle.smx_shared.specs.Ports.{IsMemberBy}
-use Rattle.smx_shared.specs.Submits.{OnLane, Passed}
 
 abbrev pub answer_notes : ℕ → Pdu → Option Place → List Note
 answer_notes by p (Some q) = note by (event.Answer q.client q.ordinal p) ∷ []
@@ -82,21 +78,11 @@ abbrev pub IsBelow : ℕ → Front Note Limits → Type 0
 IsBelow n f = AllByRecursion (λ r. r.ordinal < n) (requests f.mine)
 
 -- in each seat's own notes the request's client is a member, with lower ordinals alone
-abbrev pub MayAccept : Request → List (Front Note Limits) → Type 0
-MayAccept r fronts = (k : ℕ) (f : Front Note Limits) → slice_get fronts k ≡ Some f
+abbrev pub LeadUpTo : Request → List (Front Note Limits) → Type 0
+LeadUpTo r fronts = (k : ℕ) (f : Front Note Limits) → slice_get fronts k ≡ Some f
     → IsMemberBy r.client f × IsBelow r.ordinal f
 
 -- each seat's own notes are the client's admit
 abbrev pub HaveAdmitted : ℕ → List (Front Note Limits) → Type 0
 HaveAdmitted c fronts = (k : ℕ) (f : Front Note Limits) → slice_get fronts k ≡ Some f
     → f.mine ≡ note f.number (event.Admit c) ∷ []
-
--- what a round over some lanes in a row leaves
-abbrev pub Accepts : ℕ → ℕ → Request → List (Front Note Limits) → List (Front Note Limits) → ℕ → Type 0
-Accepts from to r old new lane = (mid : List (Front Note Limits)) × (from ≤ lane) × (lane < to) × Passed from lane r old mid
-    × OnLane lane mid new (λ f g. AcceptServes f g r (Ok tt))
-
-abbrev pub Stops : ℕ → ℕ → Request → List (Front Note Limits) → List (Front Note Limits) → SubmitFault → Type 0
-Stops from to r old new fault.AllFull = Passed from to r old new
-Stops from to r old new fault.Spent = (lane : ℕ) × (mid : List (Front Note Limits)) × (from ≤ lane) × (lane < to) × Passed from lane r old mid × OnLane lane mid new IsSpent
-Stops from to r old new fault.Exhausted = ⊥

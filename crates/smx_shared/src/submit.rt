@@ -1,8 +1,8 @@
 //! How a request goes round the lanes.
-ghost use Rattle.std.specs.Prelude.{◌≡◌, ◌<◌, ◌≤◌, length, IfOk, IfErr};
+ghost use Rattle.std.specs.Prelude.{◌≡◌, ◌<◌, length, IfOk, IfErr};
 ghost use Rattle.smx_shared.specs.Views.{locks_of};
 ghost use Rattle.smx_shared.specs.Submits.{AcceptsOn, StopsOn};
-ghost use Rattle.smx_shared.specs.Steps.{Accepts, Stops, MayAccept};
+ghost use Rattle.smx_shared.specs.Steps.{LeadUpTo};
 
 use crate::fault::SubmitFault;
 use crate::lane_call::Accepting;
@@ -11,34 +11,6 @@ use smx_history::Request;
 use smx_lane::Lane;
 use smx_lock::TicketLock;
 use std::sync::Wait;
-
-// Tries the lanes from `from` on and below `to`.
-fn try_lanes<R: Wait>(
-    rt: &R,
-    seats: &mut Vec<LaneSeat>,
-    locks: &[TicketLock<Lane>],
-    from: usize,
-    to: usize,
-    request: Request,
-) -> Result<usize, (Request, SubmitFault)>
-    requires range { (from ≤ to) × (to ≤ length seats.old.items) }
-    requires locks { locks_of seats.old.items ≡ locks.now }
-    requires own { MayAccept request seats.old.items }
-    requires ordinal { 0 < request.ordinal }
-    ensures ok { IfOk result (Accepts from to request seats.old.items seats.new.items) }
-    ensures err { IfErr result (λ e. (e.0 ≡ request)
-        × Stops from to request seats.old.items seats.new.items e.1) }
-{
-    let mut rest = request;
-    for lane in from..to {
-        match seats[lane].hold(rt, &locks[lane], Accepting { request: rest }) {
-            Ok(Ok(())) => return Ok(lane),
-            Ok(Err((back, _))) => rest = back,
-            Err((made, _)) => return Err((made.request, SubmitFault::Spent)),
-        }
-    }
-    Err((rest, SubmitFault::AllFull))
-}
 
 // Tries all lanes, in a ring from `start`.
 pub(crate) fn try_ring<R: Wait>(
@@ -50,18 +22,21 @@ pub(crate) fn try_ring<R: Wait>(
 ) -> Result<usize, (Request, SubmitFault)>
     requires start { start < length seats.old.items }
     requires locks { locks_of seats.old.items ≡ locks.now }
-    requires own { MayAccept request seats.old.items }
+    requires own { LeadUpTo request seats.old.items }
     requires ordinal { 0 < request.ordinal }
     ensures ok { IfOk result (AcceptsOn start request seats.old.items seats.new.items) }
     ensures err { IfErr result (λ e. (e.0 ≡ request)
         × StopsOn start request seats.old.items seats.new.items e.1) }
 {
     let count = seats.len();
-    let rest = match try_lanes(rt, seats, locks, start, count, request) {
-        Ok(lane) => return Ok(lane),
-        Err((rest, SubmitFault::AllFull)) => rest,
-        Err((rest, SubmitFault::Spent)) => return Err((rest, SubmitFault::Spent)),
-        Err((_, SubmitFault::Exhausted)) => unreachable!(),
-    };
-    try_lanes(rt, seats, locks, 0, start, rest)
+    let mut rest = request;
+    for k in 0..count {
+        let lane = (start + k) % count;
+        match seats[lane].hold(rt, &locks[lane], Accepting { request: rest }) {
+            Ok(Ok(())) => return Ok(lane),
+            Ok(Err((back, _))) => rest = back,
+            Err((made, _)) => return Err((made.request, SubmitFault::Spent)),
+        }
+    }
+    Err((rest, SubmitFault::AllFull))
 }

@@ -13,15 +13,15 @@ abbrev pub places_of : Inside → Places
 places_of a = record { most = length a.rows; taken = places_in a.rows; generations = a.generations.items; latest = a.ages.latest }
 
 -- the numbers of the requests name their rows, counted from n
-abbrev pub AreNumbered : ℕ → List (Option Place) → Type 0
-AreNumbered n rows = (k : ℕ) (q : Place) → slice_get rows k ≡ Some (Some q) → (0 < q.upstream) × (place_in q.upstream ≡ n + k)
+abbrev pub NameTheirRows : ℕ → List (Option Place) → Type 0
+NameTheirRows n rows = (k : ℕ) (q : Place) → slice_get rows k ≡ Some (Some q) → (0 < q.upstream) × (place_in q.upstream ≡ n + k)
 
 -- the row is empty
 abbrev pub IsEmptyAt : List (Option Place) → ℕ → Type 0
 IsEmptyAt rows k = slice_get rows k ≡ Some None
 
 pub record KeepsPlaces (a : Inside) : Type 0 where
-  pub numbered : AreNumbered 0 a.rows
+  pub numbered : NameTheirRows 0 a.rows
   pub empty : (j k : ℕ) → slice_get a.free.items j ≡ Some k → IsEmptyAt a.rows k
   pub distinct : (i j k : ℕ) → slice_get a.free.items i ≡ Some k → slice_get a.free.items j ≡ Some k → i ≡ j
   pub count : length a.free.items + length (places_in a.rows) ≡ length a.rows

@@ -3,13 +3,13 @@ use Rattle.std.specs.Prelude.{◌≡◌, ◌<◌, ◌++◌, [], ℕ, List, Bool,
 use Rattle.std.specs.Global.{Vec}
 use Rattle.std.specs.List.{AllZip, AllByRecursion}
 use Rattle.smx_history.specs.declared.limits.Limits.{Limits}
-use Rattle.smx_history.specs.Replies.{accept_refusal}
+use Rattle.smx_history.specs.Contents.{content_after}
+use Rattle.smx_history.specs.Replies.{accept_refusal, admit_refusal}
 use Rattle.smx_session.specs.Login.{Login}
 use Rattle.smx_routes.specs.Routing.{Route}
 use Rattle.smx_relay.specs.declared.state.State.{State}
 use Rattle.smx_relay.specs.declared.state.LinkedLane.{LinkedLane}
 use Rattle.smx_relay.specs.Links.{ClientLink}
-use Rattle.smx_history.specs.Finding.{admit_refusal_after}
 use Rattle.smx_relay.specs.Relay.{Relay, RelayLane, enter_lane, lane_after, leave_lane}
 use Rattle.smx_relay.specs.Private.OnLane.{IsLane}
 
@@ -69,9 +69,9 @@ HasLeft c old new = (limits : Limits) (clients : List (Option ℕ)) (ls : List R
 -- the client was admitted on each lane, or on those before the first that refuses it
 abbrev pub Enters : Limits → List (Option ℕ) → List RelayLane → ℕ → Option ℕ → List LinkedLane → Type 0
 Enters limits clients ls c None lanes =
-    (position (λ l. is_some (admit_refusal_after limits l.history c)) ls ≡ None) × AreOn limits clients (map (lane_after (enter_lane c)) ls) lanes
+    (position (λ l. is_some (admit_refusal (content_after limits l.history) c)) ls ≡ None) × AreOn limits clients (map (lane_after (enter_lane c)) ls) lanes
 Enters limits clients ls c (Some i) lanes =
-    (position (λ l. is_some (admit_refusal_after limits l.history c)) ls ≡ Some i)
+    (position (λ l. is_some (admit_refusal (content_after limits l.history) c)) ls ≡ Some i)
     × AreOn limits clients (map (lane_after (enter_lane c)) (take i ls) ++ drop i ls) lanes
 
 -- the lanes agree with some, and the client has entered on so many of them

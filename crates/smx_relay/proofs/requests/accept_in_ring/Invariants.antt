@@ -1,6 +1,6 @@
 use Rattle.std.proofs.Common.{◌≡◌, ◌%◌, length, slice_get, drop}
 use Rattle.std.specs.List.{find}
-use Rattle.smx_relay.specs.Relay.{ring}
+use Rattle.smx_history.specs.Ring.{ring}
 use Rattle.smx_relay.specs.Private.Agrees.{accepts_in}
 use Rattle.smx_relay.proofs.requests.accept_in_ring.Given as goal
 
