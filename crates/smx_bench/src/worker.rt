@@ -2,7 +2,6 @@
 ghost use Rattle.std.specs.Prelude.{◌≡◌, slice_get, Some, All, IfSome};
 ghost use Rattle.smx_shared.specs.Views.{locks_of};
 
-mod boxes;
 mod carrier;
 mod flood;
 mod hall;
@@ -10,7 +9,6 @@ mod member;
 
 use crate::figures::nanos_since;
 use crate::lane;
-use boxes::{ClientEnds, make_boxes};
 use carrier::{Carrier, Drawer};
 use flood::Flood;
 use hall::Hall;
@@ -20,6 +18,7 @@ use smx_lane::Limits;
 use smx_memory::{FlagGate, Nobody};
 use smx_session::Account;
 use smx_shared::{Door, EnterFault, Exchange, Tap};
+use smx_slots::{ClientEnds, ends_of};
 use std::alloc::{AllocError, Global};
 use std::rt::Clock;
 use std::sync::Wait;
@@ -104,7 +103,8 @@ fn measure_at<R: Wait + Print + Clock>(
 {
     let answered = AtomicU64::new(0);
     let at = drawer.at;
-    let (ends, lane_ends) = make_boxes(rt, alloc, clients).ok_or(NotMade)?;
+    let (ends, mut lanes) = ends_of(rt, alloc, clients, 1, 4)?;
+    let lane_ends = lanes.pop().ok_or(NotMade)?;
     let members = make_members(rt, alloc, desk, at, door, ends, &answered)?;
     let carrier = Carrier::new(alloc, drawer, lane_ends, HISTORY as usize).ok_or(NotMade)?;
     let mut hall = Hall::new(members, carrier, &answered);

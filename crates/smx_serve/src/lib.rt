@@ -8,6 +8,7 @@ mod heard;
 mod lane;
 mod linking;
 mod notice;
+mod queues;
 mod remote;
 mod seats;
 mod serve;

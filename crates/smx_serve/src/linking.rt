@@ -1,44 +1,57 @@
 //! How the loop keeps each upstream connected.
 
-use crate::lane::UNREACHED;
+use crate::lane::{Lane, UNREACHED};
 use crate::notice::{Notice, Words};
 use crate::turning::Loop;
+use smx_config::Config;
 use smx_turns::RunEnd;
 use std::net::Net;
 use std::sync::Wait;
 
+/// Says something of a lane.
+pub(crate) fn say_of_lane<R: Eprint>(rt: &R, config: &Config, lane: usize, words: Words) {
+    if let Some(upstream) = config.upstream.get(lane) {
+        let address = upstream.address.as_str();
+        let name = upstream.system_id.as_str();
+        let _ = eprintln!(rt; "{}", Notice::Lane(lane, address, name, words));
+    }
+}
+
+// Says what became of a link, how many requests failed with it, and in how many milliseconds it is
+// tried again.
+fn say_lost<R: Eprint>(
+    rt: &R,
+    config: &Config,
+    lane: usize,
+    words: Words,
+    failed: usize,
+    again: u64,
+) {
+    if let Some(upstream) = config.upstream.get(lane) {
+        let address = upstream.address.as_str();
+        let name = upstream.system_id.as_str();
+        let notice = Notice::Lost(lane, address, name, words, failed, again);
+        let _ = eprintln!(rt; "{notice}");
+    }
+}
+
+// Whether a lane's bind waits too long for an answer.
+fn is_late(lanes: &[Lane], lane: usize, now: u64, silence: u64) -> bool {
+    match lanes.get(lane) {
+        Some(place) => place.is_late(now, silence),
+        None => false,
+    }
+}
+
 impl<'d> Loop<'d> {
-    pub fn say_of_lane<R: Eprint>(&self, rt: &R, lane: usize, words: Words) {
-        let config = self.config;
-        if let Some(upstream) = config.upstream.get(lane) {
-            let address = upstream.address.as_str();
-            let name = upstream.system_id.as_str();
-            let _ = eprintln!(rt; "{}", Notice::Lane(lane, address, name, words));
-        }
-    }
-
-    // Says what became of a link, how many requests failed with it, and when it is tried again.
-    fn say_lost<R: Eprint>(&self, rt: &R, lane: usize, words: Words, failed: usize, due: u64) {
-        let config = self.config;
-        if let Some(upstream) = config.upstream.get(lane) {
-            let address = upstream.address.as_str();
-            let name = upstream.system_id.as_str();
-            let again = due.saturating_sub(self.now);
-            let notice = Notice::Lost(lane, address, name, words, failed, again);
-            let _ = eprintln!(rt; "{notice}");
-        }
-    }
-
     // A lane parts from its link. Each client may have a response that tells of its request.
     fn part_lane<R: Wait>(&mut self, rt: &R, lane: usize, due: u64) -> usize {
         let Some(place) = self.lanes.get_mut(lane) else {
             return 0;
         };
         let failed = place.part(rt, due);
-        let lanes = self.lanes.len();
-        for slot in 0..self.guests.slots.count() {
-            self.ready.add(lanes.saturating_add(slot));
-        }
+        let slots = self.guests.slots.count();
+        self.queues.add_from(self.lanes.len(), slots);
         failed
     }
 
@@ -58,16 +71,7 @@ impl<'d> Loop<'d> {
         }
         let due = place.due_after(now, config.silence);
         let failed = self.part_lane(rt, lane, due);
-        self.say_lost(rt, lane, words, failed, due);
-    }
-
-    // Whether a lane's bind waits too long for an answer.
-    fn is_late(&self, lane: usize) -> bool {
-        let config = self.config;
-        match self.lanes.get(lane) {
-            Some(place) => place.is_late(self.now, config.silence),
-            None => false,
-        }
+        say_lost(rt, config, lane, words, failed, due.saturating_sub(now));
     }
 
     // Ends a lane whose bind isn't answered, and connects one that has no link, where it is time.
@@ -75,12 +79,11 @@ impl<'d> Loop<'d> {
         if self.stopping {
             return;
         }
-        if self.is_late(lane) {
-            let due = self.now;
-            let failed = self.part_lane(rt, lane, due);
-            self.say_lost(rt, lane, Words::Said("answered no bind"), failed, due);
-        }
         let config = self.config;
+        if is_late(&self.lanes, lane, self.now, config.silence) {
+            let failed = self.part_lane(rt, lane, self.now);
+            say_lost(rt, config, lane, Words::Said("answered no bind"), failed, 0);
+        }
         let Some(upstream) = config.upstream.get(lane) else {
             return;
         };
@@ -91,8 +94,7 @@ impl<'d> Loop<'d> {
             None => true,
         };
         if !begun {
-            let due = self.now.saturating_add(config.silence);
-            self.say_lost(rt, lane, UNREACHED, 0, due);
+            say_lost(rt, config, lane, UNREACHED, 0, config.silence);
         }
     }
 }

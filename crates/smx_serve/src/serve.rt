@@ -126,11 +126,14 @@ fn wiring_of<R: Wait>(rt: &R, alloc: Global, config: &Config) -> Result<Wiring, 
 fn lanes_of(
     alloc: Global,
     drawers: Vec<Drawer>,
-    ends: Vec<LaneEnds>,
+    mut ends: Vec<LaneEnds>,
 ) -> Result<Vec<Lane>, AllocError> {
     let mut lanes = Vec::new(alloc);
-    for (drawer, ends) in drawers.into_iter().zip(ends) {
-        lanes.push(Lane::new(drawer, ends))?;
+    ends.reverse();
+    for drawer in drawers {
+        if let Some(ends) = ends.pop() {
+            lanes.push(Lane::new(drawer, ends))?;
+        }
     }
     Ok(lanes)
 }

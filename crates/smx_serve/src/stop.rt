@@ -38,9 +38,7 @@ impl<'d> Loop<'d> {
         for lane in self.lanes.iter_mut() {
             any |= lane.stop();
         }
-        for lane in 0..self.lanes.len() {
-            self.ready.add(lane);
-        }
+        self.queues.add_from(0, self.lanes.len());
         any
     }
 
@@ -58,7 +56,7 @@ impl<'d> Loop<'d> {
             if self.now >= until {
                 return Ok(());
             }
-            if !self.ready.is_empty() {
+            if !self.queues.ready.is_empty() {
                 self.pass(rt);
                 continue;
             }

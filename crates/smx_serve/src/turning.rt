@@ -3,14 +3,16 @@
 use crate::entrance::Entrance;
 use crate::guests::{Guest, Guests};
 use crate::lane::Lane;
+use crate::linking::say_of_lane;
 use crate::notice::{Ended, Words};
+use crate::queues::Queues;
 use crate::remote::Remote;
-use crate::tables::{Queues, Tables};
+use crate::tables::Tables;
 use mio::{Events, Poll, Token};
 use smx_client::Desk;
 use smx_config::Config;
 use smx_routes::Routes;
-use smx_slots::{Bell, Guide, Ready, Roll};
+use smx_slots::{Bell, Guide, Roll};
 use smx_socket::{Flushed, Socket};
 use smx_turns::RunEnd;
 use std::net::Net;
@@ -43,18 +45,20 @@ pub(crate) struct Loop<'d> {
     pub entrance: Entrance,
     pub roll: Roll,
     pub routes: Routes,
-    pub ready: Ready,
-    // Those of the pass that is made.
-    pub current: Vec<usize>,
-    // Those whose sockets may have octets.
-    pub dirty: Ready,
-    // Those that can't go on: their peer doesn't read, or a return box is full.
-    pub stalled: Vec<usize>,
+    pub queues: Queues,
     pub passes: u64,
     // Milliseconds since the start, now and at the last tick.
     pub now: u64,
     pub ticked: u64,
     pub stopping: bool,
+}
+
+// The socket of a party, where it has one.
+fn socket_of<'a>(lanes: &'a [Lane], guests: &'a Guests, party: usize) -> Option<&'a Socket> {
+    if party < lanes.len() {
+        return lanes.get(party)?.socket();
+    }
+    guests.socket(party - lanes.len())
 }
 
 impl<'d> Loop<'d> {
@@ -74,12 +78,6 @@ impl<'d> Loop<'d> {
             routes,
             queues,
         } = tables;
-        let Queues {
-            ready,
-            current,
-            dirty,
-            stalled,
-        } = queues;
         Loop {
             config,
             desk,
@@ -90,46 +88,12 @@ impl<'d> Loop<'d> {
             entrance,
             roll,
             routes,
-            ready,
-            current,
-            dirty,
-            stalled,
+            queues,
             passes: 0,
             now: 0,
             ticked: 0,
             stopping: false,
         }
-    }
-
-    fn socket(&self, party: usize) -> Option<&Socket> {
-        let lanes = self.lanes.len();
-        if party < lanes {
-            return self.lanes.get(party)?.socket();
-        }
-        self.guests.socket(party - lanes)
-    }
-
-    // A worker was turned, and octets moved or none did. One that isn't idle is turned again, or waits
-    // where it could do nothing.
-    fn was_turned(&mut self, party: usize, end: RunEnd, moved: bool) {
-        if moved {
-            self.dirty.add(party);
-        }
-        if end == RunEnd::Turns {
-            if moved {
-                self.ready.add(party);
-            } else {
-                let _ = self.stalled.push(party);
-            }
-        }
-    }
-
-    // Those that could do nothing try again.
-    fn unstall(&mut self) {
-        for party in self.stalled.as_slice() {
-            self.ready.add(*party);
-        }
-        self.stalled.clear();
     }
 
     // Turns a lane's worker until it is idle, at most so often. One that has ended loses its link.
@@ -138,22 +102,22 @@ impl<'d> Loop<'d> {
         let Some(place) = self.lanes.get_mut(lane) else {
             return;
         };
-        let mut bell = Bell::new(count, &mut self.ready, &self.roll);
+        let mut bell = Bell::new(count, &mut self.queues.ready, &self.roll);
         let mut guide = Guide::new(&mut self.routes, &self.roll);
         let Some(turned) = place.turn(rt, &mut bell, &mut guide, self.now, TURNS) else {
             return;
         };
         if turned.newly_bound {
-            self.say_of_lane(rt, lane, Words::Said("bound"));
+            say_of_lane(rt, self.config, lane, Words::Said("bound"));
         }
         if turned.moved {
-            self.unstall();
+            self.queues.unstall();
         }
-        self.was_turned(lane, turned.end, turned.moved);
+        self.queues.was_turned(lane, turned.end, turned.moved);
         match turned.end {
             RunEnd::Idle | RunEnd::Turns => {}
             RunEnd::Left | RunEnd::Fault(_) if self.stopping => {
-                self.say_of_lane(rt, lane, Words::Said("unbound"));
+                say_of_lane(rt, self.config, lane, Words::Said("unbound"));
             }
             RunEnd::Left | RunEnd::Fault(_) => self.lose_lane(rt, lane, turned.end),
         }
@@ -165,12 +129,13 @@ impl<'d> Loop<'d> {
         let Some(guest) = self.guests.guest(slot) else {
             return;
         };
-        let mut bell = Bell::new(lanes, &mut self.ready, &self.roll);
+        let mut bell = Bell::new(lanes, &mut self.queues.ready, &self.roll);
         let mut guide = Guide::new(&mut self.routes, &self.roll);
         let (end, moved) = guest.turn(rt, &mut bell, &mut guide, TURNS);
         let Entrance { alloc, teller, .. } = &self.entrance;
         guest.say_bound(rt, *alloc, teller, self.now);
-        self.was_turned(lanes.saturating_add(slot), end, moved);
+        self.queues
+            .was_turned(lanes.saturating_add(slot), end, moved);
         match end {
             RunEnd::Idle | RunEnd::Turns => {}
             RunEnd::Left | RunEnd::Fault(_) => {
@@ -194,14 +159,38 @@ impl<'d> Loop<'d> {
         let (ends, answered) = member.close(rt, &mut guide);
         self.roll.remove(client);
         if answered {
-            for lane in 0..self.lanes.len() {
-                self.ready.add(lane);
-            }
+            self.queues.add_from(0, self.lanes.len());
         }
         self.guests.part(slot, socket, ends, self.now);
         if self.entrance.short {
             self.accept(rt);
         }
+    }
+
+    // Lets the next one in who connects. False where there is none.
+    fn accept_one<R: Wait + Eprint>(&mut self, rt: &R) -> bool {
+        let Some((stream, address)) = self.entrance.accept(rt) else {
+            return false;
+        };
+        let Ok(address) = format!(in self.entrance.alloc; "{address}") else {
+            return true;
+        };
+        let lanes = self.lanes.len();
+        let came = self.entrance.welcome(
+            rt,
+            self.poll.registry(),
+            lanes,
+            self.desk,
+            &mut self.guests,
+            &mut self.roll,
+            stream,
+            address,
+            self.now,
+        );
+        if let Some(slot) = came {
+            self.queues.ready.add(lanes.saturating_add(slot));
+        }
+        true
     }
 
     // Lets those in who connect.
@@ -210,26 +199,8 @@ impl<'d> Loop<'d> {
             return;
         }
         for _ in 0..u64::MAX {
-            let Some((stream, address)) = self.entrance.accept(rt) else {
+            if !self.accept_one(rt) {
                 return;
-            };
-            let Ok(address) = format!(in self.entrance.alloc; "{address}") else {
-                continue;
-            };
-            let lanes = self.lanes.len();
-            let came = self.entrance.welcome(
-                rt,
-                self.poll.registry(),
-                lanes,
-                self.desk,
-                &mut self.guests,
-                &mut self.roll,
-                stream,
-                address,
-                self.now,
-            );
-            if let Some(slot) = came {
-                self.ready.add(lanes.saturating_add(slot));
             }
         }
     }
@@ -237,38 +208,34 @@ impl<'d> Loop<'d> {
     // Turns each that is ready once.
     pub fn pass<R: Wait + Eprint>(&mut self, rt: &R) {
         let lanes = self.lanes.len();
-        self.ready.swap(&mut self.current);
-        for at in 0..self.current.len() {
-            let Some(party) = self.current.get(at).copied() else {
+        for at in 0..self.queues.begin_pass() {
+            let Some(party) = self.queues.next_to_turn(at) else {
                 break;
             };
-            self.ready.begin(party);
             if party >= lanes {
                 self.turn_slot(rt, party - lanes);
             } else {
                 self.turn_lane(rt, party);
             }
         }
-        self.current.clear();
+        self.queues.end_pass();
     }
 
     // Writes what waits. A worker whose socket failed is told by its next turn.
     pub fn flush(&mut self) {
-        self.dirty.swap(&mut self.current);
-        for at in 0..self.current.len() {
-            let Some(party) = self.current.get(at).copied() else {
+        for at in 0..self.queues.begin_flush() {
+            let Some(party) = self.queues.next_to_flush(at) else {
                 break;
             };
-            self.dirty.begin(party);
-            let failed = match self.socket(party) {
+            let failed = match socket_of(&self.lanes, &self.guests, party) {
                 Some(socket) => socket.flush() == Flushed::Failed,
                 None => false,
             };
             if failed {
-                self.ready.add(party);
+                self.queues.ready.add(party);
             }
         }
-        self.current.clear();
+        self.queues.end_pass();
     }
 
     // Reads the clock; at a tick each lane is connected where it has no link, and turned, and what
@@ -283,9 +250,9 @@ impl<'d> Loop<'d> {
         self.ticked = self.now;
         for lane in 0..self.lanes.len() {
             self.tend(rt, lane);
-            self.ready.add(lane);
+            self.queues.ready.add(lane);
         }
-        self.unstall();
+        self.queues.unstall();
         self.entrance.teller.settle(rt, self.now);
         if self.guests.is_lingering() {
             for slot in 0..self.guests.slots.count() {
@@ -320,7 +287,7 @@ impl<'d> Loop<'d> {
                     .guests
                     .note(party.saturating_sub(lanes), event, self.now),
             }
-            self.ready.add(party);
+            self.queues.ready.add(party);
         }
         if connects {
             self.accept(rt);
@@ -335,9 +302,9 @@ impl<'d> Loop<'d> {
         start: Instant,
     ) -> Result<(), Ended> {
         self.look(rt, start);
-        if self.ready.is_empty() {
+        if self.queues.ready.is_empty() {
             self.flush();
-            if self.ready.is_empty() {
+            if self.queues.ready.is_empty() {
                 return self.wait(rt, TICK);
             }
         }

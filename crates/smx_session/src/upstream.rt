@@ -1,5 +1,7 @@
 //! The session with a centre.
 ghost use Rattle.std.specs.Prelude.{◌≡◌, IfOk, None};
+ghost use Rattle.smx_session.specs.UpstreamTable.{upstream_row, upstream_cell, upstream_decision};
+ghost use Rattle.smx_session.specs.Moments.{enquired_after};
 
 use crate::up_act::UpAct;
 use crate::upstream_row::{BIND_NUMBER, ENQUIRY_NUMBER, UNBIND_NUMBER, UpstreamRow, upstream_row};
@@ -45,6 +47,48 @@ impl Model for UpstreamSession {
     } };
 
     ghost invariant = { λ s. IsText 16 s.system_id.items × IsText 9 s.password.items };
+}
+
+// What becomes of a PDU in this state, and the state after it.
+fn decide(alloc: Global, state: UpstreamState, pdu: &Pdu) -> (UpAct, UpstreamState)
+    ensures { result ≡ upstream_decision
+        (upstream_cell (upstream_row pdu.now.command pdu.now.number) state) state pdu.now }
+{
+    match (upstream_row(pdu.command, pdu.number), state) {
+        (UpstreamRow::BindAnswer, Binding) if pdu.status == ESME_ROK => (UpAct::Up, Bound),
+        (UpstreamRow::BindAnswer | UpstreamRow::BindNack, Binding) => {
+            (UpAct::Failed(pdu.status), Ended)
+        }
+        (UpstreamRow::UnbindAnswer, Unbinding) => (UpAct::Closed, Ended),
+        (UpstreamRow::OtherResponse, Bound | Unbinding) => (UpAct::ToLane, state),
+        (UpstreamRow::Message, Bound) => (UpAct::Mo, state),
+        (UpstreamRow::EnquireLink, Binding | Bound | Unbinding) => {
+            (UpAct::Answer(pdu.header_response(alloc, ESME_ROK)), state)
+        }
+        (UpstreamRow::Unbind, Binding | Bound | Unbinding) => {
+            (UpAct::Leave(pdu.header_response(alloc, ESME_ROK)), Ended)
+        }
+        (UpstreamRow::Unknown, _) => (UpAct::Answer(Pdu::unknown(alloc, pdu.number)), state),
+        // Each other request isn't allowed in its state.
+        (
+            UpstreamRow::Message
+            | UpstreamRow::EnquireLink
+            | UpstreamRow::Unbind
+            | UpstreamRow::OtherRequest,
+            _,
+        ) => (UpAct::Answer(pdu.header_response(alloc, ESME_RINVBNDSTS)), state),
+        _ => (UpAct::Ignore, state),
+    }
+}
+
+// Since when an enquiry is unanswered then.
+fn enquired_after(row: UpstreamRow, state: UpstreamState, since: Option<u64>) -> Option<u64>
+    ensures { result ≡ enquired_after (upstream_cell row state) since }
+{
+    match (row, state) {
+        (UpstreamRow::EnquiryAnswer, Bound) => None,
+        _ => since,
+    }
 }
 
 impl UpstreamSession {
@@ -168,45 +212,12 @@ impl UpstreamSession {
         ensures act { result ≡ act_on self.old pdu.now }
         ensures session { self.new ≡ after_pdu self.old pdu.now now }
     {
+        let row = upstream_row(pdu.command, pdu.number);
+        let (act, state) = decide(self.alloc, self.state, pdu);
         self.heard = self.hand_in(now);
-        let alloc = self.alloc;
-        match (upstream_row(pdu.command, pdu.number), self.state) {
-            (UpstreamRow::BindAnswer, Binding) if pdu.status == ESME_ROK => {
-                self.state = Bound;
-                UpAct::Up
-            }
-            (UpstreamRow::BindAnswer | UpstreamRow::BindNack, Binding) => {
-                self.state = Ended;
-                UpAct::Failed(pdu.status)
-            }
-            (UpstreamRow::EnquiryAnswer, Bound) => {
-                self.enquired = None;
-                UpAct::Ignore
-            }
-            (UpstreamRow::UnbindAnswer, Unbinding) => {
-                self.state = Ended;
-                UpAct::Closed
-            }
-            (UpstreamRow::OtherResponse, Bound | Unbinding) => UpAct::ToLane,
-            (UpstreamRow::Message, Bound) => UpAct::Mo,
-            (UpstreamRow::EnquireLink, Binding | Bound | Unbinding) => {
-                UpAct::Answer(pdu.header_response(alloc, ESME_ROK))
-            }
-            (UpstreamRow::Unbind, Binding | Bound | Unbinding) => {
-                self.state = Ended;
-                UpAct::Leave(pdu.header_response(alloc, ESME_ROK))
-            }
-            (UpstreamRow::Unknown, _) => UpAct::Answer(Pdu::unknown(alloc, pdu.number)),
-            // Each other request isn't allowed in its state.
-            (
-                UpstreamRow::Message
-                | UpstreamRow::EnquireLink
-                | UpstreamRow::Unbind
-                | UpstreamRow::OtherRequest,
-                _,
-            ) => UpAct::Answer(pdu.header_response(alloc, ESME_RINVBNDSTS)),
-            _ => UpAct::Ignore,
-        }
+        self.enquired = enquired_after(row, self.state, self.enquired);
+        self.state = state;
+        act
     }
 
     /// The enquire_link that is due at this moment (SMPP 3.4, section 4.11): nothing was heard for

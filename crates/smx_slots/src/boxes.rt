@@ -39,10 +39,11 @@ fn boxes_of<T: Drop, R: Wait>(
         rows.push(Vec::with_capacity(alloc, boxes)?)?;
     }
     for _ in 0..boxes {
-        let (receiver, all) = Boxed::new(rt, alloc, senders, places).map_err(refused)?;
+        let (receiver, mut all) = Boxed::new(rt, alloc, senders, places).map_err(refused)?;
         receivers.push(receiver)?;
-        for (at, sender) in all.into_iter().enumerate() {
-            if let Some(row) = rows.get_mut(at) {
+        all.reverse();
+        for row in rows.iter_mut() {
+            if let Some(sender) = all.pop() {
                 row.push(sender)?;
             }
         }
@@ -59,15 +60,21 @@ pub fn ends_of<R: Wait>(
     lanes: usize,
     places: usize,
 ) -> Result<(Vec<ClientEnds>, Vec<LaneEnds>), AllocError> {
-    let (inboxes, to_slots) = boxes_of(rt, alloc, slots, lanes, places)?;
-    let (answers, to_lanes) = boxes_of(rt, alloc, lanes, slots, places)?;
+    let (inboxes, mut to_slots) = boxes_of(rt, alloc, slots, lanes, places)?;
+    let (answers, mut to_lanes) = boxes_of(rt, alloc, lanes, slots, places)?;
     let mut clients = Vec::with_capacity(alloc, slots)?;
-    for (inbox, senders) in inboxes.into_iter().zip(to_lanes) {
-        clients.push(ClientEnds { inbox, senders })?;
+    to_lanes.reverse();
+    for inbox in inboxes {
+        if let Some(senders) = to_lanes.pop() {
+            clients.push(ClientEnds { inbox, senders })?;
+        }
     }
     let mut all = Vec::with_capacity(alloc, lanes)?;
-    for (answers, senders) in answers.into_iter().zip(to_slots) {
-        all.push(LaneEnds { answers, senders })?;
+    to_slots.reverse();
+    for answers in answers {
+        if let Some(senders) = to_slots.pop() {
+            all.push(LaneEnds { answers, senders })?;
+        }
     }
     Ok((clients, all))
 }

@@ -3,11 +3,11 @@ ghost use Rattle.std.specs.Prelude.{◌≡◌, None, slice_get, Some, IfSome, fa
 ghost use Rattle.smx_session.specs.declared.upstream_state.UpstreamState.{UpstreamState};
 
 use crate::TURNS;
-use crate::boxes::LaneEnds;
 use smx_centre::{Centre, Mode};
 use smx_memory::{CentrePeer, FlagGate, MemoryLink, Nobody};
 use smx_session::UpstreamSession;
 use smx_shared::{Exchange, Tap};
+use smx_slots::LaneEnds;
 use smx_turns::{Directory, Gate, RunEnd};
 use smx_upstream::{Parts, UpstreamWorker, run_upstream};
 use std::alloc::Global;

@@ -12,13 +12,14 @@ mod carrier;
 mod member;
 mod peer;
 
-use boxes::{Boxes, LaneEnds};
+use boxes::Boxes;
 use carrier::Drawer;
 use member::{Guest, Seat, Signals};
 use smx_client::Desk;
 use smx_lane::Limits;
 use smx_session::Account;
 use smx_shared::{Door, Exchange, Tap};
+use smx_slots::LaneEnds;
 use std::alloc::{AllocError, Global};
 use std::rt::Clock;
 use std::sync::Wait;

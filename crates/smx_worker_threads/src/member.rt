@@ -4,11 +4,11 @@ ghost use Rattle.smx_shared.specs.Views.{locks_of};
 ghost use Rattle.smx_client.specs.declared.mark.Stage.TheVariants as stage;
 
 use crate::TURNS;
-use crate::boxes::ClientEnds;
 use crate::peer::Flagged;
 use smx_client::{ClientWorker, Desk, run_client};
 use smx_memory::{FlagGate, MemoryLink, Nobody, Script};
 use smx_shared::{Exchange, Port};
+use smx_slots::ClientEnds;
 use smx_turns::{Directory, Gate, RunEnd};
 use std::alloc::Global;
 use std::rt::Clock;

@@ -3,12 +3,12 @@ ghost use Rattle.std.specs.Prelude.{◌≡◌, ◌≢◌, None, false};
 ghost use Rattle.smx_shared.specs.Views.{locks_of};
 ghost use Rattle.smx_client.specs.declared.mark.Stage.TheVariants as stage;
 
-use crate::worker::boxes::ClientEnds;
 use crate::worker::flood::Flood;
 use crate::worker::hall::Worker;
 use smx_client::{ClientWorker, Desk, run_client};
 use smx_memory::{FlagGate, MemoryLink, Nobody};
 use smx_shared::{Exchange, Port};
+use smx_slots::ClientEnds;
 use smx_turns::RunEnd;
 use std::alloc::Global;
 use std::sync::Wait;
