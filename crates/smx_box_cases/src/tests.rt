@@ -90,9 +90,9 @@ fn sizes_are_1_to_256(rt: HostRuntime) {
     }
 }
 
-// Want of memory is said by name: tools/refuse-memory refuses each allocation in turn.
+// The largest box. Want of memory is said by name: tools/refuse-memory refuses each allocation in turn.
 #[test]
-fn the_largest_box_is_made(rt: HostRuntime) {
+fn refused_memory(rt: HostRuntime) {
     let fault = refusal(&rt, rt.alloc(), 256, 256);
     assert!(rt; fault.is_none() || fault == Some(BoxFault::NoMemory));
 }

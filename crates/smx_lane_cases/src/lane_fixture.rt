@@ -126,14 +126,11 @@ pub(crate) fn turned(rt: &impl Abort, lane: &mut Lane, least: usize) -> Option<u
     Some(list.len())
 }
 
-// Whether these clients are admitted, one after another.
-pub(crate) fn admits(lane: &mut Lane, clients: u64) -> bool {
+// Admits so many clients, one after another.
+pub(crate) fn admit_all(rt: &impl Abort, lane: &mut Lane, clients: u64) {
     for client in 1..=clients {
-        if lane.admit(0, client).is_err() {
-            return false;
-        }
+        lane.admit(0, client).expect(rt, "not admitted");
     }
-    true
 }
 
 // An entry of caller 0.

@@ -1,7 +1,7 @@
 //! A lane whose link upstream is lost, and the histories of such lanes.
 
 use crate::lane_fixture::{
-    ROOMY, accepts, admits, answer_to, collected, entry, lane_of, lane_with_one, refusal_of,
+    ROOMY, accepts, admit_all, answer_to, collected, entry, lane_of, lane_with_one, refusal_of,
     retires, take_number, turned,
 };
 use smx_history::Kind::{Accept, Admit, Answer, Collect, Down, Fail, Retire, Take, Up};
@@ -135,8 +135,8 @@ fn lanes_are_answered_while_down(rt: HostRuntime) {
 // 498 clients and a down make 499 entries, with 498 retires to come, so there is no room for four more
 // until the entries are handed out.
 fn is_full_until_turned(rt: &impl Abort, lane: &mut Lane) -> bool {
-    admits(lane, 498)
-        && lane.down(0).is_ok()
+    admit_all(rt, lane, 498);
+    lane.down(0).is_ok()
         && lane.up(0) == Err(UpRefusal::HistoryFull)
         && turned(rt, lane, 499) == Some(499)
         && lane.up(0).is_ok()

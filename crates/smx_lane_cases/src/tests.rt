@@ -1,7 +1,7 @@
 //! A lane against replies worked out by hand.
 
 use crate::lane_fixture::{
-    ROOMY, accepts, admits, answer_to, collect_number, is_unknown, lane_of, lane_with_one,
+    ROOMY, accepts, admit_all, answer_to, collect_number, is_unknown, lane_of, lane_with_one,
     refusal_of, retires, submit, submitted, take_number, turned,
 };
 use smx_lane::{
@@ -85,20 +85,21 @@ fn rounds_fill_the_history(rt: HostRuntime) {
 
 // Client 499 has no room: 498 clients make an entry each and have their retire to come, and with the
 // lane's down that is 997.
-fn admits_498(lane: &mut Lane) -> bool {
-    admits(lane, 498) && lane.admit(0, 499) == Err(AdmitFault::HistoryFull)
+fn admits_498(rt: &impl Abort, lane: &mut Lane) -> bool {
+    admit_all(rt, lane, 498);
+    lane.admit(0, 499) == Err(AdmitFault::HistoryFull)
 }
 
 #[test]
 fn clients_fill_the_history(rt: HostRuntime) {
     let mut lane = lane_of(&rt, rt.alloc(), ROOMY);
-    assert!(rt; admits_498(&mut lane));
+    assert!(rt; admits_498(&rt, &mut lane));
 }
 
 // Only a greater number than each before is admitted.
-fn admits_greater(lane: &mut Lane) -> bool {
-    lane.admit(0, 5).is_ok()
-        && lane.admit(0, 5) == Err(AdmitFault::Known)
+fn admits_greater(rt: &impl Abort, lane: &mut Lane) -> bool {
+    lane.admit(0, 5).expect(rt, "not admitted");
+    lane.admit(0, 5) == Err(AdmitFault::Known)
         && lane.admit(0, 4) == Err(AdmitFault::Known)
         && lane.entries().len() == 1
 }
@@ -106,7 +107,7 @@ fn admits_greater(lane: &mut Lane) -> bool {
 #[test]
 fn numbers_rise(rt: HostRuntime) {
     let mut lane = lane_of(&rt, rt.alloc(), ROOMY);
-    assert!(rt; admits_greater(&mut lane));
+    assert!(rt; admits_greater(&rt, &mut lane));
 }
 
 // Client 1 retires with a request queued, which is taken all the same. Its response comes late.
@@ -160,9 +161,9 @@ fn answer_all(lane: &mut Lane, alloc: Global) -> u32 {
 
 // A full window takes no more, is answered, and takes the next. Number 1,020 is answered last, since
 // 1,023 * 5 is 4 * 1,024 + 1,019, so its place is given next.
-fn fills_and_answers(lane: &mut Lane, alloc: Global) -> bool {
-    admits(lane, 5)
-        && fill(lane, alloc) == 1_025
+fn fills_and_answers(rt: &impl Abort, alloc: Global, lane: &mut Lane) -> bool {
+    admit_all(rt, lane, 5);
+    fill(lane, alloc) == 1_025
         && accepts(lane, alloc, 5, 1)
         && lane.take(0, 0).err() == Some(TakeRefusal::WindowFull)
         && answer_all(lane, alloc) == 1_024
@@ -178,7 +179,7 @@ fn full_window_is_answered_in_another_order(rt: HostRuntime) {
         history: 10_000,
     };
     let mut lane = lane_of(&rt, rt.alloc(), wide);
-    assert!(rt; fills_and_answers(&mut lane, rt.alloc()));
+    assert!(rt; fills_and_answers(&rt, rt.alloc(), &mut lane));
 }
 
 // Ten calls, of which the third and the sixth don't keep to their conditions.
@@ -219,6 +220,8 @@ fn word(reply: &Reply) -> &'static str {
         Reply::TurnedOver(Ok(Some(list))) if list.len() == 5 => "turned over",
         Reply::Retired(Ok(())) => "retired",
         Reply::Unkept => "unkept",
+        Reply::Admitted(Err(AdmitFault::NoMemory)) => "out of memory",
+        Reply::TurnedOver(Err(AllocError)) => "out of memory",
         _ => "another",
     }
 }
@@ -236,24 +239,20 @@ const WORDS: [&str; 10] = [
     "retired",
 ];
 
-// The first reply that another word than the wanted one tells.
-fn first_other(replies: &[Reply]) -> Option<usize> {
+// Whether the replies are these words. Want of memory is named.
+fn are_words(rt: &impl Abort, replies: &[Reply]) -> bool {
     for (at, wanted) in WORDS.iter().enumerate() {
         let found = replies.get(at).map(word);
-        if found != Some(*wanted) {
-            return Some(at);
-        }
+        assert!(rt; found == Some(*wanted), "{found:?}");
     }
-    None
+    replies.len() == WORDS.len()
 }
 
 // Whether the ten calls are replied to by these words, and one entry is left.
 fn makes_ten_calls(rt: &impl Abort, alloc: Global, lane: &mut Lane) -> bool {
     let calls = ten_calls(rt, alloc);
     let replies = run_all(lane, alloc, calls).expect(rt, "out of memory");
-    replies.len() == WORDS.len()
-        && first_other(replies.as_slice()).is_none()
-        && lane.entries().len() == 1
+    are_words(rt, replies.as_slice()) && lane.entries().len() == 1
 }
 
 // The calls of a list are made in order, but for those that don't keep to their conditions.
@@ -285,8 +284,8 @@ fn turned_lanes_go_on(rt: HostRuntime) {
 }
 
 fn knows_its_client(rt: &impl Abort, lane: &mut Lane) -> bool {
-    lane.admit(0, 5).is_ok()
-        && retires(lane, 5)
+    lane.admit(0, 5).expect(rt, "not admitted");
+    retires(lane, 5)
         && turned(rt, lane, 1) == Some(2)
         && lane.admit(0, 5) == Err(AdmitFault::Known)
         && lane.entries().is_empty()

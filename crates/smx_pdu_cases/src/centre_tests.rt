@@ -91,6 +91,27 @@ fn modes(rt: HostRuntime) {
     assert!(rt; has_mode(&rt, alloc, Mode::Silent, &[], &[], &[]));
 }
 
+// Whether the centre answers submit_sm so, asked again where memory was refused.
+fn answers_at_last(alloc: Global, centre: &mut Centre, number: u32, wanted: &[Fields]) -> bool {
+    let request = Pdu::header_only(alloc, 4, 0, number);
+    for _ in 0..2 {
+        if let Ok(answers) = centre.on_pdu(&request) {
+            return have_fields(&answers, wanted);
+        }
+    }
+    false
+}
+
+// Want of memory counts no message and sends none: tools/refuse-memory refuses each allocation in
+// turn, one in a run.
+#[test]
+fn refused_memory(rt: HostRuntime) {
+    let mut centre = Centre::new(rt.alloc(), Mode::Reversed);
+    let both: [Fields; 2] = [(0x8000_0004, 0, 2, b"2\0"), SUBMIT];
+    assert!(rt; answers_at_last(rt.alloc(), &mut centre, 1, &[]));
+    assert!(rt; answers_at_last(rt.alloc(), &mut centre, 2, &both));
+}
+
 // The other PDUs are answered alike in each mode.
 #[test]
 fn other_pdus(rt: HostRuntime) {

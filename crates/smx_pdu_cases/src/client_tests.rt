@@ -36,14 +36,12 @@ fn bound(
     pdu: &Pdu,
     wanted: &[u8],
 ) -> Option<(Kind, usize)> {
-    match session.on_pdu(pdu, accounts) {
-        Ok(
-            Act::Bind {
-                kind,
-                account,
-                answer,
-            },
-        ) => is_spelled(rt, alloc, &answer, wanted).then_some((kind, account)),
+    match session.on_pdu(pdu, accounts).expect(rt, "out of memory") {
+        Act::Bind {
+            kind,
+            account,
+            answer,
+        } => is_spelled(rt, alloc, &answer, wanted).then_some((kind, account)),
         _ => None,
     }
 }
@@ -128,9 +126,14 @@ fn bind_refusals(rt: HostRuntime) {
     assert!(rt; are_refused(&rt, rt.alloc(), &mut session, &accounts, &binds));
 }
 
-fn binds_as(session: &mut ClientSession, accounts: &[Account], pdu: &Pdu) -> Option<u32> {
-    match session.on_pdu(pdu, accounts) {
-        Ok(Act::Bind { answer, .. }) => Some(answer.command),
+fn binds_as(
+    rt: &impl Abort,
+    session: &mut ClientSession,
+    accounts: &[Account],
+    pdu: &Pdu,
+) -> Option<u32> {
+    match session.on_pdu(pdu, accounts).expect(rt, "out of memory") {
+        Act::Bind { answer, .. } => Some(answer.command),
         _ => None,
     }
 }
@@ -144,7 +147,7 @@ fn state_after(
 ) -> (Option<u32>, ClientState) {
     let pdu = pdu_of(rt, alloc, command, 7, b"a\0p\0\0\x34\0\0\0");
     let mut session = ClientSession::new(alloc);
-    let answer = binds_as(&mut session, accounts, &pdu);
+    let answer = binds_as(rt, &mut session, accounts, &pdu);
     (answer, session.state())
 }
 
@@ -159,6 +162,36 @@ fn kinds(rt: HostRuntime) {
         let came = state_after(&rt, rt.alloc(), &accounts, command);
         assert!(rt; came == (Some(answer), state));
     }
+}
+
+// Whether the session accepts the bind, or stays open for want of memory and accepts it then.
+fn binds_at_last(session: &mut ClientSession, accounts: &[Account], pdu: &Pdu) -> bool {
+    for _ in 0..2 {
+        if let Ok(act) = session.on_pdu(pdu, accounts) {
+            return matches!(act, Act::Bind { .. });
+        }
+        if session.state() != ClientState::Opened {
+            return false;
+        }
+    }
+    false
+}
+
+// Want of memory leaves the session open: tools/refuse-memory refuses each allocation in turn, one in
+// a run. The account's texts are empty.
+#[test]
+fn refused_memory(rt: HostRuntime) {
+    let accounts = [Account {
+        system_id: Vec::new(rt.alloc()),
+        password: Vec::new(rt.alloc()),
+    }];
+    let Ok(body) = Vec::from_slice(rt.alloc(), b"\0\0\0\x34\0\0\0") else {
+        return;
+    };
+    let pdu = Pdu::new(9, 0, 7, body).ok().expect(&rt, "short enough");
+    let mut session = ClientSession::new(rt.alloc());
+    assert!(rt; binds_at_last(&mut session, &accounts, &pdu));
+    assert!(rt; session.state() == ClientState::BoundTrx);
 }
 
 fn hangup(session: &mut ClientSession) -> Option<(u32, u32, u32, usize)> {

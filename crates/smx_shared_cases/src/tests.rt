@@ -11,6 +11,7 @@ use smx_shared::{
     TakeFault, Tap, TryTakeFault, TurnFault,
 };
 use std::alloc::Global;
+use std::process::Abort;
 use std::sync::Wait;
 use std::test::*;
 
@@ -204,7 +205,7 @@ fn line_is_spent<R: Wait>(rt: &R, line: &mut Line) -> bool {
 }
 
 // A client enters and submits, and then each call says that the tickets have ended.
-fn ends_tickets<R: Wait>(
+fn ends_tickets<R: Wait + Abort>(
     rt: &R,
     alloc: Global,
     at: &Exchange,
@@ -216,14 +217,14 @@ fn ends_tickets<R: Wait>(
     ensures { locks_of door.new.fronts ≡ at.now }
 {
     let mut line = last_line(alloc, at, taps)?;
-    let mut client = enter(rt, alloc, at, door).ok()?;
+    let mut client = enter(rt, alloc, at, door).expect(rt, "no client");
     let port = &client.port;
     let named = (port.client(), port.lanes(), line.tap.lane()) == (1, 1, 0);
     let submitted = client.submit(rt, 7) == Ok(0);
     let spent = client_is_spent(rt, &mut client) && line_is_spent(rt, &mut line);
-    let entered = enter(rt, alloc, at, door).err() == Some(EnterFault::Spent);
+    assert_eq!(rt; enter(rt, alloc, at, door).err(), Some(EnterFault::Spent));
     let left = client.leave(rt) == Err(Spent);
-    Some(named && submitted && spent && entered && left)
+    Some(named && submitted && spent && left)
 }
 
 // The last four tickets: the tap's seat, the client's seat, its admit and its request.
@@ -233,8 +234,10 @@ fn tickets_end(rt: HostRuntime) {
         ticket: LAST - 4,
         ..Starts::FIRST
     };
-    let Ok((exchange, mut door, taps)) = Exchange::new_at(&rt, rt.alloc(), ROOMY, 1, starts) else {
-        panic!(rt; "four tickets are left")
+    let made = Exchange::new_at(&rt, rt.alloc(), ROOMY, 1, starts);
+    let (exchange, mut door, taps) = match made {
+        Ok(made) => made,
+        Err(unmade) => panic!(rt; "no exchange: {:?}", unmade.fault),
     };
     let ended = ends_tickets(&rt, rt.alloc(), &exchange, &mut door, taps);
     assert!(rt; ended == Some(true));
@@ -250,19 +253,20 @@ fn tickets_have_ended(rt: HostRuntime) {
         ..Starts::FIRST
     };
     let made = Exchange::new_at(&rt, rt.alloc(), ROOMY, 1, spent);
-    assert!(rt; made.is_err_and(|unmade| unmade.fault == MakeFault::Spent));
+    let fault = made.err().map(|unmade| unmade.fault);
+    assert_eq!(rt; fault, Some(MakeFault::Spent));
 }
 
 // The last client, and its last request. Ordinal 2^62 tries lane (2^62 - 1) % 2 first.
-fn ends_counts<R: Wait>(rt: &R, alloc: Global, at: &Exchange, door: &mut Door) -> Option<bool>
+fn ends_counts<R: Wait + Abort>(rt: &R, alloc: Global, at: &Exchange, door: &mut Door) -> bool
     requires { locks_of door.old.fronts ≡ at.now }
 {
-    let mut client = enter(rt, alloc, at, door).ok()?;
+    let mut client = enter(rt, alloc, at, door).expect(rt, "no client");
     let numbered = client.port.client() == LAST;
     let entered = enter(rt, alloc, at, door).err() == Some(EnterFault::Exhausted);
     let first = client.submit(rt, 7) == Ok(1);
     let second = client.submit(rt, 8) == Err((8, SubmitFault::Exhausted));
-    Some(numbered && entered && first && second)
+    numbered && entered && first && second
 }
 
 #[test]
@@ -272,11 +276,11 @@ fn counts_end(rt: HostRuntime) {
         ordinal: LAST,
         ..Starts::FIRST
     };
-    let Ok((exchange, mut door, _taps)) = Exchange::new_at(&rt, rt.alloc(), ROOMY, 2, late) else {
-        panic!(rt; "there is memory")
+    let (exchange, mut door) = match Exchange::new_at(&rt, rt.alloc(), ROOMY, 2, late) {
+        Ok((exchange, door, _)) => (exchange, door),
+        Err(unmade) => panic!(rt; "no exchange: {:?}", unmade.fault),
     };
-    let ended = ends_counts(&rt, rt.alloc(), &exchange, &mut door);
-    assert!(rt; ended == Some(true));
+    assert!(rt; ends_counts(&rt, rt.alloc(), &exchange, &mut door));
 }
 
 // Why no exchange of so many lanes under these limits is made.
@@ -323,7 +327,7 @@ fn each_is_answered<R: Wait>(rt: &R, line: &mut Line, two: &mut Client) -> bool 
 }
 
 // Two clients on one lane: one leaves with a request taken, the other is dropped.
-fn two_clients<R: Wait>(
+fn two_clients<R: Wait + Abort>(
     rt: &R,
     alloc: Global,
     at: &Exchange,
@@ -335,8 +339,8 @@ fn two_clients<R: Wait>(
     ensures { locks_of door.new.fronts ≡ at.now }
 {
     let mut line = last_line(alloc, at, taps)?;
-    let mut one = enter(rt, alloc, at, door).ok()?;
-    let mut two = enter(rt, alloc, at, door).ok()?;
+    let mut one = enter(rt, alloc, at, door).expect(rt, "no client");
+    let mut two = enter(rt, alloc, at, door).expect(rt, "no second client");
     let taken = both_are_taken(rt, &mut line, &mut one, &mut two);
     let left = one.leave(rt) == Ok(());
     Some(taken && left && each_is_answered(rt, &mut line, &mut two))
@@ -366,8 +370,9 @@ fn has_calls(lane: &Lane) -> bool {
 // The lane that comes back has the calls of both.
 #[test]
 fn lane_has_all_calls(rt: HostRuntime) {
-    let Ok((exchange, mut door, taps)) = Exchange::new(&rt, rt.alloc(), ROOMY, 1) else {
-        panic!(rt; "there is memory")
+    let (exchange, mut door, taps) = match Exchange::new(&rt, rt.alloc(), ROOMY, 1) {
+        Ok(made) => made,
+        Err(unmade) => panic!(rt; "no exchange: {:?}", unmade.fault),
     };
     let well = two_clients(&rt, rt.alloc(), &exchange, &mut door, taps);
     assert!(rt; well == Some(true));
@@ -377,11 +382,16 @@ fn lane_has_all_calls(rt: HostRuntime) {
 
 // Of a lane's 1,000 entries 1 is kept for its end, an admit takes 2 and a request 4: 249 on lane 1
 // leave 1, 248 on lane 0 leave 5. What then refuses the next client.
-fn fills<R: Wait>(rt: &R, alloc: Global, at: &Exchange, door: &mut Door) -> Option<EnterFault>
+fn fills<R: Wait + Abort>(
+    rt: &R,
+    alloc: Global,
+    at: &Exchange,
+    door: &mut Door,
+) -> Option<EnterFault>
     requires { locks_of door.old.fronts ≡ at.now }
     ensures { locks_of door.new.fronts ≡ at.now }
 {
-    let mut client = enter(rt, alloc, at, door).ok()?;
+    let mut client = enter(rt, alloc, at, door).expect(rt, "no client");
     for own in 1..=497 {
         if client.submit(rt, own) != Ok(own as usize % 2) {
             return None;
@@ -421,12 +431,12 @@ fn refused_client_leaves_again(rt: HostRuntime) {
         ordinal: 2,
         ..Starts::FIRST
     };
-    let Ok((exchange, mut door, _taps)) = Exchange::new_at(&rt, rt.alloc(), limits, 2, starts)
-    else {
-        panic!(rt; "there is memory")
+    let (exchange, mut door) = match Exchange::new_at(&rt, rt.alloc(), limits, 2, starts) {
+        Ok((exchange, door, _)) => (exchange, door),
+        Err(unmade) => panic!(rt; "no exchange: {:?}", unmade.fault),
     };
     let refused = fills(&rt, rt.alloc(), &exchange, &mut door);
-    assert!(rt; refused == Some(EnterFault::HistoryFull));
+    assert_eq!(rt; refused, Some(EnterFault::HistoryFull));
     let lanes = exchange.finish(door).ok().expect(&rt, "a lane is out");
     let first = [(Kind::Admit, 1), (Kind::Admit, 2), (Kind::Retire, 2)];
     assert!(rt; have_members(&lanes, &first, &[(Kind::Admit, 1)]));

@@ -21,7 +21,7 @@ fn compare_all(at: &Exchange, door: &mut Door, port: &mut Port, tap: &mut Tap)
 }
 
 // Tokens are compared, and go on.
-fn compared<R: Wait>(
+fn compared<R: Wait + Abort>(
     rt: &R,
     alloc: Global,
     at: &Exchange,
@@ -35,23 +35,25 @@ fn compared<R: Wait>(
 {
     let mut taps = taps;
     let mut tap = taps.pop()?;
-    let mut port = door.enter(at, rt).ok()?;
+    let entered = door.enter(at, rt).map_err(|(fault, _)| fault);
+    let mut port = entered.expect(rt, "no client");
     let submitted = port.submit(at, rt, offer(alloc, 7)).is_ok();
     if tap.lane() != 0 {
         return None;
     }
     compare_all(at, door, &mut port, &mut tap);
     let taken = tap.take(at, rt, 0).is_ok();
-    let entered = door.enter(at, rt).is_ok();
+    enter(rt, alloc, at, door).expect(rt, "no second client");
     let left = port.leave(at, rt).is_ok();
-    Some(submitted && taken && entered && left)
+    Some(submitted && taken && left)
 }
 
 // Tokens that were compared go on as before.
 #[test]
 fn tokens_are_compared(rt: HostRuntime) {
-    let Ok((exchange, mut door, taps)) = Exchange::new(&rt, rt.alloc(), ROOMY, 1) else {
-        panic!(rt; "there is memory")
+    let (exchange, mut door, taps) = match Exchange::new(&rt, rt.alloc(), ROOMY, 1) {
+        Ok(made) => made,
+        Err(unmade) => panic!(rt; "no exchange: {:?}", unmade.fault),
     };
     let well = compared(&rt, rt.alloc(), &exchange, &mut door, taps);
     assert!(rt; well == Some(true));

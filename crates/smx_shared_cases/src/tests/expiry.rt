@@ -40,7 +40,7 @@ fn is_told<R: Wait>(rt: &R, client: &mut Client) -> bool {
         && told(rt, client).is_none()
 }
 
-fn expires<R: Wait>(
+fn expires<R: Wait + Abort>(
     rt: &R,
     alloc: Global,
     at: &Exchange,
@@ -52,7 +52,7 @@ fn expires<R: Wait>(
     ensures { locks_of door.new.fronts ≡ at.now }
 {
     let mut line = last_line(alloc, at, taps)?;
-    let mut client = enter(rt, alloc, at, door).ok()?;
+    let mut client = enter(rt, alloc, at, door).expect(rt, "no client");
     let taken = both_are_taken_at(rt, &mut line, &mut client);
     let failed = the_older_fails(rt, &mut line);
     Some(taken && failed && is_told(rt, &mut client))
@@ -72,8 +72,9 @@ const KINDS: [Kind; 9] = [
 
 #[test]
 fn the_older_is_given_up(rt: HostRuntime) {
-    let Ok((exchange, mut door, taps)) = Exchange::new(&rt, rt.alloc(), ROOMY, 1) else {
-        panic!(rt; "there is memory")
+    let (exchange, mut door, taps) = match Exchange::new(&rt, rt.alloc(), ROOMY, 1) {
+        Ok(made) => made,
+        Err(unmade) => panic!(rt; "no exchange: {:?}", unmade.fault),
     };
     let well = expires(&rt, rt.alloc(), &exchange, &mut door, taps);
     assert!(rt; well == Some(true));

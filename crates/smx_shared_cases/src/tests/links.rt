@@ -48,7 +48,7 @@ fn comes_up<R: Wait>(rt: &R, line: &mut Line) -> bool {
     up && again && line.take(rt) == Ok(1)
 }
 
-fn loses_and_finds<R: Wait>(
+fn loses_and_finds<R: Wait + Abort>(
     rt: &R,
     alloc: Global,
     at: &Exchange,
@@ -60,7 +60,7 @@ fn loses_and_finds<R: Wait>(
     ensures { locks_of door.new.fronts ≡ at.now }
 {
     let mut line = last_line(alloc, at, taps)?;
-    let mut client = enter(rt, alloc, at, door).ok()?;
+    let mut client = enter(rt, alloc, at, door).expect(rt, "no client");
     let lost = is_lost(rt, &mut line, &mut client);
     let failed = fails(rt, &mut line, &mut client);
     Some(lost && failed && comes_up(rt, &mut line))
@@ -80,8 +80,9 @@ const KINDS: [Kind; 9] = [
 
 #[test]
 fn lane_comes_up_again(rt: HostRuntime) {
-    let Ok((exchange, mut door, taps)) = Exchange::new(&rt, rt.alloc(), ROOMY, 1) else {
-        panic!(rt; "there is memory")
+    let (exchange, mut door, taps) = match Exchange::new(&rt, rt.alloc(), ROOMY, 1) {
+        Ok(made) => made,
+        Err(unmade) => panic!(rt; "no exchange: {:?}", unmade.fault),
     };
     let well = loses_and_finds(&rt, rt.alloc(), &exchange, &mut door, taps);
     assert!(rt; well == Some(true));

@@ -3,6 +3,7 @@ ghost use Rattle.std.specs.Prelude.{◌≡◌, slice_get, Some, All};
 ghost use Rattle.smx_shared.specs.Views.{locks_of};
 
 use super::*;
+use std::alloc::AllocError;
 
 // The clients' own numbers of the requests that lanes 0 to 3 get.
 const OWN: [u32; 4] = [11, 12, 13, 14];
@@ -23,33 +24,37 @@ fn pass_on<R: Wait>(rt: &R, line: &mut Line, one: &mut Client) -> bool {
         && one.collect_on(rt, lane) == Ok(OWN[lane % 4])
 }
 
-fn lines_of<'a>(alloc: Global, at: &'a Exchange, taps: Vec<Tap>) -> Option<Vec<Line<'a>>>
+fn lines_of<'a>(
+    alloc: Global,
+    at: &'a Exchange,
+    taps: Vec<Tap>,
+) -> Result<Vec<Line<'a>>, AllocError>
     requires { All (λ t. slice_get at.now t.lane ≡ Some t.front.lock) taps.items }
 {
     let mut lines = Vec::new(alloc);
     for tap in taps {
-        lines.push(Line { alloc, at, tap }).ok()?;
+        lines.push(Line { alloc, at, tap })?;
     }
-    Some(lines)
+    Ok(lines)
 }
 
 // The second client leaves with a request taken on each lane, whose response then comes late; the
 // third one's requests stay queued.
-fn spread<R: Wait>(
+fn spread<R: Wait + Abort>(
     rt: &R,
     alloc: Global,
     at: &Exchange,
     door: &mut Door,
     taps: Vec<Tap>,
-) -> Option<bool>
+) -> bool
     requires door { locks_of door.old.fronts ≡ at.now }
     requires taps { All (λ t. slice_get at.now t.lane ≡ Some t.front.lock) taps.items }
     ensures { locks_of door.new.fronts ≡ at.now }
 {
-    let mut one = enter(rt, alloc, at, door).ok()?;
-    let mut two = enter(rt, alloc, at, door).ok()?;
-    let mut three = enter(rt, alloc, at, door).ok()?;
-    let mut lines = lines_of(alloc, at, taps)?;
+    let mut one = enter(rt, alloc, at, door).expect(rt, "no client");
+    let mut two = enter(rt, alloc, at, door).expect(rt, "no second client");
+    let mut three = enter(rt, alloc, at, door).expect(rt, "no third client");
+    let mut lines = lines_of(alloc, at, taps).expect(rt, "out of memory");
     let submitted = submit_four(rt, &mut one)
         && submit_four(rt, &mut two)
         && submit_four(rt, &mut three);
@@ -62,7 +67,7 @@ fn spread<R: Wait>(
     for line in &mut lines {
         late = late && matches!(line.answer(rt, 2), Ok(Answered::Late));
     }
-    Some(passed && late)
+    passed && late
 }
 
 // On each lane seat 0 is the door's, 1 the tap's, 2 to 4 the clients'. A request's ordinal is one
@@ -101,10 +106,11 @@ fn have_their_own(lanes: &[Lane]) -> bool {
 
 #[test]
 fn lanes_have_their_own_calls(rt: HostRuntime) {
-    let made = Exchange::new(&rt, rt.alloc(), ROOMY, 4);
-    let (exchange, mut door, taps) = made.ok().expect(&rt, "there is memory");
-    let well = spread(&rt, rt.alloc(), &exchange, &mut door, taps);
-    assert!(rt; well == Some(true));
+    let (exchange, mut door, taps) = match Exchange::new(&rt, rt.alloc(), ROOMY, 4) {
+        Ok(made) => made,
+        Err(unmade) => panic!(rt; "no exchange: {:?}", unmade.fault),
+    };
+    assert!(rt; spread(&rt, rt.alloc(), &exchange, &mut door, taps));
     let lanes = exchange.finish(door).ok().expect(&rt, "a lane is out");
     assert!(rt; lanes.len() == 4 && have_their_own(lanes.as_slice()));
 }

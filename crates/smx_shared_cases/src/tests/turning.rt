@@ -6,17 +6,22 @@ use super::*;
 
 // A turn over hands out just this many entries: it hands out none where one more is wanted, and none
 // at once after it.
-fn hands_out<R: Wait>(rt: &R, line: &mut Line, wanted: usize) -> bool {
+fn hands_out<R: Wait + Abort>(rt: &R, line: &mut Line, wanted: usize) -> bool {
     let more = line.turn_over(rt, wanted.saturating_add(1));
-    let handed = line.turn_over(rt, wanted);
+    let handed = line.turn_over(rt, wanted).expect(rt, "no turn over");
     let again = line.turn_over(rt, 1);
-    let just = handed.is_ok_and(|list| list.is_some_and(|entries| entries.len() == wanted));
+    let just = handed.is_some_and(|entries| entries.len() == wanted);
     more == Ok(None) && just && again == Ok(None)
 }
 
 // A request passes, which is taken before the turn over that each 25th brings and answered after it:
 // how many entries were handed out.
-fn pass_one<R: Wait>(rt: &R, line: &mut Line, client: &mut Client, own: u32) -> Option<usize> {
+fn pass_one<R: Wait + Abort>(
+    rt: &R,
+    line: &mut Line,
+    client: &mut Client,
+    own: u32,
+) -> Option<usize> {
     if client.submit(rt, own) != Ok(0) {
         return None;
     }
@@ -36,7 +41,7 @@ fn pass_one<R: Wait>(rt: &R, line: &mut Line, client: &mut Client, own: u32) -> 
 }
 
 // 1,000 requests: how many entries were handed out.
-fn pass_all<R: Wait>(rt: &R, line: &mut Line, client: &mut Client) -> Option<usize> {
+fn pass_all<R: Wait + Abort>(rt: &R, line: &mut Line, client: &mut Client) -> Option<usize> {
     let mut stored: usize = 0;
     for own in 1..=1_000 {
         stored = stored.saturating_add(pass_one(rt, line, client, own)?);
@@ -44,7 +49,7 @@ fn pass_all<R: Wait>(rt: &R, line: &mut Line, client: &mut Client) -> Option<usi
     Some(stored)
 }
 
-fn shifts<R: Wait>(
+fn shifts<R: Wait + Abort>(
     rt: &R,
     alloc: Global,
     at: &Exchange,
@@ -56,7 +61,7 @@ fn shifts<R: Wait>(
     ensures { locks_of door.new.fronts ≡ at.now }
 {
     let mut line = last_line(alloc, at, taps)?;
-    let mut client = enter(rt, alloc, at, door).ok()?;
+    let mut client = enter(rt, alloc, at, door).expect(rt, "no client");
     let stored = pass_all(rt, &mut line, &mut client)?;
     (client.leave(rt) == Ok(())).then_some(stored)
 }
@@ -65,8 +70,9 @@ fn shifts<R: Wait>(
 // and the retire.
 #[test]
 fn lane_goes_on_over_shifts(rt: HostRuntime) {
-    let Ok((exchange, mut door, taps)) = Exchange::new(&rt, rt.alloc(), ROOMY, 1) else {
-        panic!(rt; "there is memory")
+    let (exchange, mut door, taps) = match Exchange::new(&rt, rt.alloc(), ROOMY, 1) {
+        Ok(made) => made,
+        Err(unmade) => panic!(rt; "no exchange: {:?}", unmade.fault),
     };
     let stored = shifts(&rt, rt.alloc(), &exchange, &mut door, taps);
     assert!(rt; stored == Some(3_999));
@@ -106,9 +112,10 @@ fn all_keep(lanes: &[Lane], handed: usize, admits: usize) -> bool {
     true
 }
 
-// Where the new list is refused, the lane keeps its entry.
+// Where the new list is refused, the lane keeps its entry: tools/refuse-memory refuses each allocation
+// in turn.
 #[test]
-fn refused_turn_over(rt: HostRuntime) {
+fn refused_memory_at_a_turn_over(rt: HostRuntime) {
     let (exchange, mut door, taps) = match Exchange::new(&rt, rt.alloc(), ROOMY, 1) {
         Ok(made) => made,
         Err(unmade) => return assert!(rt; unmade.fault == MakeFault::NoMemory),
