@@ -35,7 +35,12 @@ impl Model for Centre {
 
     ghost Value = { Centring };
 
-    ghost view = { λ c. record { mode = c.mode; messages = c.messages; deliveries = c.deliveries; held = c.held } };
+    ghost view = { λ c. record {
+      mode = c.mode;
+      messages = c.messages;
+      deliveries = c.deliveries;
+      held = c.held;
+    } };
 
     ghost invariant = { λ c. (c.messages ≤ last) × (c.deliveries ≤ last) };
 }

@@ -37,9 +37,18 @@ impl Model for Account {
 
     ghost Value = { AccountSettings };
 
-    ghost view = { λ a. record { system_id = string_bytes a.system_id; password = string_bytes a.password; prefixes = map string_bytes a.prefixes.items } };
+    ghost view = { λ a. record {
+      system_id = string_bytes a.system_id;
+      password = string_bytes a.password;
+      prefixes = map string_bytes a.prefixes.items;
+    } };
 
-    ghost invariant = { λ a. IsAccount (record { system_id = string_bytes a.system_id; password = string_bytes a.password; prefixes = map string_bytes a.prefixes.items }) };
+    ghost invariant = { λ a. IsAccount
+        (record {
+          system_id = string_bytes a.system_id;
+          password = string_bytes a.password;
+          prefixes = map string_bytes a.prefixes.items;
+        }) };
 }
 
 impl fmt::Debug for Account {

@@ -30,7 +30,24 @@ impl Model for Config {
 
     ghost Value = { Settings };
 
-    ghost view = { λ c. record { listen = string_bytes c.listen; clients = c.clients; places = c.places; silence = c.silence; limits = c.limits; upstream = c.upstream.items; account = c.account.items } };
+    ghost view = { λ c. record {
+      listen = string_bytes c.listen;
+      clients = c.clients;
+      places = c.places;
+      silence = c.silence;
+      limits = c.limits;
+      upstream = c.upstream.items;
+      account = c.account.items;
+    } };
 
-    ghost invariant = { λ c. IsConfig (record { listen = string_bytes c.listen; clients = c.clients; places = c.places; silence = c.silence; limits = c.limits; upstream = c.upstream.items; account = c.account.items }) };
+    ghost invariant = { λ c. IsConfig
+        (record {
+          listen = string_bytes c.listen;
+          clients = c.clients;
+          places = c.places;
+          silence = c.silence;
+          limits = c.limits;
+          upstream = c.upstream.items;
+          account = c.account.items;
+        }) };
 }

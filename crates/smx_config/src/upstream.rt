@@ -28,9 +28,18 @@ impl Model for Upstream {
 
     ghost Value = { UpstreamSettings };
 
-    ghost view = { λ u. record { address = string_bytes u.address; system_id = string_bytes u.system_id; password = string_bytes u.password } };
+    ghost view = { λ u. record {
+      address = string_bytes u.address;
+      system_id = string_bytes u.system_id;
+      password = string_bytes u.password;
+    } };
 
-    ghost invariant = { λ u. IsUpstream (record { address = string_bytes u.address; system_id = string_bytes u.system_id; password = string_bytes u.password }) };
+    ghost invariant = { λ u. IsUpstream
+        (record {
+          address = string_bytes u.address;
+          system_id = string_bytes u.system_id;
+          password = string_bytes u.password;
+        }) };
 }
 
 impl fmt::Debug for Upstream {

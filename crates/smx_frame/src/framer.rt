@@ -27,7 +27,15 @@ impl Model for Framer {
 
     ghost Value = { Framing };
 
-    ghost view = { λ f. record { stream = record { max = f.max; rest = drop f.start f.octets.items; failed = f.failed }; room = vec_capacity f.octets - vec_len f.octets } };
+    ghost view = { λ f.
+        record {
+          stream = record {
+            max = f.max;
+            rest = drop f.start f.octets.items;
+            failed = f.failed;
+          };
+          room = vec_capacity f.octets - vec_len f.octets;
+        } };
 
     ghost invariant = { IsFramer };
 }
@@ -106,11 +114,15 @@ impl Framer {
     /// bad length is answered once the PDUs before it are out, as soon as its four octets stand
     /// there; from then on it is the answer of each call.
     pub fn next_pdu(&mut self) -> Result<Option<Pdu>, FrameFault>
-        ensures some { IfOk result (λ found. IfSome found (λ p. TakesFirst self.old.stream.max self.old.stream.rest p self.new.stream.rest
-            × (self.new.stream ≡ record self.old.stream { rest = self.new.stream.rest; failed = None }))) }
+        ensures some { IfOk result
+            (λ found. IfSome found
+            (λ p. TakesFirst self.old.stream.max self.old.stream.rest p self.new.stream.rest
+            × (self.new.stream
+            ≡ record self.old.stream { rest = self.new.stream.rest; failed = None }))) }
         ensures none { result ≡ Ok None → HasNone self.old.stream.max self.old.stream.rest
             × (fault_at self.old.stream.max self.old.stream.rest ≡ None) × (self.new ≡ self.old) }
-        ensures faults { (e : FrameFault) → fault_at self.old.stream.max self.old.stream.rest ≡ Some e → (result ≡ Err e)
+        ensures faults { (e : FrameFault)
+            → fault_at self.old.stream.max self.old.stream.rest ≡ Some e → (result ≡ Err e)
             × (self.new.stream ≡ record self.old.stream { failed = Some e }) }
         ensures only { IfErr result (λ e. (e ≡ FrameFault.NoMemory)
             ⊎ (fault_at self.old.stream.max self.old.stream.rest ≡ Some e)) }

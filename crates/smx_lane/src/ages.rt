@@ -71,7 +71,8 @@ impl Ages {
     pub(crate) fn push(&mut self, now: u64, upstream: u32) -> u64
         requires { 0 < self.old.left }
         ensures moment { result ≡ max now self.old.latest }
-        ensures aged { self.new.aged ≡ self.old.aged ++ record { moment = result; upstream = upstream } ∷ [] }
+        ensures aged { self.new.aged ≡ self.old.aged
+            ++ record { moment = result; upstream = upstream } ∷ [] }
         ensures latest { self.new.latest ≡ result }
         ensures places { self.new.places ≡ self.old.places }
     {

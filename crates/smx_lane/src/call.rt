@@ -86,7 +86,8 @@ pub fn run(lane: &mut Lane, call: Call) -> Reply
 /// Makes the calls one after another. Where there is no memory for the replies, none is made. The lists that the turns
 /// over hand out, and what the lane stores at the end, are all that was noted, in order and each entry once.
 pub fn run_all(lane: &mut Lane, alloc: Global, calls: Vec<Call>) -> Result<Vec<Reply>, AllocError>
-    ensures ran { IfOk result (λ replies. (notes : List Note) × Ran lane.old calls.items replies.items notes lane.new
+    ensures ran { IfOk result
+        (λ replies. (notes : List Note) × Ran lane.old calls.items replies.items notes lane.new
         × GoesOn lane.old notes lane.new × HandsOut lane.old replies.items notes lane.new) }
     ensures legal { IfOk result (λ replies. HandsOutLegal lane.old replies.items lane.new) }
     ensures err { OnErr result (lane.new ≡ lane.old) }

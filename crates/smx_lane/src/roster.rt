@@ -143,7 +143,8 @@ impl Roster {
     pub(crate) fn note_accept(&mut self, at: usize, ordinal: u64)
         requires { (m : Member) × (slice_get self.old.members at ≡ Some m) × (m.pending < 1000) }
         ensures members { (m : Member) → slice_get self.old.members at ≡ Some m →
-            self.new.members ≡ with_row m.client (λ n. record n { last = ordinal; pending = n.pending + 1 }) self.old.members }
+            self.new.members ≡ with_row m.client
+            (λ n. record n { last = ordinal; pending = n.pending + 1 }) self.old.members }
         ensures places { self.new.places ≡ self.old.places }
     {
         let row = &mut self.rows[at];
@@ -157,7 +158,8 @@ impl Roster {
             × (length m.waiting < self.old.places) }
         requires few { waiting_of self.old.members ≤ 1000000 }
         ensures members { (m : Member) → slice_get self.old.members at ≡ Some m →
-            self.new.members ≡ with_row m.client (λ n. record n { waiting = n.waiting ++ response ∷ [] }) self.old.members }
+            self.new.members ≡ with_row m.client
+            (λ n. record n { waiting = n.waiting ++ response ∷ [] }) self.old.members }
         ensures places { self.new.places ≡ self.old.places }
     {
         let row = &mut self.rows[at];
@@ -175,7 +177,11 @@ impl Roster {
         ensures oldest { (m : Member) → slice_get self.old.members at ≡ Some m
             → m.waiting ≡ result ∷ drop 1 m.waiting }
         ensures members { (m : Member) → slice_get self.old.members at ≡ Some m →
-            self.new.members ≡ with_row m.client (λ n. record n { pending = n.pending - 1; waiting = drop 1 n.waiting }) self.old.members }
+            self.new.members ≡ with_row m.client
+            (λ n. record n {
+              pending = n.pending - 1;
+              waiting = drop 1 n.waiting;
+            }) self.old.members }
         ensures places { self.new.places ≡ self.old.places }
     {
         let row = &mut self.rows[at];

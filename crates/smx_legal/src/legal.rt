@@ -303,7 +303,8 @@ fn after(limits: Limits, totals: Totals, past: Past<'_>, entry: Entry) -> Totals
 // The size with so many entries stored and these totals.
 fn size(stored: usize, totals: Totals) -> u128
     requires { totals.queued + totals.unanswered + totals.waiting + totals.present < 2 ^ 33 }
-    ensures { result ≡ stored + 3 * totals.queued + 2 * totals.unanswered + totals.waiting + totals.present
+    ensures { result ≡ stored + 3 * totals.queued + 2 * totals.unanswered + totals.waiting
+        + totals.present
         + (if totals.up then 1 else 0) }
 {
     stored as u128

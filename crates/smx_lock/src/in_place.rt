@@ -173,9 +173,11 @@ fn run<S: Kept, C: CriticalSection<S, S::Note>>(
     requires lock { from.lock ≡ lock.now }
     requires may { C.may section from.number from.value }
     requires leaves { (answer : C.Answer) (w : S) → C.does section from.number from.value answer w
-        → MayLeave S.writer S.fixed S.agrees (holding from w) (C.notes section from.number from.value answer) }
+        → MayLeave S.writer S.fixed S.agrees (holding from w)
+        (C.notes section from.number from.value answer) }
     ensures { (w : S) × C.does section from.number from.value result.1 w
-        × (result.0 ≡ after_hold (holding from w) (C.notes section from.number from.value result.1)) }
+        × (result.0
+        ≡ after_hold (holding from w) (C.notes section from.number from.value result.1)) }
 {
     let mut held = from;
     let number = held.number();

@@ -38,9 +38,13 @@ impl<S: Kept> Model for TicketLock<S> {
 
     ghost Value = { LockId S.Fixed };
 
-    ghost view = { λ l. record { table = l.table.shared.table_id; fixed = S.fixed l.table.shared.key.opened.value } };
+    ghost view = { λ l. record {
+      table = l.table.shared.table_id;
+      fixed = S.fixed l.table.shared.key.opened.value;
+    } };
 
-    ghost invariant = { λ l. (l.table.shared.table_id.words ≡ 2) × (l.table.shared.table_id.slots ≡ 1) };
+    ghost invariant = { λ l. (l.table.shared.table_id.words ≡ 2)
+        × (l.table.shared.table_id.slots ≡ 1) };
 }
 
 impl<S: Kept> TicketLock<S> {

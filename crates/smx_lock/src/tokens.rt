@@ -114,7 +114,9 @@ impl<S: Kept> Held<S> {
 
     /// The locked value, to change. When the borrow ends, the hold has what was written last.
     pub fn value_mut(&mut self) -> &mut S
-        ensures* writes_back { sem 𝓛 (Lends (the_row S.row S.Note.row S.Fixed.row S.Kept) S.row self.entry result (holding self.old)) }
+        ensures* writes_back { sem 𝓛
+            (Lends (the_row S.row S.Note.row S.Fixed.row S.Kept) S.row self.entry result
+            (holding self.old)) }
         ensures value { result.now ≡ self.old.value }
     {
         &mut *self.value

@@ -83,10 +83,12 @@ impl Mailbox {
     fn send_one(&mut self) -> Option<Pdu>
         ensures sent { MatchOption result
             (pdus_sent self.old.window self.old.waiting ≡ [])
-            (λ pdu. pdus_sent self.old.window self.old.waiting ≡ pdu ∷ pdus_sent self.new.window self.new.waiting) }
+            (λ pdu. pdus_sent self.old.window self.old.waiting ≡ pdu
+            ∷ pdus_sent self.new.window self.new.waiting) }
         ensures after { MatchOption result
             (after_sent self.old.window self.old.waiting ≡ self.new)
-            (λ _. after_sent self.old.window self.old.waiting ≡ after_sent self.new.window self.new.waiting) }
+            (λ _. after_sent self.old.window self.old.waiting
+            ≡ after_sent self.new.window self.new.waiting) }
     {
         if self.window.is_full() {
             return None;

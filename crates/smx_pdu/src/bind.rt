@@ -93,7 +93,9 @@ pub fn read_bind(body: &[u8]) -> Result<Bind<'_>, BodyFault>
 // Writes the body of a bind at the end, where there is room for its texts, their four endings and
 // the three numbers.
 fn append_bind(bind: &Bind<'_>, out: &mut Vec<u8>)
-    requires { vec_len out.old + (length bind.now.system_id.now + length bind.now.password.now + length bind.now.system_type.now
+    requires { vec_len out.old
+        + (length bind.now.system_id.now + length bind.now.password.now
+        + length bind.now.system_type.now
         + length bind.now.address_range.now + 7) ≤ vec_capacity out.old }
     ensures { out.new.items ≡ out.old.items ++ all_octets bind_fields
         (in_order (said_by bind.now)) }
@@ -117,7 +119,8 @@ pub fn write_bind(bind: &Bind<'_>, out: &mut Vec<u8>) -> Result<(), AllocError>
 
     // Memory is wanted only where there is no room for the body.
     ensures memory { OnErr result (vec_capacity out.old < vec_len out.old
-        + (length bind.now.system_id.now + length bind.now.password.now + length bind.now.system_type.now
+        + (length bind.now.system_id.now + length bind.now.password.now
+        + length bind.now.system_type.now
         + length bind.now.address_range.now + 7)) }
 
     // What was written is read as the same bind, whatever follows it.

@@ -16,7 +16,8 @@ pub fn decode(alloc: Global, octets: &[u8]) -> Result<Pdu, PduFault>
     ensures found { IfOk result (λ p. Spells p octets.now) }
     ensures short { IsErrOf result (PduFault.Short (length octets.now)) ↔ (length octets.now < 16) }
     ensures length { IsErrOf result (PduFault.Length (length_field octets.now) (length octets.now))
-        ↔ ((16 ≤ length octets.now) × ((length_field octets.now < 16) ⊎ (length_field octets.now ≢ length octets.now))) }
+        ↔ ((16 ≤ length octets.now)
+        × ((length_field octets.now < 16) ⊎ (length_field octets.now ≢ length octets.now))) }
     ensures too_long { IsErrOf result (PduFault.TooLong (length octets.now))
         ↔ ((length_field octets.now ≡ length octets.now) × (65536 < length octets.now)) }
 

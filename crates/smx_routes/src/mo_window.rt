@@ -140,7 +140,8 @@ impl MoWindow {
         ensures next { IfOk result (IsNext self.old) }
         ensures ok { IfOk result (λ given. self.new ≡ record self.old {
           last = given;
-          waiting = self.old.waiting ++ record { given = given; lane = lane; number = number; command = command } ∷ [];
+          waiting = self.old.waiting
+              ++ record { given = given; lane = lane; number = number; command = command } ∷ [];
         }) }
         ensures err { OnErr result (self.new ≡ self.old) }
     {

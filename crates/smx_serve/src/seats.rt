@@ -61,7 +61,8 @@ pub(crate) struct Carrier {
     worker: UpstreamWorker<SocketLink>,
     // It has ended, or a turn of it failed: it is turned no more.
     over: bool,
-    ghost fits: { slice_get (arc_value at) worker.stand.tap.lane ≡ Some worker.stand.tap.front.lock },
+    ghost fits: { slice_get (arc_value at) worker.stand.tap.lane
+        ≡ Some worker.stand.tap.front.lock },
     ghost goes_on: { over ≡ false → worker.held ≡ None },
 }
 

@@ -50,7 +50,8 @@ pub(crate) fn admit_all<R: Wait>(
     requires room { length seats.old.items ≤ vec_capacity made.old }
     ensures made { locks_of made.new.items
         ≡ take (length made.new.items) (locks_of seats.old.items) }
-    ensures ok { OnOk result (Entered (length seats.old.items) client seats.old.items seats.new.items made.new.items) }
+    ensures ok { OnOk result
+        (Entered (length seats.old.items) client seats.old.items seats.new.items made.new.items) }
     ensures err { IfErr result (λ e. StopsAt (length made.new.items) client e.0
         seats.old.items seats.new.items made.new.items e.1) }
 {

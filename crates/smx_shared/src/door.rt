@@ -31,7 +31,8 @@ impl Model for Door {
 
     ghost view = { λ d. record { next = d.next; ordinal = d.ordinal; fronts = d.seats.items } };
 
-    ghost invariant = { λ d. IsDoor (record { next = d.next; ordinal = d.ordinal; fronts = d.seats.items }) };
+    ghost invariant = { λ d. IsDoor
+        (record { next = d.next; ordinal = d.ordinal; fronts = d.seats.items }) };
 }
 
 impl Door {

@@ -51,7 +51,8 @@ impl Exchange {
         limits: Limits,
         lanes: usize,
     ) -> Result<(Exchange, Door, Vec<Tap>), Unmade>
-        ensures ok { IfOk result (λ made. Opens lanes limits first_starts made.0 made.1 made.2.items) }
+        ensures ok { IfOk result
+            (λ made. Opens lanes limits first_starts made.0 made.1 made.2.items) }
         ensures taps { IfOk result (λ made. All
             (λ t. slice_get made.0 t.lane ≡ Some t.front.lock) made.2.items) }
         ensures empty { IfOk result (λ made. All IsUnused made.1.fronts

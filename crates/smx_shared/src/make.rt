@@ -82,7 +82,8 @@ pub(crate) fn split_taps<R: Wait>(
     requires locks { locks_of seats.old.items ≡ locks.now }
     requires none { taps.old.items ≡ [] }
     requires room { length seats.old.items ≤ vec_capacity taps.old }
-    ensures ok { OnOk result (Tapped (length seats.old.items) seats.old.items seats.new.items taps.new.items) }
+    ensures ok { OnOk result
+        (Tapped (length seats.old.items) seats.old.items seats.new.items taps.new.items) }
     ensures err { IfErr result (IsStuck seats.old.items) }
 {
     let count = seats.len();

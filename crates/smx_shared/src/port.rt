@@ -39,9 +39,15 @@ impl Model for Port {
 
     ghost Value = { PortView };
 
-    ghost view = { λ p. record { client = p.client; first = p.first; next = p.next; fronts = p.seats.items } };
+    ghost view = { λ p. record {
+      client = p.client;
+      first = p.first;
+      next = p.next;
+      fronts = p.seats.items;
+    } };
 
-    ghost invariant = { λ p. IsPort (record { client = p.client; first = p.first; next = p.next; fronts = p.seats.items }) };
+    ghost invariant = { λ p. IsPort
+        (record { client = p.client; first = p.first; next = p.next; fronts = p.seats.items }) };
 }
 
 fn named(client: u64, ordinal: u64, offer: Offer) -> Request
@@ -76,7 +82,8 @@ impl Port {
         requires lanes { (0 < length seats.items) × (length seats.items ≤ 16) }
         requires first { (0 < first) × (first ≤ 2 ^ 62) }
         requires admitted { HaveAdmitted client seats.items }
-        ensures port { result ≡ record { client = client; first = first; next = first; fronts = seats.items } }
+        ensures port { result
+            ≡ record { client = client; first = first; next = first; fronts = seats.items } }
         ensures listed { HasAccepted result [] }
     {
         Port {

@@ -17,7 +17,8 @@ pub fn write_text<W: Write>(writer: &mut W, text: &[u8]) -> Result<(), WriteFaul
 
     // At least one octet was left.
     ensures err { OnErr result ((front : List ℕ) × (octet : ℕ) × (back : List ℕ)
-        × (text.now ≡ front ++ octet ∷ back) × Appends (W.contents writer.old) (W.contents writer.new) front) }
+        × (text.now ≡ front ++ octet ∷ back)
+        × Appends (W.contents writer.old) (W.contents writer.new) front) }
 {
     let mut rest = text;
     while !rest.is_empty() {

@@ -23,7 +23,11 @@ impl Model for Core {
 
     ghost view = { λ c. record { next = c.next; serving = c.serving; callers = c.callers.items } };
 
-    ghost invariant = { λ c. Sound record { next = c.next; serving = c.serving; callers = c.callers.items } };
+    ghost invariant = { λ c. Sound record {
+      next = c.next;
+      serving = c.serving;
+      callers = c.callers.items;
+    } };
 }
 
 impl Core {

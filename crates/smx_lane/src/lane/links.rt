@@ -12,7 +12,8 @@ use smx_history::{AlreadyDown, Entry, FailRefusal, Failed, Kind, UpRefusal};
 
 // The entry of what tells of the link.
 fn linking(kind: Kind, by: u64) -> Entry
-    ensures { result ≡ record { kind = kind; by = by; client = 0; ordinal = 0; number = 0; command = 0 } }
+    ensures { result
+        ≡ record { kind = kind; by = by; client = 0; ordinal = 0; number = 0; command = 0 } }
 {
     Entry {
         kind,

@@ -10,7 +10,15 @@ use smx_pdu::Pdu;
 
 // The entry of a response to the place.
 pub(super) fn settling(kind: Kind, by: u64, place: &Place, response: &Pdu) -> Entry
-    ensures { result ≡ record { kind = kind; by = by; client = place.now.client; ordinal = place.now.ordinal; number = response.now.number; command = response.now.command } }
+    ensures { result
+        ≡ record {
+          kind = kind;
+          by = by;
+          client = place.now.client;
+          ordinal = place.now.ordinal;
+          number = response.now.number;
+          command = response.now.command;
+        } }
 {
     Entry {
         kind,
