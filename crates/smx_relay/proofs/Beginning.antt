@@ -8,7 +8,7 @@ use Rattle.smx_relay.specs.declared.state.State.{State}
 use Rattle.smx_relay.specs.declared.state.LinkedLane.{LinkedLane}
 use Rattle.smx_relay.specs.Links.{bound_centre}
 use Rattle.smx_relay.specs.Relay.{Relay, RelayLane, begin_lanes, new_lane}
-use Rattle.smx_relay.specs.Private.OnLane.{IsLane}
+use Rattle.smx_relay.specs.Private.OnLane.{IsLane, lasts}
 use Rattle.smx_relay.specs.Private.Agrees.{Agrees}
 use Rattle.smx_relay.proofs.Lanes.{zip-push}
 
@@ -18,10 +18,9 @@ pub record IsBeginning (s : Relay) (state : State) (n : ℕ) : Type 0 where
   pub count : state.count ≡ s.count
   pub started : state.started ≡ true
   pub moment : state.moment ≡ s.moment
-  pub clients : state.clients.items ≡ s.clients
-  pub lanes : AllZip (IsLane s.limits s.clients) (replicate n new_lane) state.lanes.items
+  pub clients : state.clients.list.items ≡ s.clients
+  pub lanes : AllZip (IsLane s.limits (lasts s.clients)) (replicate n new_lane) state.lanes.items
   pub accounts : state.accounts.items ≡ s.accounts
-  pub links : state.links.items ≡ s.links
   pub places : state.places ≡ s.places
   pub routes : state.routes ≡ s.routes
 
@@ -31,43 +30,41 @@ Beginning old state n = (s : Relay) → Agrees old s → s.started ≡ false →
 none_made : (R : RelayLane → LinkedLane → Type 0) (ls : List RelayLane) (lanes : List LinkedLane) → ls ≡ [] → AllZip R ls lanes → AllZip R [] lanes
 none_made R ls lanes e z = subst (λ xs. AllZip R xs lanes) e z
 
-pub beginning_start : (old new : State) → new.limits ≡ old.limits → new.count ≡ old.count → new.started ≡ true → new.clients.items ≡ old.clients.items → new.lanes.items ≡ old.lanes.items
-    → new.accounts.items ≡ old.accounts.items → new.links.items ≡ old.links.items → new.places ≡ old.places → new.routes ≡ old.routes → new.moment ≡ old.moment → Beginning old new 0
-beginning_start old new limits count started clients lanes accounts links places routes moment s a un = record {
+pub beginning_start : (old new : State) → new.limits ≡ old.limits → new.count ≡ old.count → new.started ≡ true → new.clients.list.items ≡ old.clients.list.items → new.lanes.items ≡ old.lanes.items
+    → new.accounts.items ≡ old.accounts.items → new.places ≡ old.places → new.routes ≡ old.routes → new.moment ≡ old.moment → Beginning old new 0
+beginning_start old new limits count started clients lanes accounts places routes moment s a un = record {
   moment = moment ∙ a.moment;
-  places = places ∙ a.links.places_are;
-  routes = routes ∙ a.links.routes_are;
-  accounts = accounts ∙ a.links.accounts_are;
-  links = links ∙ a.links.links_are;
+  places = places ∙ a.routes.places_are;
+  routes = routes ∙ a.routes.routes_are;
+  accounts = accounts ∙ a.routes.accounts_are;
   limits = limits ∙ a.limits;
   count = count ∙ a.count;
   started = started;
   clients = clients ∙ a.clients;
-  lanes = rw lanes (none_made (IsLane s.limits s.clients) s.lanes old.lanes.items (a.none_yet un) a.lanes);
+  lanes = rw lanes (none_made (IsLane s.limits (lasts s.clients)) s.lanes old.lanes.items (a.none_yet un) a.lanes);
 }
 
-pub beginning_more : (old v new : State) (n : ℕ) (k : LinkedLane) → Beginning old v n → k.lane.limits ≡ v.limits → AgreesWith [] k.lane → k.link ≡ bound_centre → new.limits ≡ v.limits → new.count ≡ v.count → new.started ≡ v.started → new.clients.items ≡ v.clients.items → new.lanes.items ≡ v.lanes.items ++ k ∷ []
-    → new.accounts.items ≡ v.accounts.items → new.links.items ≡ v.links.items → new.places ≡ v.places → new.routes ≡ v.routes → new.moment ≡ v.moment → Beginning old new (n + 1)
-beginning_more old v new n k b is agrees bound limits count started clients lanes accounts links places routes moment s a un =
+pub beginning_more : (old v new : State) (n : ℕ) (k : LinkedLane) → Beginning old v n → k.lane.limits ≡ v.limits → AgreesWith [] k.lane → k.link ≡ bound_centre → new.limits ≡ v.limits → new.count ≡ v.count → new.started ≡ v.started → new.clients.list.items ≡ v.clients.list.items → new.lanes.items ≡ v.lanes.items ++ k ∷ []
+    → new.accounts.items ≡ v.accounts.items → new.places ≡ v.places → new.routes ≡ v.routes → new.moment ≡ v.moment → Beginning old new (n + 1)
+beginning_more old v new n k b is agrees bound limits count started clients lanes accounts places routes moment s a un =
     let x = b s a un in
     record {
       moment = moment ∙ x.moment;
       places = places ∙ x.places;
       routes = routes ∙ x.routes;
       accounts = accounts ∙ x.accounts;
-      links = links ∙ x.links;
       limits = limits ∙ x.limits;
       count = count ∙ x.count;
       started = started ∙ x.started;
       clients = clients ∙ x.clients;
-      lanes = rw (lanes, ← replicate_more {X = RelayLane} n new_lane) (zip-push (IsLane s.limits s.clients) (replicate n new_lane) v.lanes.items new_lane k x.lanes (record { on = record { agrees = agrees; limits_are = is ∙ x.limits; own = tt }; link_is = bound }));
+      lanes = rw (lanes, ← replicate_more {X = RelayLane} n new_lane) (zip-push (IsLane s.limits (lasts s.clients)) (replicate n new_lane) v.lanes.items new_lane k x.lanes (record { on = record { agrees = agrees; limits_are = is ∙ x.limits; own = tt }; link_is = bound }));
     }
 
 pub beginning_end : (old new : State) (n : ℕ) → Beginning old new n → n ≡ old.count → old.started ≡ false → (s : Relay) → Agrees old s → Agrees new (begin_lanes s)
 beginning_end old new n b all un s a =
     let off : s.started ≡ false = sym a.started ∙ un in
     let x = b s a off in
-    let whole : AllZip (IsLane s.limits s.clients) (replicate s.count new_lane) new.lanes.items = subst (λ m. AllZip (IsLane s.limits s.clients) (replicate m new_lane) new.lanes.items) (all ∙ a.count) x.lanes in
+    let whole : AllZip (IsLane s.limits (lasts s.clients)) (replicate s.count new_lane) new.lanes.items = subst (λ m. AllZip (IsLane s.limits (lasts s.clients)) (replicate m new_lane) new.lanes.items) (all ∙ a.count) x.lanes in
     rw off (record {
       limits = x.limits;
       count = x.count;
@@ -76,7 +73,7 @@ beginning_end old new n b all un s a =
       clients = x.clients;
       lanes = whole;
       none_yet = λ e. absurd (let z : true ≡ false = e in cc);
-      links = record { accounts_are = x.accounts; links_are = x.links; places_are = x.places; routes_are = x.routes };
+      routes = record { accounts_are = x.accounts; places_are = x.places; routes_are = x.routes; known = a.routes.known };
     })
 
 -- lanes that were made stay

@@ -1,10 +1,10 @@
 -- What a turn leaves as it is.
-use Rattle.std.proofs.Common.{◌≡◌, ℕ, List, ◌∙◌}
+use Rattle.std.proofs.Common.{◌≡◌, ℕ, List, Option, ◌∙◌}
 use Rattle.smx_session.specs.Login.{Login}
 use Rattle.smx_routes.specs.Routing.{Route}
+use Rattle.smx_relay.specs.declared.state.LinkedClient.{LinkedClient}
 use Rattle.smx_relay.specs.declared.state.State.{State}
-use Rattle.smx_relay.specs.Links.{ClientLink}
-use Rattle.smx_relay.specs.Private.Agrees.{HasLinks}
+use Rattle.smx_relay.specs.Private.Agrees.{HasRoutes}
 
 -- the settings stay
 pub record KeepsSettings (old new : State) : Type 0 where
@@ -16,11 +16,11 @@ pub record KeepsSettings (old new : State) : Type 0 where
   pub places : new.places ≡ old.places
   pub routes : new.routes ≡ old.routes
 
--- the links of clients stay too
-pub kept_links : (old new : State) (accounts : List Login) (links : List ClientLink) (places : ℕ) (routes : List Route) → KeepsSettings old new → new.links.items ≡ old.links.items → HasLinks old accounts links places routes → HasLinks new accounts links places routes
-kept_links old new accounts links places routes keeps same has = record {
+-- the routes are still those of the clients
+pub kept_routes : (old new : State) (clients : List (Option LinkedClient)) (accounts : List Login) (places : ℕ) (routes : List Route) → KeepsSettings old new → HasRoutes old clients accounts places routes → HasRoutes new clients accounts places routes
+kept_routes old new clients accounts places routes keeps has = record {
   accounts_are = keeps.accounts ∙ has.accounts_are;
-  links_are = same ∙ has.links_are;
   places_are = keeps.places ∙ has.places_are;
   routes_are = keeps.routes ∙ has.routes_are;
+  known = has.known;
 }

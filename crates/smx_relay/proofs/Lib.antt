@@ -6,6 +6,7 @@ pub mod Expiring
 pub mod LinkTurns
 pub mod Lanes
 pub mod Keeping
+pub mod KnownClients
 pub mod Inboxes
 pub mod Beginning
 pub mod Ring

@@ -1,20 +1,21 @@
 -- From each state a line may print something.
-use Rattle.std.proofs.Common.{ℕ, Bool, true, false, List, ◌∷◌, Option, Some, None, refl, slice_get}
+use Rattle.std.proofs.Common.{ℕ, Bool, true, false, List, ◌∷◌, Option, Some, None, refl}
 use Rattle.smx_script.specs.declared.command.Action.{Action}
 use Rattle.smx_script.specs.declared.command.Action.TheVariants.{Client, Prefix, In, Take, Back, Collect, History, Turn, Lose, Bind, Moment, Expire}
 use Rattle.smx_script.specs.declared.command.Command.{Command}
 use Rattle.smx_script.specs.declared.command.Command.TheVariants.{Skip, Set, Run}
 use Rattle.smx_script.specs.Script.{command_of}
+use Rattle.smx_relay.specs.declared.state.LinkedClient.{LinkedClient}
 use Rattle.smx_relay.specs.Links.{ClientLink, CentreLink, has_failed}
 use Rattle.smx_relay.specs.LaneLinks.{GivesUp, LosesWhere, LosesLink, LoseTurn, is_up_at, lower_lane, with_centre}
 use Rattle.smx_relay.specs.Texts.{down_line}
 use Rattle.smx_history.specs.Contents.{window_after}
-use Rattle.smx_relay.specs.Relay.{Relay, begin_lanes, going_on, has_lane, history_of, lane_at, last_of}
-use Rattle.smx_relay.specs.ClientTurn.{OnOpen, OnStream, OnLink, OnClient, InTurn, followed_by, each_pdu}
+use Rattle.smx_relay.specs.Relay.{Relay, begin_lanes, going_on, has_lane, history_of, lane_at, client_of}
+use Rattle.smx_relay.specs.ClientTurn.{OnOpen, OnStream, OnClient, InTurn, followed_by, each_pdu}
 use Rattle.smx_relay.specs.CentreTurn.{OnUp, OnCentre, OnIndex, BackTurn, centre_pdu, centre_end}
 use Rattle.std.proofs.lemmas.List.Sorted.{IsPermutation-refl}
 use Rattle.smx_routes.specs.Routing.{Route, route}
-use Rattle.smx_relay.specs.Turns.{AddRoute, is_bad_route, RouteAt, RouteOf, RouteTurn, TakeTurn, ExpireTurn, Acts, Does, OnCommand, Lines}
+use Rattle.smx_relay.specs.Turns.{AddRoute, is_bad_route, RouteOf, RouteTurn, TakeTurn, ExpireTurn, Acts, Does, OnCommand, Lines}
 use Rattle.smx_relay.proofs.Receiving.{some_received}
 use Rattle.smx_relay.proofs.FreeNumbers.{some_free}
 use Rattle.smx_relay.proofs.StateTurns.{some_expired_on}
@@ -31,17 +32,13 @@ some_stream : (s : Relay) (c : ℕ) (octets : List ℕ) (k : ClientLink) (b : Bo
 some_stream s c octets k true = (_, refl)
 some_stream s c octets k false = some_open s c octets k
 
-some_link : (s : Relay) (c : ℕ) (octets : List ℕ) (o : Option ClientLink) → Some_of (OnLink s c octets o)
-some_link s c octets None = (None, refl)
-some_link s c octets (Some k) = some_stream s c octets k (has_failed k.stream)
-
-some_client : (s : Relay) (c : ℕ) (octets : List ℕ) (o : Option ℕ) → Some_of (OnClient s c octets o)
+some_client : (s : Relay) (c : ℕ) (octets : List ℕ) (o : Option LinkedClient) → Some_of (OnClient s c octets o)
 some_client s c octets None = (None, refl)
-some_client s c octets (Some last) = some_link s c octets (slice_get s.links c)
+some_client s c octets (Some k) = some_stream s c octets k.link (has_failed k.link.stream)
 
 some_in : (s : Relay) (c : ℕ) (octets : List ℕ) → Some_of (InTurn s c octets)
 unfolding InTurn
-some_in s c octets = some_client s c octets (last_of s.clients c)
+some_in s c octets = some_client s c octets (client_of s.clients c)
 
 some_given_up : (i : ℕ) (y : List ℕ × Relay) → Some_of (GivesUp i y)
 some_given_up i y = (_, (window_after (history_of y.1 i), λ test. refl, refl))
@@ -90,17 +87,13 @@ some_added : (s : Relay) (r : Route) (b : Bool) → Some_of (AddRoute s r b)
 some_added s r true = (None, refl)
 some_added s r false = (_, (r ∷ s.routes, IsPermutation-refl (r ∷ s.routes), refl))
 
-some_route_at : (s : Relay) (c : ℕ) (prefix : List ℕ) (o : Option ClientLink) → Some_of (RouteAt s c prefix o)
-some_route_at s c prefix None = (None, refl)
-some_route_at s c prefix (Some k) = some_added s (route prefix c) (is_bad_route s c prefix k)
-
-some_route_of : (s : Relay) (c : ℕ) (prefix : List ℕ) (o : Option ℕ) → Some_of (RouteOf s c prefix o)
+some_route_of : (s : Relay) (c : ℕ) (prefix : List ℕ) (o : Option LinkedClient) → Some_of (RouteOf s c prefix o)
 some_route_of s c prefix None = (None, refl)
-some_route_of s c prefix (Some last) = some_route_at s c prefix (slice_get s.links c)
+some_route_of s c prefix (Some k) = some_added s (route prefix c) (is_bad_route s c prefix k.link)
 
 some_route : (s : Relay) (c : ℕ) (prefix : List ℕ) → Some_of (RouteTurn s c prefix)
 unfolding RouteTurn
-some_route s c prefix = some_route_of s c prefix (last_of s.clients c)
+some_route s c prefix = some_route_of s c prefix (client_of s.clients c)
 
 some_act : (s : Relay) (action : Action) → Some_of (Acts s action)
 unfolding Acts

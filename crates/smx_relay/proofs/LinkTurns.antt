@@ -16,9 +16,10 @@ use Rattle.smx_relay.specs.Links.{CentreLink, bound_centre}
 use Rattle.smx_relay.specs.declared.state.LinkedLane.{LinkedLane}
 use Rattle.smx_relay.specs.Relay.{Relay, going_on, has_lane, history_of}
 use Rattle.smx_relay.specs.LaneLinks.{AreTakenOn, LosesLink, LosesWhere, LoseTurn, bind_turn, bind_by, give_up_lane, is_up_at, lower_lane, raise_lane, with_centre}
+use Rattle.smx_relay.specs.Private.OnLane.{lasts}
 use Rattle.smx_relay.specs.Private.Agrees.{Agrees, MayPrint, Prints}
 use Rattle.smx_relay.proofs.GivingUp.{GivenUp}
-use Rattle.smx_relay.proofs.Keeping.{kept_links}
+use Rattle.smx_relay.proofs.Keeping.{kept_routes}
 use Rattle.smx_relay.proofs.Lanes.{lane_back, reordered_on}
 use Rattle.smx_relay.proofs.Links.{IsCentre, centred}
 use Rattle.smx_relay.proofs.OwnNotes.{own_given_up, own_lowered, own_raised}
@@ -36,13 +37,13 @@ lane_untouched old new s i k after a is same =
       clients = is.clients ∙ a.clients;
       lanes = rw lanes a.lanes;
       none_yet = a.none_yet;
-      links = kept_links old new s.accounts s.links s.places s.routes is.keeps is.links a.links;
+      routes = kept_routes old new s.clients s.accounts s.places s.routes is.keeps a.routes;
     }
 
 pub lowered_at : (old new : State) (s : Relay) (i : ℕ) (k : LinkedLane) (after : Content) → Agrees old s → IsTurned old new i k after → ((h : List Note) → AgreesWith h k.lane → AgreesWith (lower_lane h) after) → after.limits ≡ k.lane.limits → Agrees new (going_on s i lower_lane)
 lowered_at old new s i k after a is goes limits =
     let on = (lane_is old s i k a is.within is.here).on in
-    goes_on old new s i lower_lane k after a is (goes (history_of s i) on.agrees) limits (own_lowered s.clients (history_of s i) on.own)
+    goes_on old new s i lower_lane k after a is (goes (history_of s i) on.agrees) limits (own_lowered (lasts s.clients) (history_of s i) on.own)
 
 -- what was taken has failed
 abbrev pub GaveUp : State → Relay → ℕ → Type 0
@@ -52,7 +53,7 @@ pub gave_up_at : (old new : State) (s : Relay) (i : ℕ) (k : LinkedLane) (after
 gave_up_at old new s i k after a is goes limits =
     let on = (lane_is old s i k a is.within is.here).on in
     let y = goes (history_of s i) on.agrees in
-    (y.0, y.1, goes_on old new s i (give_up_lane y.0) k after a is y.2 limits (own_given_up s.clients y.0 (history_of s i) on.own))
+    (y.0, y.1, goes_on old new s i (give_up_lane y.0) k after a is y.2 limits (own_given_up (lasts s.clients) y.0 (history_of s i) on.own))
 
 -- ---- the line lose
 
@@ -84,7 +85,7 @@ bind_says : (old : State) (s : Relay) (i : ℕ) (k : LinkedLane) (o : Option UpR
 unfolding bind_turn
 bind_says old s i k o a within here is =
     let h = history_of s i in
-    let same = up_refusal_same (content_after s.limits h) k.lane (reordered_on s.limits s.clients h k.lane (lane_is old s i k a within here).on) in
+    let same = up_refusal_same (content_after s.limits h) k.lane (reordered_on s.limits (lasts s.clients) h k.lane (lane_is old s i k a within here).on) in
     rw (a_lane_at old s i a within) (ap (λ r. Some (bind_by s i r)) (sym same ∙ is))
 
 -- the lane stayed as it was
@@ -102,7 +103,7 @@ raised_at : (old new : State) (s : Relay) (i : ℕ) (k : LinkedLane) (after : Co
 unfolding raise_lane
 raised_at old new s i k after a is goes limits =
     let on = (lane_is old s i k a is.within is.here).on in
-    goes_on old new s i raise_lane k after a is (goes (history_of s i) on.agrees) limits (own_raised s.clients (history_of s i) on.own)
+    goes_on old new s i raise_lane k after a is (goes (history_of s i) on.agrees) limits (own_raised (lasts s.clients) (history_of s i) on.own)
 
 pub bind_anew : (old mid new : State) (s : Relay) (i : ℕ) (k m : LinkedLane) (after : Content) (link : CentreLink) (text : Vec ℕ) → Agrees old s → IsTurned old mid i k after → up_refusal k.lane ≡ None → ((h : List Note) → AgreesWith h k.lane → AgreesWith (h ++ note 0 event.Up ∷ []) after)
     → after.limits ≡ k.lane.limits → IsCentre mid new i m link → link ≡ bound_centre → text.items ≡ bound_line i → Prints (bind_turn s i) new (Some text)

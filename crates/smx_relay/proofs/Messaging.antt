@@ -1,5 +1,7 @@
 -- Turns of messages, as turns of the whole state.
-use Rattle.std.proofs.Common.{◌≡◌, ◌++◌, ℕ, true, false, List, [], get_or, ◌∙◌, ap, subst, codes, Option, Some, None, slice_get, Ok, Err}
+use Rattle.std.proofs.Common.{◌≡◌, ◌++◌, ℕ, Bool, true, false, List, [], sym, ◌∙◌, ap, subst, codes, Option, Some, None, Ok, Err}
+use Rattle.std.specs.Prelude.{Contains}
+use Rattle.std.proofs.lemmas.List.Elements.{All-contains}
 use Rattle.std.specs.List.{flat_map}
 use Rattle.std.specs.Fmt.{decimal}
 use Rattle.smx_pdu.specs.declared.pdu.Pdu.{Pdu}
@@ -13,21 +15,23 @@ use Rattle.smx_routes.specs.Routing.{Route, IsRouted, client_for}
 use Rattle.smx_routes.proofs.Routed.{routed_is}
 use Rattle.smx_mailbox.specs.declared.message.Unanswered.{Unanswered}
 use Rattle.smx_mailbox.specs.Mailbox.{with_message, is_full, pdus_sent, after_sent, after_settling, unanswered_messages, empty_mailbox}
+use Rattle.smx_relay.specs.declared.state.LinkedClient.{LinkedClient}
 use Rattle.smx_relay.specs.declared.state.State.{State}
 use Rattle.smx_relay.specs.Links.{ClientLink}
 use Rattle.smx_relay.specs.Texts.{text_line, pdu_line, to_client, up_lane}
-use Rattle.smx_relay.specs.Relay.{Relay, leave_lanes, with_link}
-use Rattle.smx_relay.specs.Messages.{answer_turn, leave_turn, left_line, message_turn, put_to, send_turn}
+use Rattle.smx_relay.specs.Relay.{Relay, client_at, client_of, leave_lanes, with_link}
+use Rattle.smx_relay.specs.Messages.{answer_on, answer_turn, answer_with, empty_on, leave_turn, left_line, message_turn, put_to, put_with, send_on, send_turn}
 use Rattle.smx_relay.specs.Private.Agrees.{Agrees, Turned}
-use Rattle.smx_relay.proofs.Links.{IsLinked, linked, link_untouched}
+use Rattle.smx_relay.specs.Private.Lending.{IsKnown}
+use Rattle.smx_relay.proofs.Links.{IsLinked, link_is, linked, link_untouched}
 
 -- the client's link is this from now on
-gone_on : (old new : State) (s : Relay) (c : ℕ) (after x : ClientLink) → Agrees old s → IsLinked old new c after → after ≡ x → Agrees new (with_link s c x)
-gone_on old new s c after x a is same = subst (λ (l : ClientLink). Agrees new (with_link s c l)) same (linked old new s c after a is)
+gone_on : (old new : State) (s : Relay) (c : ℕ) (k : LinkedClient) (after x : ClientLink) → Agrees old s → IsLinked old new c k after → after ≡ x → Agrees new (with_link s c x)
+gone_on old new s c k after x a is same = subst (λ (l : ClientLink). Agrees new (with_link s c l)) same (linked old new s c k after a is)
 
 -- the client's link stayed
-pub link_same : (old new : State) (s : Relay) (c : ℕ) (k after : ClientLink) → Agrees old s → k ≡ get_or old.links.items c k → IsLinked old new c after → after ≡ k → Agrees new s
-link_same old new s c k after a here is same = link_untouched old new s c k a here (subst (IsLinked old new c) same is)
+link_same : (old new : State) (s : Relay) (c : ℕ) (k : LinkedClient) (after : ClientLink) → Agrees old s → IsLinked old new c k after → after ≡ k.link → Agrees new s
+link_same old new s c k after a is same = link_untouched old new s c k a (subst (IsLinked old new c k) same is)
 
 -- ---- a message comes
 
@@ -35,19 +39,29 @@ pub put_refused : (s : Relay) (i : ℕ) (p : Pdu) (state : State) (text : List �
 unfolding put_to
 put_refused s i p state text a e = record { text = e; left = a }
 
-pub put_nowhere : (s : Relay) (i : ℕ) (p : Pdu) (c : ℕ) (state : State) (text : List ℕ) → slice_get s.links c ≡ None → Agrees state s → text ≡ pdu_line (up_lane i) (refusal p.command ESME_RX_T_APPN p.number) → Turned (put_to s i p (Some c)) state text
+-- by the client's link, and whether its mailbox is full
+put_by : (s : Relay) (i : ℕ) (p : Pdu) (c : ℕ) (k : ClientLink) (b : Bool) (state : State) (text : List ℕ) → (client_at s c).link ≡ k → is_full k.mailbox ≡ b → Turned (put_with s i p c k b) state text → Turned (put_to s i p (Some c)) state text
 unfolding put_to
-put_nowhere s i p c state text at a e = rw at (record { text = e; left = a })
+put_by s i p c k b state text at full turned =
+    let here : Turned (put_with s i p c k (is_full k.mailbox)) state text = subst (λ x. Turned (put_with s i p c k x) state text) (sym full) turned in
+    subst (λ (l : ClientLink). Turned (put_with s i p c l (is_full l.mailbox)) state text) (sym at) here
 
-pub put_there : (old new : State) (s : Relay) (i : ℕ) (p : Pdu) (c : ℕ) (k after : ClientLink) (text : List ℕ) → Agrees old s → slice_get s.links c ≡ Some k → is_full k.mailbox ≡ false → IsLinked old new c after
-    → after ≡ record k { mailbox = with_message (record { lane = i; pdu = p }) k.mailbox } → text ≡ text_line (codes "mo " ++ decimal c) → Turned (put_to s i p (Some c)) new text
-unfolding put_to
-put_there old new s i p c k after text a at room is same e = rw (at, room) (record { text = e; left = gone_on old new s c after (record k { mailbox = with_message (record { lane = i; pdu = p }) k.mailbox }) a is same })
+pub put_there : (old new : State) (s : Relay) (i : ℕ) (p : Pdu) (c : ℕ) (k : LinkedClient) (after : ClientLink) (text : List ℕ) → Agrees old s → is_full k.link.mailbox ≡ false → IsLinked old new c k after
+    → after ≡ record k.link { mailbox = with_message (record { lane = i; pdu = p }) k.link.mailbox } → text ≡ text_line (codes "mo " ++ decimal c) → Turned (put_to s i p (Some c)) new text
+put_there old new s i p c k after text a room is same e =
+    put_by s i p c k.link false new text (link_is old s c k a is.here) room (record { text = e; left = gone_on old new s c k after (record k.link { mailbox = with_message (record { lane = i; pdu = p }) k.link.mailbox }) a is same })
 
-pub put_full : (s : Relay) (i : ℕ) (p : Pdu) (c : ℕ) (k : ClientLink) (state : State) (text : List ℕ) → slice_get s.links c ≡ Some k → is_full k.mailbox ≡ true → Agrees state s → text ≡ pdu_line (up_lane i) (refusal p.command ESME_RMSGQFUL p.number)
-    → Turned (put_to s i p (Some c)) state text
-unfolding put_to
-put_full s i p c k state text at full a e = rw (at, full) (record { text = e; left = a })
+pub put_full : (old new : State) (s : Relay) (i : ℕ) (p : Pdu) (c : ℕ) (k : LinkedClient) (after : ClientLink) (text : List ℕ) → Agrees old s → is_full k.link.mailbox ≡ true → IsLinked old new c k after → after ≡ k.link → text ≡ pdu_line (up_lane i) (refusal p.command ESME_RMSGQFUL p.number)
+    → Turned (put_to s i p (Some c)) new text
+put_full old new s i p c k after text a full is same e = put_by s i p c k.link true new text (link_is old s c k a is.here) full (record { text = e; left = link_same old new s c k after a is same })
+
+-- the client of a route is there
+pub routed_known : (state : State) (s : Relay) (address : List ℕ) (c : ℕ) → Agrees state s → IsRouted state.routes address (Some c) → IsKnown state.clients.list.items c
+routed_known state s address c a routed =
+    let r = routed.0 in
+    let there : Contains s.routes r = subst (λ (rs : List Route). Contains rs r) a.routes.routes_are routed.1.there in
+    let known : IsKnown s.clients r.client = All-contains (λ (x : Route). IsKnown s.clients x.client) s.routes r a.routes.known there in
+    subst (λ (cs : List (Option LinkedClient)). IsKnown cs c) (sym a.clients) (subst (IsKnown s.clients) routed.2 known)
 
 pub message_unread : (s : Relay) (i : ℕ) (p : Pdu) (fault : BodyFault) (state : State) (text : List ℕ) → destination_at p.body ≡ Err fault → Agrees state s → text ≡ pdu_line (up_lane i) (refusal p.command ESME_RINVCMDLEN p.number) → Turned (message_turn i p s) state text
 unfolding message_turn
@@ -61,46 +75,44 @@ message_read s i p address rs o state text at is same turned =
 
 -- ---- a client answers
 
-pub answer_nowhere : (s : Relay) (c : ℕ) (p : Pdu) (state : State) (text : List ℕ) → slice_get s.links c ≡ None → Agrees state s → text ≡ [] → Turned (answer_turn c p s) state text
+-- by the client's link, and the message that waits
+answer_by : (s : Relay) (c : ℕ) (p : Pdu) (k : ClientLink) (o : Option Waiting) (state : State) (text : List ℕ) → (client_at s c).link ≡ k → message_for p.number p.command k.mailbox.window.waiting ≡ o → Turned (answer_with s c p k o) state text → Turned (answer_turn c p s) state text
 unfolding answer_turn
-answer_nowhere s c p state text at a e = rw at (record { text = e; left = a })
+answer_by s c p k o state text at found turned =
+    let here : Turned (answer_on s c p k) state text = subst (λ (x : Option Waiting). Turned (answer_with s c p k x) state text) (sym found) turned in
+    subst (λ (l : ClientLink). Turned (answer_on s c p l) state text) (sym at) here
 
-pub answer_dropped : (s : Relay) (c : ℕ) (p : Pdu) (k : ClientLink) (state : State) (text : List ℕ) → slice_get s.links c ≡ Some k → message_for p.number p.command k.mailbox.window.waiting ≡ None → Agrees state s → text ≡ [] → Turned (answer_turn c p s) state text
-unfolding answer_turn
-answer_dropped s c p k state text at none a e = rw (at, none) (record { text = e; left = a })
+pub answer_dropped : (old new : State) (s : Relay) (c : ℕ) (p : Pdu) (k : LinkedClient) (after : ClientLink) (text : List ℕ) → Agrees old s → message_for p.number p.command k.link.mailbox.window.waiting ≡ None → IsLinked old new c k after → after ≡ k.link → text ≡ [] → Turned (answer_turn c p s) new text
+answer_dropped old new s c p k after text a none is same e = answer_by s c p k.link None new text (link_is old s c k a is.here) none (record { text = e; left = link_same old new s c k after a is same })
 
-pub answer_passed : (old new : State) (s : Relay) (c : ℕ) (p : Pdu) (k after : ClientLink) (w : Waiting) (lane number : ℕ) (text : List ℕ) → Agrees old s → slice_get s.links c ≡ Some k → message_for p.number p.command k.mailbox.window.waiting ≡ Some w → IsLinked old new c after
-    → after ≡ record k { mailbox = after_settling p.number k.mailbox } → lane ≡ w.lane → number ≡ w.number → text ≡ pdu_line (up_lane lane) (record p { number = number }) → Turned (answer_turn c p s) new text
-unfolding answer_turn
-answer_passed old new s c p k after w lane number text a at some is same from under e = rw (at, some) (record {
+pub answer_passed : (old new : State) (s : Relay) (c : ℕ) (p : Pdu) (k : LinkedClient) (after : ClientLink) (w : Waiting) (lane number : ℕ) (text : List ℕ) → Agrees old s → message_for p.number p.command k.link.mailbox.window.waiting ≡ Some w → IsLinked old new c k after
+    → after ≡ record k.link { mailbox = after_settling p.number k.link.mailbox } → lane ≡ w.lane → number ≡ w.number → text ≡ pdu_line (up_lane lane) (record p { number = number }) → Turned (answer_turn c p s) new text
+answer_passed old new s c p k after w lane number text a some is same from under e = answer_by s c p k.link (Some w) new text (link_is old s c k a is.here) some (record {
   text = e ∙ ap (λ l. pdu_line (up_lane l) (record p { number = number })) from ∙ ap (λ n. pdu_line (up_lane w.lane) (record p { number = n })) under;
-  left = gone_on old new s c after (record k { mailbox = after_settling p.number k.mailbox }) a is same;
+  left = gone_on old new s c k after (record k.link { mailbox = after_settling p.number k.link.mailbox }) a is same;
 })
 
 -- ---- a client leaves
 
-pub leave_nowhere : (s : Relay) (c : ℕ) (state : State) (text : List ℕ) → slice_get s.links c ≡ None → Agrees state (leave_lanes c s) → text ≡ [] → Turned (leave_turn c s) state text
+pub leave_emptied : (old mid new : State) (s : Relay) (c : ℕ) (k : LinkedClient) (after : ClientLink) (messages : List Unanswered) (text : List ℕ) → Agrees old s → Agrees mid (leave_lanes c s) → mid.clients.list.items ≡ old.clients.list.items → IsLinked mid new c k after → after ≡ record k.link { mailbox = empty_mailbox k.link.mailbox }
+    → messages ≡ unanswered_messages k.link.mailbox → text ≡ flat_map left_line messages → Turned (leave_turn c s) new text
 unfolding leave_turn
-leave_nowhere s c state text at a e = rw at (record { text = e; left = a })
-
-pub leave_emptied : (mid new : State) (s : Relay) (c : ℕ) (k after : ClientLink) (messages : List Unanswered) (text : List ℕ) → Agrees mid (leave_lanes c s) → slice_get s.links c ≡ Some k → IsLinked mid new c after → after ≡ record k { mailbox = empty_mailbox k.mailbox } → messages ≡ unanswered_messages k.mailbox
-    → text ≡ flat_map left_line messages → Turned (leave_turn c s) new text
-unfolding leave_turn
-leave_emptied mid new s c k after messages text a at is same all e = rw at (record {
-  text = e ∙ ap (flat_map left_line) all;
-  left = gone_on mid new (leave_lanes c s) c after (record k { mailbox = empty_mailbox k.mailbox }) a is same;
-})
+leave_emptied old mid new s c k after messages text b a kept is same all e =
+    let at : (client_at s c).link ≡ k.link = link_is old s c k b (ap (λ (cs : List (Option LinkedClient)). client_of cs c) (sym kept) ∙ is.here) in
+    let here : Turned (empty_on c k.link (leave_lanes c s)) new text = record {
+      text = e ∙ ap (flat_map left_line) all;
+      left = gone_on mid new (leave_lanes c s) c k after (record k.link { mailbox = empty_mailbox k.link.mailbox }) a is same;
+    } in
+    subst (λ (l : ClientLink). Turned (empty_on c l (leave_lanes c s)) new text) (sym at) here
 
 -- ---- a client collects
 
-pub send_nowhere : (s : Relay) (c : ℕ) (state : State) (text : List ℕ) → slice_get s.links c ≡ None → Agrees state s → text ≡ [] → Turned (send_turn c s) state text
+pub send_some : (old new : State) (s : Relay) (c : ℕ) (k : LinkedClient) (after : ClientLink) (pdus : List Pdu) (text : List ℕ) → Agrees old s → IsLinked old new c k after → after ≡ record k.link { mailbox = after_sent k.link.mailbox.window k.link.mailbox.waiting }
+    → pdus ≡ pdus_sent k.link.mailbox.window k.link.mailbox.waiting → text ≡ flat_map (pdu_line (to_client c)) pdus → Turned (send_turn c s) new text
 unfolding send_turn
-send_nowhere s c state text at a e = rw at (record { text = e; left = a })
-
-pub send_some : (old new : State) (s : Relay) (c : ℕ) (k after : ClientLink) (pdus : List Pdu) (text : List ℕ) → Agrees old s → slice_get s.links c ≡ Some k → IsLinked old new c after → after ≡ record k { mailbox = after_sent k.mailbox.window k.mailbox.waiting }
-    → pdus ≡ pdus_sent k.mailbox.window k.mailbox.waiting → text ≡ flat_map (pdu_line (to_client c)) pdus → Turned (send_turn c s) new text
-unfolding send_turn
-send_some old new s c k after pdus text a at is same all e = rw at (record {
-  text = e ∙ ap (flat_map (pdu_line (to_client c))) all;
-  left = gone_on old new s c after (record k { mailbox = after_sent k.mailbox.window k.mailbox.waiting }) a is same;
-})
+send_some old new s c k after pdus text a is same all e =
+    let here : Turned (send_on c k.link s) new text = record {
+      text = e ∙ ap (flat_map (pdu_line (to_client c))) all;
+      left = gone_on old new s c k after (record k.link { mailbox = after_sent k.link.mailbox.window k.link.mailbox.waiting }) a is same;
+    } in
+    subst (λ (l : ClientLink). Turned (send_on c l s) new text) (sym (link_is old s c k a is.here)) here

@@ -1,5 +1,5 @@
 -- What the lines add to the histories is the one caller's.
-use Rattle.std.proofs.Common.{◌≡◌, ◌⊎◌, ◌<◌, ◌≤◌, ◌+◌, ℕ, Bool, true, false, cond, List, [], ◌∷◌, ◌++◌, length, set, refl, sym, ◌∙◌, ap, subst, arith, Option, Some, None, slice_get, inl, inr, zero, suc, codes, map, append_assoc, nat_lt}
+use Rattle.std.proofs.Common.{◌≡◌, ◌⊎◌, ◌≤◌, ◌+◌, ℕ, Bool, true, false, cond, List, [], ◌∷◌, ◌++◌, length, set, refl, sym, ◌∙◌, ap, subst, arith, Option, Some, None, inl, inr, zero, suc, codes, map, append_assoc, nat_lt}
 use Rattle.std.specs.Prelude.{unwrap_or}
 use Rattle.std.specs.List.{AllByRecursion, find}
 use Rattle.std.specs.Fmt.{decimal}
@@ -23,8 +23,8 @@ use Rattle.smx_history.specs.Replies.{answers_place, is_present, waiting_after}
 use Rattle.smx_history.proofs.Growing.{All-push}
 use Rattle.smx_history.proofs.ShiftAgrees.{entries_of-shift}
 use Rattle.smx_history.proofs.Reading.{entries_of-push, entries_of-append, All-each}
-use Rattle.smx_relay.specs.Relay.{last_of, last_in, take_with, take_on, turn_on, back_to, back_on, collect_lane, enter_lane, enter_and_leave_lane}
-use Rattle.smx_relay.specs.Private.OnLane.{IsOwn, AreOwn}
+use Rattle.smx_relay.specs.Relay.{take_with, take_on, turn_on, back_to, back_on, collect_lane, enter_lane, enter_and_leave_lane}
+use Rattle.smx_relay.specs.Private.OnLane.{IsOwn, AreOwn, last_of}
 use Rattle.smx_relay.proofs.Collecting.{collects}
 
 pub own_push : (clients : List (Option ℕ)) (h : List Note) (n : Note) (e : Entry) → entry_in n ≡ Some e → AreOwn clients h → IsOwn clients e → AreOwn clients (h ++ n ∷ [])
@@ -123,16 +123,16 @@ pub own_grows : (old new : List (Option ℕ)) (h : List Note) → Grows old new 
 own_grows old new h grows own =
     All-each (IsOwn old) (IsOwn new) (λ e is. record { by = is.by; known = λ accept. omega (arith, is.known accept, grows.each e.client) }) (entries_of h) own
 
-slice_get-push : {X : Type 0} (xs : List X) (x : X) (i : ℕ) → (slice_get (xs ++ x ∷ []) i ≡ slice_get xs i) ⊎ (slice_get xs i ≡ None)
-slice_get-push [] x i = inr refl
-slice_get-push (y ∷ xs) x zero = inl refl
-slice_get-push (y ∷ xs) x (suc i) = slice_get-push xs x i
+last_of-push : (clients : List (Option ℕ)) (o : Option ℕ) (c : ℕ) → (last_of (clients ++ o ∷ []) c ≡ last_of clients c) ⊎ (last_of clients c ≡ None)
+last_of-push [] o c = inr refl
+last_of-push (x ∷ clients) o zero = inl refl
+last_of-push (x ∷ clients) o (suc c) = last_of-push clients o c
 
 pub grows_push : (clients : List (Option ℕ)) (o : Option ℕ) → Grows clients (clients ++ o ∷ [])
 grows_push clients o = record {
-  each = λ c. elim (slice_get-push clients o c) [
-    | inl same ↦ omega (arith, ap (λ x. unwrap_or (last_in x) 0) same)
-    | inr none ↦ omega (arith, ap (λ x. unwrap_or (last_in x) 0) none)
+  each = λ c. elim (last_of-push clients o c) [
+    | inl same ↦ omega (arith, ap (λ x. unwrap_or x 0) same)
+    | inr none ↦ omega (arith, ap (λ x. unwrap_or x 0) none)
   ];
 }
 
@@ -151,8 +151,3 @@ pub last_set : (clients : List (Option ℕ)) (c n m : ℕ) → last_of clients c
 last_set [] c n m known = cc
 last_set (o ∷ clients) zero n m known = refl
 last_set (o ∷ clients) (suc c) n m known = last_set clients c n m known
-
-pub known_within : (clients : List (Option ℕ)) (c n : ℕ) → last_of clients c ≡ Some n → c < length clients
-known_within [] c n known = absurd (let z : None ≡ Some n = known in cc)
-known_within (o ∷ clients) zero n known = omega arith
-known_within (o ∷ clients) (suc c) n known = let w = known_within clients c n known in omega (arith, w)

@@ -11,8 +11,7 @@ use Rattle.smx_history.specs.History.{entries_of}
 use Rattle.smx_history.specs.Contents.{AgreesWith, Content}
 use Rattle.smx_history.proofs.Reading.{All-kept, All-each}
 use Rattle.smx_history.proofs.Rows.{each_row}
-use Rattle.smx_relay.specs.Relay.{last_of}
-use Rattle.smx_relay.specs.Private.OnLane.{IsOwn, AreOwn, AreOurs}
+use Rattle.smx_relay.specs.Private.OnLane.{IsOwn, AreOwn, AreOurs, last_of}
 
 pub ours_of_own : (clients : List (Option ℕ)) (h : List Note) → AreOwn clients h → AreOurs h
 ours_of_own clients h own = All-each (IsOwn clients) (λ e. e.by ≡ 0) (λ e is. is.by) (entries_of h) own

@@ -13,20 +13,20 @@ use Rattle.smx_relay.specs.declared.state.LinkedLane.{LinkedLane}
 use Rattle.smx_relay.specs.Relay.{Relay, going_on, has_lane, history_of, lane_after, lane_at, lane_turn, new_lane, on_lane, take_on, back_on, history_on, turn_on}
 use Rattle.smx_relay.specs.Turns.{AreExpiredOn, ExpireTurn, IsFree, TakeTurn}
 use Rattle.smx_relay.specs.Expiring.{expire_on, expired_after}
-use Rattle.smx_relay.specs.Private.OnLane.{IsLane, AreOwn, TurnsLane}
+use Rattle.smx_relay.specs.Private.OnLane.{IsLane, AreOwn, TurnsLane, lasts}
 use Rattle.smx_relay.specs.Private.Agrees.{Agrees, MayPrint, Prints, Turned}
 use Rattle.smx_relay.proofs.Lanes.{zip-length, zip-at, zip-set, lane_goes}
 use Rattle.smx_relay.proofs.OwnNotes.{own_take, own_back, own_expired, own_turn}
 use Rattle.smx_relay.proofs.Expiring.{Expires}
 use Rattle.smx_relay.proofs.FreeNumbers.{some_free}
-use Rattle.smx_relay.proofs.Keeping.{KeepsSettings, kept_links}
+use Rattle.smx_relay.proofs.Keeping.{KeepsSettings, kept_routes}
 
 -- there is no such lane
 pub no_lane_at : (old : State) (s : Relay) (i : ℕ) → Agrees old s → length old.lanes.items ≤ i → has_lane s i ≡ false
-no_lane_at old s i a past = le-ltb i (length s.lanes) (omega (arith, zip-length (IsLane s.limits s.clients) s.lanes old.lanes.items a.lanes))
+no_lane_at old s i a past = le-ltb i (length s.lanes) (omega (arith, zip-length (IsLane s.limits (lasts s.clients)) s.lanes old.lanes.items a.lanes))
 
 pub a_lane_at : (old : State) (s : Relay) (i : ℕ) → Agrees old s → i < length old.lanes.items → has_lane s i ≡ true
-a_lane_at old s i a within = lt-ltb i (length s.lanes) (omega (arith, zip-length (IsLane s.limits s.clients) s.lanes old.lanes.items a.lanes))
+a_lane_at old s i a within = lt-ltb i (length s.lanes) (omega (arith, zip-length (IsLane s.limits (lasts s.clients)) s.lanes old.lanes.items a.lanes))
 
 pub no_lane : (old new : State) (s : Relay) (i : ℕ) (f : List Note → List ℕ × List Note) → Agrees old s → length old.lanes.items ≤ i → Prints (on_lane s i f) new None
 no_lane old new s i f a past = rw (no_lane_at old s i a past) tt
@@ -36,22 +36,21 @@ pub record IsTurned (old new : State) (i : ℕ) (k : LinkedLane) (after : Conten
   pub within : i < length old.lanes.items
   pub here : k ≡ get_or old.lanes.items i k
   pub lanes : new.lanes.items ≡ set old.lanes.items i (record k { lane = after })
-  pub clients : new.clients.items ≡ old.clients.items
-  pub links : new.links.items ≡ old.links.items
+  pub clients : new.clients.list.items ≡ old.clients.list.items
   pub keeps : KeepsSettings old new
 
 -- the lane at the index has its history and its link
-pub lane_is : (old : State) (s : Relay) (i : ℕ) (k : LinkedLane) → Agrees old s → i < length old.lanes.items → k ≡ get_or old.lanes.items i k → IsLane s.limits s.clients (lane_at s i) k
+pub lane_is : (old : State) (s : Relay) (i : ℕ) (k : LinkedLane) → Agrees old s → i < length old.lanes.items → k ≡ get_or old.lanes.items i k → IsLane s.limits (lasts s.clients) (lane_at s i) k
 lane_is old s i k a within here =
-    subst (IsLane s.limits s.clients (lane_at s i)) (sym here) (zip-at (IsLane s.limits s.clients) s.lanes old.lanes.items i new_lane k a.lanes within)
+    subst (IsLane s.limits (lasts s.clients) (lane_at s i)) (sym here) (zip-at (IsLane s.limits (lasts s.clients)) s.lanes old.lanes.items i new_lane k a.lanes within)
 
 -- its history went on
-pub goes_on : (old new : State) (s : Relay) (i : ℕ) (f : List Note → List Note) (k : LinkedLane) (after : Content) → Agrees old s → IsTurned old new i k after → AgreesWith (f (history_of s i)) after → after.limits ≡ k.lane.limits → AreOwn s.clients (f (history_of s i)) → Agrees new (going_on s i f)
+pub goes_on : (old new : State) (s : Relay) (i : ℕ) (f : List Note → List Note) (k : LinkedLane) (after : Content) → Agrees old s → IsTurned old new i k after → AgreesWith (f (history_of s i)) after → after.limits ≡ k.lane.limits → AreOwn (lasts s.clients) (f (history_of s i)) → Agrees new (going_on s i f)
 goes_on old new s i f k after a is agrees limits own =
-    let R = IsLane s.limits s.clients in
+    let R = IsLane s.limits (lasts s.clients) in
     let l = lane_at s i in
     let was = lane_is old s i k a is.within is.here in
-    let on : R (lane_after f l) (record k { lane = after }) = lane_goes s.limits s.clients f l k after was (record { agrees = agrees; limits_are = limits ∙ was.on.limits_are; own = own }) in
+    let on : R (lane_after f l) (record k { lane = after }) = lane_goes s.limits (lasts s.clients) f l k after was (record { agrees = agrees; limits_are = limits ∙ was.on.limits_are; own = own }) in
     let lanes : AllZip R (set s.lanes i (lane_after f l)) new.lanes.items =
     subst (λ ls. AllZip R (set s.lanes i (lane_after f l)) ls) (sym is.lanes) (zip-set R s.lanes old.lanes.items i (lane_after f l) (record k { lane = after }) a.lanes on) in
     record {
@@ -62,14 +61,14 @@ goes_on old new s i f k after a is agrees limits own =
       clients = is.clients ∙ a.clients;
       lanes = lanes;
       none_yet = λ off. ap (λ ls. set ls i (lane_after f l)) (a.none_yet off);
-      links = kept_links old new s.accounts s.links s.places s.routes is.keeps is.links a.links;
+      routes = kept_routes old new s.clients s.accounts s.places s.routes is.keeps a.routes;
     }
 
-turn_goes : (old new : State) (s : Relay) (i : ℕ) (f : List Note → List ℕ × List Note) (k : LinkedLane) (after : Content) (text : List ℕ) → Agrees old s → IsTurned old new i k after → TurnsLane (f (history_of s i)) k.lane after text → AreOwn s.clients (f (history_of s i)).1 → Turned (lane_turn s i f) new text
+turn_goes : (old new : State) (s : Relay) (i : ℕ) (f : List Note → List ℕ × List Note) (k : LinkedLane) (after : Content) (text : List ℕ) → Agrees old s → IsTurned old new i k after → TurnsLane (f (history_of s i)) k.lane after text → AreOwn (lasts s.clients) (f (history_of s i)).1 → Turned (lane_turn s i f) new text
 turn_goes old new s i f k after text a is turns own =
     record { text = turns.text; left = goes_on old new s i (λ h. (f h).1) k after a is turns.agrees turns.limits_are own }
 
-pub lane_turned : (old new : State) (s : Relay) (i : ℕ) (f : List Note → List ℕ × List Note) (k : LinkedLane) (after : Content) (text : Vec ℕ) → Agrees old s → IsTurned old new i k after → TurnsLane (f (history_of s i)) k.lane after text.items → AreOwn s.clients (f (history_of s i)).1 → Prints (on_lane s i f) new (Some text)
+pub lane_turned : (old new : State) (s : Relay) (i : ℕ) (f : List Note → List ℕ × List Note) (k : LinkedLane) (after : Content) (text : Vec ℕ) → Agrees old s → IsTurned old new i k after → TurnsLane (f (history_of s i)) k.lane after text.items → AreOwn (lasts s.clients) (f (history_of s i)).1 → Prints (on_lane s i f) new (Some text)
 lane_turned old new s i f k after text a is turns own = rw (a_lane_at old s i a is.within) (turn_goes old new s i f k after text.items a is turns own)
 
 -- a request is taken
@@ -93,7 +92,7 @@ takes_some old new s i k after text a is goes =
     let t = goes h on.agrees in
     let here : TurnsLane (take_on s.limits old.moment t.0 i h) k.lane after text.items = subst (λ l. TurnsLane (take_on l old.moment t.0 i h) k.lane after text.items) on.limits_are t.2 in
     let turns : TurnsLane (take_on s.limits s.moment t.0 i h) k.lane after text.items = subst (λ m. TurnsLane (take_on s.limits m t.0 i h) k.lane after text.items) a.moment here in
-    (t.0, t.1, lane_turned old new s i (take_on s.limits s.moment t.0 i) k after text a is turns (own_take s.clients s.limits s.moment t.0 i h on.own))
+    (t.0, t.1, lane_turned old new s i (take_on s.limits s.moment t.0 i) k after text a is turns (own_take (lasts s.clients) s.limits s.moment t.0 i h on.own))
 
 -- what was taken so long ago has failed
 abbrev pub ExpiresOn : Relay → ℕ → ℕ → State → Option (Vec ℕ) → Type 0
@@ -117,14 +116,14 @@ expires_on old new s i age k after text a is goes =
     let on = (lane_is old s i k a is.within is.here).on in
     let t = goes h on.agrees in
     let counts : SameCounts (expired_after s.moment age h) t.0 = subst (λ m. SameCounts (expired_after m age h) t.0) a.moment t.1 in
-    (t.0, counts, lane_turned old new s i (expire_on i t.0) k after text a is t.2 (own_expired s.clients i t.0 h on.own))
+    (t.0, counts, lane_turned old new s i (expire_on i t.0) k after text a is t.2 (own_expired (lasts s.clients) i t.0 h on.own))
 
 -- a response's turn
 pub backs : {E : Type 0} (old new : State) (s : Relay) (i : ℕ) (p : Pdu) (k : LinkedLane) (after : Content) (result : Result (Vec ℕ) E) → Agrees old s → IsTurned old new i k after
     → ((h : List Note) → AgreesWith h k.lane → IfOk result (λ text. TurnsLane (back_on p h) k.lane after text.items)) → IfOk result (λ text. Turned (lane_turn s i (back_on p)) new text.items)
 backs old new s i p k after (Ok text) a is goes =
     let on = (lane_is old s i k a is.within is.here).on in
-    turn_goes old new s i (back_on p) k after text.items a is (goes (history_of s i) on.agrees) (own_back s.clients p (history_of s i) on.own)
+    turn_goes old new s i (back_on p) k after text.items a is (goes (history_of s i) on.agrees) (own_back (lasts s.clients) p (history_of s i) on.own)
 backs old new s i p k after (Err e) a is goes = tt
 
 history_own : (clients : List (Option ℕ)) (h : List Note) → AreOwn clients h → AreOwn clients (history_on h).1
@@ -135,10 +134,10 @@ pub history_some : (old new : State) (s : Relay) (i : ℕ) (k : LinkedLane) (aft
     → ((h : List Note) → AgreesWith h k.lane → TurnsLane (history_on h) k.lane after text.items) → Prints (on_lane s i history_on) new (Some text)
 history_some old new s i k after text a is goes =
     let on = (lane_is old s i k a is.within is.here).on in
-    lane_turned old new s i history_on k after text a is (goes (history_of s i) on.agrees) (history_own s.clients (history_of s i) on.own)
+    lane_turned old new s i history_on k after text a is (goes (history_of s i) on.agrees) (history_own (lasts s.clients) (history_of s i) on.own)
 
 pub turn_some : (old new : State) (s : Relay) (i : ℕ) (k : LinkedLane) (after : Content) (text : Vec ℕ) → Agrees old s → IsTurned old new i k after
     → ((h : List Note) → AgreesWith h k.lane → TurnsLane (turn_on i h) k.lane after text.items) → Prints (on_lane s i (turn_on i)) new (Some text)
 turn_some old new s i k after text a is goes =
     let on = (lane_is old s i k a is.within is.here).on in
-    lane_turned old new s i (turn_on i) k after text a is (goes (history_of s i) on.agrees) (own_turn s.clients i (history_of s i) on.own)
+    lane_turned old new s i (turn_on i) k after text a is (goes (history_of s i) on.agrees) (own_turn (lasts s.clients) i (history_of s i) on.own)

@@ -1,5 +1,5 @@
 -- Octets of a client: what its session decides of each PDU, and what comes of that.
-use Rattle.std.specs.Prelude.{◌≡◌, ℕ, ◌++◌, Bool, true, false, List, [], ◌∷◌, ◌+◌, Option, Some, None, slice_get}
+use Rattle.std.specs.Prelude.{◌≡◌, ℕ, ◌++◌, Bool, true, false, List, [], ◌∷◌, ◌+◌, Option, Some, None}
 use Rattle.smx_pdu.specs.declared.pdu.Pdu.{Pdu}
 use Rattle.smx_frame.specs.Stream.{Stream}
 use Rattle.smx_session.specs.Login.{Login}
@@ -12,7 +12,8 @@ use Rattle.smx_session.specs.ClientTable.{client_decides}
 use Rattle.smx_history.specs.declared.request.Request.{Request}
 use Rattle.smx_relay.specs.Texts.{pdu_line, to_client, closed_line}
 use Rattle.smx_relay.specs.Links.{ClientLink, Receives, has_failed}
-use Rattle.smx_relay.specs.Relay.{Relay, last_of, lane_for, in_turn_at, request_of, with_link}
+use Rattle.smx_relay.specs.declared.state.LinkedClient.{LinkedClient}
+use Rattle.smx_relay.specs.Relay.{Relay, client_of, client_at, lane_for, in_turn_at, request_of, with_link}
 use Rattle.smx_relay.specs.Messages.{answer_turn, leave_turn}
 
 -- one turn, and then another
@@ -28,13 +29,9 @@ abbrev pub offer_at : Relay → ℕ → ℕ → Option Request → List ℕ × R
 offer_at s c last None = ([], s)
 offer_at s c last (Some r) = in_turn_at s r (lane_for s c last)
 
-abbrev pub forward_at : Relay → ℕ → Pdu → Option ℕ → List ℕ × Relay
-forward_at s c p None = ([], s)
-forward_at s c p (Some last) = offer_at s c last (request_of c (last + 1) p)
-
 -- a client's request goes to the first lane that accepts it
 unfoldable pub forward : ℕ → Pdu → Relay → List ℕ × Relay
-forward c p s = forward_at s c p (last_of s.clients c)
+forward c p s = offer_at s c (client_at s c).last (request_of c ((client_at s c).last + 1) p)
 
 abbrev pub answer_client : ℕ → Pdu → Relay → List ℕ × Relay
 answer_client c answer s = (pdu_line (to_client c) answer, s)
@@ -57,23 +54,17 @@ client_act c p Ignore s = ([], s)
 unfoldable pub decides : List Login → ClientState → Pdu → Act × ClientState
 decides accounts state p = client_decides accounts state p
 
-abbrev pub client_pdu_at : ℕ → Pdu → Relay → Option ClientLink → List ℕ × Relay
-client_pdu_at c p s None = ([], s)
-client_pdu_at c p s (Some k) =
-    client_act c p (decides s.accounts k.session p).0 (with_link s c (record k { session = (decides s.accounts k.session p).1 }))
+abbrev pub client_pdu_on : ℕ → Pdu → ClientLink → Relay → List ℕ × Relay
+client_pdu_on c p k s = client_act c p (decides s.accounts k.session p).0 (with_link s c (record k { session = (decides s.accounts k.session p).1 }))
 
 -- a PDU of a client
 unfoldable pub client_pdu : ℕ → Pdu → Relay → List ℕ × Relay
-client_pdu c p s = client_pdu_at c p s (slice_get s.links c)
-
-abbrev pub client_end_at : ℕ → Relay → Option ClientLink → List ℕ × Relay
-client_end_at c s None = ([], s)
-client_end_at c s (Some k) = hang_up c nack_of_undecoded (with_link s c (record k { session = Ended }))
+client_pdu c p s = client_pdu_on c p (client_at s c).link s
 
 -- at a bad length the client is hung up
 unfoldable pub client_end : ℕ → Bool → Relay → List ℕ × Relay
 client_end c false s = ([], s)
-client_end c true s = client_end_at c s (slice_get s.links c)
+client_end c true s = hang_up c nack_of_undecoded (with_link s c (record (client_at s c).link { session = Ended }))
 
 -- each PDU that the octets complete is decided
 abbrev pub OnOpen : Relay → ℕ → List ℕ → ClientLink → Option (List ℕ × Relay) → Type 0
@@ -86,14 +77,11 @@ abbrev pub OnStream : Relay → ℕ → List ℕ → ClientLink → Bool → Opt
 OnStream s c octets k true x = x ≡ Some (closed_line c, s)
 OnStream s c octets k false x = OnOpen s c octets k x
 
-abbrev pub OnLink : Relay → ℕ → List ℕ → Option ClientLink → Option (List ℕ × Relay) → Type 0
-OnLink s c octets None x = x ≡ None
-OnLink s c octets (Some k) x = OnStream s c octets k (has_failed k.stream) x
-
-abbrev pub OnClient : Relay → ℕ → List ℕ → Option ℕ → Option (List ℕ × Relay) → Type 0
+-- whether there is such a client
+abbrev pub OnClient : Relay → ℕ → List ℕ → Option LinkedClient → Option (List ℕ × Relay) → Type 0
 OnClient s c octets None x = x ≡ None
-OnClient s c octets (Some last) x = OnLink s c octets (slice_get s.links c) x
+OnClient s c octets (Some k) x = OnStream s c octets k.link (has_failed k.link.stream) x
 
 -- octets of a client
 unfoldable pub InTurn : Relay → ℕ → List ℕ → Option (List ℕ × Relay) → Type 0
-InTurn s c octets x = OnClient s c octets (last_of s.clients c) x
+InTurn s c octets x = OnClient s c octets (client_of s.clients c) x

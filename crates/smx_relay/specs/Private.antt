@@ -2,3 +2,4 @@
 pub mod OnLane
 pub mod Agrees
 pub mod Inboxes
+pub mod Lending

@@ -1,5 +1,5 @@
 -- What each line of a script does and prints, over the histories of the lanes.
-use Rattle.std.specs.Prelude.{◌≡◌, refl, ℕ, ◌+◌, ◌%◌, Bool, true, false, List, [], ◌∷◌, ◌++◌, length, map, filter, not, ◌==◌, take, drop, set, replicate, position, codes, Option, Some, None, get_or, is_none, is_some, ◌||◌, max, nat_lt, nat_le, slice_get, if◌then◌else◌}
+use Rattle.std.specs.Prelude.{◌≡◌, refl, ℕ, ◌+◌, ◌%◌, Bool, true, false, List, [], ◌∷◌, ◌++◌, length, map, filter, not, ◌==◌, take, drop, set, replicate, position, codes, Option, Some, None, get_or, unwrap_or, is_none, is_some, ◌||◌, max, nat_lt, nat_le, slice_get, if◌then◌else◌}
 use Rattle.std.specs.List.{flat_map, find}
 use Rattle.std.specs.Fmt.{decimal}
 use Rattle.smx_pdu.specs.declared.pdu.Pdu.{Pdu}
@@ -19,6 +19,7 @@ use Rattle.smx_history.specs.Replies.{accept_refusal, admit_refusal, answers_pla
 use Rattle.smx_routes.specs.Routing.{Route}
 use Rattle.smx_script.specs.declared.command.Setting.{Setting}
 use Rattle.smx_script.specs.declared.command.Setting.TheVariants.{Sizes, Lanes, Places, Account}
+use Rattle.smx_relay.specs.declared.state.LinkedClient.{LinkedClient}
 use Rattle.smx_relay.specs.Links.{ClientLink, CentreLink, new_link, bound_centre}
 use Rattle.smx_relay.specs.Texts.{text_line, pdu_line, to_client, up_lane, refusal_of, upstream_of, entry_line, turned_line, down_line}
 
@@ -30,6 +31,10 @@ pub record RelayLane : Type 0 where
 -- nothing has happened, and the link is bound
 abbrev pub new_lane : RelayLane
 new_lane = record { history = []; link = bound_centre }
+
+-- a client that has sent nothing
+abbrev pub new_client : ℕ → Option Kind → LinkedClient
+new_client places kind = record { last = 0; link = new_link places kind }
 
 pub record Relay : Type 0 where
   -- the sizes of each lane, and how many lanes there are to be
@@ -45,10 +50,8 @@ pub record Relay : Type 0 where
   pub moment : ℕ
   -- what happened on each lane since, and its link
   pub lanes : List RelayLane
-  -- the last ordinal of each client, by its number; none of a number that no client has, as 0 and those that were refused
-  pub clients : List (Option ℕ)
-  -- the link of each client, by its number; that of a number that no client has is never used
-  pub links : List ClientLink
+  -- the clients, by their numbers; none has the number 0, or one that was refused
+  pub clients : List (Option LinkedClient)
   -- the prefixes of the clients that messages go to
   pub routes : List Route
 
@@ -62,7 +65,6 @@ start = record {
   moment = 0;
   lanes = [];
   clients = None ∷ [];
-  links = new_link 16 None ∷ [];
   routes = [];
 }
 
@@ -77,13 +79,13 @@ set_turn s (Account login) = if s.started || nat_le 256 (length s.accounts) then
 abbrev pub begin_lanes : Relay → Relay
 begin_lanes s = if s.started then s else record s { started = true; lanes = replicate s.count new_lane }
 
-abbrev pub last_in : Option (Option ℕ) → Option ℕ
-last_in None = None
-last_in (Some last) = last
+-- the client with this number
+abbrev pub client_of : List (Option LinkedClient) → ℕ → Option LinkedClient
+client_of clients c = get_or clients c None
 
--- the last ordinal of a client that is known
-abbrev pub last_of : List (Option ℕ) → ℕ → Option ℕ
-last_of clients c = last_in (slice_get clients c)
+-- so is it, where there is one
+abbrev pub client_at : Relay → ℕ → LinkedClient
+client_at s c = unwrap_or (client_of s.clients c) (new_client s.places None)
 
 abbrev pub has_lane : Relay → ℕ → Bool
 has_lane s i = nat_lt i (length s.lanes)
@@ -121,10 +123,10 @@ enter_and_leave_lane c h = (h ++ note 0 (event.Admit c) ∷ []) ++ note 0 (event
 
 abbrev pub client_turn_at : Relay → Option Kind → ℕ → Option ℕ → List ℕ × Relay
 client_turn_at s kind c None =
-    (text_line (codes "client " ++ decimal c), record s { lanes = map (lane_after (enter_lane c)) s.lanes; clients = s.clients ++ Some 0 ∷ []; links = s.links ++ new_link s.places kind ∷ [] })
+    (text_line (codes "client " ++ decimal c), record s { lanes = map (lane_after (enter_lane c)) s.lanes; clients = s.clients ++ Some (new_client s.places kind) ∷ [] })
 client_turn_at s kind c (Some i) = (
   text_line (codes "refused"),
-  record s { lanes = map (lane_after (enter_and_leave_lane c)) (take i s.lanes) ++ drop i s.lanes; clients = s.clients ++ None ∷ []; links = s.links ++ new_link s.places kind ∷ [] },
+  record s { lanes = map (lane_after (enter_and_leave_lane c)) (take i s.lanes) ++ drop i s.lanes; clients = s.clients ++ None ∷ [] },
 )
 
 -- the next number is used up either way
@@ -139,9 +141,13 @@ leave_lane c h = if is_present c h then h ++ note 0 (event.Retire c) ∷ [] else
 abbrev pub leave_lanes : ℕ → Relay → Relay
 leave_lanes c s = record s { lanes = map (lane_after (leave_lane c)) s.lanes; routes = filter (λ r. not (r.client == c)) s.routes }
 
--- the link of a client is this from now on
+-- the client with this number is this from now on
+abbrev pub with_client : Relay → ℕ → LinkedClient → Relay
+with_client s c k = record s { clients = set s.clients c (Some k) }
+
+-- its link is this
 abbrev pub with_link : Relay → ℕ → ClientLink → Relay
-with_link s c k = record s { links = set s.links c k }
+with_link s c link = with_client s c (record (client_at s c) { link = link })
 
 abbrev pub request_if : (c n : ℕ) (p : Pdu) (b : Bool) → is_forwarded p.command ≡ b → Option Request
 request_if c n p true e = Some (record { client = c; ordinal = n; own = p.number; command = p.command; body = p.body; forwarded = e })
@@ -165,7 +171,7 @@ abbrev pub in_turn_at : Relay → Request → Option ℕ → List ℕ × Relay
 in_turn_at s r None = (pdu_line (to_client r.client) (refusal_of r), s)
 in_turn_at s r (Some i) = (
   text_line (codes "accepted " ++ (decimal r.client ++ (codes " " ++ decimal i))),
-  record (going_on s i (with_request r)) { clients = set s.clients r.client (Some r.ordinal) },
+  with_client (going_on s i (with_request r)) r.client (record (client_at s r.client) { last = r.ordinal }),
 )
 
 -- the moment on a lane: since a script's moments never fall, no take there was later and it is the script's

@@ -18,7 +18,8 @@ use Rattle.smx_script.specs.declared.command.Action.TheVariants.{Client, Prefix,
 use Rattle.smx_script.specs.Script.{command_of}
 use Rattle.smx_relay.specs.Texts.{text_line}
 use Rattle.smx_relay.specs.Links.{ClientLink, may_receive}
-use Rattle.smx_relay.specs.Relay.{Relay, set_turn, begin_lanes, last_of, history_of, on_lane, take_on, client_turn, collect_lanes, history_on, turn_on}
+use Rattle.smx_relay.specs.declared.state.LinkedClient.{LinkedClient}
+use Rattle.smx_relay.specs.Relay.{Relay, set_turn, begin_lanes, client_of, history_of, on_lane, take_on, client_turn, collect_lanes, history_on, turn_on}
 use Rattle.smx_relay.specs.Messages.{send_turn}
 use Rattle.smx_relay.specs.ClientTurn.{InTurn, followed_by}
 use Rattle.smx_relay.specs.CentreTurn.{BackTurn}
@@ -59,17 +60,13 @@ AddRoute s r false x = (rs : List Route) × IsPermutation (r ∷ s.routes) rs ×
 abbrev pub is_bad_route : Relay → ℕ → List ℕ → ClientLink → Bool
 is_bad_route s c prefix k = not (may_receive k.session) || (nat_lt 64 (length prefix) || has_route s.routes (route prefix c))
 
-abbrev pub RouteAt : Relay → ℕ → List ℕ → Option ClientLink → Option (List ℕ × Relay) → Type 0
-RouteAt s c prefix None x = x ≡ None
-RouteAt s c prefix (Some k) x = AddRoute s (route prefix c) (is_bad_route s c prefix k) x
-
-abbrev pub RouteOf : Relay → ℕ → List ℕ → Option ℕ → Option (List ℕ × Relay) → Type 0
+abbrev pub RouteOf : Relay → ℕ → List ℕ → Option LinkedClient → Option (List ℕ × Relay) → Type 0
 RouteOf s c prefix None x = x ≡ None
-RouteOf s c prefix (Some last) x = RouteAt s c prefix (slice_get s.links c) x
+RouteOf s c prefix (Some k) x = AddRoute s (route prefix c) (is_bad_route s c prefix k.link) x
 
 -- a client that is bound to receive has one prefix more
 unfoldable pub RouteTurn : Relay → ℕ → List ℕ → Option (List ℕ × Relay) → Type 0
-RouteTurn s c prefix x = RouteOf s c prefix (last_of s.clients c) x
+RouteTurn s c prefix x = RouteOf s c prefix (client_of s.clients c) x
 
 abbrev pub or_none : ℕ → List ℕ → List ℕ
 or_none c [] = text_line (codes "none " ++ decimal c)
@@ -79,9 +76,9 @@ abbrev pub said_or_none : ℕ → List ℕ × Relay → List ℕ × Relay
 said_or_none c x = (or_none c x.0, x.1)
 
 -- a client collects its responses, and then its messages
-abbrev pub collect_turn : Relay → ℕ → Option ℕ → Option (List ℕ × Relay)
+abbrev pub collect_turn : Relay → ℕ → Option LinkedClient → Option (List ℕ × Relay)
 collect_turn s c None = None
-collect_turn s c (Some last) = Some (said_or_none c (followed_by (collect_lanes c s) (send_turn c)))
+collect_turn s c (Some k) = Some (said_or_none c (followed_by (collect_lanes c s) (send_turn c)))
 
 unfoldable pub Acts : Relay → Action → Option (List ℕ × Relay) → Type 0
 Acts s (Client kind) x = x ≡ Some (client_turn s kind)
@@ -89,7 +86,7 @@ Acts s (Prefix c prefix) x = RouteTurn s c prefix x
 Acts s (In c octets) x = InTurn s c octets x
 Acts s (Take i) x = TakeTurn s i x
 Acts s (Back i octets) x = BackTurn s i octets x
-Acts s (Collect c) x = x ≡ collect_turn s c (last_of s.clients c)
+Acts s (Collect c) x = x ≡ collect_turn s c (client_of s.clients c)
 Acts s (History i) x = x ≡ on_lane s i history_on
 Acts s (Turn i) x = x ≡ on_lane s i (turn_on i)
 Acts s (Lose i) x = LoseTurn s i x

@@ -33,7 +33,8 @@ fn centre_act(
     pdu: Pdu,
     act: UpAct,
 ) -> Result<Vec<u8>, AllocError>
-    requires { lane < length state.old.lanes.items }
+    requires there { lane < length state.old.lanes.items }
+    requires reached { IsReached state.old }
     ensures turned { (s : Relay) → Agrees state.old s → IfOk result (λ text.
         Turned (centre_act lane pdu act s) state.new text.items) }
     ensures lanes { length state.new.lanes.items ≡ length state.old.lanes.items }
@@ -61,7 +62,8 @@ fn centre_act(
 
 // A PDU of the centre. What comes after its unbind is dropped.
 fn centre_pdu(alloc: Global, state: &mut State, lane: u64, pdu: Pdu) -> Result<Vec<u8>, AllocError>
-    requires { lane < length state.old.lanes.items }
+    requires there { lane < length state.old.lanes.items }
+    requires reached { IsReached state.old }
     ensures turned { (s : Relay) → Agrees state.old s → IfOk result (λ text.
         Turned (centre_pdu lane pdu s) state.new text.items) }
     ensures lanes { length state.new.lanes.items ≡ length state.old.lanes.items }
@@ -81,7 +83,8 @@ fn each_centre_pdu(
     lane: u64,
     pdus: Vec<Pdu>,
 ) -> Result<Vec<u8>, AllocError>
-    requires { lane < length state.old.lanes.items }
+    requires there { lane < length state.old.lanes.items }
+    requires reached { IsReached state.old }
     ensures turned { (s : Relay) → Agrees state.old s → IfOk result (λ text.
         Turned (each_pdu (centre_pdu lane) s pdus.items) state.new text.items) }
     ensures lanes { length state.new.lanes.items ≡ length state.old.lanes.items }

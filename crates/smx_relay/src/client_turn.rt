@@ -4,8 +4,9 @@ ghost use Rattle.smx_relay.specs.Relay.{Relay};
 ghost use Rattle.smx_relay.specs.ClientTurn.{InTurn, client_act, client_end, client_pdu, each_pdu};
 ghost use Rattle.smx_relay.specs.ClientTurn.{hang_up};
 ghost use Rattle.smx_relay.specs.Private.Agrees.{Agrees, IsReached, MayPrint, Turned};
+ghost use Rattle.smx_relay.specs.Private.Lending.{IsKnown};
 
-use crate::clients::{last_of, leave};
+use crate::clients::leave;
 use crate::messages::answer;
 use crate::requests::forward;
 use crate::state::State;
@@ -21,7 +22,8 @@ fn hang_up(
     client: u64,
     answer: &Pdu,
 ) -> Result<Vec<u8>, AllocError>
-    requires { IsReached state.old }
+    requires reached { IsReached state.old }
+    requires known { IsKnown state.old.clients.list.items client }
     ensures { (s : Relay) → Agrees state.old s → IfOk result (λ text.
         Turned (hang_up client answer.now s) state.new text.items) }
 {
@@ -38,7 +40,8 @@ fn client_act(
     pdu: Pdu,
     act: Act,
 ) -> Result<Vec<u8>, AllocError>
-    requires { IsReached state.old }
+    requires reached { IsReached state.old }
+    requires known { IsKnown state.old.clients.list.items client }
     ensures { (s : Relay) → Agrees state.old s → IfOk result (λ text.
         Turned (client_act client pdu act s) state.new text.items) }
 {
@@ -68,15 +71,13 @@ fn client_pdu(
     client: u64,
     pdu: Pdu,
 ) -> Result<Vec<u8>, AllocError>
-    requires { IsReached state.old }
+    requires reached { IsReached state.old }
+    requires known { IsKnown state.old.clients.list.items client }
     ensures { (s : Relay) → Agrees state.old s → IfOk result (λ text.
         Turned (client_pdu client pdu s) state.new text.items) }
 {
-    let at = client as usize;
-    if at >= state.links.len() {
-        return Ok(Vec::new(alloc));
-    }
-    let act = state.links[at].decide(&pdu, &state.accounts)?;
+    let known = state.clients.known_mut(client);
+    let act = known.link.decide(&pdu, &state.accounts)?;
     client_act(alloc, state, client, pdu, act)
 }
 
@@ -87,7 +88,8 @@ fn each_client_pdu(
     client: u64,
     pdus: Vec<Pdu>,
 ) -> Result<Vec<u8>, AllocError>
-    requires { IsReached state.old }
+    requires reached { IsReached state.old }
+    requires known { IsKnown state.old.clients.list.items client }
     ensures { (s : Relay) → Agrees state.old s → IfOk result (λ text.
         Turned (each_pdu (client_pdu client) s pdus.items) state.new text.items) }
 {
@@ -105,18 +107,15 @@ fn client_end(
     client: u64,
     has_failed: bool,
 ) -> Result<Vec<u8>, AllocError>
-    requires { IsReached state.old }
+    requires reached { IsReached state.old }
+    requires known { IsKnown state.old.clients.list.items client }
     ensures { (s : Relay) → Agrees state.old s → IfOk result (λ text.
         Turned (client_end client has_failed s) state.new text.items) }
 {
-    let at = client as usize;
     if !has_failed {
         return Ok(Vec::new(alloc));
     }
-    if at >= state.links.len() {
-        return Ok(Vec::new(alloc));
-    }
-    let answer = state.links[at].end();
+    let answer = state.clients.known_mut(client).link.end();
     hang_up(alloc, state, client, &answer)
 }
 
@@ -131,14 +130,10 @@ pub(crate) fn receive_in(
     ensures { (s : Relay) → Agrees state.old s → IfOk result (λ text.
         MayPrint (InTurn s client octets.now) state.new text) }
 {
-    let at = client as usize;
-    if last_of(&state.clients, client).is_none() {
+    if state.clients.get(client).is_none() {
         return Ok(None);
     }
-    if at >= state.links.len() {
-        return Ok(None);
-    }
-    let link = &mut state.links[at];
+    let link = &mut state.clients.known_mut(client).link;
     if link.has_failed() {
         return Ok(Some(closed_line(alloc, client)?));
     }

@@ -4,31 +4,21 @@ ghost use Rattle.std.specs.List.{flat_map};
 ghost use Rattle.smx_history.specs.declared.limits.Limits.{Limits};
 ghost use Rattle.smx_relay.specs.Relay.{Relay, RelayLane, client_turn, collect_text, collect_lane};
 ghost use Rattle.smx_relay.specs.Relay.{enter_lane, enter_and_leave_lane};
-ghost use Rattle.smx_relay.specs.Relay.{lane_after, last_of};
+ghost use Rattle.smx_relay.specs.Relay.{client_of, lane_after};
 ghost use Rattle.smx_relay.specs.Messages.{leave_turn};
 ghost use Rattle.smx_relay.specs.Turns.{collect_turn};
 ghost use Rattle.smx_relay.specs.Private.Agrees.{Agrees, AreOn, AreReached, Enters, HasLeft};
 ghost use Rattle.smx_relay.specs.Private.Agrees.{HaveEntered, IsReached, Prints, Turned};
+ghost use Rattle.smx_relay.specs.Private.Lending.{IsKnown};
 
 use crate::link::ClientLink;
 use crate::messages::{left_lines, send};
 use crate::on_lane::{CALLER, collect_on};
-use crate::state::{LinkedLane, State};
+use crate::state::{LinkedClient, LinkedLane, State};
 use crate::texts::{client_line, none_line};
 use smx_lane::AdmitFault;
 use smx_session::Kind;
 use std::alloc::{AllocError, Global};
-
-/// The last ordinal of a client that is known.
-pub fn last_of(clients: &[Option<u64>], client: u64) -> Option<u64>
-    ensures { result ≡ last_of clients.now client }
-{
-    let at = client as usize;
-    if at >= clients.len() {
-        return None;
-    }
-    clients[at]
-}
 
 // Admits the client on one lane after another, and gives the index of the first that refuses it.
 fn admit_all(lanes: &mut Vec<LinkedLane>, client: u64) -> Result<Option<usize>, AllocError>
@@ -68,18 +58,19 @@ pub fn enter(alloc: Global, state: &mut State, kind: Option<Kind>) -> Result<Vec
     ensures { (s : Relay) → Agrees state.old s → IfOk result (λ text.
         Turned (client_turn s kind) state.new text.items) }
 {
-    let client = state.clients.len() as u64;
-    state
-        .links
-        .push(ClientLink::new(alloc, kind, state.places))?;
+    let client = state.clients.list.len() as u64;
     match admit_all(&mut state.lanes, client)? {
         None => {
-            state.clients.push(Some(0))?;
+            let link = ClientLink::new(alloc, kind, state.places);
+            state
+                .clients
+                .list
+                .push(Some(LinkedClient { last: 0, link }))?;
             client_line(alloc, client)
         }
         Some(refusing) => {
             retire_before(&mut state.lanes, refusing, client);
-            state.clients.push(None)?;
+            state.clients.list.push(None)?;
             Vec::from_slice(alloc, b"refused\n")
         }
     }
@@ -97,17 +88,14 @@ fn leave_all(lanes: &mut Vec<LinkedLane>, client: u64)
 
 /// A client leaves each lane, its prefixes go, and each of its messages is answered.
 pub(crate) fn leave(alloc: Global, state: &mut State, client: u64) -> Result<Vec<u8>, AllocError>
-    requires { IsReached state.old }
+    requires reached { IsReached state.old }
+    requires known { IsKnown state.old.clients.list.items client }
     ensures { (s : Relay) → Agrees state.old s → IfOk result (λ text.
         Turned (leave_turn client s) state.new text.items) }
 {
     leave_all(&mut state.lanes, client);
     state.routes.remove(client);
-    let at = client as usize;
-    if at >= state.links.len() {
-        return Ok(Vec::new(alloc));
-    }
-    let messages = state.links[at].empty()?;
+    let messages = state.clients.known_mut(client).link.empty()?;
     left_lines(alloc, &messages)
 }
 
@@ -135,9 +123,9 @@ fn collect_all(
 pub fn collect(alloc: Global, state: &mut State, client: u64) -> Result<Option<Vec<u8>>, AllocError>
     requires { IsReached state.old }
     ensures { (s : Relay) → Agrees state.old s → IfOk result (λ text.
-        Prints (collect_turn s client (last_of s.clients client)) state.new text) }
+        Prints (collect_turn s client (client_of s.clients client)) state.new text) }
 {
-    if last_of(&state.clients, client).is_none() {
+    if state.clients.get(client).is_none() {
         return Ok(None);
     }
     let mut text = collect_all(alloc, &mut state.lanes, client)?;

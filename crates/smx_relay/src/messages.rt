@@ -6,9 +6,9 @@ ghost use Rattle.smx_pdu.specs.Answers.{refusal};
 ghost use Rattle.smx_relay.specs.Relay.{Relay};
 ghost use Rattle.smx_relay.specs.Messages.{answer_turn, left_line, message_turn, put_to, send_turn};
 ghost use Rattle.smx_relay.specs.Turns.{RouteTurn};
-ghost use Rattle.smx_relay.specs.Private.Agrees.{Agrees, MayPrint, Turned};
+ghost use Rattle.smx_relay.specs.Private.Agrees.{Agrees, IsReached, MayPrint, Turned};
+ghost use Rattle.smx_relay.specs.Private.Lending.{IsKnown};
 
-use crate::clients::last_of;
 use crate::state::State;
 use crate::texts::{message_line, push_to_client, push_up, up_line};
 use smx_mailbox::{Message, Unanswered};
@@ -28,14 +28,10 @@ pub(crate) fn route(
     ensures { (s : Relay) → Agrees state.old s → IfOk result (λ text.
         MayPrint (RouteTurn s client prefix.now) state.new text) }
 {
-    let at = client as usize;
-    if last_of(&state.clients, client).is_none() {
+    let Some(known) = state.clients.get(client) else {
         return Ok(None);
-    }
-    if at >= state.links.len() {
-        return Ok(None);
-    }
-    if !state.links[at].may_receive() {
+    };
+    if !known.link.may_receive() {
         return Ok(None);
     }
     match state.routes.insert(prefix, client) {
@@ -64,19 +60,16 @@ fn put(
     client: u64,
     pdu: Pdu,
 ) -> Result<Vec<u8>, AllocError>
+    requires { IsKnown state.old.clients.list.items client }
     ensures turned { (s : Relay) → Agrees state.old s → IfOk result (λ text.
         Turned (put_to s lane pdu (Some client)) state.new text.items) }
     ensures lanes { state.new.lanes ≡ state.old.lanes }
 {
-    let at = client as usize;
-    if at >= state.links.len() {
-        return refuse(alloc, lane, &pdu, ESME_RX_T_APPN);
-    }
     let message = Message {
         lane: lane as usize,
         pdu,
     };
-    match state.links[at].put(message)? {
+    match state.clients.known_mut(client).link.put(message)? {
         Ok(()) => message_line(alloc, client),
         Err(message) => refuse(alloc, lane, &message.pdu, ESME_RMSGQFUL),
     }
@@ -89,6 +82,7 @@ pub(crate) fn message(
     lane: u64,
     pdu: Pdu,
 ) -> Result<Vec<u8>, AllocError>
+    requires { IsReached state.old }
     ensures turned { (s : Relay) → Agrees state.old s → IfOk result (λ text.
         Turned (message_turn lane pdu s) state.new text.items) }
     ensures lanes { state.new.lanes ≡ state.old.lanes }
@@ -111,14 +105,16 @@ pub(crate) fn answer(
     client: u64,
     pdu: Pdu,
 ) -> Result<Vec<u8>, AllocError>
+    requires { IsKnown state.old.clients.list.items client }
     ensures { (s : Relay) → Agrees state.old s → IfOk result (λ text.
         Turned (answer_turn client pdu s) state.new text.items) }
 {
-    let at = client as usize;
-    if at >= state.links.len() {
-        return Ok(Vec::new(alloc));
-    }
-    match state.links[at].settle(pdu.number, pdu.command) {
+    match state
+        .clients
+        .known_mut(client)
+        .link
+        .settle(pdu.number, pdu.command)
+    {
         Some((lane, number)) => {
             let Pdu {
                 command,
@@ -163,13 +159,10 @@ fn sent_lines(alloc: Global, client: u64, pdus: &[Pdu]) -> Result<Vec<u8>, Alloc
 
 /// The client is sent the messages that its window has places for.
 pub(crate) fn send(alloc: Global, state: &mut State, client: u64) -> Result<Vec<u8>, AllocError>
+    requires { IsKnown state.old.clients.list.items client }
     ensures { (s : Relay) → Agrees state.old s → IfOk result (λ text.
         Turned (send_turn client s) state.new text.items) }
 {
-    let at = client as usize;
-    if at >= state.links.len() {
-        return Ok(Vec::new(alloc));
-    }
-    let pdus = state.links[at].send()?;
+    let pdus = state.clients.known_mut(client).link.send()?;
     sent_lines(alloc, client, &pdus)
 }

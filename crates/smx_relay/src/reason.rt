@@ -1,23 +1,15 @@
 //! Why a line is bad, for a person.
 
-use crate::clients::last_of;
 use crate::state::State;
 use smx_script::{Action, Command, Reason, Subject, Wrong, read_command, subject_of};
 use std::alloc::Global;
 
 // Why a prefix isn't added for a client.
 fn prefix_reason(state: &State, client: u64) -> Reason {
-    if last_of(&state.clients, client).is_none() {
-        return Reason::Client(client);
-    }
-    let hears = match state.links.get(client as usize) {
-        Some(link) => link.may_receive(),
-        None => false,
-    };
-    if hears {
-        Reason::Plain(Wrong::Known)
-    } else {
-        Reason::Plain(Wrong::Deaf)
+    match state.clients.get(client) {
+        Some(known) if known.link.may_receive() => Reason::Plain(Wrong::Known),
+        Some(_) => Reason::Plain(Wrong::Deaf),
+        None => Reason::Client(client),
     }
 }
 

@@ -1,17 +1,20 @@
 //! Requests of clients, which go to the lanes.
-ghost use Rattle.std.specs.Prelude.{◌≡◌, ◌<◌, ◌+◌, ◌%◌, List, length, Some, IfOk, IfSome, IfNone};
+ghost use Rattle.std.specs.Prelude.{◌≡◌, ◌+◌, ◌%◌, List, length, Some, IfOk, IfSome, IfNone};
 ghost use Rattle.std.specs.Prelude.{slice_get, set};
 ghost use Rattle.std.specs.List.{AllByRecursion, find};
 ghost use Rattle.smx_history.specs.declared.note.Note.{Note};
 ghost use Rattle.smx_history.specs.Contents.{AgreesWith, Content};
 ghost use Rattle.smx_history.specs.Ring.{ring};
+ghost use Rattle.smx_relay.specs.declared.state.LinkedClient.{LinkedClient};
 ghost use Rattle.smx_relay.specs.declared.state.LinkedLane.{LinkedLane};
-ghost use Rattle.smx_relay.specs.Relay.{Relay, in_turn_at, lane_for, last_of, request_of};
+ghost use Rattle.smx_relay.specs.Texts.{refusal_of};
+ghost use Rattle.smx_relay.specs.Relay.{Relay, client_of, in_turn_at, lane_for, request_of};
 ghost use Rattle.smx_relay.specs.Relay.{with_request};
 ghost use Rattle.smx_relay.specs.ClientTurn.{forward};
-ghost use Rattle.smx_relay.specs.Private.Agrees.{Agrees, IsReached, MayAccept, Turned, accepts_in};
+ghost use Rattle.smx_relay.specs.Private.Agrees.{Agrees, IsReached, MayAccept, Turned};
+ghost use Rattle.smx_relay.specs.Private.Lending.{IsKnown};
+ghost use Rattle.smx_relay.specs.Private.Agrees.{accepts_in};
 
-use crate::clients::last_of;
 use crate::on_lane::CALLER;
 use crate::state::{LinkedLane, State};
 use crate::texts::{accepted_line, to_line};
@@ -65,14 +68,6 @@ fn request_of(client: u64, ordinal: u64, pdu: Pdu) -> Option<Request>
     })
 }
 
-// Keeps the last ordinal of a client.
-fn keep_last(clients: &mut Vec<Option<u64>>, client: u64, ordinal: u64)
-    requires { client < length clients.old.items }
-    ensures { clients.new.items ≡ set clients.old.items client (Some ordinal) }
-{
-    clients[client as usize] = Some(ordinal);
-}
-
 // Offers a client's next request to the lanes.
 fn offer(
     alloc: Global,
@@ -81,7 +76,8 @@ fn offer(
     request: Request,
 ) -> Result<Vec<u8>, AllocError>
     requires reached { IsReached state.old }
-    requires known { last_of state.old.clients.items request.client ≡ Some last }
+    requires known { (k : LinkedClient) × (client_of state.old.clients.list.items request.client ≡ Some k)
+        × (k.last ≡ last) }
     requires next { request.ordinal ≡ last + 1 }
     ensures { (s : Relay) → Agrees state.old s → IfOk result (λ text.
         Turned (in_turn_at s request (lane_for s request.client last)) state.new text.items) }
@@ -91,7 +87,7 @@ fn offer(
     let refusal = Pdu::refusal(alloc, request.command, ESME_RMSGQFUL, request.own);
     match accept_in_ring(&mut state.lanes, last, request) {
         Some(at) => {
-            keep_last(&mut state.clients, client, ordinal);
+            state.clients.known_mut(client).last = ordinal;
             accepted_line(alloc, client, at as u64)
         }
         None => to_line(alloc, client, &refusal),
@@ -106,13 +102,15 @@ pub fn forward(
     client: u64,
     pdu: Pdu,
 ) -> Result<Vec<u8>, AllocError>
-    requires { IsReached state.old }
+    requires reached { IsReached state.old }
+    requires known { IsKnown state.old.clients.list.items client }
     ensures { (s : Relay) → Agrees state.old s → IfOk result (λ text.
         Turned (forward client pdu s) state.new text.items) }
 {
-    let Some(last) = last_of(&state.clients, client) else {
-        return Ok(Vec::new(alloc));
+    let Some(known) = state.clients.get(client) else {
+        unreachable!()
     };
+    let last = known.last;
     // No script has so many lines that the ordinals end.
     let Some(ordinal) = last.checked_add(1) else {
         return Err(AllocError);

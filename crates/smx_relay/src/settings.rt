@@ -3,8 +3,8 @@ ghost use Rattle.std.specs.Prelude.{◌≡◌, ℕ, List, IfOk, OnOk};
 ghost use Rattle.smx_relay.specs.Relay.{Relay, start, begin_lanes, set_turn};
 ghost use Rattle.smx_relay.specs.Private.Agrees.{Agrees, Prints};
 
-use crate::link::{CentreLink, ClientLink};
-use crate::state::{LinkedLane, State};
+use crate::link::CentreLink;
+use crate::state::{Clients, LinkedLane, State};
 use smx_history::Limits;
 use smx_lane::Lane;
 use smx_routes::Routes;
@@ -20,8 +20,6 @@ pub fn new_state(alloc: Global) -> Result<State, AllocError>
 {
     let mut clients = Vec::new(alloc);
     clients.push(None)?;
-    let mut links = Vec::new(alloc);
-    links.push(ClientLink::new(alloc, None, PLACES))?;
     Ok(State {
         limits: Limits {
             queue: 100,
@@ -35,8 +33,7 @@ pub fn new_state(alloc: Global) -> Result<State, AllocError>
         started: false,
         moment: 0,
         lanes: Vec::new(alloc),
-        clients,
-        links,
+        clients: Clients { list: clients },
         routes: Routes::new(alloc),
     })
 }

@@ -1,4 +1,8 @@
 //! What a run holds between two lines.
+ghost use Rattle.std.specs.Prelude.{◌≡◌, Some, None, IfSome, IfNone};
+ghost use Rattle.std.specs.Borrow.{sem};
+ghost use Rattle.smx_relay.specs.Relay.{client_of};
+ghost use Rattle.smx_relay.specs.Private.Lending.{IsKnown, LendsClient};
 
 use crate::link::{CentreLink, ClientLink};
 use smx_history::Limits;
@@ -11,6 +15,45 @@ use smx_session::Account;
 pub struct LinkedLane {
     pub lane: Lane,
     pub link: CentreLink,
+}
+
+/// A client: the ordinal of its last request, and its link.
+#[derive(Drop)]
+pub struct LinkedClient {
+    pub last: u64,
+    pub link: ClientLink,
+}
+
+/// The clients, by their numbers; none of a number that no client has.
+#[derive(Drop)]
+pub struct Clients {
+    pub list: Vec<Option<LinkedClient>>,
+}
+
+impl Clients {
+    /// The client with this number.
+    pub fn get(&self, client: u64) -> Option<&LinkedClient>
+        ensures some { IfSome result (λ k. client_of self.now.list.items client ≡ Some k.now) }
+        ensures none { IfNone result (client_of self.now.list.items client ≡ None) }
+    {
+        let at = client as usize;
+        if at >= self.list.len() {
+            return None;
+        }
+        match &self.list[at] {
+            Some(known) => Some(known),
+            None => None,
+        }
+    }
+
+    /// The client with this number, which there is.
+    pub fn known_mut(&mut self, client: u64) -> &mut LinkedClient
+        requires { IsKnown self.old.list.items client }
+        ensures* writes_back { sem 𝓛 (LendsClient self.entry client result) }
+        ensures value { client_of self.old.list.items client ≡ Some result.now }
+    {
+        self.list[client as usize].as_mut().unwrap()
+    }
 }
 
 /// The settings, the lanes and the clients.
@@ -29,10 +72,7 @@ pub struct State {
     /// The moment, in milliseconds. It never falls.
     pub moment: u64,
     pub lanes: Vec<LinkedLane>,
-    /// The last ordinal of each client, by its number; none of a number that no client has.
-    pub clients: Vec<Option<u64>>,
-    /// The link of each client, by its number; that of a number that no client has is never used.
-    pub links: Vec<ClientLink>,
+    pub clients: Clients,
     /// The prefixes of the clients that messages go to.
     pub routes: Routes,
 }

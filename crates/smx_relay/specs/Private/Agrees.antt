@@ -1,7 +1,7 @@
 -- What the engine's state stands for.
 use Rattle.std.specs.Prelude.{◌≡◌, ◌<◌, ◌++◌, [], ℕ, List, Bool, false, map, Option, Some, None, is_none, position, is_some, take, drop, length}
 use Rattle.std.specs.Global.{Vec}
-use Rattle.std.specs.List.{AllZip, AllByRecursion}
+use Rattle.std.specs.List.{All, AllZip, AllByRecursion}
 use Rattle.smx_history.specs.declared.limits.Limits.{Limits}
 use Rattle.smx_history.specs.Contents.{content_after}
 use Rattle.smx_history.specs.Replies.{accept_refusal, admit_refusal}
@@ -9,16 +9,17 @@ use Rattle.smx_session.specs.Login.{Login}
 use Rattle.smx_routes.specs.Routing.{Route}
 use Rattle.smx_relay.specs.declared.state.State.{State}
 use Rattle.smx_relay.specs.declared.state.LinkedLane.{LinkedLane}
-use Rattle.smx_relay.specs.Links.{ClientLink}
+use Rattle.smx_relay.specs.declared.state.LinkedClient.{LinkedClient}
 use Rattle.smx_relay.specs.Relay.{Relay, RelayLane, enter_lane, lane_after, leave_lane}
-use Rattle.smx_relay.specs.Private.OnLane.{IsLane}
+use Rattle.smx_relay.specs.Private.OnLane.{IsLane, lasts}
+use Rattle.smx_relay.specs.Private.Lending.{IsKnown}
 
--- the accounts, the links, the places of a mailbox and the routes are these
-pub record HasLinks (state : State) (accounts : List Login) (links : List ClientLink) (places : ℕ) (routes : List Route) : Type 0 where
+-- the accounts, the places of a mailbox and the routes are these, and each route is a client's
+pub record HasRoutes (state : State) (clients : List (Option LinkedClient)) (accounts : List Login) (places : ℕ) (routes : List Route) : Type 0 where
   pub accounts_are : state.accounts.items ≡ accounts
-  pub links_are : state.links.items ≡ links
   pub places_are : state.places ≡ places
   pub routes_are : state.routes ≡ routes
+  pub known : All (λ r. IsKnown clients r.client) routes
 
 -- the lanes agree with these
 abbrev pub AreOn : Limits → List (Option ℕ) → List RelayLane → List LinkedLane → Type 0
@@ -29,10 +30,10 @@ pub record Agrees (state : State) (s : Relay) : Type 0 where
   pub count : state.count ≡ s.count
   pub started : state.started ≡ s.started
   pub moment : state.moment ≡ s.moment
-  pub clients : state.clients.items ≡ s.clients
-  pub lanes : AreOn s.limits s.clients s.lanes state.lanes.items
+  pub clients : state.clients.list.items ≡ s.clients
+  pub lanes : AreOn s.limits (lasts s.clients) s.lanes state.lanes.items
   pub none_yet : s.started ≡ false → s.lanes ≡ []
-  pub links : HasLinks state s.accounts s.links s.places s.routes
+  pub routes : HasRoutes state s.clients s.accounts s.places s.routes
 
 -- the state stands for some histories
 abbrev pub IsReached : State → Type 0

@@ -1,5 +1,5 @@
 -- A lane of the engine, and the history that it stands for.
-use Rattle.std.specs.Prelude.{◌≡◌, ◌≤◌, ℕ, List, true, Option, unwrap_or}
+use Rattle.std.specs.Prelude.{◌≡◌, ◌≤◌, ℕ, List, true, map, Option, Some, None, get_or, unwrap_or}
 use Rattle.std.specs.List.{AllByRecursion}
 use Rattle.smx_history.specs.declared.limits.Limits.{Limits}
 use Rattle.smx_history.specs.declared.entry.Entry.{Entry}
@@ -8,7 +8,19 @@ use Rattle.smx_history.specs.Entries.{is_accept}
 use Rattle.smx_history.specs.History.{entries_of}
 use Rattle.smx_history.specs.Contents.{Content, AgreesWith}
 use Rattle.smx_relay.specs.declared.state.LinkedLane.{LinkedLane}
-use Rattle.smx_relay.specs.Relay.{RelayLane, last_of}
+use Rattle.smx_relay.specs.declared.state.LinkedClient.{LinkedClient}
+use Rattle.smx_relay.specs.Relay.{RelayLane}
+
+abbrev pub last_in : Option LinkedClient → Option ℕ
+last_in None = None
+last_in (Some k) = Some k.last
+
+-- the last ordinals of the clients
+abbrev pub lasts : List (Option LinkedClient) → List (Option ℕ)
+lasts clients = map last_in clients
+
+abbrev pub last_of : List (Option ℕ) → ℕ → Option ℕ
+last_of clients c = get_or clients c None
 
 -- the one caller has the number 0, and no accept is above the client's last ordinal
 pub record IsOwn (clients : List (Option ℕ)) (e : Entry) : Type 0 where

@@ -1,7 +1,7 @@
 use Rattle.std.proofs.Common.{rules, arith, ◌++◌, ◌∷◌, [], sym, ap, ◌∙◌, append_assoc, refl, subst, List}
 use Rattle.smx_pdu.specs.declared.pdu.Pdu.{Pdu}
 use Rattle.smx_relay.specs.CentreTurn.{centre_pdu}
-use Rattle.smx_relay.proofs.Turning.{Turning, turning_start, turning_more, all_yielded}
+use Rattle.smx_relay.proofs.Turning.{Turning, turning_start, turning_more, all_yielded, turning_reached}
 use Rattle.smx_relay.proofs.centre_turn.each_centre_pdu.Goals as goal
 
 pub loop-pdu-init : goal.loop-pdu-init
@@ -9,6 +9,12 @@ loop-pdu-init c = record {
   long = refl;
   so_far = turning_start (centre_pdu c.args.lane) c.args.state.now c.new-text.result.items c.new-text.ensures.items;
   left = c.into_iter-pdu-iterator.ensures.into_iter_gives.0;
+}
+
+pub centre_pdu-requires : goal.centre_pdu-requires
+centre_pdu-requires c = record {
+  there = omega (arith, c.loop-pdu.invariant.long);
+  reached = turning_reached (centre_pdu c.args.lane) c.args.state.now c.loop-pdu.state c.loop-pdu.yielded c.loop-pdu.text.items c.requires.reached c.loop-pdu.invariant.so_far;
 }
 
 pub loop-pdu-preserved : goal.loop-pdu-preserved

@@ -16,6 +16,16 @@ returns-then-not-is_up c = λ s a.
     let x = lane_is old s c.args.lane c.index.result.now a (omega arith) (search rules) in
     back_down s c.args.lane c.args.octets.now old c.in_ok-down_line.field-0 (a_lane_at old s c.args.lane a (omega arith)) (sym x.on.agrees.after.up ∙ sym c.is_up.ensures ∙ c.if-not-is_up.true) a (search rules)
 
+pub each_centre_pdu-requires : goal.each_centre_pdu-requires
+each_centre_pdu-requires c =
+    let s = c.requires.0 in
+    let old = c.args.state.now in
+    let k = c.index_mut.result.now in
+    let after = c.receive.new.self in
+    let mid = record old { lanes = with_item old.lanes c.args.lane (record k { link = after }) } in
+    let here = streamed_up old mid s c.args.lane k after c.requires.1 (record { within = omega arith; here = c.index_mut.ensures.value; lanes = refl; clients = refl; keeps = record { limits = refl; count = refl; started = refl; accounts = refl; places = refl; routes = refl; moment = refl } }) c.receive.ensures.session in
+    record { there = omega (arith, length-set old.lanes.items c.args.lane (record k { link = after })); reached = (_, here) }
+
 pub give_up-requires : goal.give_up-requires
 give_up-requires c =
     let s = c.requires.0 in
@@ -24,7 +34,7 @@ give_up-requires c =
     let k = c.index_mut.result.now in
     let after = c.receive.new.self in
     let mid = record old { lanes = with_item old.lanes c.args.lane (record k { link = after }) } in
-    let here = streamed_up old mid s c.args.lane k after a (record { within = omega arith; here = c.index_mut.ensures.value; lanes = refl; clients = refl; links = refl; keeps = record { limits = refl; count = refl; started = refl; accounts = refl; places = refl; routes = refl; moment = refl } }) c.receive.ensures.session in
+    let here = streamed_up old mid s c.args.lane k after a (record { within = omega arith; here = c.index_mut.ensures.value; lanes = refl; clients = refl; keeps = record { limits = refl; count = refl; started = refl; accounts = refl; places = refl; routes = refl; moment = refl } }) c.receive.ensures.session in
     let turns = back_turns (with_centre s c.args.lane (record k.link { stream = after.stream })) c.args.lane c.in_ok-pdus.pdus.items c.has_failed-has_failed.result _ mid c.each_centre_pdu.new.state c.centre_end.new.state
     c.in_ok-text.text.items c.in_ok-centre_end.field-0.items c.extend_from_slice.new.self.items here c.in_ok-text.ensures.turned c.in_ok-centre_end.ensures.turned c.has_failed-has_failed.ensures (search rules) in
     let long = length-set old.lanes.items c.args.lane (record k { link = after }) in
@@ -37,7 +47,7 @@ returns c = λ s a.
     let k = c.index_mut.result.now in
     let after = c.receive.new.self in
     let mid = record old { lanes = with_item old.lanes c.args.lane (record k { link = after }) } in
-    let here = streamed_up old mid s c.args.lane k after a (record { within = omega arith; here = c.index_mut.ensures.value; lanes = refl; clients = refl; links = refl; keeps = record { limits = refl; count = refl; started = refl; accounts = refl; places = refl; routes = refl; moment = refl } }) c.receive.ensures.session in
+    let here = streamed_up old mid s c.args.lane k after a (record { within = omega arith; here = c.index_mut.ensures.value; lanes = refl; clients = refl; keeps = record { limits = refl; count = refl; started = refl; accounts = refl; places = refl; routes = refl; moment = refl } }) c.receive.ensures.session in
     let turns = back_turns (with_centre s c.args.lane (record k.link { stream = after.stream })) c.args.lane c.in_ok-pdus.pdus.items c.has_failed-has_failed.result _ mid c.each_centre_pdu.new.state c.centre_end.new.state
     c.in_ok-text.text.items c.in_ok-centre_end.field-0.items c.extend_from_slice.new.self.items here c.in_ok-text.ensures.turned c.in_ok-centre_end.ensures.turned c.has_failed-has_failed.ensures (search rules) in
     let at = centre_at old s c.args.lane k a (omega arith) c.index_mut.ensures.value in

@@ -2,6 +2,7 @@ use Rattle.std.proofs.Common.{rules, arith, ◌++◌, ◌∷◌, [], sym, ap, �
 use Rattle.smx_pdu.specs.declared.pdu.Pdu.{Pdu}
 use Rattle.smx_relay.specs.ClientTurn.{client_pdu}
 use Rattle.smx_relay.proofs.Turning.{Turning, turning_start, turning_more, all_yielded, turning_reached}
+use Rattle.smx_relay.proofs.KnownClients.{still_known}
 use Rattle.smx_relay.proofs.client_turn.each_client_pdu.Goals as goal
 
 pub loop-pdu-init : goal.loop-pdu-init
@@ -11,7 +12,13 @@ loop-pdu-init c = record {
 }
 
 pub client_pdu-requires : goal.client_pdu-requires
-client_pdu-requires c = turning_reached (client_pdu c.args.client) c.args.state.now c.loop-pdu.state c.loop-pdu.yielded c.loop-pdu.text.items c.requires c.loop-pdu.invariant.so_far
+client_pdu-requires c =
+    let reached = c.requires.reached in
+    let so_far = c.loop-pdu.invariant.so_far in
+    record {
+      reached = turning_reached (client_pdu c.args.client) c.args.state.now c.loop-pdu.state c.loop-pdu.yielded c.loop-pdu.text.items reached so_far;
+      known = still_known c.args.client c.loop-pdu.yielded c.args.state.now c.loop-pdu.state reached.0 c.loop-pdu.text.items c.args.client reached.1 (so_far reached.0 reached.1) c.requires.known;
+    }
 
 pub loop-pdu-preserved : goal.loop-pdu-preserved
 loop-pdu-preserved c =

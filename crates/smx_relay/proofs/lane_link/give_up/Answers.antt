@@ -11,5 +11,5 @@ give_up_on-requires c =
 pub returns : goal.returns
 returns c = λ s a.
     gave_up_at c.args.state.now _ s c.args.lane c.index_mut.result.now c.give_up_on.new.lane a
-    (record { within = omega arith; here = c.index_mut.ensures.value; lanes = refl; clients = refl; links = refl; keeps = record { limits = refl; count = refl; started = refl; accounts = refl; places = refl; routes = refl; moment = refl } })
+    (record { within = omega arith; here = c.index_mut.ensures.value; lanes = refl; clients = refl; keeps = record { limits = refl; count = refl; started = refl; accounts = refl; places = refl; routes = refl; moment = refl } })
     c.give_up_on.ensures.agrees c.give_up_on.ensures.limits

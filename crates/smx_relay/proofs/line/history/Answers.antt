@@ -11,4 +11,4 @@ pub returns : goal.returns
 returns c = λ s a.
     let here : c.index.result.now ≡ get_or c.args.state.now.lanes.items c.args.lane c.index.result.now = search rules in
     history_some c.args.state.now c.args.state.now s c.args.lane c.index.result.now c.index.result.now.lane c.in_ok-history_on.field-0 a
-    (record { within = omega arith; here = here; lanes = sym (written_back c.args.state.now.lanes.items c.args.lane c.index.result.now c.index.result.now here refl); clients = refl; links = refl; keeps = record { limits = refl; count = refl; started = refl; accounts = refl; places = refl; routes = refl; moment = refl } }) c.in_ok-history_on.ensures
+    (record { within = omega arith; here = here; lanes = sym (written_back c.args.state.now.lanes.items c.args.lane c.index.result.now c.index.result.now here refl); clients = refl; keeps = record { limits = refl; count = refl; started = refl; accounts = refl; places = refl; routes = refl; moment = refl } }) c.in_ok-history_on.ensures

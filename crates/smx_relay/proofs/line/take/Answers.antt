@@ -10,4 +10,4 @@ pub returns : goal.returns
 returns c = λ s a.
     take_turns s c.args.lane _ (Some c.in_ok-text.text)
     (takes_some c.args.state.now _ s c.args.lane c.index_mut.result.now c.take_on.new.lane c.in_ok-text.text a
-    (record { within = omega arith; here = c.index_mut.ensures.value; lanes = refl; clients = refl; links = refl; keeps = record { limits = refl; count = refl; started = refl; accounts = refl; places = refl; routes = refl; moment = refl } }) c.in_ok-text.ensures)
+    (record { within = omega arith; here = c.index_mut.ensures.value; lanes = refl; clients = refl; keeps = record { limits = refl; count = refl; started = refl; accounts = refl; places = refl; routes = refl; moment = refl } }) c.in_ok-text.ensures)

@@ -9,4 +9,4 @@ returns-then-at-len c = λ s a. no_lane c.args.state.now c.args.state.now s c.ar
 pub returns : goal.returns
 returns c = λ s a.
     turn_some c.args.state.now _ s c.args.lane c.index_mut.result.now c.turn_on.new.lane c.in_ok-turn_on.field-0 a
-    (record { within = omega arith; here = c.index_mut.ensures.value; lanes = refl; clients = refl; links = refl; keeps = record { limits = refl; count = refl; started = refl; accounts = refl; places = refl; routes = refl; moment = refl } }) c.in_ok-turn_on.ensures
+    (record { within = omega arith; here = c.index_mut.ensures.value; lanes = refl; clients = refl; keeps = record { limits = refl; count = refl; started = refl; accounts = refl; places = refl; routes = refl; moment = refl } }) c.in_ok-turn_on.ensures
