@@ -53,9 +53,9 @@ unfolding phase_of
 phase_first t ss none = ap (phase_from t Opening) none
 
 module _ (t : Before) where
-  pub opened : (stage : Stage) (wrote left : Bool) → go t Opening (Marked (Offered stage wrote left)) ≡ when_offered t stage left
+  pub opened : (wrote left : Bool) → go t Opening (Marked (Offered wrote left)) ≡ when_offered t left
   unfolding go from_opening
-  opened stage wrote left = refl
+  opened wrote left = refl
 
   pub unopened : go t Opening (Marked WriteFailed) ≡ Failed
   unfolding go from_opening
@@ -119,11 +119,11 @@ module _ (t : Before) where
   unfolding go from_clear
   no_read = refl
 
-  pub waited : t.held ≡ true → go t MayRead (Marked Waited) ≡ Deciding false
+  pub waited : t.settled ≡ false → go t MayRead (Marked Waited) ≡ Deciding false
   unfolding go from_may_read
   waited some = ap (λ b. from_may_read b (Marked Waited)) some
 
-  pub came : (answer : Result Polled LinkFault) → t.held ≡ false → go t MayRead (Read answer) ≡ after_read answer
+  pub came : (answer : Result Polled LinkFault) → t.settled ≡ true → go t MayRead (Read answer) ≡ after_read answer
   unfolding go from_may_read
   came answer none = ap (λ b. from_may_read b (Read answer)) none
 
@@ -179,11 +179,11 @@ module _ (t : Before) where
   entered ended kind.Rx account whole other = enters ended account whole
   entered ended kind.Trx account whole other = enters ended account whole
 
-  pub ending : (wrote : Bool) → go t Closing (Marked (Offered Closed wrote true)) ≡ Ending
+  pub ending : (wrote : Bool) → go t Closing (Marked (Offered wrote true)) ≡ Ending
   unfolding go from_closing
   ending wrote = refl
 
-  pub done : (wrote : Bool) → go t Closing (Marked (Offered Closed wrote false)) ≡ Over
+  pub done : (wrote : Bool) → go t Closing (Marked (Offered wrote false)) ≡ Over
   unfolding go from_closing
   done wrote = refl
 
@@ -196,55 +196,55 @@ pub write_fails : (t : Before) (p q : Phase) (e : Fault) → go t p (Marked Writ
 write_fails t p q e cell h = subst (λ x. Faulted x q) (sym h.0) (h.1 ∙ cell)
 
 -- nothing but a write was left to do
-pub last_ends : (t : Before) (q : Phase) (stage : Stage) (left quiet : Bool) (end : TurnEnd) (u rest : List ℕ) (held : Option Pdu) (parked : Option Answer) → stage ≡ Closed → end ≡ last_end left
-    → (wrote : Bool) × (q ≡ go t Closing (Marked (Offered stage wrote left))) → (left ≡ true → u ≢ []) → (left ≡ false → u ≡ [])
-    → EndsIn end quiet q × Stands q u rest held parked
-last_ends t q stage true quiet end u rest held parked closed is h some none =
-    subst (λ e. EndsIn e quiet q × Stands q u rest held parked) (sym is)
-    (subst (λ x. EndsIn Worked quiet x × Stands x u rest held parked)
-    (sym (h.1 ∙ ap (λ x. go t Closing (Marked (Offered x h.0 true))) closed ∙ ending t h.0)) (tt, some refl))
-last_ends t q stage false quiet end u rest held parked closed is h some none =
-    let e = h.1 ∙ ap (λ x. go t Closing (Marked (Offered x h.0 false))) closed ∙ done t h.0 in
-    subst (λ y. EndsIn y quiet q × Stands q u rest held parked) (sym is) (e, subst (λ x. Stands x u rest held parked) (sym e) (none refl))
+pub last_ends : (t : Before) (q : Phase) (left quiet : Bool) (end : TurnEnd) (u rest : List ℕ) (held : Option Pdu) (parked : Option Answer) (settled : Bool) (stage : Stage) → stage ≡ Closed → end ≡ last_end left
+    → (wrote : Bool) × (q ≡ go t Closing (Marked (Offered wrote left))) → (left ≡ true → u ≢ []) → (left ≡ false → u ≡ [])
+    → EndsIn end quiet q × Stands q u rest held parked settled stage
+last_ends t q true quiet end u rest held parked settled stage closed is h some none =
+    subst (λ e. EndsIn e quiet q × Stands q u rest held parked settled stage) (sym is)
+    (subst (λ x. EndsIn Worked quiet x × Stands x u rest held parked settled stage) (sym (h.1 ∙ ending t h.0)) (tt, (some refl, closed)))
+last_ends t q false quiet end u rest held parked settled stage closed is h some none =
+    let e = h.1 ∙ done t h.0 in
+    subst (λ y. EndsIn y quiet q × Stands q u rest held parked settled stage) (sym is) (e, subst (λ x. Stands x u rest held parked settled stage) (sym e) (none refl, closed))
 
 -- some is left of what waited at a turn's start
-pub left_ends : (t : Before) (q : Phase) (stage : Stage) (left quiet : Bool) (u rest : List ℕ) (held : Option Pdu) (parked : Option Answer) → left ≡ true
-    → (wrote : Bool) × (q ≡ go t Opening (Marked (Offered stage wrote left))) → u ≢ [] → EndsIn Worked quiet q × Stands q u rest held parked
-left_ends t q stage left quiet u rest held parked some h unsent =
-    subst (λ x. EndsIn Worked quiet x × Stands x u rest held parked)
-    (sym (h.1 ∙ ap (λ x. go t Opening (Marked (Offered stage h.0 x))) some ∙ opened t stage h.0 true)) (halted stage)
+pub left_ends : (t : Before) (q : Phase) (left quiet : Bool) (u rest : List ℕ) (held : Option Pdu) (parked : Option Answer) (settled : Bool) (stage : Stage) → left ≡ true
+    → (wrote : Bool) × (q ≡ go t Opening (Marked (Offered wrote left))) → t.stage ≡ stage → u ≢ [] → EndsIn Worked quiet q × Stands q u rest held parked settled stage
+left_ends t q left quiet u rest held parked settled stage some h same unsent =
+    subst (λ x. EndsIn Worked quiet x × Stands x u rest held parked settled stage)
+    (sym (h.1 ∙ ap (λ x. go t Opening (Marked (Offered h.0 x))) some ∙ opened t h.0 true)) (halted t.stage same)
   where
-    halted : (s : Stage) → EndsIn Worked quiet (halts s) × Stands (halts s) u rest held parked
-    halted Open = (tt, unsent)
-    halted Drained = (tt, unsent)
-    halted Closed = (tt, unsent)
+    halted : (s : Stage) → s ≡ stage → EndsIn Worked quiet (halts s) × Stands (halts s) u rest held parked settled stage
+    halted Open e = (tt, unsent)
+    halted Drained e = (tt, unsent)
+    halted Closed e = (tt, (unsent, sym e))
 
 -- what waited was written
-pub begun : (t : Before) (q : Phase) (stage : Stage) (left : Bool) → left ≡ false → (wrote : Bool) × (q ≡ go t Opening (Marked (Offered stage wrote left))) → q ≡ begins t stage
-begun t q stage left none h = h.1 ∙ ap (λ x. go t Opening (Marked (Offered stage h.0 x))) none ∙ opened t stage h.0 false
+pub begun : (t : Before) (q : Phase) (left : Bool) → left ≡ false → (wrote : Bool) × (q ≡ go t Opening (Marked (Offered wrote left))) → q ≡ begins t t.stage
+begun t q left none h = h.1 ∙ ap (λ x. go t Opening (Marked (Offered h.0 x))) none ∙ opened t h.0 false
 
 -- where the worker was closed, that is all
-pub over_ends : (t : Before) (q : Phase) (stage : Stage) (quiet : Bool) (u rest : List ℕ) (held : Option Pdu) (parked : Option Answer) → q ≡ begins t stage → stage ≡ Closed → u ≡ []
-    → EndsIn Done quiet q × Stands q u rest held parked
-over_ends t q stage quiet u rest held parked at closed none =
-    let e = at ∙ ap (begins t) closed in (e, subst (λ x. Stands x u rest held parked) (sym e) none)
+pub over_ends : (t : Before) (q : Phase) (quiet : Bool) (u rest : List ℕ) (held : Option Pdu) (parked : Option Answer) (settled : Bool) (stage : Stage) → q ≡ begins t t.stage → t.stage ≡ stage → stage ≡ Closed → u ≡ []
+    → EndsIn Done quiet q × Stands q u rest held parked settled stage
+over_ends t q quiet u rest held parked settled stage at same closed none =
+    let e = at ∙ ap (begins t) (same ∙ closed) in (e, subst (λ x. Stands x u rest held parked settled stage) (sym e) (none, closed))
 
 -- what is true where a part came so far
-pub stands_at : (at : Progress) (p : Phase) (u rest : List ℕ) (held : Option Pdu) (parked : Option Answer) → at ≢ progress.Closed → IsAt at p
-    → (at ≡ progress.Settled → (held ≡ None) × HasNone 65536 rest) → (at ≡ progress.Parked → IsSome parked) → (at ≡ progress.Clogged → 65536 ≤ length u) → Stands p u rest held parked
-stands_at progress.Settled p u rest held parked going is settled waits clogged = subst (λ x. Stands x u rest held parked) (sym is) (settled refl)
-stands_at progress.Parked p u rest held parked going is settled waits clogged = subst (λ x. Stands x u rest held parked) (sym is) (waits refl)
-stands_at progress.Stopped p u rest held parked going is settled waits clogged = subst (λ x. Stands x u rest held parked) (sym is) tt
-stands_at progress.Clogged p u rest held parked going is settled waits clogged = subst (λ x. Stands x u rest held parked) (sym is) (clogged refl)
-stands_at progress.Closed p u rest held parked going is settled waits clogged = absurd (going refl)
+pub stands_at : (at : Progress) (p : Phase) (u rest : List ℕ) (held : Option Pdu) (parked : Option Answer) (settled : Bool) (stage : Stage) → at ≢ progress.Closed → IsAt at p
+    → (at ≡ progress.Settled → (settled ≡ true) × (held ≡ None) × HasNone 65536 rest) → (at ≡ progress.Parked → IsSome parked) → (at ≡ progress.Clogged → 65536 ≤ length u)
+    → Stands p u rest held parked settled stage
+stands_at progress.Settled p u rest held parked settled stage going is none waits clogged = subst (λ x. Stands x u rest held parked settled stage) (sym is) (none refl)
+stands_at progress.Parked p u rest held parked settled stage going is none waits clogged = subst (λ x. Stands x u rest held parked settled stage) (sym is) (waits refl)
+stands_at progress.Stopped p u rest held parked settled stage going is none waits clogged = subst (λ x. Stands x u rest held parked settled stage) (sym is) tt
+stands_at progress.Clogged p u rest held parked settled stage going is none waits clogged = subst (λ x. Stands x u rest held parked settled stage) (sym is) (clogged refl)
+stands_at progress.Closed p u rest held parked settled stage going is none waits clogged = absurd (going refl)
 
 pub quiet_as : (end : TurnEnd) (q q' : Bool) (p : Phase) → q ≡ q' → EndsIn end q p → EndsIn end q' p
 quiet_as end q q' p same h = subst (λ b. EndsIn end b p) same h
 
-abbrev before_of : PortView → Option Pdu → Option Answer → Before
-before_of v held parked = record { lanes = length v.fronts; held = is_there held; parked = is_there parked }
+abbrev before_of : PortView → Stage → Bool → Option Answer → Before
+before_of v stage settled parked = record { lanes = length v.fronts; stage = stage; settled = settled; parked = is_there parked }
 
 -- an offer leaves what the order depends on
-pub before_same : (t : Before) (v v' : PortView) (h h' : Option Pdu) (p p' : Option Answer) → t ≡ before_of v h p → v' ≡ v → h' ≡ h → p' ≡ p → t ≡ before_of v' h' p'
-before_same t v v' h h' p p' is port held parked =
-    is ∙ ap (λ x. before_of x h p) (sym port) ∙ ap (λ x. before_of v' x p) (sym held) ∙ ap (λ x. before_of v' h' x) (sym parked)
+pub before_same : (t : Before) (v v' : PortView) (s s' : Stage) (b b' : Bool) (p p' : Option Answer) → t ≡ before_of v s b p → v' ≡ v → s' ≡ s → b' ≡ b → p' ≡ p → t ≡ before_of v' s' b' p'
+before_same t v v' s s' b b' p p' is port stage settled parked =
+    is ∙ ap (λ x. before_of x s b p) (sym port) ∙ ap (λ x. before_of v' x b p) (sym stage) ∙ ap (λ x. before_of v' s' x p) (sym settled) ∙ ap (λ x. before_of v' s' b' x) (sym parked)

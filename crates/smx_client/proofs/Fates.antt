@@ -12,6 +12,7 @@ use Rattle.smx_session.specs.declared.bind_check.Checked.TheVariants.{Refused, G
 use Rattle.smx_session.specs.declared.act.Act.{Act}
 use Rattle.smx_session.specs.declared.act.Act.TheVariants as act
 use Rattle.smx_session.specs.declared.client_state.ClientState.{ClientState}
+use Rattle.smx_session.specs.declared.client_state.ClientState.TheVariants.{Ended}
 use Rattle.smx_shared.specs.Views.{PortView}
 use Rattle.smx_shared.specs.Offers.{Accepted, accepted_by}
 use Rattle.smx_shared.specs.Ports.{HasAccepted}
@@ -24,7 +25,9 @@ use Rattle.smx_client.specs.declared.event.Fate.{Fate}
 use Rattle.smx_client.specs.declared.event.Fate.TheVariants.{Own}
 use Rattle.smx_client.specs.Events.{act_out, refusal_out}
 use Rattle.smx_client.specs.Parts.{submit_step, settle_step, IsOfferOf, Suits}
-use Rattle.smx_client.specs.Sayings.{asked_of}
+use Rattle.smx_client.specs.declared.event.Verdict.{Verdict}
+use Rattle.smx_client.specs.declared.event.Verdict.TheVariants as verdict
+use Rattle.smx_client.specs.Sayings.{asked_of, IsVerdict}
 
 refusal_same : (p : Pdu) (r : Result ℕ (Offer × SubmitFault)) → refusal_out (asked_of p.command p.number) r ≡ refusal_out p r
 refusal_same p (Ok lane) = refl
@@ -104,3 +107,22 @@ says_session accounts s t p q a b same chosen act state f m = (
   ap (λ x. (x, t)) (chosen ∙ act) ∙ ap (λ x. ((client_decides accounts s p).0, x)) state ∙ ap (client_decides accounts s) (sym same),
   subst (λ x. Suits x Own) (sym (chosen ∙ act)) (says_cell (client_cell (client_row p.command) s) accounts s p a act f m),
 )
+
+over_bind : (k : Kind) (x : Checked) (s : ClientState) (p : Pdu) (a : Act) (v : Verdict) → a ≡ (bind_decision k x s p).0 → IsVerdict a v → v ≡ verdict.Over → ⊥
+over_bind k (Refused status) s p a v is says over = let next : v ≡ verdict.Next = subst (λ x. IsVerdict x v) is says in absurd (cc)
+over_bind k (Granted i version) s p a v is says over = let next : v ≡ verdict.Bound k i = subst (λ x. IsVerdict x v) is says in absurd (cc)
+
+over_cell : (c : ClientCell) (accounts : List Login) (s : ClientState) (p : Pdu) (a : Act) (v : Verdict) → a ≡ (client_decision c accounts s p).0 → IsVerdict a v → v ≡ verdict.Over
+    → (client_decision c accounts s p).1 ≡ Ended
+over_cell (checks k) accounts s p a v is says over = absurd (over_bind k (check_bind accounts p.body) s p a v is says over)
+over_cell (answer status) accounts s p a v is says over = let next : v ≡ verdict.Next = subst (λ x. IsVerdict x v) is says in absurd (cc)
+over_cell nack accounts s p a v is says over = let next : v ≡ verdict.Next = subst (λ x. IsVerdict x v) is says in absurd (cc)
+over_cell forward accounts s p a v is says over = let next : v ≡ verdict.Forward = subst (λ x. IsVerdict x v) is says in absurd (cc)
+over_cell message_answer accounts s p a v is says over = let next : v ≡ verdict.Settle = subst (λ x. IsVerdict x v) is says in absurd (cc)
+over_cell leave accounts s p a v is says over = refl
+over_cell ignore accounts s p a v is says over = let next : v ≡ verdict.Next = subst (λ x. IsVerdict x v) is says in absurd (cc)
+
+-- once nothing more is decided, the session has ended
+pub ends_session : (accounts : List Login) (s t : ClientState) (p : Pdu) (a : Act) (v : Verdict) → a ≡ (client_decides accounts s p).0 → t ≡ (client_decides accounts s p).1
+    → IsVerdict a v → v ≡ verdict.Over → t ≡ Ended
+ends_session accounts s t p a v act state says over = state ∙ over_cell (client_cell (client_row p.command) s) accounts s p a v act says over

@@ -12,6 +12,7 @@ use Rattle.smx_turns.specs.declared.step.Step.TheVariants.{Asked, Read, Marked, 
 use Rattle.smx_turns.specs.Runs.{Runs}
 use Rattle.smx_turns.specs.Steps.{asks, ask_of, polls, poll_of, events, event_of, are_quiet}
 use Rattle.smx_turns.proofs.Chains.{runs_append, runs_one, runs_none}
+use Rattle.smx_client.specs.declared.mark.Stage.{Stage}
 use Rattle.smx_client.specs.declared.mark.Mark.{Mark}
 use Rattle.smx_client.specs.declared.mark.Mark.TheVariants.{Offered, WriteFailed, Waited, NoRoom, Part, Entered, Full as Clogs}
 use Rattle.smx_client.specs.declared.event.Event.{Event}
@@ -35,7 +36,7 @@ kept : (a b c : Scene) → b ≡ c → Kept a c → Kept a b
 kept a b c same k = subst (Kept a) (sym same) k
 
 mark_keeps : (a : Scene) (m : Mark) (b : Scene) → Marks a m b → Kept a b
-mark_keeps a (Offered stage wrote left) b h = kept a b _ h.same (record { asked = refl; told = refl; events = refl; parts = refl; polls = refl })
+mark_keeps a (Offered wrote left) b h = kept a b _ h.same (record { asked = refl; told = refl; events = refl; parts = refl; polls = refl })
 mark_keeps a WriteFailed b h = kept a b _ h (record { asked = refl; told = refl; events = refl; parts = refl; polls = refl })
 mark_keeps a Waited b h = kept a b _ h (record { asked = refl; told = refl; events = refl; parts = refl; polls = refl })
 mark_keeps a Clogs b h = kept a b _ h.1 (record { asked = refl; told = refl; events = refl; parts = refl; polls = refl })
@@ -74,7 +75,7 @@ step_polls n a (Marked m) b h = (mark_keeps a m b h).polls ∙ sym (append-nil a
 step_polls n a (Did e) b h = ap (λ o. o.polls) h.same ∙ sym (append-nil a.polls)
 
 mark_fails : (a : Scene) (m : Mark) (b : Scene) → Marks a m b → b.failures ≡ a.failures + fault_of (Marked m)
-mark_fails a (Offered stage wrote left) b h = let k = ap (λ o. o.failures) h.same in omega (arith, k)
+mark_fails a (Offered wrote left) b h = let k = ap (λ o. o.failures) h.same in omega (arith, k)
 mark_fails a WriteFailed b h = ap (λ o. o.failures) h
 mark_fails a Waited b h = let k = ap (λ o. o.failures) h in omega (arith, k)
 mark_fails a Clogs b h = let k = ap (λ o. o.failures) h.1 in omega (arith, k)
@@ -95,7 +96,7 @@ no_more : (a b : Scene) → b.offered ≡ a.offered → More a b
 no_more a b same = ([], same ∙ sym (append-nil a.offered))
 
 mark_offers : (a : Scene) (m : Mark) (b : Scene) → Marks a m b → More a b
-mark_offers a (Offered stage wrote left) b h = (a.unsent, ap (λ o. o.offered) h.same)
+mark_offers a (Offered wrote left) b h = (a.unsent, ap (λ o. o.offered) h.same)
 mark_offers a WriteFailed b h = (a.unsent, ap (λ o. o.offered) h)
 mark_offers a Waited b h = no_more a b (ap (λ o. o.offered) h)
 mark_offers a Clogs b h = no_more a b (ap (λ o. o.offered) h.1)
@@ -108,6 +109,11 @@ step_offers n a (Asked p x) b h = no_more a b (ap (λ o. o.offered) h)
 step_offers n a (Read r) b h = no_more a b (ap (λ o. o.offered) h)
 step_offers n a (Marked m) b h = mark_offers a m b h
 step_offers n a (Did e) b h = no_more a b (ap (λ o. o.offered) h.same)
+
+pub stays_wrong : (t : Before) (ss : List (Step Mark Event)) → phase_from t Wrong ss ≡ Wrong
+unfolding go
+stays_wrong t [] = refl
+stays_wrong t (s ∷ ss) = stays_wrong t ss
 
 module _ (n : ℕ) where
   pub all_asks : (a b : Scene) (ss : List (Step Mark Event)) → Changes n a ss b → b.asked ≡ a.asked ++ asks n ss
@@ -151,15 +157,10 @@ module _ (n : ℕ) where
       let rest = all_offers r.0 b ss r.2 in
       (first.0 ++ rest.0, rest.1 ∙ ap (λ l. l ++ rest.0) first.1 ∙ append_assoc a.offered first.0 rest.0)
 
-  stays_wrong : (t : Before) (ss : List (Step Mark Event)) → phase_from t Wrong ss ≡ Wrong
-  unfolding go
-  stays_wrong t [] = refl
-  stays_wrong t (s ∷ ss) = stays_wrong t ss
-
   offers_first : (t : Before) (a b : Scene) (m : Mark) (c : Scene) (ss : List (Step Mark Event)) → phase_from t (go t Opening (Marked m)) ss ≢ Wrong → Marks a m c → Changes n c ss b
       → (more : List ℕ) × (b.offered ≡ a.offered ++ a.unsent ++ more)
   unfolding go from_opening
-  offers_first t a b (Offered stage wrote left) c ss right h r =
+  offers_first t a b (Offered wrote left) c ss right h r =
       let rest = all_offers c b ss r in (rest.0, rest.1 ∙ ap (λ l. l ++ rest.0) (ap (λ o. o.offered) h.same))
   offers_first t a b WriteFailed c ss right h r =
       let rest = all_offers c b ss r in (rest.0, rest.1 ∙ ap (λ l. l ++ rest.0) (ap (λ o. o.offered) h))
@@ -201,6 +202,6 @@ pub ends_as : (t : Before) (r : Result TurnEnd Fault) (ss ss' : List (Step Mark 
     → IsTurn r (are_quiet is_quiet_mark is_quiet_event ss) (phase_of t ss) → IsTurn r (are_quiet is_quiet_mark is_quiet_event ss') (phase_of t ss')
 ends_as t r ss ss' same h = subst (λ l. IsTurn r (are_quiet is_quiet_mark is_quiet_event l) (phase_of t l)) (sym same) h
 
-pub stands_as : (t : Before) (r : Result TurnEnd Fault) (ss ss' : List (Step Mark Event)) (u rest : List ℕ) (held : Option Pdu) (parked : Option Parked) → ss' ≡ ss
-    → OnOk r (Stands (phase_of t ss) u rest held parked) → OnOk r (Stands (phase_of t ss') u rest held parked)
-stands_as t r ss ss' u rest held parked same h = subst (λ l. OnOk r (Stands (phase_of t l) u rest held parked)) (sym same) h
+pub stands_as : (t : Before) (r : Result TurnEnd Fault) (ss ss' : List (Step Mark Event)) (u rest : List ℕ) (held : Option Pdu) (parked : Option Parked) (settled : Bool) (stage : Stage) → ss' ≡ ss
+    → OnOk r (Stands (phase_of t ss) u rest held parked settled stage) → OnOk r (Stands (phase_of t ss') u rest held parked settled stage)
+stands_as t r ss ss' u rest held parked settled stage same h = subst (λ l. OnOk r (Stands (phase_of t l) u rest held parked settled stage)) (sym same) h

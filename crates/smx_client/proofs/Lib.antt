@@ -6,6 +6,7 @@ pub mod Laws
 pub mod Scenes
 pub mod Cells
 pub mod Filters
+pub mod Settling
 pub mod Replying
 pub mod Leavings
 pub mod Entering

@@ -5,6 +5,7 @@ pub mod Prefixes
 pub mod Parts
 pub mod Sayings
 pub mod Table
+pub mod Stages
 pub mod Turns
 pub mod Scenes
 pub mod Leaving

@@ -5,7 +5,7 @@ use Rattle.smx_client.specs.declared.mark.Mark.TheVariants.{Offered, WriteFailed
 
 -- whether nothing came of it
 abbrev pub is_quiet_mark : Mark → Bool
-is_quiet_mark (Offered stage wrote left) = not wrote
+is_quiet_mark (Offered wrote left) = not wrote
 is_quiet_mark WriteFailed = true
 is_quiet_mark Waited = true
 is_quiet_mark Full = true

@@ -19,7 +19,7 @@ module _ {L : Type 0} {g : Ghosts L} where
 
   -- what the order of its next turn depends on
   abbrev pub before : ClientWorker L g → Before
-  before w = record { lanes = length w.port.fronts; held = is_there w.held; parked = is_there w.parked }
+  before w = record { lanes = length w.port.fronts; stage = w.stage; settled = w.settled; parked = is_there w.parked }
 
   abbrev pub scene_of : List Question → List Party → List Query → ClientWorker L g → Scene
   scene_of asked told queries w = scene asked told queries w.events (parts_of w) w.wire.unsent (g.offered w.wire.link) (g.polls w.wire.link) (g.failures w.wire.link)

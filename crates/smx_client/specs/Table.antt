@@ -81,10 +81,11 @@ pub data Phase : Type 0 where
   -- what no turn does
   Wrong : Phase
 
--- what a turn's order depends on: how many lanes there are, and whether a PDU and an answer wait at its start
+-- what a turn's order depends on: how many lanes there are, and at its start the stage, whether every whole PDU that came was decided, and whether an answer waits
 pub record Before : Type 0 where
   pub lanes : ℕ
-  pub held : Bool
+  pub stage : Stage
+  pub settled : Bool
   pub parked : Bool
 
 abbrev pub step_of : Type 0
@@ -107,12 +108,12 @@ halts Open = Left
 halts Drained = Left
 halts Closed = Ending
 
-abbrev pub when_offered : Before → Stage → Bool → Phase
-when_offered t stage false = begins t stage
-when_offered t stage true = halts stage
+abbrev pub when_offered : Before → Bool → Phase
+when_offered t false = begins t t.stage
+when_offered t true = halts t.stage
 
 unfoldable pub from_opening : Before → step_of → Phase
-from_opening t (Marked (Offered stage wrote left)) = when_offered t stage left
+from_opening t (Marked (Offered wrote left)) = when_offered t left
 from_opening t (Marked WriteFailed) = Failed
 from_opening t _ = Wrong
 
@@ -184,12 +185,12 @@ abbrev pub after_read : Result Polled LinkFault → Phase
 after_read (Ok found) = Deciding (is_end found)
 after_read (Err e) = Failed
 
--- a PDU that waits goes before a read
+-- PDUs that came before go before a read
 unfoldable pub from_may_read : Bool → step_of → Phase
-from_may_read false (Read answer) = after_read answer
-from_may_read false _ = Wrong
-from_may_read true (Marked Waited) = Deciding false
+from_may_read true (Read answer) = after_read answer
 from_may_read true _ = Wrong
+from_may_read false (Marked Waited) = Deciding false
+from_may_read false _ = Wrong
 
 -- a receiver and a transceiver are sent messages
 abbrev pub after_bind : Bool → Kind → ℕ → Phase
@@ -229,8 +230,8 @@ from_entering ended account (Marked (Entered i whole)) = if i == account then (i
 from_entering ended account _ = Wrong
 
 unfoldable pub from_closing : step_of → Phase
-from_closing (Marked (Offered Closed wrote true)) = Ending
-from_closing (Marked (Offered Closed wrote false)) = Over
+from_closing (Marked (Offered wrote true)) = Ending
+from_closing (Marked (Offered wrote false)) = Over
 from_closing (Marked WriteFailed) = Failed
 from_closing _ = Wrong
 
@@ -241,7 +242,7 @@ go t Written s = from_written s
 go t (MayCollect n) s = from_collecting t n s
 go t Clear s = from_clear s
 go t Draining s = from_draining s
-go t MayRead s = from_may_read t.held s
+go t MayRead s = from_may_read t.settled s
 go t (Deciding ended) s = from_deciding ended s
 go t (MaySubmit ended) s = from_may_submit ended s
 go t (Entering ended account) s = from_entering ended account s
@@ -291,20 +292,20 @@ abbrev pub IsTurn : Result TurnEnd Fault → Bool → Phase → Type 0
 IsTurn (Ok end) quiet p = EndsIn end quiet p
 IsTurn (Err e) quiet p = Faulted e p
 
--- what is true where a turn stands so: of the octets that the link has not taken, of those that no PDU has, of the PDU and of the answer that wait
-abbrev pub Stands : Phase → {A : Type 0} → List ℕ → List ℕ → Option Pdu → Option A → Type 0
-Stands Left unsent rest held parked = unsent ≢ []
-Stands Ending unsent rest held parked = unsent ≢ []
-Stands Over unsent rest held parked = unsent ≡ []
-Stands Clogged unsent rest held parked = 65536 ≤ length unsent
-Stands Settled unsent rest held parked = (held ≡ None) × HasNone 65536 rest
-Stands Parked unsent rest held parked = IsSome parked
-Stands _ unsent rest held parked = Unit {0}
+-- what is true where a turn stands so: of the octets that the link has not taken, of those that no PDU has, of the PDU and of the answer that wait, of whether every whole PDU was decided, and of the stage
+abbrev pub Stands : Phase → {A : Type 0} → List ℕ → List ℕ → Option Pdu → Option A → Bool → Stage → Type 0
+Stands Left unsent rest held parked settled stage = unsent ≢ []
+Stands Ending unsent rest held parked settled stage = (unsent ≢ []) × (stage ≡ Closed)
+Stands Over unsent rest held parked settled stage = (unsent ≡ []) × (stage ≡ Closed)
+Stands Clogged unsent rest held parked settled stage = 65536 ≤ length unsent
+Stands Settled unsent rest held parked settled stage = (settled ≡ true) × (held ≡ None) × HasNone 65536 rest
+Stands Parked unsent rest held parked settled stage = IsSome parked
+Stands _ unsent rest held parked settled stage = Unit {0}
 
 -- the parts of a turn: what an offer, a collect and a decision lead to
-abbrev pub IsOffered : Before → Phase → Stage → Result Bool Fault → Phase → Type 0
-IsOffered t p stage (Ok left) q = (wrote : Bool) × (q ≡ go t p (Marked (Offered stage wrote left)))
-IsOffered t p stage (Err e) q = (e ≡ fault.Link) × (q ≡ go t p (Marked WriteFailed))
+abbrev pub IsOffered : Before → Phase → Result Bool Fault → Phase → Type 0
+IsOffered t p (Ok left) q = (wrote : Bool) × (q ≡ go t p (Marked (Offered wrote left)))
+IsOffered t p (Err e) q = (e ≡ fault.Link) × (q ≡ go t p (Marked WriteFailed))
 
 abbrev pub IsCollected : ℕ → Result (Unit {0}) Fault → Phase → Type 0
 IsCollected n (Ok _) p = p ≡ MayCollect (n + 1)

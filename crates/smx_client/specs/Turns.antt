@@ -57,7 +57,7 @@ pub record Offers (a : Scene) (wrote left : Bool) (b : Scene) : Type 0 where
 
 -- what a mark stands for
 abbrev pub Marks : Scene → Mark → Scene → Type 0
-Marks a (Offered stage wrote left) b = Offers a wrote left b
+Marks a (Offered wrote left) b = Offers a wrote left b
 Marks a WriteFailed b = b ≡ record a { unsent = b.unsent; offered = a.offered ++ a.unsent; failures = a.failures + 1 }
 Marks a Waited b = b ≡ a
 Marks a Clogs b = (65536 ≤ length a.unsent) × (b ≡ a)

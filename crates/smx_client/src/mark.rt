@@ -6,7 +6,7 @@ use smx_turns::Deed;
 /// How far a worker's life is.
 #[derive(Clone, Copy, Debug, PartialEq, Eq)]
 pub enum Stage {
-    /// It reads and collects.
+    /// It reads and collects: no read has answered that the link has ended.
     Open,
     /// The link has ended: the whole PDUs that are left are decided.
     Drained,
@@ -17,12 +17,12 @@ pub enum Stage {
 /// What a turn came to, beside its events.
 #[derive(Clone, Copy, Debug, PartialEq, Eq)]
 pub enum Mark {
-    /// At this stage it offered the link all that waits: whether the link took an octet, and
-    /// whether some are left.
-    Offered(Stage, bool, bool),
+    /// It offered the link all that waits: whether the link took an octet, and whether some are
+    /// left.
+    Offered(bool, bool),
     /// The write failed.
     WriteFailed,
-    /// A PDU waits, so nothing is read.
+    /// PDUs that came are still to be decided, so nothing is read.
     Waited,
     /// As many octets wait as a PDU can have, so no more are made.
     Full,

@@ -1,13 +1,16 @@
 //! A client's worker, and what it keeps at every call.
-ghost use Rattle.std.specs.Prelude.{◌≡◌, ◌++◌, ◌<◌, ℕ, List, [], length, None, IfOk, IfErr};
+ghost use Rattle.std.specs.Prelude.{◌≡◌, ◌≢◌, ◌++◌, ◌<◌, ℕ, List, [], length, None, IfOk, IfErr, true};
+ghost use Rattle.smx_frame.specs.Stream.{HasNone};
 ghost use Rattle.smx_link.specs.Wiring.{spellings};
 ghost use Rattle.smx_routes.specs.Window.{IsSize};
-ghost use Rattle.smx_session.specs.declared.client_state.ClientState.TheVariants.{Opened};
+ghost use Rattle.smx_session.specs.declared.client_state.ClientState.TheVariants.{Opened, Ended};
 ghost use Rattle.smx_shared.specs.Offers.{Accepted};
 ghost use Rattle.smx_shared.specs.Ports.{HasAccepted};
+ghost use Rattle.smx_client.specs.declared.mark.Stage.{Stage};
 ghost use Rattle.smx_client.specs.Replies.{put_in, parked_on};
 ghost use Rattle.smx_client.specs.Events.{ins, outs, accepts, answers, held_list};
 ghost use Rattle.smx_client.specs.Parts.{parts, Chain};
+ghost use Rattle.smx_client.specs.Stages.{has_ended};
 
 use crate::desk::Desk;
 use crate::event::Event;
@@ -58,6 +61,8 @@ pub struct ClientWorker<'d, L: Link + Drop> {
     held: Option<Pdu>,
     // The answer to a message that a return box refused.
     parked: Option<Parked>,
+    // Whether every whole PDU that came was decided.
+    settled: bool,
     stage: Stage,
     turns: u64,
     // The steps of the last turn.
@@ -72,6 +77,12 @@ pub struct ClientWorker<'d, L: Link + Drop> {
         origin.senders.value.items None)
         events
         (parts desk.now wire.said port session window inbox senders.items parked) },
+    ghost settled_is: { settled ≡ true → (held ≡ None) × HasNone 65536 wire.rest },
+    ghost open_is: { stage ≡ Stage.Open → has_ended (L.polls wire.link) ≡ true
+        → L.polls wire.link ≡ L.polls wire.start },
+    ghost drained_is: { stage ≡ Stage.Drained → has_ended (L.polls wire.link) ≡ true },
+    ghost closed_is: { stage ≡ Stage.Closed → session ≢ Ended
+        → (settled ≡ true) × (has_ended (L.polls wire.link) ≡ true) },
 }
 
 impl<'d, L: Link + Drop> ClientWorker<'d, L> {
@@ -97,7 +108,7 @@ impl<'d, L: Link + Drop> ClientWorker<'d, L> {
         ensures link { IfOk result (λ w. (w.wire.start ≡ link) × (w.wire.failed ≡ None)) }
         ensures none { IfOk result
             (λ w. (w.held ≡ None) × (w.parked ≡ None) × (w.events ≡ []) × (w.turns ≡ 0)) }
-        ensures stage { IfOk result (λ w. w.stage ≡ Stage.Open) }
+        ensures stage { IfOk result (λ w. (w.stage ≡ Stage.Open) × (w.settled ≡ true)) }
         ensures back { IfErr result
             (λ e. (e.0 ≡ port) × (e.1 ≡ inbox) × (e.2 ≡ senders) × (e.3 ≡ link)) }
     {
@@ -121,6 +132,7 @@ impl<'d, L: Link + Drop> ClientWorker<'d, L> {
             wire: Wire::new(alloc, link),
             held: None,
             parked: None,
+            settled: true,
             stage: Stage::Open,
             turns: 0,
             steps: Trace::new(),
@@ -133,7 +145,10 @@ impl<'d, L: Link + Drop> ClientWorker<'d, L> {
     /// What the worker keeps at every call. In: what the link gave are the PDUs that were decided,
     /// then one that waits, then octets that no PDU has. Out: what it took, and then what waits, is
     /// what the events say. The port accepted what the events submitted. Each return box was put,
-    /// or is to be put, the answers of the events. Each event is one step of the parts.
+    /// or is to be put, the answers of the events. Each event is one step of the parts. Where it has
+    /// settled, no whole PDU is left. While it is open, the last read since it was made answered no
+    /// end; where it is drained, it did. It is closed only once the session has ended, or the link
+    /// has and every whole PDU was decided.
     pub fn law(&self)
         ensures given { L.given self.now.wire.link ≡ L.given self.now.wire.start
             ++ (spellings (ins self.now.events ++ held_list self.now.held) ++ self.now.wire.rest) }
@@ -151,6 +166,15 @@ impl<'d, L: Link + Drop> ClientWorker<'d, L> {
             self.now.events
             (parts self.now.desk.now self.now.wire.said self.now.port self.now.session
             self.now.window self.now.inbox self.now.senders.items self.now.parked) }
+        ensures settled { self.now.settled ≡ true
+            → (self.now.held ≡ None) × HasNone 65536 self.now.wire.rest }
+        ensures opened { self.now.stage ≡ Stage.Open
+            → has_ended (L.polls self.now.wire.link) ≡ true
+            → L.polls self.now.wire.link ≡ L.polls self.now.wire.start }
+        ensures drained { self.now.stage ≡ Stage.Drained
+            → has_ended (L.polls self.now.wire.link) ≡ true }
+        ensures closed { self.now.stage ≡ Stage.Closed → self.now.session ≢ Ended
+            → (self.now.settled ≡ true) × (has_ended (L.polls self.now.wire.link) ≡ true) }
     {
         self.wire.law();
     }

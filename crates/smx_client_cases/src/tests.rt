@@ -15,6 +15,7 @@ use smx_shared::{Exchange, Tap};
 use smx_turns::{Fault, MoItem, Party, RunEnd};
 use std::alloc::Global;
 use std::cmp::Ord;
+use std::process::Abort;
 use std::sync::Wait;
 use std::test::Fail;
 
@@ -35,45 +36,45 @@ const BIND: &[u8] = b"\0\0\0\x19\0\0\0\x09\0\0\0\0\0\0\0\x01a\0p\0\0\x34\0\0\0";
 const BOUND: &[u8] = b"\0\0\0\x19\x80\0\0\x09\0\0\0\0\0\0\0\x01smx\0\x02\x10\0\x01\x34";
 
 // What a client's link took after its bind.
-fn taken_after_bind<R: Wait>(rt: &R, alloc: Global, seat: Seat) -> Option<Vec<u8>> {
+fn taken_after_bind<R: Wait + Abort>(rt: &R, alloc: Global, seat: Seat) -> Vec<u8> {
     let (closed, _) = seat.close(rt);
-    let octets = closed.link.peer().taken().get(25..)?;
-    Vec::from_slice(alloc, octets).ok()
+    let octets = closed.link.peer().taken().get(25..);
+    let octets = octets.expect(rt, "the bind is answered");
+    Vec::from_slice(alloc, octets).expect(rt, "out of memory")
 }
 
 // What the link took, and how many octets wait, after so many turns.
-fn taken_and_unsent<R: Wait>(
+fn taken_and_unsent<R: Wait + Abort>(
     rt: &R,
     alloc: Global,
     seat: Seat,
     turns: u64,
-) -> Option<(Vec<u8>, usize)> {
+) -> (Vec<u8>, usize) {
     let mut seat = seat;
     let end = seat.run(rt, turns);
     let unsent = seat.worker.unsent();
     let (closed, _) = seat.close(rt);
     if let RunEnd::Fault(_) = end {
-        return None;
+        panic!(rt; "the link goes on")
     }
-    let taken = Vec::from_slice(alloc, closed.link.peer().taken()).ok()?;
-    Some((taken, unsent))
+    let taken = Vec::from_slice(alloc, closed.link.peer().taken());
+    (taken.expect(rt, "out of memory"), unsent)
 }
 
 // The same of a client that binds over a link that takes one octet a write.
-fn after<R: Wait>(rt: &R, alloc: Global, turns: u64) -> Option<(Vec<u8>, usize)> {
-    let desk = desk(alloc).ok()?;
-    let (exchange, mut door, _) = Exchange::new(rt, alloc, LIMITS, 1).ok()?;
+fn after<R: Wait + Abort>(rt: &R, alloc: Global, turns: u64) -> (Vec<u8>, usize) {
+    let desk = desk(alloc).expect(rt, "out of memory");
+    let made = Exchange::new(rt, alloc, LIMITS, 1).ok();
+    let (exchange, mut door, _) = made.expect(rt, "out of memory");
     let script = Script::new(alloc, 1).and(0, BIND);
-    let seat = plain_seat(rt, alloc, &exchange, &mut door, &desk, 1, script)?;
+    let seat = plain_seat(rt, alloc, &exchange, &mut door, &desk, 1, script);
     taken_and_unsent(rt, alloc, seat, turns)
 }
 
 #[test]
 fn octets_taken_and_waiting_are_the_answer(rt: HostRuntime) {
     for turns in 1..=30 {
-        let Some((taken, unsent)) = after(&rt, rt.alloc(), turns) else {
-            panic!(rt; "there is memory")
-        };
+        let (taken, unsent) = after(&rt, rt.alloc(), turns);
         assert_eq!(rt;
             taken.len() as u64,
             (turns - 1).min(25),
@@ -91,7 +92,7 @@ const SUBMIT: &[u8] = b"\0\0\0\x11\0\0\0\x04\0\0\0\0\0\0\0\x07s";
 const SUBMITTED: &[u8] = b"\0\0\0\x12\x80\0\0\x04\0\0\0\0\0\0\0\x071\0";
 
 // The client's request is accepted, of which the lane is told, and its response collected.
-fn request_passes<R: Wait>(rt: &R, seat: &mut Seat, line: &mut Line, body: Body) -> bool {
+fn request_passes<R: Wait + Abort>(rt: &R, seat: &mut Seat, line: &mut Line, body: Body) -> bool {
     let accepted = seat.run(rt, 100) == RunEnd::Idle;
     let told = seat.world.gate.last == Some(Party::Lane(0));
     let answered = line.answer(rt, body);
@@ -123,10 +124,7 @@ fn response_bears_the_clients_number(rt: HostRuntime) -> Result<(), Fail> {
         panic!(rt; "there is one lane")
     };
     let script = Script::new(rt.alloc(), 4_096).and(0, BIND).and(25, SUBMIT);
-    let made = plain_seat(&rt, rt.alloc(), &exchange, &mut door, &desk, 1, script);
-    let Some(mut seat) = made else {
-        panic!(rt; "there is memory")
-    };
+    let mut seat = plain_seat(&rt, rt.alloc(), &exchange, &mut door, &desk, 1, script);
     assert!(rt; request_passes(&rt, &mut seat, &mut line, body));
     assert!(rt; is_at_rest(&seat));
     assert!(rt; leaves_with_a_response(&rt, seat));
@@ -134,7 +132,7 @@ fn response_bears_the_clients_number(rt: HostRuntime) -> Result<(), Fail> {
 }
 
 // Two messages are sent, the first is answered, and a third is put into the box.
-fn messages_pass<R: Wait>(
+fn messages_pass<R: Wait + Abort>(
     rt: &R,
     alloc: Global,
     seat: &mut Seat,
@@ -162,15 +160,12 @@ fn leaves_with_answers<R: Wait>(rt: &R, seat: Seat) -> bool {
 fn messages_are_answered(rt: HostRuntime) -> Result<(), Fail> {
     let answer = b"\0\0\0\x10\x80\0\0\x05\0\0\0\0\0\0\0\x01";
     let desk = desk(rt.alloc())?;
-    let Some(boxes) = make_boxes(&rt, rt.alloc(), 1, 4) else {
-        panic!(rt; "there is memory")
-    };
     let Boxes {
         inbox,
         mut messages,
         mut answers,
         senders,
-    } = boxes;
+    } = make_boxes(&rt, rt.alloc(), 1, 4);
     let Some(mut sender) = messages.pop() else {
         panic!(rt; "the box has a sender")
     };
@@ -179,12 +174,9 @@ fn messages_are_answered(rt: HostRuntime) -> Result<(), Fail> {
     };
     let (rt, alloc, script) = (&rt, rt.alloc(), Script::new(rt.alloc(), 4_096));
     let script = script.and(0, BIND).and(57, answer);
-    let made = seat_of(
+    let mut seat = seat_of(
         rt, alloc, &exchange, &mut door, &desk, inbox, senders, script,
     );
-    let Some(mut seat) = made else {
-        panic!(rt; "there is memory")
-    };
     assert!(rt; messages_pass(rt, alloc, &mut seat, &mut sender));
     assert!(rt; leaves_with_answers(rt, seat));
     let (bears, gone) = (0x8000_0005, 0x64);
@@ -193,8 +185,9 @@ fn messages_are_answered(rt: HostRuntime) -> Result<(), Fail> {
     Ok(())
 }
 
-// One answer is in the box and the other waits, and then has its place.
-fn answers_pass<R: Wait>(
+// One answer is in the box and the other waits, and then has its place. The enquiry behind them is
+// answered in the same turn, which reads nothing.
+fn answers_pass<R: Wait + Abort>(
     rt: &R,
     alloc: Global,
     seat: &mut Seat,
@@ -204,26 +197,26 @@ fn answers_pass<R: Wait>(
     put_messages(rt, alloc, sender, &[3, 4])
         && seat.run(rt, 100) == RunEnd::Turns
         && has_answers(rt, answers, &[(0x8000_0005, 0, 4)])
-        && seat.run(rt, 100) == RunEnd::Idle
+        && seat.run(rt, 1) == RunEnd::Turns
+        && seat.worker.unsent() == 16
         && next_answer(rt, answers) == Some((0x8000_0000, 8, 3))
 }
 
-// The second answer waits while the return box, which has one place, has the first.
+// The second answer waits while the return box, which has one place, has the first. Until the
+// enquiry that came with them is decided nothing is read: the link's fourth read would fail.
 #[test]
 fn answer_waits_for_its_box(rt: HostRuntime) -> Result<(), Fail> {
     // The second is a generic_nack, which answers a message too.
-    let both = b"\0\0\0\x10\x80\0\0\x05\0\0\0\0\0\0\0\x02\
-        \0\0\0\x10\x80\0\0\0\0\0\0\x08\0\0\0\x01";
+    let all = b"\0\0\0\x10\x80\0\0\x05\0\0\0\0\0\0\0\x02\
+        \0\0\0\x10\x80\0\0\0\0\0\0\x08\0\0\0\x01\
+        \0\0\0\x10\0\0\0\x15\0\0\0\0\0\0\0\x09";
     let desk = desk(rt.alloc())?;
-    let Some(boxes) = make_boxes(&rt, rt.alloc(), 1, 1) else {
-        panic!(rt; "there is memory")
-    };
     let Boxes {
         inbox,
         mut messages,
         mut answers,
         senders,
-    } = boxes;
+    } = make_boxes(&rt, rt.alloc(), 1, 1);
     let Some(mut sender) = messages.pop() else {
         panic!(rt; "the box has a sender")
     };
@@ -231,13 +224,11 @@ fn answer_waits_for_its_box(rt: HostRuntime) -> Result<(), Fail> {
         panic!(rt; "there is memory")
     };
     let (rt, alloc, script) = (&rt, rt.alloc(), Script::new(rt.alloc(), 4_096));
-    let script = script.and(0, BIND).and(57, both);
-    let made = seat_of(
+    let mut script = script.and(0, BIND).and(57, all);
+    script.failing_read = 4;
+    let mut seat = seat_of(
         rt, alloc, &exchange, &mut door, &desk, inbox, senders, script,
     );
-    let Some(mut seat) = made else {
-        panic!(rt; "there is memory")
-    };
     let passed = answers_pass(rt, alloc, &mut seat, &mut sender, &mut answers);
     drop(seat);
     assert!(rt; passed);
@@ -245,14 +236,14 @@ fn answer_waits_for_its_box(rt: HostRuntime) -> Result<(), Fail> {
 }
 
 // What a client is answered that says this once it is bound, where that ends it.
-fn last_answer<R: Wait>(rt: &R, alloc: Global, octets: &[u8]) -> Option<Vec<u8>> {
-    let desk = desk(alloc).ok()?;
-    let (exchange, mut door, _) = Exchange::new(rt, alloc, LIMITS, 1).ok()?;
+fn last_answer<R: Wait + Abort>(rt: &R, alloc: Global, octets: &[u8]) -> Vec<u8> {
+    let desk = desk(alloc).expect(rt, "out of memory");
+    let made = Exchange::new(rt, alloc, LIMITS, 1).ok();
+    let (exchange, mut door, _) = made.expect(rt, "out of memory");
     let script = Script::new(alloc, 7).and(0, BIND).and(25, octets);
-    let mut seat = plain_seat(rt, alloc, &exchange, &mut door, &desk, 1, script)?;
-    let end = seat.run(rt, 100);
-    let taken = taken_after_bind(rt, alloc, seat)?;
-    (end == RunEnd::Left).then_some(taken)
+    let mut seat = plain_seat(rt, alloc, &exchange, &mut door, &desk, 1, script);
+    assert_eq!(rt; seat.run(rt, 100), RunEnd::Left);
+    taken_after_bind(rt, alloc, seat)
 }
 
 #[test]
@@ -263,9 +254,7 @@ fn unbind_and_bad_length_end_it(rt: HostRuntime) {
     let short: &[u8] = b"\0\0\0\x0f\0\0\0\x15\0\0\0\0\0\0\0\x09\0\0\0\x10\0\0\0\x15";
     let nack: &[u8] = b"\0\0\0\x10\x80\0\0\0\0\0\0\x02\0\0\0\0";
     for (octets, answer) in [(unbind, unbound), (short, nack)] {
-        let Some(taken) = last_answer(&rt, rt.alloc(), octets) else {
-            panic!(rt; "it ends")
-        };
+        let taken = last_answer(&rt, rt.alloc(), octets);
         assert_eq!(rt; taken.as_slice(), answer);
     }
 }
@@ -278,10 +267,7 @@ fn link_that_fails(rt: HostRuntime) -> Result<(), Fail> {
     };
     let mut script = Script::new(rt.alloc(), 4_096).and(0, BIND);
     script.failing_read = 2;
-    let made = plain_seat(&rt, rt.alloc(), &exchange, &mut door, &desk, 1, script);
-    let Some(mut seat) = made else {
-        panic!(rt; "there is memory")
-    };
+    let mut seat = plain_seat(&rt, rt.alloc(), &exchange, &mut door, &desk, 1, script);
     let end = seat.run(&rt, 100);
     drop(seat);
     assert_eq!(rt; end, RunEnd::Fault(Fault::Link));
@@ -289,7 +275,7 @@ fn link_that_fails(rt: HostRuntime) -> Result<(), Fail> {
 }
 
 // The two requests are answered with 65,536 octets each: then a turn collects one, and the next none.
-fn two_turns<R: Wait>(
+fn two_turns<R: Wait + Abort>(
     rt: &R,
     alloc: Global,
     at: &Exchange,
@@ -319,10 +305,7 @@ fn turn_stops_where_many_octets_wait(rt: HostRuntime) -> Result<(), Fail> {
         .and(0, BIND)
         .and(25, SUBMIT)
         .and(25, SUBMIT);
-    let made = plain_seat(&rt, rt.alloc(), &exchange, &mut door, &desk, 2, script);
-    let Some(mut seat) = made else {
-        panic!(rt; "there is memory")
-    };
+    let mut seat = plain_seat(&rt, rt.alloc(), &exchange, &mut door, &desk, 2, script);
     let turns = two_turns(&rt, rt.alloc(), &exchange, &mut taps, &mut seat);
     drop(seat);
     assert_eq!(rt;

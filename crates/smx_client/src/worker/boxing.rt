@@ -54,6 +54,7 @@ impl<'d, L: Link + Drop> ClientWorker<'d, L> {
         ensures port { self.new.port ≡ self.old.port }
         ensures origin { self.new.origin ≡ self.old.origin }
         ensures held { self.new.held ≡ self.old.held }
+        ensures settled { self.new.settled ≡ self.old.settled }
         ensures stage { self.new.stage ≡ self.old.stage }
         ensures wire { self.new.wire ≡ self.old.wire }
         ensures counts { (self.new.turns ≡ self.old.turns) × (self.new.ends ≡ self.old.ends) }
@@ -90,6 +91,7 @@ impl<'d, L: Link + Drop> ClientWorker<'d, L> {
         ensures port { self.new.port ≡ self.old.port }
         ensures origin { self.new.origin ≡ self.old.origin }
         ensures held { self.new.held ≡ self.old.held }
+        ensures settled { self.new.settled ≡ self.old.settled }
         ensures stage { self.new.stage ≡ self.old.stage }
         ensures failed { self.new.wire.failed ≡ self.old.wire.failed }
         ensures counts { (self.new.turns ≡ self.old.turns) × (self.new.ends ≡ self.old.ends) }
@@ -147,6 +149,7 @@ impl<'d, L: Link + Drop> ClientWorker<'d, L> {
         ensures port { self.new.port ≡ self.old.port }
         ensures origin { self.new.origin ≡ self.old.origin }
         ensures held { self.new.held ≡ self.old.held }
+        ensures settled { self.new.settled ≡ self.old.settled }
         ensures stage { self.new.stage ≡ self.old.stage }
         ensures failed { self.new.wire.failed ≡ self.old.wire.failed }
         ensures counts { (self.new.turns ≡ self.old.turns) × (self.new.ends ≡ self.old.ends) }

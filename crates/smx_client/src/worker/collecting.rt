@@ -38,12 +38,13 @@ impl<'d, L: Link + Drop> ClientWorker<'d, L> {
     pub(super) fn offer_part(&mut self, log: &mut Log<Mark, Event>) -> Result<bool, Fault>
         ensures moves { Moves self.old log.old self.new log.new }
         ensures phase { (t : Before) (p : Phase) → phase_of t log.old ≡ p
-            → IsOffered t p self.old.stage result (phase_of t log.new) }
+            → IsOffered t p result (phase_of t log.new) }
         ensures some { result ≡ Ok true → self.new.wire.unsent ≢ [] }
         ensures none { result ≡ Ok false → self.new.wire.unsent ≡ [] }
         ensures port { self.new.port ≡ self.old.port }
         ensures origin { self.new.origin ≡ self.old.origin }
         ensures held { self.new.held ≡ self.old.held }
+        ensures settled { self.new.settled ≡ self.old.settled }
         ensures parked { self.new.parked ≡ self.old.parked }
         ensures stage { self.new.stage ≡ self.old.stage }
         ensures failed { self.new.wire.failed ≡ self.old.wire.failed }
@@ -58,7 +59,7 @@ impl<'d, L: Link + Drop> ClientWorker<'d, L> {
             Ok(()) => {
                 let left = has_unsent(&self.wire);
                 let wrote = differ(self.wire.unsent(), waited);
-                mark(log, Mark::Offered(self.stage, wrote, left), !wrote);
+                mark(log, Mark::Offered(wrote, left), !wrote);
                 Ok(left)
             }
         }
@@ -71,6 +72,7 @@ impl<'d, L: Link + Drop> ClientWorker<'d, L> {
         ensures port { self.new.port ≡ self.old.port }
         ensures origin { self.new.origin ≡ self.old.origin }
         ensures held { self.new.held ≡ self.old.held }
+        ensures settled { self.new.settled ≡ self.old.settled }
         ensures parked { self.new.parked ≡ self.old.parked }
         ensures window { self.new.window ≡ self.old.window }
         ensures inbox { self.new.inbox ≡ self.old.inbox }
@@ -112,6 +114,7 @@ impl<'d, L: Link + Drop> ClientWorker<'d, L> {
         ensures locks { locks_of self.new.port.fronts ≡ locks_of self.old.port.fronts }
         ensures origin { self.new.origin ≡ self.old.origin }
         ensures held { self.new.held ≡ self.old.held }
+        ensures settled { self.new.settled ≡ self.old.settled }
         ensures parked { self.new.parked ≡ self.old.parked }
         ensures stage { self.new.stage ≡ self.old.stage }
         ensures failed { self.new.wire.failed ≡ self.old.wire.failed }
@@ -149,6 +152,7 @@ impl<'d, L: Link + Drop> ClientWorker<'d, L> {
         ensures locks { locks_of self.new.port.fronts ≡ locks_of self.old.port.fronts }
         ensures origin { self.new.origin ≡ self.old.origin }
         ensures held { self.new.held ≡ self.old.held }
+        ensures settled { self.new.settled ≡ self.old.settled }
         ensures parked { self.new.parked ≡ self.old.parked }
         ensures stage { self.new.stage ≡ self.old.stage }
         ensures failed { self.new.wire.failed ≡ self.old.wire.failed }

@@ -1,5 +1,5 @@
 //! The PDUs that came, each decided once and in order.
-ghost use Rattle.std.specs.Prelude.{◌≡◌, ◌≢◌, ◌⊎◌, ◌≤◌, ◌<◌, ℕ, Bool, List, [], length, Some, None, Ok, Err, OnOk, OnErr, IfSome, IsSome};
+ghost use Rattle.std.specs.Prelude.{◌≡◌, ◌≢◌, ◌⊎◌, ◌≤◌, ◌<◌, ℕ, Bool, List, [], length, Some, None, Ok, Err, OnOk, OnErr, IfSome, IsSome, true, false};
 ghost use Rattle.smx_frame.specs.Stream.{HasNone};
 ghost use Rattle.smx_session.specs.ClientTable.{client_decides};
 ghost use Rattle.smx_session.specs.declared.act.Act.{Act};
@@ -12,12 +12,12 @@ ghost use Rattle.smx_client.specs.Turns.{Leads};
 use super::ClientWorker;
 use crate::event::{Event, Fate, Front, Progress, Verdict};
 use crate::ledger::{mark, note};
-use crate::mark::Mark;
+use crate::mark::{Mark, Stage};
 use crate::reply::answer_settled;
 use crate::saying::{offer_of, say_act, say_refusal, tell_accepted, verdict_of};
 use smx_frame::FrameFault;
 use smx_link::Link;
-use smx_session::Act;
+use smx_session::{Act, ClientState};
 use smx_shared::Exchange;
 use smx_turns::{Fault, Gate, Log};
 use std::snapshot::Snapshot;
@@ -27,6 +27,7 @@ impl<'d, L: Link + Drop> ClientWorker<'d, L> {
     // Sets the next whole PDU apart.
     fn fetch(&mut self) -> Result<Front, Fault>
         requires none { self.old.held ≡ None }
+        requires undecided { self.old.settled ≡ false }
         ensures whole { result ≡ Ok Front.Whole
             → IsSome self.new.held × (length self.new.wire.rest < length self.old.wire.rest) }
         ensures part { result ≢ Ok Front.Whole → self.new.held ≡ None }
@@ -41,6 +42,7 @@ impl<'d, L: Link + Drop> ClientWorker<'d, L> {
         ensures desk { self.new.desk ≡ self.old.desk }
         ensures origin { self.new.origin ≡ self.old.origin }
         ensures stage { self.new.stage ≡ self.old.stage }
+        ensures settled { self.new.settled ≡ self.old.settled }
         ensures counts { (self.new.turns ≡ self.old.turns) × (self.new.ends ≡ self.old.ends) }
         ensures said { self.new.wire.said ≡ self.old.wire.said }
         ensures unsent { self.new.wire.unsent ≡ self.old.wire.unsent }
@@ -67,6 +69,7 @@ impl<'d, L: Link + Drop> ClientWorker<'d, L> {
         ensures moves { Moves self.old log.old self.new log.new }
         ensures phase { (t : Before) (ended : Bool) → phase_of t log.old ≡ Deciding ended
             → phase_of t log.new ≡ Closing }
+        ensures over { self.new.session ≡ ClientState.Ended }
         ensures port { self.new.port ≡ self.old.port }
         ensures origin { self.new.origin ≡ self.old.origin }
         ensures held { self.new.held ≡ self.old.held }
@@ -86,6 +89,7 @@ impl<'d, L: Link + Drop> ClientWorker<'d, L> {
         ended: bool,
         log: &mut Log<Mark, Event>,
     ) -> Result<Option<Progress>, Fault>
+        requires going { self.old.stage ≢ Stage.Closed }
         ensures moves { Moves self.old log.old self.new log.new }
         ensures phase { (t : Before) → phase_of t log.old ≡ Deciding ended
             → IsPart (Deciding ended) result (phase_of t log.new) }
@@ -93,8 +97,12 @@ impl<'d, L: Link + Drop> ClientWorker<'d, L> {
             → IsSome self.new.held
             × (weight self.new.held self.new.wire.rest ≤ weight self.old.held
             self.old.wire.rest) }
+        ensures undecided { result ≡ Ok None → self.new.settled ≡ false }
         ensures settled { result ≡ Ok (Some Progress.Settled)
-            → (self.new.held ≡ None) × HasNone 65536 self.new.wire.rest }
+            → (self.new.settled ≡ true) × (self.new.held ≡ None)
+            × HasNone 65536 self.new.wire.rest }
+        ensures over { result ≡ Ok (Some Progress.Closed) → self.new.session ≢ ClientState.Ended
+            → (self.new.settled ≡ true) × (ended ≡ true) }
         ensures failed { OnOk result (result ≢ Ok (Some Progress.Closed)
             → self.old.wire.failed ≡ None → self.new.wire.failed ≡ None) }
         ensures which { (result ≢ Ok (Some Progress.Parked))
@@ -105,12 +113,14 @@ impl<'d, L: Link + Drop> ClientWorker<'d, L> {
         ensures parked { self.new.parked ≡ self.old.parked }
         ensures counts { (self.new.turns ≡ self.old.turns) × (self.new.ends ≡ self.old.ends) }
     {
+        self.settled = false;
         if self.held.is_some() {
             return Ok(None);
         }
         match self.fetch()? {
             Front::Whole => Ok(None),
             Front::Part => {
+                self.settled = true;
                 mark(log, Mark::Part, true);
                 Ok(Some(if ended {
                     Progress::Closed
@@ -130,11 +140,15 @@ impl<'d, L: Link + Drop> ClientWorker<'d, L> {
     pub(super) fn decide(&mut self, log: &mut Log<Mark, Event>) -> Result<Verdict, Fault>
         requires room { 65536 ≤ self.old.wire.room }
         requires some { IsSome self.old.held }
+        requires undecided { self.old.settled ≡ false }
+        requires going { self.old.stage ≢ Stage.Closed }
         ensures moves { Moves self.old log.old self.new log.new }
         ensures phase { (t : Before) (ended : Bool) → phase_of t log.old ≡ Deciding ended
             → IsDecided ended result (phase_of t log.new) }
         ensures held { OnOk result
             ((result ≢ Ok Verdict.Forward) → (result ≢ Ok Verdict.Settle) → self.new.held ≡ None) }
+        ensures over { result ≡ Ok Verdict.Over → self.new.session ≡ ClientState.Ended }
+        ensures settled { self.new.settled ≡ self.old.settled }
         ensures forward { result ≡ Ok Verdict.Forward
             → IfSome self.new.held (λ p.
             client_decides self.new.desk.now.accounts.items self.new.session p
@@ -193,6 +207,7 @@ impl<'d, L: Link + Drop> ClientWorker<'d, L> {
             client_decides self.old.desk.now.accounts.items self.old.session p
             ≡ (Act.Forward, self.old.session)) }
         requires some { IsSome self.old.held }
+        requires undecided { self.old.settled ≡ false }
         ensures leads { (n : ℕ) (queries : List Query)
             → Leads n (scene_of (G.asked gate.old) (G.told gate.old) queries self.old) log.old
             (scene_of (G.asked gate.new) (G.told gate.new) queries self.new) log.new }
@@ -236,6 +251,7 @@ impl<'d, L: Link + Drop> ClientWorker<'d, L> {
             client_decides self.old.desk.now.accounts.items self.old.session p
             ≡ (Act.MoAnswer p.number, self.old.session)) }
         requires some { IsSome self.old.held }
+        requires undecided { self.old.settled ≡ false }
         ensures leads { (n : ℕ) (queries : List Query)
             → Leads n (scene_of (G.asked gate.old) (G.told gate.old) queries self.old) log.old
             (scene_of (G.asked gate.new) (G.told gate.new) queries self.new) log.new }

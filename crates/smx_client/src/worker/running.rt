@@ -1,5 +1,6 @@
 //! Turns of a client's worker, one after another.
-ghost use Rattle.std.specs.Prelude.{◌≡◌, ◌≢◌, ◌+◌, ◌-◌, ◌^◌, ◌++◌, ◌∷◌, [], ℕ, List, min, Ok, None, OnOk};
+ghost use Rattle.std.specs.Prelude.{◌≡◌, ◌≢◌, ◌+◌, ◌-◌, ◌^◌, ◌++◌, ◌∷◌, [], ℕ, List, min, Ok, None, OnOk, true};
+ghost use Rattle.smx_frame.specs.Stream.{HasNone};
 ghost use Rattle.smx_shared.specs.Views.{locks_of};
 ghost use Rattle.smx_turns.specs.Rounds.{EndsSo};
 ghost use Rattle.smx_turns.specs.Runs.{Runs, Ran};
@@ -9,6 +10,7 @@ ghost use Rattle.smx_client.specs.Events.{is_quiet_event, tells};
 ghost use Rattle.smx_client.specs.Marks.{is_quiet_mark};
 ghost use Rattle.smx_client.specs.Parts.{Does};
 ghost use Rattle.smx_client.specs.Scenes.{scene_of, parts_of, before, Moves};
+ghost use Rattle.smx_client.specs.Stages.{has_ended};
 ghost use Rattle.smx_client.specs.Table.{Before, Phase, phase_of, Opening, Closing, begins, IsAt, EndsIn, IsTurn, Stands, last_end};
 ghost use Rattle.smx_client.specs.Turns.{Leads, Changes, faults};
 
@@ -16,6 +18,7 @@ use super::ClientWorker;
 use crate::event::{Event, Progress};
 use crate::mark::{Mark, Stage};
 use smx_link::Link;
+use smx_session::ClientState;
 use smx_shared::Exchange;
 use smx_turns::{Directory, Fault, Gate, Log, RunEnd, TurnEnd};
 use std::sync::Wait;
@@ -58,7 +61,7 @@ impl<'d, L: Link + Drop> ClientWorker<'d, L> {
         ensures phase { (t : Before) → phase_of t log.old ≡ Closing
             → IsTurn result (are_quiet is_quiet_mark is_quiet_event log.new) (phase_of t log.new)
             × OnOk result (Stands (phase_of t log.new) self.new.wire.unsent self.new.wire.rest
-            self.new.held self.new.parked) }
+            self.new.held self.new.parked self.new.settled self.new.stage) }
         ensures stage { self.new.stage ≡ Stage.Closed }
         ensures port { self.new.port ≡ self.old.port }
         ensures origin { self.new.origin ≡ self.old.origin }
@@ -92,7 +95,7 @@ impl<'d, L: Link + Drop> ClientWorker<'d, L> {
             → phase_of t log.old ≡ begins t self.old.stage
             → IsTurn result (are_quiet is_quiet_mark is_quiet_event log.new) (phase_of t log.new)
             × OnOk result (Stands (phase_of t log.new) self.new.wire.unsent self.new.wire.rest
-            self.new.held self.new.parked) }
+            self.new.held self.new.parked self.new.settled self.new.stage) }
         ensures goes_on { OnOk result
             (self.new.stage ≢ Stage.Closed → self.new.wire.failed ≡ None) }
         ensures done { result ≡ Ok TurnEnd.Done → self.new.stage ≡ Stage.Closed }
@@ -129,7 +132,7 @@ impl<'d, L: Link + Drop> ClientWorker<'d, L> {
         ensures phase { (t : Before) → t ≡ before self.old → phase_of t log.old ≡ Opening
             → IsTurn result (are_quiet is_quiet_mark is_quiet_event log.new) (phase_of t log.new)
             × OnOk result (Stands (phase_of t log.new) self.new.wire.unsent self.new.wire.rest
-            self.new.held self.new.parked) }
+            self.new.held self.new.parked self.new.settled self.new.stage) }
         ensures goes_on { OnOk result
             (self.new.stage ≢ Stage.Closed → self.new.wire.failed ≡ None) }
         ensures done { result ≡ Ok TurnEnd.Done → self.new.stage ≡ Stage.Closed }
@@ -173,7 +176,17 @@ impl<'d, L: Link + Drop> ClientWorker<'d, L> {
         ensures order { IsTurn result (are_quiet is_quiet_mark is_quiet_event self.new.steps)
             (phase_of (before self.old) self.new.steps) }
         ensures stands { OnOk result (Stands (phase_of (before self.old) self.new.steps)
-            self.new.wire.unsent self.new.wire.rest self.new.held self.new.parked) }
+            self.new.wire.unsent self.new.wire.rest self.new.held self.new.parked
+            self.new.settled self.new.stage) }
+
+        // It reads only where every whole PDU that came before was decided.
+        ensures settled { (polls self.new.steps ≢ [])
+            → (self.old.held ≡ None) × HasNone 65536 self.old.wire.rest }
+
+        // Nothing more is decided only once the session has ended, or the link, with nothing left.
+        ensures closed { self.new.stage ≡ Stage.Closed → self.new.session ≢ ClientState.Ended
+            → (self.new.held ≡ None) × HasNone 65536 self.new.wire.rest
+            × (has_ended (L.polls self.new.wire.link) ≡ true) }
 
         // So each of these lists grew by what the steps tell.
         ensures asks { G.asked gate.new ≡ G.asked gate.old ++ asks self.new.turns self.new.steps }

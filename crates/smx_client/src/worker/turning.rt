@@ -16,7 +16,7 @@ use crate::ledger::{ask, mark, reading};
 use crate::mark::{Mark, Stage};
 use crate::prefixes::{add_all, prefixes_at};
 use smx_link::{Link, Polled};
-use smx_session::Kind;
+use smx_session::{ClientState, Kind};
 use smx_shared::Exchange;
 use smx_turns::{Directory, Fault, Gate, Log, Point};
 use std::sync::Wait;
@@ -38,14 +38,19 @@ fn is_end(polled: Polled) -> bool
     matches!(polled, Polled::End)
 }
 
+// The stage after a read that answered so.
 fn stage_after(ended: bool) -> Stage
-    ensures { result ≢ Stage.Closed }
+    ensures drained { ended ≡ true → result ≡ Stage.Drained }
+    ensures opened { ended ≡ false → result ≡ Stage.Open }
+    ensures only { (result ≡ Stage.Drained → ended ≡ true) × (result ≡ Stage.Open → ended ≡ false) }
+    ensures goes_on { result ≢ Stage.Closed }
 {
     if ended { Stage::Drained } else { Stage::Open }
 }
 
 impl<'d, L: Link + Drop> ClientWorker<'d, L> {
-    // Asks for leave to read, and reads unless a PDU waits: whether the link has ended.
+    // Asks for leave to read, and reads where every whole PDU that came was decided: whether the
+    // link has ended.
     fn read_part<G: Gate>(
         &mut self,
         gate: &mut G,
@@ -53,18 +58,20 @@ impl<'d, L: Link + Drop> ClientWorker<'d, L> {
         log: &mut Log<Mark, Event>,
     ) -> Result<Result<bool, Progress>, Fault>
         requires goes_on { self.old.wire.failed ≡ None }
+        requires opened { self.old.stage ≡ Stage.Open }
         ensures leads { (queries : List Query)
             → Leads turn (scene_of (G.asked gate.old) (G.told gate.old) queries self.old) log.old
             (scene_of (G.asked gate.new) (G.told gate.new) queries self.new) log.new }
-        ensures phase { (t : Before) → phase_of t log.old ≡ Clear → t.held ≡ is_there self.old.held
+        ensures phase { (t : Before) → phase_of t log.old ≡ Clear → t.settled ≡ self.old.settled
             → IsFront result (phase_of t log.new) }
         ensures which { IfOk result (λ r. (r ≢ Err Progress.Parked) × (r ≢ Err Progress.Clogged)
             × (r ≢ Err Progress.Settled) × (r ≢ Err Progress.Closed)) }
         ensures port { self.new.port ≡ self.old.port }
         ensures origin { self.new.origin ≡ self.old.origin }
-        ensures held { self.new.held ≡ self.old.held }
         ensures parked { self.new.parked ≡ self.old.parked }
-        ensures stage { self.new.stage ≡ self.old.stage }
+        ensures stage { self.new.stage ≢ Stage.Closed }
+        ensures ended { IfOk result
+            (λ r. IfOk r (λ ended. ended ≡ true → self.new.stage ≡ Stage.Drained)) }
         ensures failed { self.new.wire.failed ≡ self.old.wire.failed }
         ensures counts { (self.new.turns ≡ self.old.turns) × (self.new.ends ≡ self.old.ends) }
     {
@@ -74,14 +81,20 @@ impl<'d, L: Link + Drop> ClientWorker<'d, L> {
         if !ask(log, gate, Point::Reading, turn) {
             return Ok(Err(Progress::Stopped));
         }
-        if is_waiting(&self.held) {
+        let settled = self.settled;
+        if !settled {
             mark(log, Mark::Waited, true);
             return Ok(Ok(false));
         }
+        self.settled = false;
         let answer = self.wire.read();
         reading(log, answer);
         match answer {
-            Ok(polled) => Ok(Ok(is_end(polled))),
+            Ok(polled) => {
+                let ended = is_end(polled);
+                self.stage = stage_after(ended);
+                Ok(Ok(ended))
+            }
             Err(_) => Err(Fault::Link),
         }
     }
@@ -97,11 +110,12 @@ impl<'d, L: Link + Drop> ClientWorker<'d, L> {
     ) -> Result<Result<bool, Progress>, Fault>
         requires locks { locks_of self.old.port.fronts ≡ at.now }
         requires goes_on { self.old.wire.failed ≡ None }
+        requires opened { self.old.stage ≡ Stage.Open }
         ensures leads { (queries : List Query)
             → Leads turn (scene_of (G.asked gate.old) (G.told gate.old) queries self.old) log.old
             (scene_of (G.asked gate.new) (G.told gate.new) queries self.new) log.new }
         ensures phase { (t : Before) → phase_of t log.old ≡ Written
-            → t.lanes ≡ length self.old.port.fronts → t.held ≡ is_there self.old.held
+            → t.lanes ≡ length self.old.port.fronts → t.settled ≡ self.old.settled
             → t.parked ≡ is_there self.old.parked → IsFront result (phase_of t log.new) }
         ensures clear { IfOk result (λ r. IfOk r (λ ended. self.new.parked ≡ None)) }
         ensures waits { result ≡ Ok (Err Progress.Parked) → IsSome self.new.parked }
@@ -109,7 +123,9 @@ impl<'d, L: Link + Drop> ClientWorker<'d, L> {
         ensures which { (result ≢ Ok (Err Progress.Settled)) × (result ≢ Ok (Err Progress.Closed)) }
         ensures locks { locks_of self.new.port.fronts ≡ locks_of self.old.port.fronts }
         ensures origin { self.new.origin ≡ self.old.origin }
-        ensures stage { self.new.stage ≡ self.old.stage }
+        ensures stage { self.new.stage ≢ Stage.Closed }
+        ensures ended { IfOk result
+            (λ r. IfOk r (λ ended. ended ≡ true → self.new.stage ≡ Stage.Drained)) }
         ensures failed { self.new.wire.failed ≡ self.old.wire.failed }
         ensures counts { (self.new.turns ≡ self.old.turns) × (self.new.ends ≡ self.old.ends) }
     {
@@ -167,6 +183,8 @@ impl<'d, L: Link + Drop> ClientWorker<'d, L> {
         requires locks { locks_of self.old.port.fronts ≡ at.now }
         requires none { self.old.parked ≡ None }
         requires some { IsSome self.old.held }
+        requires undecided { self.old.settled ≡ false }
+        requires going { self.old.stage ≢ Stage.Closed }
         ensures leads { Leads turn
             (scene_of (G.asked gate.old) (G.told gate.old) (D.queries directory.old) self.old)
             log.old
@@ -177,6 +195,8 @@ impl<'d, L: Link + Drop> ClientWorker<'d, L> {
         ensures next { result ≡ Ok None → (self.new.held ≡ None) × (self.new.parked ≡ None) }
         ensures which { (result ≢ Ok (Some Progress.Settled))
             × (result ≢ Ok (Some Progress.Clogged)) }
+        ensures over { result ≡ Ok (Some Progress.Closed)
+            → self.new.session ≡ ClientState.Ended }
         ensures waits { result ≡ Ok (Some Progress.Parked) → IsSome self.new.parked }
         ensures locks { locks_of self.new.port.fronts ≡ locks_of self.old.port.fronts }
         ensures origin { self.new.origin ≡ self.old.origin }
@@ -214,6 +234,7 @@ impl<'d, L: Link + Drop> ClientWorker<'d, L> {
     ) -> Result<Progress, Fault>
         requires locks { locks_of self.old.port.fronts ≡ at.now }
         requires none { self.old.parked ≡ None }
+        requires going { self.old.stage ≢ Stage.Closed }
         ensures leads { Leads turn
             (scene_of (G.asked gate.old) (G.told gate.old) (D.queries directory.old) self.old)
             log.old
@@ -224,7 +245,10 @@ impl<'d, L: Link + Drop> ClientWorker<'d, L> {
         ensures failed { OnOk result (result ≢ Ok Progress.Closed → self.old.wire.failed ≡ None
             → self.new.wire.failed ≡ None) }
         ensures settled { result ≡ Ok Progress.Settled
-            → (self.new.held ≡ None) × HasNone 65536 self.new.wire.rest }
+            → (self.new.settled ≡ true) × (self.new.held ≡ None)
+            × HasNone 65536 self.new.wire.rest }
+        ensures over { result ≡ Ok Progress.Closed → self.new.session ≢ ClientState.Ended
+            → (self.new.settled ≡ true) × (ended ≡ true) }
         ensures waits { result ≡ Ok Progress.Parked → IsSome self.new.parked }
         ensures clogged { result ≡ Ok Progress.Clogged → 65536 ≤ length self.new.wire.unsent }
         ensures locks { locks_of self.new.port.fronts ≡ locks_of self.old.port.fronts }
@@ -298,7 +322,10 @@ impl<'d, L: Link + Drop> ClientWorker<'d, L> {
         ensures goes_on { OnOk result (result ≢ Ok Progress.Closed → self.new.wire.failed ≡ None) }
         ensures stage { self.new.stage ≢ Stage.Closed }
         ensures settled { result ≡ Ok Progress.Settled
-            → (self.new.held ≡ None) × HasNone 65536 self.new.wire.rest }
+            → (self.new.settled ≡ true) × (self.new.held ≡ None)
+            × HasNone 65536 self.new.wire.rest }
+        ensures over { result ≡ Ok Progress.Closed → self.new.session ≢ ClientState.Ended
+            → (self.new.settled ≡ true) × (self.new.stage ≡ Stage.Drained) }
         ensures waits { result ≡ Ok Progress.Parked → IsSome self.new.parked }
         ensures clogged { result ≡ Ok Progress.Clogged → 65536 ≤ length self.new.wire.unsent }
         ensures locks { locks_of self.new.port.fronts ≡ locks_of self.old.port.fronts }
@@ -315,10 +342,7 @@ impl<'d, L: Link + Drop> ClientWorker<'d, L> {
             }
             Stage::Open => match self.front_part(at, rt, gate, turn, log)? {
                 Err(progress) => Ok(progress),
-                Ok(ended) => {
-                    self.stage = stage_after(ended);
-                    self.decide_part(at, rt, gate, directory, turn, ended, log)
-                }
+                Ok(ended) => self.decide_part(at, rt, gate, directory, turn, ended, log),
             },
         }
     }

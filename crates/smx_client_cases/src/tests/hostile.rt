@@ -7,7 +7,6 @@ use smx_client::Desk;
 use smx_history::Kind;
 use smx_lane::Lane;
 use smx_shared::Door;
-use std::process::Abort;
 
 // The bind, submit_sm 7 to the address `1`, and unbind 8: of 25, 34 and 16 octets.
 const SAID: &[u8] = b"\0\0\0\x19\0\0\0\x09\0\0\0\0\0\0\0\x01a\0p\0\0\x34\0\0\0\
@@ -68,8 +67,7 @@ fn served<R: Wait + Abort>(
     requires { locks_of door.old.fronts ≡ at.now }
     ensures { locks_of door.new.fronts ≡ at.now }
 {
-    let seat = plain_seat(rt, alloc, at, door, desk, 1, script);
-    let mut seat = seat.expect(rt, "out of memory");
+    let mut seat = plain_seat(rt, alloc, at, door, desk, 1, script);
     let end = seat.run(rt, 1_000);
     let (closed, _) = seat.close(rt);
     let taken = closed.link.peer().taken();

@@ -12,8 +12,9 @@ use smx_routes::RouteFault;
 use smx_session::Account;
 use smx_shared::{Door, Exchange, Tap};
 use smx_trace::Trace;
-use smx_turns::{Directory, Gate, MoItem, Party, Place, Point, Query, Question, RunEnd};
+use smx_turns::{Directory, Fault, Gate, MoItem, Party, Place, Point, Query, Question, RunEnd};
 use std::alloc::{AllocError, Global};
+use std::process::Abort;
 use std::sync::Wait;
 
 /// A gate that says yes, and keeps whom it was told of last.
@@ -133,21 +134,24 @@ pub struct Boxes {
 }
 
 /// Each return box has so many places.
-pub fn make_boxes<R: Wait>(rt: &R, alloc: Global, lanes: usize, places: usize) -> Option<Boxes> {
-    let (inbox, messages) = Boxed::new(rt, alloc, 1, 4).ok()?;
+pub fn make_boxes<R: Wait + Abort>(rt: &R, alloc: Global, lanes: usize, places: usize) -> Boxes {
+    let made = Boxed::new(rt, alloc, 1, 4).ok();
+    let (inbox, messages) = made.expect(rt, "out of memory");
     let mut answers = Vec::new(alloc);
     let mut senders = Vec::new(alloc);
     for _lane in 0..lanes {
-        let (receiver, mut own) = Boxed::new(rt, alloc, 1, places).ok()?;
-        answers.push(receiver).ok()?;
-        senders.push(own.pop()?).ok()?;
+        let made = Boxed::new(rt, alloc, 1, places).ok();
+        let (receiver, mut own) = made.expect(rt, "out of memory");
+        let sender = own.pop().expect(rt, "a box has a sender");
+        answers.push(receiver).expect(rt, "out of memory");
+        senders.push(sender).expect(rt, "out of memory");
     }
-    Some(Boxes {
+    Boxes {
         inbox,
         messages,
         answers,
         senders,
-    })
+    }
 }
 
 /// A client's worker with its exchange, and all that a turn is lent.
@@ -163,7 +167,7 @@ pub struct Seat<'a, 'd> {
 }
 
 /// A client that enters, over a link with this script. There must be a sender for each lane.
-pub fn seat_of<'a, 'd, R: Wait>(
+pub fn seat_of<'a, 'd, R: Wait + Abort>(
     rt: &R,
     alloc: Global,
     at: &'a Exchange,
@@ -172,28 +176,38 @@ pub fn seat_of<'a, 'd, R: Wait>(
     inbox: Receiver<MoItem>,
     senders: Vec<Sender<Pdu>>,
     script: Script,
-) -> Option<Seat<'a, 'd>>
+) -> Seat<'a, 'd>
     requires { locks_of door.old.fronts ≡ at.now }
     ensures { locks_of door.new.fronts ≡ at.now }
 {
-    let port = door.enter(at, rt).ok()?;
+    let port = door.enter(at, rt).ok().expect(rt, "out of memory");
     if senders.len() != port.lanes() {
-        return None;
+        panic!(rt; "each lane has a sender")
     }
-    let link = MemoryLink::new(script);
+    let link = MemoryLink::new(roomy(rt, script));
     match ClientWorker::new(alloc, port, desk, inbox, senders, 4, link) {
-        Ok(worker) => Some(Seat {
+        Ok(worker) => Seat {
             at,
             worker,
             world: World::new(),
             over: false,
-        }),
-        Err(_) => None,
+        },
+        Err(_) => panic!(rt; "out of memory"),
     }
 }
 
+// The script with each of its pieces, and with room for what it is to take.
+fn roomy<R: Wait + Abort>(rt: &R, script: Script) -> Script {
+    let mut script = script;
+    if !script.is_whole() {
+        panic!(rt; "out of memory")
+    }
+    script.make_room(131_072).expect(rt, "out of memory");
+    script
+}
+
 /// The same with boxes of one place, whose other ends nobody uses.
-pub fn plain_seat<'a, 'd, R: Wait>(
+pub fn plain_seat<'a, 'd, R: Wait + Abort>(
     rt: &R,
     alloc: Global,
     at: &'a Exchange,
@@ -201,17 +215,18 @@ pub fn plain_seat<'a, 'd, R: Wait>(
     desk: &'d Desk,
     lanes: usize,
     script: Script,
-) -> Option<Seat<'a, 'd>>
+) -> Seat<'a, 'd>
     requires { locks_of door.old.fronts ≡ at.now }
     ensures { locks_of door.new.fronts ≡ at.now }
 {
-    let Boxes { inbox, senders, .. } = make_boxes(rt, alloc, lanes, 1)?;
+    let Boxes { inbox, senders, .. } = make_boxes(rt, alloc, lanes, 1);
     seat_of(rt, alloc, at, door, desk, inbox, senders, script)
 }
 
 impl Seat<'_, '_> {
-    /// Turns the worker as long as there is something to do, at most so often.
-    pub fn run<R: Wait>(&mut self, rt: &R, turns: u64) -> RunEnd {
+    /// Turns the worker as long as there is something to do, at most so often. It names want of
+    /// memory.
+    pub fn run<R: Wait + Abort>(&mut self, rt: &R, turns: u64) -> RunEnd {
         if self.over {
             return RunEnd::Left;
         }
@@ -219,6 +234,9 @@ impl Seat<'_, '_> {
         let end = run_client(&mut self.worker, self.at, rt, gate, book, turns);
         if let RunEnd::Fault(_) = end {
             self.over = true;
+        }
+        if end == RunEnd::Fault(Fault::NoMemory) {
+            panic!(rt; "out of memory")
         }
         end
     }
@@ -268,7 +286,7 @@ impl Line<'_> {
 }
 
 /// Answers the last lane's request with a response of 65,536 octets. The tap is gone then.
-pub fn answer_largest<R: Wait>(
+pub fn answer_largest<R: Wait + Abort>(
     rt: &R,
     alloc: Global,
     at: &Exchange,
@@ -279,7 +297,7 @@ pub fn answer_largest<R: Wait>(
 {
     let mut line = last_line(at, taps)?;
     let mut octets = Vec::new(alloc);
-    octets.resize(65_520, 0).ok()?;
+    octets.resize(65_520, 0).expect(rt, "out of memory");
     line.answer(rt, Body::short(octets))
 }
 

@@ -1,9 +1,10 @@
 use Rattle.std.proofs.Common.{◌++◌, refl, sym, ap, ◌∙◌}
 use Rattle.std.proofs.lemmas.List.{append-nil}
-use Rattle.smx_link.specs.Wiring.{spellings}
+use Rattle.smx_link.specs.Wiring.{Wiring, spellings}
 use Rattle.smx_turns.proofs.Chains.{chain_push}
 use Rattle.smx_client.specs.Parts.{Does}
 use Rattle.smx_client.proofs.Steps.{keeps}
+use Rattle.smx_client.proofs.Settling.{still}
 use Rattle.smx_client.proofs.Scenes.{happens}
 use Rattle.smx_client.specs.declared.event.Event.TheVariants.{Collected}
 use Rattle.smx_client.specs.Events.{response_out}
@@ -21,6 +22,9 @@ invariant_of-self-clause-run_is g c =
     let s = c.args.self.now in
     chain_push Does _ _ _ _ _ (Collected c.args.lane c.of.result) c.note.ensures.events
     (collected _ _ _ _ _ _ _ _ _ _ _ _ c.of.result c.of.ensures c.say_found-none.ensures.spoke.said (c.collect-found.ensures.served, c.collect-found.ensures.same) c.collect-found.ensures.listed) s.run_is
+
+pub invariant_of-self-clause-settled_is : goal.invariant_of-self-clause-settled_is
+invariant_of-self-clause-settled_is g c = still _ _ _ _ (ap (λ (w : Wiring g.row.L.Denot). w.rest) c.say_found-none.ensures.spoke.same) c.args.self.now.settled_is
 
 pub returns-in-Ok-clause-moves : goal.returns-in-Ok-clause-moves
 returns-in-Ok-clause-moves g c = λ n asked told queries base was.

@@ -10,6 +10,7 @@ loop-lane-init g c = record {
   locks = refl;
   origin = refl;
   held = refl;
+  settled = refl;
   parked = refl;
   stage = refl;
   failed = refl;

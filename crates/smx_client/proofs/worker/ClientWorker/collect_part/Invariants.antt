@@ -11,6 +11,7 @@ invariant-loop-lane g l = record {
   locks : locks_of l.self.port.fronts ≡ locks_of l.fn.self.port.fronts;
   origin : l.self.origin ≡ l.fn.self.origin;
   held : l.self.held ≡ l.fn.self.held;
+  settled : l.self.settled ≡ l.fn.self.settled;
   parked : l.self.parked ≡ l.fn.self.parked;
   stage : l.self.stage ≡ l.fn.self.stage;
   failed : l.self.wire.failed ≡ l.fn.self.wire.failed;

@@ -9,11 +9,12 @@ use Rattle.smx_pdu.specs.declared.pdu.Pdu.{Pdu}
 use Rattle.smx_session.specs.Login.{Login}
 use Rattle.smx_session.specs.ClientTable.{client_decides}
 use Rattle.smx_client.specs.declared.event.Event.TheVariants.{Decided}
+use Rattle.smx_client.specs.declared.event.Verdict.TheVariants.{Over}
 use Rattle.smx_client.specs.declared.event.Fate.TheVariants.{Own}
 use Rattle.smx_client.specs.Parts.{Suits}
 use Rattle.smx_client.proofs.Doings as doing
 use Rattle.smx_client.proofs.Cells as cell
-use Rattle.smx_client.proofs.Fates.{own_out, says_session}
+use Rattle.smx_client.proofs.Fates.{own_out, says_session, ends_session}
 use Rattle.smx_client.proofs.worker.ClientWorker.decide.Goals as goal
 
 pub invariant_of-self-in_default-act-clause-heard_is : goal.invariant_of-self-in_default-act-clause-heard_is
@@ -44,3 +45,8 @@ returns-in_default-act-clause-moves g c = λ n asked told queries base was.
 pub returns-in_default-act-clause-phase : goal.returns-in_default-act-clause-phase
 returns-in_default-act-clause-phase g c = λ t ended was. c.note.ensures.phase t _ was
     ∙ cell.owned t ended c.of.result c.of-in_default-act.result c.in-Ok.act _ c.of-in_default-act.ensures c.verdict_of-verdict.ensures c.in_default-act.not-Forward c.in_default-act.not-MoAnswer
+
+pub returns-in_default-act-clause-over : goal.returns-in_default-act-clause-over
+returns-in_default-act-clause-over g c = λ e.
+    let over : c.verdict_of-verdict.result ≡ Over = cc in
+    ends_session _ _ _ c.in-Some.pdu c.in-Ok.act _ c.in-Ok.ensures.act c.in-Ok.ensures.state c.verdict_of-verdict.ensures over

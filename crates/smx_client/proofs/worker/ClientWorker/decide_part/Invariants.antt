@@ -1,5 +1,6 @@
-use Rattle.std.proofs.Common.{◌≡◌, None}
+use Rattle.std.proofs.Common.{◌≡◌, ◌≢◌, None}
 use Rattle.smx_shared.specs.Views.{locks_of}
+use Rattle.smx_client.specs.declared.mark.Stage.TheVariants.{Closed}
 use Rattle.smx_client.specs.Scenes.{scene_of}
 use Rattle.smx_client.specs.Table.{Before, phase_of, Deciding, weight}
 use Rattle.smx_client.specs.Turns.{Leads}
@@ -11,6 +12,7 @@ invariant-loop-log g l = record {
   origin : l.self.origin ≡ l.fn.self.origin;
   parked : l.self.parked ≡ None;
   stage : l.self.stage ≡ l.fn.self.stage;
+  going : l.self.stage ≢ Closed;
   failed : l.fn.self.wire.failed ≡ None → l.self.wire.failed ≡ None;
   counts : (l.self.turns ≡ l.fn.self.turns) × (l.self.ends ≡ l.fn.self.ends);
   phase : (t : Before) → phase_of t l.fn.log ≡ Deciding l.fn.ended → phase_of t l.log ≡ Deciding l.fn.ended;

@@ -1,7 +1,7 @@
 use Rattle.std.proofs.Common.{true≢false, ◌++◌, length, refl, sym, ap, ◌∙◌, subst, Ok, IfOk, IsOk}
 use Rattle.std.proofs.lemmas.List.{append-nil}
 use Rattle.smx_box.specs.Boxes.{GetServes, Hands}
-use Rattle.smx_link.specs.Wiring.{spellings}
+use Rattle.smx_link.specs.Wiring.{Wiring, spellings}
 use Rattle.smx_turns.proofs.Chains.{chain_push}
 use Rattle.smx_client.specs.declared.event.Event.TheVariants.{Got}
 use Rattle.smx_client.specs.declared.event.Delivery.TheVariants.{Dropped}
@@ -10,6 +10,7 @@ use Rattle.smx_client.specs.Parts.{Does, IsDelivered}
 use Rattle.smx_client.specs.Table.{IsPart, Clear, after_got}
 use Rattle.smx_client.specs.Scenes.{is_there}
 use Rattle.smx_client.proofs.Steps.{keeps}
+use Rattle.smx_client.proofs.Settling.{still}
 use Rattle.smx_client.proofs.Scenes.{happens}
 use Rattle.smx_client.proofs.Doings as doing
 use Rattle.smx_client.proofs.Cells as cell
@@ -42,6 +43,9 @@ invariant_of-self-in-Ok-clause-run_is g c =
       subst (λ n. IsDelivered n (length s.senders.items) c.in-Ok.got c.deliver-delivery.result) c.client.ensures d.delivered,
     )
     d.parks d.count d.put d.answer) s.run_is
+
+pub invariant_of-self-in-Ok-clause-settled_is : goal.invariant_of-self-in-Ok-clause-settled_is
+invariant_of-self-in-Ok-clause-settled_is g c = still _ _ _ _ (ap (λ (w : Wiring g.row.L.Denot). w.rest) c.deliver-delivery.ensures.says.same) c.args.self.now.settled_is
 
 pub returns-in-Err-clause-leads : goal.returns-in-Err-clause-leads
 returns-in-Err-clause-leads g c = λ n queries base was.

@@ -1,5 +1,5 @@
 use Rattle.std.proofs.Common.{◌∙◌, ap, sym, Ok, true}
-use Rattle.smx_client.specs.Table.{Opening, begins}
+use Rattle.smx_client.specs.Table.{Before, Opening, begins}
 use Rattle.smx_client.proofs.Cells as cell
 use Rattle.smx_client.proofs.worker.ClientWorker.run_turn.Goals as goal
 
@@ -7,13 +7,17 @@ pub returns-in-Err-clause-phase : goal.returns-in-Err-clause-phase
 returns-in-Err-clause-phase g c = λ t is was. (cell.write_fails t Opening _ _ (cell.unopened t) (c.in-Err.ensures.phase t Opening was), tt)
 
 pub returns-then-left-clause-phase : goal.returns-then-left-clause-phase
-returns-then-left-clause-phase g c = λ t is was. cell.left_ends t _ _ _ _ _ _ _ _ c.if-left.true (c.in-Ok.ensures.phase t Opening was) (c.in-Ok.ensures.some (ap Ok c.if-left.true))
+returns-then-left-clause-phase g c = λ t is was.
+    let o = c.in-Ok.ensures in
+    cell.left_ends t _ _ _ _ _ _ _ _ _ c.if-left.true (o.phase t Opening was) (ap (λ (x : Before). x.stage) is ∙ sym o.stage) (o.some (ap Ok c.if-left.true))
 
 pub returns-in-Closed-clause-phase : goal.returns-in-Closed-clause-phase
 returns-in-Closed-clause-phase g c = λ t is was.
-    cell.over_ends t _ _ true _ _ _ _ (cell.begun t _ _ _ c.if-left.false (c.in-Ok.ensures.phase t Opening was)) (sym c.in-Ok.ensures.stage ∙ c.in-Closed.is) (c.in-Ok.ensures.none (ap Ok c.if-left.false))
+    let o = c.in-Ok.ensures in
+    cell.over_ends t _ true _ _ _ _ _ _ (cell.begun t _ _ c.if-left.false (o.phase t Opening was)) (ap (λ (x : Before). x.stage) is ∙ sym o.stage) c.in-Closed.is (o.none (ap Ok c.if-left.false))
 
 pub returns-in_default-clause-phase : goal.returns-in_default-clause-phase
 returns-in_default-clause-phase g c = λ t is was.
     let o = c.in-Ok.ensures in
-    c.rest_part.ensures.phase t (cell.before_same t _ _ _ _ _ _ is o.port o.held o.parked) (cell.begun t _ _ _ c.if-left.false (o.phase t Opening was) ∙ ap (begins t) (sym o.stage))
+    c.rest_part.ensures.phase t (cell.before_same t _ _ _ _ _ _ _ _ is o.port o.stage o.settled o.parked)
+    (cell.begun t _ _ c.if-left.false (o.phase t Opening was) ∙ ap (begins t) (ap (λ (x : Before). x.stage) is ∙ sym o.stage))

@@ -1,6 +1,7 @@
 use Rattle.std.proofs.Common.{refl}
 use Rattle.smx_client.proofs.Cells.{phase_first}
 use Rattle.smx_client.proofs.Scenes.{nothing_yet}
+use Rattle.smx_client.proofs.Settling.{reads_settled}
 use Rattle.smx_client.proofs.Filters.{all_asks, all_tells, all_events, all_runs, all_polls, all_faults, offered_first, is_begun, is_right, changes_as, ends_as, stands_as}
 use Rattle.smx_client.proofs.worker.ClientWorker.turn.Goals as goal
 
@@ -11,7 +12,18 @@ pub returns-clause-order : goal.returns-clause-order
 returns-clause-order g c = (ends_as _ _ _ _ c.into_steps-self.ensures (c.run_turn-end.ensures.phase _ refl (phase_first _ _ c.new-log.ensures)).0)
 
 pub returns-clause-stands : goal.returns-clause-stands
-returns-clause-stands g c = stands_as _ _ _ _ _ _ _ _ c.into_steps-self.ensures (c.run_turn-end.ensures.phase _ refl (phase_first _ _ c.new-log.ensures)).1
+returns-clause-stands g c = stands_as _ _ _ _ _ _ _ _ _ _ c.into_steps-self.ensures (c.run_turn-end.ensures.phase _ refl (phase_first _ _ c.new-log.ensures)).1
+
+pub returns-clause-settled : goal.returns-clause-settled
+returns-clause-settled g c =
+    let ends = ends_as _ _ _ _ c.into_steps-self.ensures (c.run_turn-end.ensures.phase _ refl (phase_first _ _ c.new-log.ensures)).0 in
+    λ some. c.args.self.now.settled_is (reads_settled _ _ _ _ ends some)
+
+pub returns-clause-closed : goal.returns-clause-closed
+returns-clause-closed g c = λ closed going.
+    let s = c.run_turn-end.new.self in
+    let h = s.closed_is closed going in
+    let left = s.settled_is h.0 in (left.0, left.1, h.1)
 
 pub returns-clause-asks : goal.returns-clause-asks
 returns-clause-asks g c = all_asks _ _ _ _ (changes_as _ _ _ _ _ c.into_steps-self.ensures (c.run_turn-end.ensures.leads _ (nothing_yet _ _ _ c.new-log.ensures)))
