@@ -76,7 +76,10 @@ fn decide(alloc: Global, state: UpstreamState, pdu: &Pdu) -> (UpAct, UpstreamSta
             | UpstreamRow::Unbind
             | UpstreamRow::OtherRequest,
             _,
-        ) => (UpAct::Answer(pdu.header_response(alloc, ESME_RINVBNDSTS)), state),
+        ) => (
+            UpAct::Answer(pdu.header_response(alloc, ESME_RINVBNDSTS)),
+            state,
+        ),
         _ => (UpAct::Ignore, state),
     }
 }
