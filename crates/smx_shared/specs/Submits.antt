@@ -18,7 +18,7 @@ use Rattle.smx_shared.specs.Serving.{AcceptServes}
 abbrev pub OnLane : ℕ → List (Front Note Limits) → List (Front Note Limits) → (Front Note Limits → Front Note Limits → Type 0) → Type 0
 OnLane lane old new P = (f : Front Note Limits) × (g : Front Note Limits) × (slice_get old lane ≡ Some f) × (new ≡ set old lane g) × (g.lock ≡ f.lock) × P f g
 
--- one hold found the lane full for the client: of its requests, of requests, or of entries
+-- one hold found the lane full for the client, of its requests, of requests or of entries, or down
 abbrev pub FullServes : Request → Front Note Limits → Front Note Limits → Type 0
 FullServes r f g = (e : Refusal) × AcceptServes f g r (Err (r, e)) × (e ≢ NotAdmitted)
 

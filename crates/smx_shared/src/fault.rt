@@ -50,7 +50,7 @@ pub enum SubmitFault {
     /// Every ticket of a lane was drawn; the lanes after it were not tried.
     #[error("every ticket was drawn")]
     Spent,
-    /// Each lane in turn was found full: for the client, in its queue or in its history.
+    /// Each lane in turn was found full, for the client, in its queue or in its history, or down.
     #[error("every lane is full")]
     AllFull,
 }
