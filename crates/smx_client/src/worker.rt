@@ -145,10 +145,10 @@ impl<'d, L: Link + Drop> ClientWorker<'d, L> {
     /// What the worker keeps at every call. In: what the link gave are the PDUs that were decided,
     /// then one that waits, then octets that no PDU has. Out: what it took, and then what waits, is
     /// what the events say. The port accepted what the events submitted. Each return box was put,
-    /// or is to be put, the answers of the events. Each event is one step of the parts. Where it has
-    /// settled, no whole PDU is left. While it is open, the last read since it was made answered no
-    /// end; where it is drained, it did. It is closed only once the session has ended, or the link
-    /// has and every whole PDU was decided.
+    /// or is to be put, the answers of the events. Each event is one step of the parts. Where the
+    /// worker has settled, no whole PDU is left. While it is open, the last read since it was made
+    /// answered no end; where it is drained, it did. It is closed only once the session has ended,
+    /// or the link has and every whole PDU was decided.
     pub fn law(&self)
         ensures given { L.given self.now.wire.link ≡ L.given self.now.wire.start
             ++ (spellings (ins self.now.events ++ held_list self.now.held) ++ self.now.wire.rest) }
