@@ -30,14 +30,11 @@ fn one_seat_reads_what_it_added(rt: HostRuntime) {
 // No test makes 2^62 seats, so that a split is refused there is said by its clause alone.
 #[test]
 fn two_seats_are_compared(rt: HostRuntime) {
-    let Some(pair) = Pair::new(&rt, rt.alloc(), 10) else {
-        panic!(rt; "no memory, or spent")
-    };
     let Pair {
         lock,
         mut one,
         mut two,
-    } = pair;
+    } = Pair::new(&rt, rt.alloc(), 10);
     let before = compared(&lock, &mut one, &mut two);
     let (mut two, done) = added(&rt, &lock, two, 2);
     let after = compared(&lock, &mut one, &mut two);
@@ -62,9 +59,7 @@ fn add_many<R: Wait>(
 
 #[test]
 fn two_threads_add(rt: HostRuntime) {
-    let Some(Pair { lock, one, two }) = Pair::new(&rt, rt.alloc(), 5000) else {
-        panic!(rt; "no memory, or spent")
-    };
+    let Pair { lock, one, two } = Pair::new(&rt, rt.alloc(), 5000);
     let (one, _two) = join(
         &rt,
         || add_many(&rt, &lock, one),
@@ -94,14 +89,11 @@ fn compare_many(
 
 #[test]
 fn seats_are_compared_while_another_thread_adds(rt: HostRuntime) {
-    let Some(pair) = Pair::new(&rt, rt.alloc(), 5000) else {
-        panic!(rt; "no memory, or spent")
-    };
     let Pair {
         lock,
         one: seat,
         two: one,
-    } = pair;
+    } = Pair::new(&rt, rt.alloc(), 5000);
     let Ok((seat, two)) = split(&rt, &lock, seat) else {
         panic!(rt; "spent")
     };
@@ -284,16 +276,11 @@ fn wait_for<R: Wait>(rt: &R, flag: &AtomicBool) {
 
 #[test]
 fn a_hold_that_never_ends_keeps_the_value(rt: HostRuntime) {
-    let Some(
-        Pair {
-            lock,
-            one: last,
-            two,
-        },
-    ) = Pair::new(&rt, rt.alloc(), 10)
-    else {
-        panic!(rt; "no memory, or spent")
-    };
+    let Pair {
+        lock,
+        one: last,
+        two,
+    } = Pair::new(&rt, rt.alloc(), 10);
     let Some(keeper) = Keeper::new(rt.alloc(), lock, two) else {
         panic!(rt; "no memory")
     };

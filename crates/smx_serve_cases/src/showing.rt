@@ -45,10 +45,8 @@ fn each_account_is_answered(rt: HostRuntime) -> Result<(), Fail> {
     let listen = free_address(&rt)?;
     let centre = free_address(&rt)?;
     let text = text_of(rt.alloc(), listen.as_str(), centre.as_str())?;
-    let config = read(rt.alloc(), text.as_str()).ok().ok_or("a faulty text")?;
-    let counts = demo(&rt, rt.alloc(), &config)
-        .ok()
-        .ok_or("nothing was shown")?;
+    let config = read(rt.alloc(), text.as_str())?;
+    let counts = demo(&rt, rt.alloc(), &config)?;
     let wanted = [10u32, 10];
     assert_eq!(rt; counts.as_slice(), wanted.as_slice());
     Ok(())

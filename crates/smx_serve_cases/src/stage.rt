@@ -23,10 +23,7 @@ pub(crate) fn config_with(alloc: Global, port: u16, silence: u64) -> Result<Conf
     let text = format!(in alloc;
         "listen = \"127.0.0.1:0\"\nsilence = {silence}\n[[upstream]]\naddress = \"127.0.0.1:{port}\"\nsystem_id = \"proxy\"\npassword = \"pw\"\n[[account]]\nsystem_id = \"alpha\"\npassword = \"p\"\nprefixes = [\"49\"]\n"
     )?;
-    match read(alloc, text.as_str()) {
-        Ok(config) => Ok(config),
-        Err(_) => Err("the configuration has a fault".into()),
-    }
+    Ok(read(alloc, text.as_str())?)
 }
 
 // Whether these octets come next.

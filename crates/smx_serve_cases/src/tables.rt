@@ -1,6 +1,6 @@
 //! The proxy's tables.
 
-use smx_routes::Routes;
+use smx_routes::{RouteFault, Routes};
 use smx_slots::{Bell, ClientEnds, Guide, Ready, Roll, Slots, ends_of};
 use smx_turns::{Directory, Gate, Party, Place, Point};
 use std::sync::Wait;
@@ -59,10 +59,10 @@ fn a_bell_names_parties(rt: HostRuntime) -> Result<(), Fail> {
 }
 
 // Adds a prefix of client 1, a longer one of client 2, and one of client 9, who has no slot.
-fn adds<R: Wait>(rt: &R, guide: &mut Guide) -> bool {
-    guide.add(rt, b"49", 1) == Ok(())
-        && guide.add(rt, b"491", 2) == Ok(())
-        && guide.add(rt, b"5", 9) == Ok(())
+fn add_all<R: Wait>(rt: &R, guide: &mut Guide) -> Result<(), RouteFault> {
+    guide.add(rt, b"49", 1)?;
+    guide.add(rt, b"491", 2)?;
+    guide.add(rt, b"5", 9)
 }
 
 fn found<R: Wait>(rt: &R, guide: &mut Guide) -> [Option<Place>; 3] {
@@ -81,7 +81,7 @@ fn a_guide_finds_slots(rt: HostRuntime) -> Result<(), Fail> {
     roll.add(1, 3);
     roll.add(2, 0);
     let mut guide = Guide::new(&mut routes, &roll);
-    assert!(rt; adds(&rt, &mut guide));
+    add_all(&rt, &mut guide)?;
     let second = Some(Place { client: 2, slot: 0 });
     let wanted = [second, None, None];
     assert_eq!(rt; found(&rt, &mut guide), wanted);

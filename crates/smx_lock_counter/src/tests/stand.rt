@@ -4,6 +4,7 @@ ghost use Rattle.std.specs.Prelude.{◌≡◌, IfOk, IfSome};
 use crate::{Adder, Counter, Deed};
 use smx_lock::{LockSeat, Spent, TicketLock, TryFault};
 use std::alloc::{AllocError, Global};
+use std::process::Abort;
 use std::sync::Wait;
 
 // How many tickets a lock gives.
@@ -70,10 +71,10 @@ pub struct Pair {
 
 impl Pair {
     /// Those of a counter with this limit.
-    pub fn new<R: Wait>(rt: &R, alloc: Global, limit: u64) -> Option<Pair> {
-        let Opened { lock, seat } = Opened::new(alloc, limit).ok()?;
-        let (one, two) = split(rt, &lock, seat).ok()?;
-        Some(Pair { lock, one, two })
+    pub fn new<R: Wait + Abort>(rt: &R, alloc: Global, limit: u64) -> Pair {
+        let Opened { lock, seat } = Opened::new(alloc, limit).expect(rt, "no lock");
+        let (one, two) = split(rt, &lock, seat).expect(rt, "no second seat");
+        Pair { lock, one, two }
     }
 }
 
