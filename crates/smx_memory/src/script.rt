@@ -1,7 +1,7 @@
 //! A peer that follows a script.
 use crate::memory_link::Peer;
 use smx_link::{LinkFault, Polled};
-use std::alloc::Global;
+use std::alloc::{AllocError, Global};
 use std::cmp::Ord;
 
 /// Octets that a peer gives once it took so many.
@@ -23,6 +23,8 @@ pub struct Script {
     taken: Vec<u8>,
     reads: u64,
     writes: u64,
+    // Whether each piece is there.
+    whole: bool,
     /// After the last piece the link ends.
     pub ends: bool,
     /// Which read fails, from 1 on; 0: none.
@@ -42,6 +44,7 @@ impl Script {
             taken: Vec::new(alloc),
             reads: 0,
             writes: 0,
+            whole: true,
             ends: false,
             failing_read: 0,
             failing_write: 0,
@@ -51,10 +54,22 @@ impl Script {
     /// The script and one piece more. Where memory is wanted, the script without it.
     pub fn and(mut self, after: usize, octets: &[u8]) -> Script {
         let alloc = *self.taken.allocator();
-        if let Ok(octets) = Vec::from_slice(alloc, octets) {
-            let _ = self.pieces.push(Piece { after, octets });
-        }
+        let added = match Vec::from_slice(alloc, octets) {
+            Ok(octets) => self.pieces.push(Piece { after, octets }).is_ok(),
+            Err(_) => false,
+        };
+        self.whole = self.whole && added;
         self
+    }
+
+    /// Whether no piece was left out for want of memory.
+    pub fn is_whole(&self) -> bool {
+        self.whole
+    }
+
+    /// Makes room for so many octets more that it is to take.
+    pub fn make_room(&mut self, octets: usize) -> Result<(), AllocError> {
+        self.taken.reserve(octets)
     }
 
     /// What it took.
