@@ -137,7 +137,7 @@ kept_spent p (fate.Put place n) = refl
 kept_spent p (fate.Full place) = refl
 kept_spent p (fate.BoxSpent place) = refl
 
-pub fault_or : {A : Type 0} → Result A Fault → Fault
+abbrev pub fault_or : {A : Type 0} → Result A Fault → Fault
 fault_or (Ok x) = fault.NoMemory
 fault_or (Err e) = e
 
