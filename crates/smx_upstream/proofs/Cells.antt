@@ -1,119 +1,153 @@
 -- The turn's table, cell by cell.
-use Rattle.std.proofs.Common.{◌≡◌, ◌≢◌, ℕ, List, [], ◌∷◌, ◌++◌, Bool, true, false, Option, Result, Ok, Err, IsErr, sym, ◌∙◌, ap, refl, subst, true≢false}
+use Rattle.std.proofs.Common.{◌≡◌, ◌↔◌, ℕ, List, [], ◌∷◌, ◌++◌, Bool, true, false, not, Option, is_some, Result, Ok, Err, IsErr, IsErrAnd, IsTrue, if◌then◌else◌, sym, ◌∙◌, ap, refl, subst, true≢false}
+use Rattle.std.proofs.lemmas.Bool.{eq-eqb}
+use Rattle.smx_pdu.specs.declared.pdu.Pdu.{Pdu}
 use Rattle.smx_link.specs.declared.link.Polled.{Polled}
 use Rattle.smx_link.specs.declared.link.LinkFault.{LinkFault}
 use Rattle.smx_turns.specs.declared.gate.Point.TheVariants.{Reading, Taking}
 use Rattle.smx_turns.specs.declared.end.TurnEnd.{TurnEnd}
 use Rattle.smx_turns.specs.declared.end.TurnEnd.TheVariants.{Worked, Idle, Done}
 use Rattle.smx_turns.specs.declared.end.Fault.{Fault}
+use Rattle.smx_turns.specs.declared.end.Fault.TheVariants as fault
 use Rattle.smx_turns.specs.declared.step.Step.{Step}
 use Rattle.smx_turns.specs.declared.step.Step.TheVariants.{Asked, Read, Marked, Did}
 use Rattle.smx_upstream.specs.declared.mark.Mark.{Mark}
 use Rattle.smx_upstream.specs.declared.mark.Mark.TheVariants.{Offered, Full, Part}
 use Rattle.smx_upstream.specs.declared.event.Event.{Event}
 use Rattle.smx_upstream.specs.declared.event.Event.TheVariants.{Opened, Looked, Expired, Young, Shifted, Sought, Decided, Took, Broke}
-use Rattle.smx_upstream.specs.Phases.{Phase, Opening, Ready, Written, Clogged, Watched, Swept, Clear, Sated, Brimming, MayRead, Deciding, Closing, Settled, MayTake, HasTried, Stopped, Refrained, Gone, Drained, Wrong, go, from_opening, from_ready, from_written, from_watched, from_swept, from_clear, from_sated, from_may_read, from_deciding, from_closing, from_settled, from_may_take, phase_from, phase_of, after_offer, unless_left, is_last, when_looked, when_kept, when_decided, when_part, when_full, when_read, when_may_read, when_may_take, end_of, quiet_end, Waits, IsTurnEnd, IsTurn, EndsEarly, IsPart}
+use Rattle.smx_upstream.specs.declared.event.Fate.{Fate}
+use Rattle.smx_upstream.specs.declared.event.Fate.TheVariants as fate
+use Rattle.smx_upstream.specs.Ending.{is_last}
+use Rattle.smx_upstream.specs.Events.{kept_by}
+use Rattle.smx_upstream.specs.Spent.{is_spent_fate, is_spent_expiry, is_spent_shift, is_spent_get, is_spent_take}
+use Rattle.smx_upstream.specs.Phases.{Phase, Before, some_wait, Opening, Ready, Written, Clogged, Watched, Swept, Clear, Sated, Brimming, MayRead, Deciding, Closing, Settled, MayTake, HasTried, Stopped, Refrained, Gone, Drained, Exhausted, Wrong, go, from_opening, from_ready, from_written, from_watched, from_swept, from_clear, from_sated, from_may_read, from_deciding, from_closing, from_settled, from_may_take, phase_from, phase_of, unless_spent, at_moment, if_so, after_offer, unless_left, when_looked, when_kept, when_decided, when_part, when_full, when_read, when_may_read, when_may_take, end_of, quiet_end, Waits, IsOver, IsTurnEnd, IsTurn, EndsEarly, IsPart, Faulted, MayWant}
 
-phase_append : (p : Phase) (xs ys : List (Step Mark Event)) → phase_from p (xs ++ ys) ≡ phase_from (phase_from p xs) ys
+phase_append : (t : Before) (p : Phase) (xs ys : List (Step Mark Event)) → phase_from t p (xs ++ ys) ≡ phase_from t (phase_from t p xs) ys
 unfolding phase_from
-phase_append p [] ys = refl
-phase_append p (x ∷ xs) ys = phase_append (go p x) xs ys
+phase_append t p [] ys = refl
+phase_append t p (x ∷ xs) ys = phase_append t (go t p x) xs ys
 
-one : (p : Phase) (s : Step Mark Event) → phase_from p (s ∷ []) ≡ go p s
+one : (t : Before) (p : Phase) (s : Step Mark Event) → phase_from t p (s ∷ []) ≡ go t p s
 unfolding phase_from
-one p s = refl
+one t p s = refl
 
-pub phase_none : (ss : List (Step Mark Event)) → ss ≡ [] → phase_of ss ≡ Opening
+pub phase_none : (t : Before) (ss : List (Step Mark Event)) → ss ≡ [] → phase_of t ss ≡ Opening
 unfolding phase_of phase_from
-phase_none ss none = ap phase_of none
+phase_none t ss none = ap (phase_of t) none
 
 -- one step more leads from one phase to the next
-pub stepped : (ss ss' : List (Step Mark Event)) (s : Step Mark Event) (p q : Phase) → ss' ≡ ss ++ s ∷ [] → go p s ≡ q → phase_of ss ≡ p → phase_of ss' ≡ q
+pub stepped : (t : Before) (ss ss' : List (Step Mark Event)) (s : Step Mark Event) (p q : Phase) → ss' ≡ ss ++ s ∷ [] → go t p s ≡ q → phase_of t ss ≡ p → phase_of t ss' ≡ q
 unfolding phase_of
-stepped ss ss' s p q grown cell was = ap (phase_from Opening) grown ∙ phase_append Opening ss (s ∷ []) ∙ one (phase_from Opening ss) s ∙ ap (λ x. go x s) was ∙ cell
+stepped t ss ss' s p q grown cell was =
+    ap (phase_from t Opening) grown ∙ phase_append t Opening ss (s ∷ []) ∙ one t (phase_from t Opening ss) s ∙ ap (λ x. go t x s) was ∙ cell
 
-pub kept_phase : (ss ss' : List (Step Mark Event)) (p : Phase) → ss' ≡ ss → phase_of ss ≡ p → phase_of ss' ≡ p
-kept_phase ss ss' p same was = ap phase_of same ∙ was
+itself : (b : Bool) (p : Phase) → if_so b b p ≡ p
+itself true p = refl
+itself false p = refl
 
-pub cell_offered : (ending waited left : Bool) → go Ready (Marked (Offered ending waited left)) ≡ after_offer ending left
+-- whether octets wait is said so
+pub said_so : (b clear : Bool) (unsent : List ℕ) (p : Phase) → b ≡ some_wait unsent → (IsTrue clear ↔ (unsent ≡ [])) → if_so (not clear) b p ≡ p
+said_so b clear unsent p is tells = ap (λ x. if_so (not clear) x p) (is ∙ wait clear unsent tells) ∙ itself (not clear) p
+  where
+    wait : (c : Bool) (xs : List ℕ) → (IsTrue c ↔ (xs ≡ [])) → some_wait xs ≡ not c
+    wait true xs h = ap some_wait (h.0 refl)
+    wait false [] h = absurd (true≢false (sym (h.1 refl)))
+    wait false (x ∷ xs) h = refl
+
+pub at_its_moment : (t : Before) (now : ℕ) (p : Phase) → t.now ≡ now → at_moment t now p ≡ p
+at_its_moment t now p same = ap (λ b. if b then p else Wrong) (eq-eqb now t.now (sym same))
+
+pub cell_offered : (t : Before) (waited left : Bool) → go t Ready (Marked (Offered waited left)) ≡ if_so waited t.waited (after_offer t.ending left)
 unfolding go from_ready
-cell_offered ending waited left = refl
+cell_offered t waited left = refl
 
-pub cell_closed : (waited left : Bool) → go Closing (Marked (Offered true waited left)) ≡ unless_left left
+pub cell_closed : (t : Before) (waited left : Bool) → go t Closing (Marked (Offered waited left)) ≡ unless_left left
 unfolding go from_closing
-cell_closed waited left = refl
+cell_closed t waited left = refl
 
-pub cell_looked : (left : Bool) (now : _) (due : _) (silent : Bool) → go (Written left) (Did (Looked now due silent)) ≡ when_looked left silent
+pub cell_looked : (t : Before) (left : Bool) (now : _) (due : _) (silent : Bool) → go t (Written left) (Did (Looked now due silent)) ≡ at_moment t now (when_looked left silent)
 unfolding go from_written
-cell_looked left now due silent = refl
+cell_looked t left now due silent = refl
 
-pub cell_opened : (n : _) → go Opening (Did (Opened n)) ≡ Ready
+pub cell_opened : (t : Before) (n : _) → go t Opening (Did (Opened n)) ≡ Ready
 unfolding go from_opening
-cell_opened n = refl
+cell_opened t n = refl
 
-pub cell_expired : (left : Bool) (lane : _) (r : _) → go (Watched left) (Did (Expired lane r)) ≡ Swept left
+pub cell_expired : (t : Before) (left : Bool) (lane : _) (r : _) → go t (Watched left) (Did (Expired lane r)) ≡ unless_spent (is_spent_expiry r.value) (Swept left)
 unfolding go from_watched
-cell_expired left lane r = refl
+cell_expired t left lane r = refl
 
-pub cell_young : (left : Bool) → go (Swept left) (Did Young) ≡ when_kept left
+pub cell_young : (t : Before) (left : Bool) → go t (Swept left) (Did Young) ≡ when_kept left
 unfolding go from_swept
-cell_young left = refl
+cell_young t left = refl
 
-pub cell_shifted : (left : Bool) (least : _) (r : _) → go (Swept left) (Did (Shifted least r)) ≡ when_kept left
+pub cell_shifted : (t : Before) (left : Bool) (least : _) (r : _) → go t (Swept left) (Did (Shifted least r)) ≡ unless_spent (is_spent_shift r.value) (when_kept left)
 unfolding go from_swept
-cell_shifted left least r = refl
+cell_shifted t left least r = refl
 
-pub cell_sought : (r : _) → go Clear (Did (Sought r)) ≡ Sated
+pub cell_sought : (t : Before) (r : _) → go t Clear (Did (Sought r)) ≡ unless_spent (is_spent_get r.value) Sated
 unfolding go from_clear
-cell_sought r = refl
+cell_sought t r = refl
 
-pub cell_full : go Sated (Marked Full) ≡ Brimming
+pub cell_full : (t : Before) → go t Sated (Marked Full) ≡ Brimming
 unfolding go from_sated
-cell_full = refl
+cell_full t = refl
 
-pub cell_reading : (answer : Bool) → go Sated (Asked Reading answer) ≡ when_may_read answer
+pub cell_reading : (t : Before) (answer : Bool) → go t Sated (Asked Reading answer) ≡ when_may_read answer
 unfolding go from_sated
-cell_reading answer = refl
+cell_reading t answer = refl
 
-pub cell_read : (r : Result Polled LinkFault) → go MayRead (Read r) ≡ when_read r
+pub cell_read : (t : Before) (r : Result Polled LinkFault) → go t MayRead (Read r) ≡ when_read r
 unfolding go from_may_read
-cell_read r = refl
+cell_read t r = refl
 
-pub cell_decided : (ended : Bool) (p : _) (now : _) (a : _) (f : _) → go (Deciding ended) (Did (Decided p now a f)) ≡ when_decided ended (is_last a.value f)
+pub cell_decided : (t : Before) (ended : Bool) (p : _) (now : _) (a : _) (f : _) → go t (Deciding ended) (Did (Decided p now a f)) ≡ at_moment t now (unless_spent (is_spent_fate f) (when_decided ended (is_last a.value f)))
 unfolding go from_deciding
-cell_decided ended p now a f = refl
+cell_decided t ended p now a f = refl
 
-pub cell_broke : (ended : Bool) → go (Deciding ended) (Did Broke) ≡ Closing
+pub cell_broke : (t : Before) (ended : Bool) → go t (Deciding ended) (Did Broke) ≡ Closing
 unfolding go from_deciding
-cell_broke ended = refl
+cell_broke t ended = refl
 
-pub cell_part : (ended : Bool) → go (Deciding ended) (Marked Part) ≡ when_part ended
+pub cell_part : (t : Before) (ended : Bool) → go t (Deciding ended) (Marked Part) ≡ when_part ended
 unfolding go from_deciding
-cell_part ended = refl
+cell_part t ended = refl
 
-pub cell_brim : (ended : Bool) → go (Deciding ended) (Marked Full) ≡ when_full ended
+pub cell_brim : (t : Before) (ended : Bool) → go t (Deciding ended) (Marked Full) ≡ when_full ended
 unfolding go from_deciding
-cell_brim ended = refl
+cell_brim t ended = refl
 
-pub cell_taking : (answer : Bool) → go Settled (Asked Taking answer) ≡ when_may_take answer
+pub cell_taking : (t : Before) (answer : Bool) → go t Settled (Asked Taking answer) ≡ when_may_take answer
 unfolding go from_settled
-cell_taking answer = refl
+cell_taking t answer = refl
 
-pub cell_took : (r : _) → go MayTake (Did (Took r)) ≡ HasTried
+pub cell_took : (t : Before) (r : _) → go t MayTake (Did (Took r)) ≡ unless_spent (is_spent_take r.value) HasTried
 unfolding go from_may_take
-cell_took r = refl
+cell_took t r = refl
 
--- what some turn does
-abbrev pub is_right : Phase → Bool
-is_right Wrong = false
-is_right _ = true
+-- a PDU waits just after an answer that is spent
+pub kept_spent : (p : Pdu) (f : Fate) → is_spent_fate f ≡ is_some (kept_by p f)
+kept_spent p fate.Own = refl
+kept_spent p (fate.Up rise) = refl
+kept_spent p (fate.Lane lane a) = refl
+kept_spent p fate.LaneSpent = refl
+kept_spent p fate.Unread = refl
+kept_spent p (fate.Unrouted found) = refl
+kept_spent p (fate.Put place n) = refl
+kept_spent p (fate.Full place) = refl
+kept_spent p (fate.BoxSpent place) = refl
 
-pub right : (p q : Phase) → p ≡ q → is_right q ≡ true → p ≢ Wrong
-right p q same sure wrong = absurd (true≢false (sym sure ∙ ap is_right (sym same ∙ wrong)))
+abbrev pub fault_or : {A : Type 0} → Result A Fault → Fault
+fault_or (Ok x) = fault.NoMemory
+fault_or (Err e) = e
 
-pub decided_right : (ended last : Bool) → is_right (when_decided ended last) ≡ true
-decided_right ended true = refl
-decided_right ended false = refl
+-- where memory is wanted
+pub wanted : {A : Type 0} (r : Result A Fault) (e : Fault) (p q : Phase) → r ≡ Err fault.NoMemory → fault_or r ≡ e → p ≡ q → MayWant q → Faulted e p
+wanted r e p q is this same w = subst (λ (x : Fault). Faulted x p) (sym (ap fault_or is) ∙ this) (subst (λ (x : Phase). MayWant x) (sym same) w)
+
+-- where a fault stands
+pub faulted_as : (e : Fault) (p q : Phase) → p ≡ q → Faulted e q → Faulted e p
+faulted_as e p q same f = subst (λ (x : Phase). Faulted e x) (sym same) f
 
 -- where a part of a turn ends
 pub early : (end : TurnEnd) (p q : Phase) → p ≡ q → EndsEarly end q → EndsEarly end p
@@ -138,13 +172,16 @@ pub ends_left : (left : Bool) → EndsEarly (end_of left) (unless_left left)
 ends_left true = record { allowed = λ bound quiet. tt; early = refl }
 ends_left false = record { allowed = λ bound quiet. tt; early = refl }
 
-pub part_err : (q : Phase) (r : Result (Option TurnEnd) Fault) (p : Phase) → IsErr r → p ≢ Wrong → IsPart q r p
-part_err q (Ok end) p e sure = absurd (true≢false (sym e))
-part_err q (Err fault) p e sure = sure
+pub part_err : (q : Phase) (r : Result (Option TurnEnd) Fault) (e : Fault) (p : Phase) → IsErr r → IsErrAnd r (λ (y : Fault). y ≡ e) → Faulted e p → IsPart q r p
+part_err q (Ok end) e p is same f = absurd (true≢false (sym is))
+part_err q (Err y) e p is same f = subst (λ (x : Fault). Faulted x p) (sym same) f
 
-pub turn_err : (bound quiet : Bool) (r : Result TurnEnd Fault) (p : Phase) → IsErr r → p ≢ Wrong → IsTurn bound quiet r p
-turn_err bound quiet (Ok end) p e sure = absurd (true≢false (sym e))
-turn_err bound quiet (Err fault) p e sure = sure
+pub over_at : (bound quiet : Bool) (e : TurnEnd) (p : Phase) → e ≡ Done → IsTurnEnd bound quiet e p → IsOver p
+over_at bound quiet e p same h = subst (λ (x : TurnEnd). IsTurnEnd bound quiet x p) same h
+
+pub turn_err : (bound quiet : Bool) (r : Result TurnEnd Fault) (e : Fault) (p : Phase) → IsErr r → IsErrAnd r (λ (y : Fault). y ≡ e) → Faulted e p → IsTurn bound quiet r p
+turn_err bound quiet (Ok end) e p is same f = absurd (true≢false (sym is))
+turn_err bound quiet (Err y) e p is same f = subst (λ (x : Fault). Faulted x p) (sym same) f
 
 pub waits_as : (p q : Phase) (unsent rest : List ℕ) → p ≡ q → Waits q unsent rest → Waits p unsent rest
 waits_as p q unsent rest same w = subst (λ (x : Phase). Waits x unsent rest) (sym same) w
@@ -168,7 +205,3 @@ ends_unbound bound quiet end p same b e = subst (λ (x : Phase). IsTurnEnd bound
 pub ends_tried : (bound quiet : Bool) (end : TurnEnd) (p : Phase) → p ≡ HasTried → bound ≡ true → end ≡ quiet_end quiet → IsTurnEnd bound quiet end p
 ends_tried bound quiet end p same b e = subst (λ (x : Phase). IsTurnEnd bound quiet end x) (sym same)
     (subst (λ (x : Bool). IsTurnEnd x quiet end HasTried) (sym b) (subst (λ (x : TurnEnd). IsTurnEnd true quiet x HasTried) (sym e) (tried_end quiet)))
-
-pub kept_right : (left : Bool) → is_right (when_kept left) ≡ true
-kept_right true = refl
-kept_right false = refl

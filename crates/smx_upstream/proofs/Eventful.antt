@@ -1,7 +1,8 @@
 -- One event more, and what a worker keeps.
-use Rattle.std.proofs.Common.{◌≡◌, ℕ, List, [], ◌∷◌, ◌++◌, Bool, false, true≢false, Some, None, Result, Ok, Err, IfOk, IsOk, sym, ◌∙◌, ap, refl, subst, append_assoc, ◌⊎◌, ⊎_elim}
+use Rattle.std.proofs.Common.{◌≡◌, ℕ, List, [], ◌∷◌, ◌++◌, Bool, true, false, ◌||◌, true≢false, Some, None, Result, Ok, Err, IfOk, IsOk, sym, ◌∙◌, ap, refl, subst, append_assoc, ◌⊎◌, ⊎_elim}
 use Rattle.std.proofs.lemmas.List.{append-nil}
-use Rattle.std.specs.List.{flat_map}
+use Rattle.std.proofs.lemmas.List.Folds.{list_any-append}
+use Rattle.std.specs.List.{flat_map, list_any}
 use Rattle.smx_pdu.specs.declared.pdu.Pdu.{Pdu}
 use Rattle.smx_box.specs.declared.fault.Spent.{Spent}
 use Rattle.smx_box.specs.declared.receiver.Got.{Got}
@@ -27,6 +28,7 @@ use Rattle.smx_upstream.specs.declared.mark.Mark.{Mark}
 use Rattle.smx_upstream.specs.declared.event.Event.{Event}
 use Rattle.smx_upstream.specs.declared.event.Fate.{Fate}
 use Rattle.smx_upstream.specs.declared.event.Fate.TheVariants as fate
+use Rattle.smx_upstream.specs.Ending.{event_ends, has_ended}
 use Rattle.smx_upstream.specs.Events.{ins, outs, in_of, out_of, those, tell_of, find_of, unless_kept, kept_by}
 use Rattle.smx_upstream.specs.Ages.{noted_more, after_shift, fate_notes, fate_shifts}
 use Rattle.smx_upstream.specs.Standing.{Stand, Does, Gets, stand}
@@ -40,14 +42,31 @@ outs_push : (es es' : List Event) (e : Event) → es' ≡ es ++ e ∷ [] → out
 unfolding outs
 outs_push es es' e grown = ap (flat_map out_of) grown ∙ pushed out_of es e
 
+or_false : (b : Bool) → (b || false) ≡ b
+or_false true = refl
+or_false false = refl
+
+pub or_true : (b : Bool) → true ≡ (b || true)
+or_true true = refl
+or_true false = refl
+
+-- an event that ends nothing
+pub goes_on : (b : Bool) → b ≡ (b || false)
+goes_on b = sym (or_false b)
+
+ended_push : (es es' : List Event) (e : Event) → es' ≡ es ++ e ∷ [] → has_ended es' ≡ (has_ended es || event_ends e)
+unfolding has_ended
+ended_push es es' e grown = ap (list_any event_ends) grown ∙ list_any-append event_ends es (e ∷ []) ∙ ap (λ b. list_any event_ends es || b) (or_false (event_ends e))
+
 -- a worker that did one thing more
 pub did : {L : Type 0} (w w' : Working L) (e : Event) → IsWorker w → w'.events ≡ w.events ++ e ∷ [] → w'.wire.heard ≡ w.wire.heard → in_of e ++ those w'.held ≡ those w.held
-    → w'.wire.said ≡ w.wire.said ++ out_of e → w'.first ≡ w.first → Does w.stand e w'.stand → (w'.ending ≡ false → w'.wire.failed ≡ None) → IsWorker w'
-did w w' e was grown heard settled said first does on = record {
+    → w'.wire.said ≡ w.wire.said ++ out_of e → w'.first ≡ w.first → Does w.stand e w'.stand → (w'.ending ≡ false → w'.wire.failed ≡ None) → w'.ending ≡ (w.ending || event_ends e) → IsWorker w'
+did w w' e was grown heard settled said first does on last = record {
   heard = heard ∙ was.heard ∙ ap (λ l. ins w.events ++ l) (sym settled) ∙ sym (append_assoc (ins w.events) (in_of e) (those w'.held))
       ∙ ap (λ l. l ++ those w'.held) (sym (ins_push w.events w'.events e grown));
   said = said ∙ ap (λ l. l ++ out_of e) was.said ∙ sym (outs_push w.events w'.events e grown);
   runs = chain_push Does w'.first w.stand w'.stand w.events w'.events e grown does (subst_first w.first w'.first (sym first) was.runs);
+  over = last ∙ ap (λ b. b || event_ends e) was.over ∙ sym (ended_push w.events w'.events e grown);
   goes_on = on;
 }
   where
@@ -56,12 +75,13 @@ did w w' e was grown heard settled said first does on = record {
 
 -- a new worker
 pub began : {L : Type 0} (w : Working L) (e : Event) (p : Pdu) → w.events ≡ e ∷ [] → w.wire.heard ≡ [] → w.held ≡ None → in_of e ≡ [] → out_of e ≡ p ∷ [] → w.wire.said ≡ p ∷ []
-    → w.first ≡ w.stand → Does w.first e w.stand → w.wire.failed ≡ None → IsWorker w
-unfolding ins outs
-began w e p one heard held nothing sends said first does on = record {
+    → w.first ≡ w.stand → Does w.first e w.stand → w.wire.failed ≡ None → w.ending ≡ event_ends e → IsWorker w
+unfolding ins outs has_ended
+began w e p one heard held nothing sends said first does on last = record {
   heard = heard ∙ sym (ap (λ l. flat_map in_of l ++ those w.held) one ∙ ap (λ l. (l ++ []) ++ those w.held) nothing ∙ ap those held);
   said = said ∙ sym (ap (flat_map out_of) one ∙ ap (λ l. l ++ []) sends);
   runs = chain_first Does w.first w.first w.stand [] w.events e refl refl one does;
+  over = last ∙ goes_on (event_ends e) ∙ sym (ap (list_any event_ends) one);
   goes_on = λ _. on;
 }
 

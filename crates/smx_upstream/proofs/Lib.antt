@@ -1,3 +1,4 @@
 pub mod Eventful
 pub mod Cells
 pub mod Keeping
+pub mod Clocking

@@ -1,5 +1,5 @@
 -- What an event decided, what it sends, what it asks the directory and whom it tells.
-use Rattle.std.specs.Prelude.{ℕ, List, [], ◌∷◌, ◌++◌, Bool, true, false, Option, Some, None, Result, Ok, Err}
+use Rattle.std.specs.Prelude.{ℕ, List, [], ◌∷◌, ◌++◌, Option, Some, None, Result, Ok, Err}
 use Rattle.std.specs.List.{flat_map}
 use Rattle.smx_pdu.specs.declared.pdu.Pdu.{Pdu}
 use Rattle.smx_pdu.specs.declared.status.TheConstants.{ESME_RINVCMDLEN, ESME_RMSGQFUL, ESME_RX_T_APPN}
@@ -10,7 +10,6 @@ use Rattle.smx_box.specs.declared.fault.Spent.{Spent}
 use Rattle.smx_box.specs.declared.receiver.Got.{Got}
 use Rattle.smx_box.specs.declared.receiver.Got.TheVariants as got
 use Rattle.smx_shared.specs.declared.fault.TakeFault.{TakeFault}
-use Rattle.smx_shared.specs.declared.fault.TakeFault.TheVariants as takes
 use Rattle.smx_pdu.specs.Answers.{refusal, nack_of_undecoded}
 use Rattle.smx_session.specs.declared.up_act.UpAct.{UpAct}
 use Rattle.smx_session.specs.declared.up_act.UpAct.TheVariants as act
@@ -21,7 +20,6 @@ use Rattle.smx_turns.specs.declared.gate.Party.TheVariants.{Client, Slot}
 use Rattle.smx_history.specs.declared.reply.Failed.{Failed}
 use Rattle.smx_history.specs.declared.reply.Failed.TheVariants as failed
 use Rattle.smx_shared.specs.declared.fault.ExpiryFault.{ExpiryFault}
-use Rattle.smx_shared.specs.declared.fault.ExpiryFault.TheVariants as expires
 use Rattle.smx_history.specs.declared.reply.Answered.{Answered}
 use Rattle.smx_history.specs.declared.reply.Answered.TheVariants as answered
 use Rattle.smx_upstream.specs.declared.event.Event.{Event}
@@ -196,15 +194,3 @@ tell_of (Decided p now a f) = fate_tells f
 tell_of (Took r) = []
 tell_of Broke = []
 tell_of (Unbound p) = []
-
--- whether giving up held the lane
-abbrev pub was_asked : Result Failed ExpiryFault → Bool
-was_asked (Ok f) = true
-was_asked (Err (expires.Refused e)) = true
-was_asked (Err expires.Spent) = false
-
--- whether a take held the lane
-abbrev pub was_served : Result Sent TakeFault → Bool
-was_served (Ok s) = true
-was_served (Err (takes.Refused e)) = true
-was_served (Err takes.Spent) = false

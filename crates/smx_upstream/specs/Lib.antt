@@ -2,9 +2,11 @@ pub mod Events
 pub mod Quiet
 pub mod Spent
 pub mod Rising
+pub mod Ending
 pub mod Ages
 pub mod Standing
 pub mod Working
 pub mod Phases
+pub mod Timing
 pub mod Laws
 pub mod Losing

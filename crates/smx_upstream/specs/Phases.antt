@@ -1,8 +1,6 @@
 -- The order of an upstream turn.
-use Rattle.std.specs.Prelude.{◌≡◌, ◌≢◌, ◌≤◌, ℕ, Bool, true, false, ◌||◌, List, [], ◌∷◌, length, Result, Ok, Err, Option, Some, None}
+use Rattle.std.specs.Prelude.{◌≡◌, ◌≢◌, ◌≤◌, ◌==◌, ℕ, Bool, true, false, List, [], ◌∷◌, length, Result, Ok, Err, Option, Some, None, if◌then◌else◌}
 use Rattle.smx_frame.specs.Stream.{HasNone}
-use Rattle.smx_session.specs.declared.up_act.UpAct.{UpAct}
-use Rattle.smx_session.specs.declared.up_act.UpAct.TheVariants as act
 use Rattle.smx_link.specs.declared.link.Polled.{Polled}
 use Rattle.smx_link.specs.declared.link.Polled.TheVariants.{Octets, Nothing, End}
 use Rattle.smx_link.specs.declared.link.LinkFault.{LinkFault}
@@ -13,9 +11,8 @@ use Rattle.smx_turns.specs.declared.end.Fault.{Fault}
 use Rattle.smx_turns.specs.declared.end.Fault.TheVariants as fault
 use Rattle.smx_turns.specs.declared.step.Step.{Step}
 use Rattle.smx_turns.specs.declared.step.Step.TheVariants.{Asked, Read, Marked, Did}
-use Rattle.smx_upstream.specs.declared.event.Fate.{Fate}
-use Rattle.smx_upstream.specs.declared.event.Fate.TheVariants as fate
-use Rattle.smx_upstream.specs.Rising.{said_last, stays_down}
+use Rattle.smx_upstream.specs.Ending.{is_last}
+use Rattle.smx_upstream.specs.Spent.{is_spent_fate, is_spent_expiry, is_spent_shift, is_spent_get, is_spent_take}
 use Rattle.smx_upstream.specs.declared.wiring.Front.{Front}
 use Rattle.smx_upstream.specs.declared.wiring.Front.TheVariants as front
 use Rattle.smx_upstream.specs.declared.turning.Next.{Next}
@@ -73,41 +70,44 @@ pub data Phase : Type 0 where
   Gone : Phase
   -- the link has ended, and no whole PDU is left
   Drained : Phase
+  -- a lane or a box takes no more calls
+  Exhausted : Phase
   -- what no turn does
   Wrong : Phase
 
--- whether nothing is decided after this act
-abbrev pub ends : UpAct → Bool
-ends act.Up = false
-ends (act.Failed status) = true
-ends act.ToLane = false
-ends act.Mo = false
-ends (act.Answer p) = false
-ends (act.Leave p) = true
-ends act.Closed = true
-ends act.Ignore = false
+-- what a turn's order depends on: its moment, and whether it began with nothing but writing left to do and with octets waiting
+pub record Before : Type 0 where
+  pub now : ℕ
+  pub ending : Bool
+  pub waited : Bool
 
--- a lane that stays down ends the session's work
-abbrev pub fate_ends : Fate → Bool
-fate_ends fate.Own = false
-fate_ends (fate.Up rise) = stays_down (said_last rise.value)
-fate_ends (fate.Lane lane a) = false
-fate_ends fate.LaneSpent = false
-fate_ends fate.Unread = false
-fate_ends (fate.Unrouted found) = false
-fate_ends (fate.Put place n) = false
-fate_ends (fate.Full place) = false
-fate_ends (fate.BoxSpent place) = false
+abbrev pub some_wait : List ℕ → Bool
+some_wait [] = false
+some_wait (octet ∷ octets) = true
 
--- whether nothing is decided after this act, of which this came
-abbrev pub is_last : UpAct → Fate → Bool
-is_last a f = ends a || fate_ends f
+abbrev pub before : ℕ → Bool → List ℕ → Before
+before now ending unsent = record { now = now; ending = ending; waited = some_wait unsent }
 
 -- whether the link has ended
 abbrev pub is_end : Polled → Bool
 is_end (Octets n) = false
 is_end Nothing = false
 is_end End = true
+
+abbrev pub unless_spent : Bool → Phase → Phase
+unless_spent true p = Exhausted
+unless_spent false p = p
+
+-- a moment is the turn's own
+abbrev pub at_moment : Before → ℕ → Phase → Phase
+at_moment t now p = if now == t.now then p else Wrong
+
+-- what is said is so
+abbrev pub if_so : Bool → Bool → Phase → Phase
+if_so true true p = p
+if_so true false p = Wrong
+if_so false true p = Wrong
+if_so false false p = p
 
 abbrev pub unless_left : Bool → Phase
 unless_left true = Ending
@@ -155,25 +155,25 @@ unfoldable pub from_opening : Step Mark Event → Phase
 from_opening (Did (Opened n)) = Ready
 from_opening _ = Wrong
 
-unfoldable pub from_ready : Step Mark Event → Phase
-from_ready (Marked (Offered ending waited left)) = after_offer ending left
-from_ready _ = Wrong
+unfoldable pub from_ready : Before → Step Mark Event → Phase
+from_ready t (Marked (Offered waited left)) = if_so waited t.waited (after_offer t.ending left)
+from_ready t _ = Wrong
 
-unfoldable pub from_written : Bool → Step Mark Event → Phase
-from_written left (Did (Looked now due silent)) = when_looked left silent
-from_written left _ = Wrong
+unfoldable pub from_written : Before → Bool → Step Mark Event → Phase
+from_written t left (Did (Looked now due silent)) = at_moment t now (when_looked left silent)
+from_written t left _ = Wrong
 
 unfoldable pub from_watched : Bool → Step Mark Event → Phase
-from_watched left (Did (Expired lane r)) = Swept left
+from_watched left (Did (Expired lane r)) = unless_spent (is_spent_expiry r.value) (Swept left)
 from_watched left _ = Wrong
 
 unfoldable pub from_swept : Bool → Step Mark Event → Phase
 from_swept left (Did Young) = when_kept left
-from_swept left (Did (Shifted least r)) = when_kept left
+from_swept left (Did (Shifted least r)) = unless_spent (is_spent_shift r.value) (when_kept left)
 from_swept left _ = Wrong
 
 unfoldable pub from_clear : Step Mark Event → Phase
-from_clear (Did (Sought r)) = Sated
+from_clear (Did (Sought r)) = unless_spent (is_spent_get r.value) Sated
 from_clear _ = Wrong
 
 unfoldable pub from_sated : Step Mark Event → Phase
@@ -185,15 +185,15 @@ unfoldable pub from_may_read : Step Mark Event → Phase
 from_may_read (Read r) = when_read r
 from_may_read _ = Wrong
 
-unfoldable pub from_deciding : Bool → Step Mark Event → Phase
-from_deciding ended (Did (Decided p now a f)) = when_decided ended (is_last a.value f)
-from_deciding ended (Did Broke) = Closing
-from_deciding ended (Marked Part) = when_part ended
-from_deciding ended (Marked Full) = when_full ended
-from_deciding ended _ = Wrong
+unfoldable pub from_deciding : Before → Bool → Step Mark Event → Phase
+from_deciding t ended (Did (Decided p now a f)) = at_moment t now (unless_spent (is_spent_fate f) (when_decided ended (is_last a.value f)))
+from_deciding t ended (Did Broke) = Closing
+from_deciding t ended (Marked Part) = when_part ended
+from_deciding t ended (Marked Full) = when_full ended
+from_deciding t ended _ = Wrong
 
 unfoldable pub from_closing : Step Mark Event → Phase
-from_closing (Marked (Offered true waited left)) = unless_left left
+from_closing (Marked (Offered waited left)) = unless_left left
 from_closing _ = Wrong
 
 unfoldable pub from_settled : Step Mark Event → Phase
@@ -201,48 +201,64 @@ from_settled (Asked Taking answer) = when_may_take answer
 from_settled _ = Wrong
 
 unfoldable pub from_may_take : Step Mark Event → Phase
-from_may_take (Did (Took r)) = HasTried
+from_may_take (Did (Took r)) = unless_spent (is_spent_take r.value) HasTried
 from_may_take _ = Wrong
 
 -- the table of an upstream turn
-unfoldable pub go : Phase → Step Mark Event → Phase
-go Opening s = from_opening s
-go Ready s = from_ready s
-go (Written left) s = from_written left s
-go (Watched left) s = from_watched left s
-go (Swept left) s = from_swept left s
-go Clear s = from_clear s
-go Sated s = from_sated s
-go MayRead s = from_may_read s
-go (Deciding ended) s = from_deciding ended s
-go Closing s = from_closing s
-go Settled s = from_settled s
-go MayTake s = from_may_take s
-go Clogged s = Wrong
-go Brimming s = Wrong
-go Failed s = Wrong
-go HasTried s = Wrong
-go Stopped s = Wrong
-go Refrained s = Wrong
-go Ending s = Wrong
-go Over s = Wrong
-go Gone s = Wrong
-go Drained s = Wrong
-go Wrong s = Wrong
+unfoldable pub go : Before → Phase → Step Mark Event → Phase
+go t Opening s = from_opening s
+go t Ready s = from_ready t s
+go t (Written left) s = from_written t left s
+go t (Watched left) s = from_watched left s
+go t (Swept left) s = from_swept left s
+go t Clear s = from_clear s
+go t Sated s = from_sated s
+go t MayRead s = from_may_read s
+go t (Deciding ended) s = from_deciding t ended s
+go t Closing s = from_closing s
+go t Settled s = from_settled s
+go t MayTake s = from_may_take s
+go t _ s = Wrong
 
-unfoldable pub phase_from : Phase → List (Step Mark Event) → Phase
-phase_from p [] = p
-phase_from p (s ∷ ss) = phase_from (go p s) ss
+unfoldable pub phase_from : Before → Phase → List (Step Mark Event) → Phase
+phase_from t p [] = p
+phase_from t p (s ∷ ss) = phase_from t (go t p s) ss
 
-unfoldable pub phase_of : List (Step Mark Event) → Phase
-phase_of ss = phase_from Opening ss
+unfoldable pub phase_of : Before → List (Step Mark Event) → Phase
+phase_of t ss = phase_from t Opening ss
+
+-- the link may fail there
+abbrev pub MayFail : Phase → Type 0
+MayFail Ready = Unit {0}
+MayFail Failed = Unit {0}
+MayFail Closing = Unit {0}
+MayFail _ = ⊥
+
+-- memory may be wanted there
+abbrev pub MayWant : Phase → Type 0
+MayWant (Written left) = Unit {0}
+MayWant Clear = Unit {0}
+MayWant Sated = Unit {0}
+MayWant (Deciding ended) = Unit {0}
+MayWant Settled = Unit {0}
+MayWant _ = ⊥
+
+-- where a turn stands that a fault ends
+abbrev pub Faulted : Fault → Phase → Type 0
+Faulted fault.Link p = MayFail p
+Faulted fault.Spent p = p ≡ Exhausted
+Faulted fault.NoMemory p = MayWant p
+
+-- nothing but closing is left
+abbrev pub IsOver : Phase → Type 0
+IsOver Over = Unit {0}
+IsOver Gone = Unit {0}
+IsOver Drained = Unit {0}
+IsOver _ = ⊥
 
 -- how a turn may end: whether the session is bound then, and whether nothing came of the turn
 abbrev pub IsTurnEnd : Bool → Bool → TurnEnd → Phase → Type 0
-IsTurnEnd bound quiet Done Over = Unit {0}
-IsTurnEnd bound quiet Done Gone = Unit {0}
-IsTurnEnd bound quiet Done Drained = Unit {0}
-IsTurnEnd bound quiet Done _ = ⊥
+IsTurnEnd bound quiet Done p = IsOver p
 IsTurnEnd bound quiet Idle Stopped = Unit {0}
 IsTurnEnd bound quiet Idle Refrained = Unit {0}
 IsTurnEnd bound quiet Idle MayTake = (bound ≡ false) × (quiet ≡ true)
@@ -257,7 +273,7 @@ IsTurnEnd bound quiet Worked _ = ⊥
 
 abbrev pub IsTurn : Bool → Bool → Result TurnEnd Fault → Phase → Type 0
 IsTurn bound quiet (Ok end) p = IsTurnEnd bound quiet end p
-IsTurn bound quiet (Err e) p = p ≢ Wrong
+IsTurn bound quiet (Err e) p = Faulted e p
 
 -- every whole PDU was decided, and the link goes on
 abbrev pub is_settled : Phase → Bool
@@ -267,10 +283,10 @@ is_settled HasTried = true
 is_settled Refrained = true
 is_settled _ = false
 
--- a call that succeeds leads to this phase, and one that fails to no wrong one
+-- a call that succeeds leads to this phase, and one that fails to where its fault may stand
 abbrev pub LeadsTo : {A : Type 0} → Result A Fault → (A → Phase) → Phase → Type 0
 LeadsTo (Ok x) next p = p ≡ next x
-LeadsTo (Err e) next p = p ≢ Wrong
+LeadsTo (Err e) next p = Faulted e p
 
 -- how a part of a turn may end the turn
 pub record EndsEarly (end : TurnEnd) (p : Phase) : Type 0 where
@@ -284,7 +300,7 @@ EndsOr q None p = p ≡ q
 
 abbrev pub IsPart : Phase → Result (Option TurnEnd) Fault → Phase → Type 0
 IsPart q (Ok end) p = EndsOr q end p
-IsPart q (Err e) p = p ≢ Wrong
+IsPart q (Err e) p = Faulted e p
 
 -- where deciding stops
 abbrev pub when_progress : Bool → Progress → Phase
@@ -309,10 +325,6 @@ end_of false = Done
 abbrev pub quiet_end : Bool → TurnEnd
 quiet_end true = Idle
 quiet_end false = Worked
-
--- nothing but closing is left
-abbrev pub IsOver : Phase → Type 0
-IsOver p = IsTurnEnd true true Done p
 
 -- what waits for the link where a turn stands so, and what no PDU has of the octets that were read
 abbrev pub Waits : Phase → List ℕ → List ℕ → Type 0

@@ -17,7 +17,7 @@ use Rattle.smx_upstream.specs.declared.event.Event.TheVariants.{Began, Opened, L
 
 -- no octets waited
 abbrev pub is_quiet_mark : Mark → Bool
-is_quiet_mark (Offered ending waited left) = not waited
+is_quiet_mark (Offered waited left) = not waited
 is_quiet_mark Full = false
 is_quiet_mark Part = true
 

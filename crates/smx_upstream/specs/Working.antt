@@ -14,7 +14,9 @@ use Rattle.smx_turns.specs.Runs.{Runs}
 use Rattle.smx_turns.specs.Steps.{Side, side, Turned}
 use Rattle.smx_upstream.specs.declared.mark.Mark.{Mark}
 use Rattle.smx_upstream.specs.declared.event.Event.{Event}
+use Rattle.smx_upstream.specs.Ending.{has_ended}
 use Rattle.smx_upstream.specs.Events.{ins, outs, those, tell_of, find_of}
+use Rattle.smx_upstream.specs.Phases.{Before, before}
 use Rattle.smx_upstream.specs.Standing.{Stand, Does}
 
 pub record Working (L : Type 0) : Type 0 where
@@ -42,8 +44,14 @@ pub record IsWorker {L : Type 0} (w : Working L) : Type 0 where
   pub said : w.wire.said ≡ outs w.events
   -- each event did what its call did, one after another
   pub runs : ∥ Runs Does w.first w.events w.stand ∥₁
+  -- just an event of which that came left nothing but writing to do
+  pub over : w.ending ≡ has_ended w.events
   -- no bad length was met, or all ends
   pub goes_on : w.ending ≡ false → w.wire.failed ≡ None
+
+-- what the order of a turn at this moment depends on
+abbrev pub before_turn : {L : Type 0} → ℕ → Working L → Before
+before_turn now w = before now w.ending w.wire.unsent
 
 -- the side of a turn that a worker, its gate and its directory show
 abbrev pub side_of : {L : Type 0} → (L → List (Result Polled LinkFault)) → List Question → List Party → List Query → Working L → Side Stand Event

@@ -1,15 +1,15 @@
 //! What a worker does once: each of these is one event.
-ghost use Rattle.std.specs.Prelude.{◌≡◌, ◌≢◌, ◌≤◌, [], slice_get, Some, None, Ok, Err, OnOk, OnErr, IfOk, IsSome};
-ghost use Rattle.smx_upstream.specs.Events.{those, got_out, taken_out, was_served};
+ghost use Rattle.std.specs.Prelude.{◌≡◌, ◌≢◌, ◌≤◌, [], false, is_some, slice_get, Some, Err, OnErr, IsSome};
+ghost use Rattle.smx_upstream.specs.Events.{those, got_out, taken_out};
 ghost use Rattle.smx_upstream.specs.Quiet.{finds_nothing, takes_nothing};
-ghost use Rattle.smx_upstream.specs.Spent.{EndsSpent};
 ghost use Rattle.smx_upstream.specs.Ages.{next_turn, take_notes, has_shifted};
 ghost use Rattle.smx_upstream.specs.Working.{side_of, Goes};
-ghost use Rattle.smx_upstream.specs.Phases.{phase_of, when_looked, when_kept, when_decided, LeadsTo, Opening, Ready, Written, Watched, Swept, Clear, Sated, Deciding, MayTake, HasTried};
+ghost use Rattle.smx_upstream.specs.Phases.{phase_of, when_looked, when_kept, when_decided, unless_spent, Before, LeadsTo, Opening, Ready, Written, Swept, Clear, Sated, Deciding, MayTake, HasTried};
 
 use crate::carry::{Outcome, carry};
 use crate::event::Event;
 use crate::mark::Mark;
+use crate::spent::{is_spent_get, is_spent_shift, is_spent_take, unless_spent};
 use crate::worker::{UpstreamWorker, jot, note};
 use smx_box::{Got, Spent};
 use smx_history::Entry;
@@ -78,19 +78,12 @@ pub(crate) fn has_shifted(entries: &Result<Option<Vec<Entry>>, TurnFault>) -> bo
     matches!(entries, Ok(Some(_)))
 }
 
-// Whether the lane was held.
-fn was_served(taken: &Result<Sent, TakeFault>) -> bool
-    ensures { result ≡ was_served taken.now }
-{
-    !matches!(taken, Err(TakeFault::Spent))
-}
-
 impl<L: Link + Drop> UpstreamWorker<L> {
     // Hands in the moment. True where the session is silent.
     pub(crate) fn look(&mut self, now: u64, log: &mut Log<Mark, Event>) -> bool
         requires room { 65536 ≤ self.old.wire.room }
-        ensures phase { (left : _) → phase_of log.old ≡ Written left
-            → phase_of log.new ≡ when_looked left result }
+        ensures phase { (t : Before) (left : _) → t.now ≡ now → phase_of t log.old ≡ Written left
+            → phase_of t log.new ≡ when_looked left result }
         ensures left { self.old.wire.unsent ≢ [] → self.new.wire.unsent ≢ [] }
         ensures goes { (turn asked told queries : _) → Goes turn
             (side_of L.polls asked told queries self.old)
@@ -116,7 +109,7 @@ impl<L: Link + Drop> UpstreamWorker<L> {
     // Begins a turn, and answers its number.
     pub(crate) fn open(&mut self, log: &mut Log<Mark, Event>) -> u64
         ensures turn { result ≡ (next_turn self.old.stand.age).turns }
-        ensures phase { phase_of log.old ≡ Opening → phase_of log.new ≡ Ready }
+        ensures phase { (t : Before) → phase_of t log.old ≡ Opening → phase_of t log.new ≡ Ready }
         ensures goes { (turn asked told queries : _) → Goes turn
             (side_of L.polls asked told queries self.old)
             (side_of L.polls asked told queries self.new) log.old log.new }
@@ -143,10 +136,9 @@ impl<L: Link + Drop> UpstreamWorker<L> {
             ≡ Some self.old.stand.tap.front.lock }
         ensures lock { slice_get at.now self.new.stand.tap.lane
             ≡ Some self.new.stand.tap.front.lock }
-        ensures phase { (left : _) → phase_of log.old ≡ Swept left
-            → phase_of log.new ≡ when_kept left }
+        ensures phase { (t : Before) (left : _) → phase_of t log.old ≡ Swept left
+            → LeadsTo result (λ _. when_kept left) (phase_of t log.new) }
         ensures err { OnErr result (result ≡ Err Fault.Spent) }
-        ensures spent { result ≡ Err Fault.Spent → EndsSpent log.new }
         ensures goes { (turn asked told queries : _) → Goes turn
             (side_of L.polls asked told queries self.old)
             (side_of L.polls asked told queries self.new) log.old log.new }
@@ -163,22 +155,20 @@ impl<L: Link + Drop> UpstreamWorker<L> {
             return Ok(());
         };
         let entries = self.tap.turn_over(at, rt, least);
+        let spent = is_spent_shift(&entries);
         let age = self.age.after_shift(has_shifted(&entries));
         self.age = age;
         let event = Event::Shifted(least, Snapshot::of(&entries));
         jot(event, true, &mut self.events, log);
-        match entries {
-            Ok(_) | Err(TurnFault::NoMemory) => Ok(()),
-            Err(TurnFault::Spent) => Err(Fault::Spent),
-        }
+        unless_spent(spent)
     }
 
     // Gets at most one answer.
     pub(crate) fn seek<R: Wait>(&mut self, rt: &R, log: &mut Log<Mark, Event>) -> Result<(), Fault>
         requires room { 65536 ≤ self.old.wire.room }
-        ensures phase { phase_of log.old ≡ Clear → phase_of log.new ≡ Sated }
+        ensures phase { (t : Before) → phase_of t log.old ≡ Clear
+            → LeadsTo result (λ _. Sated) (phase_of t log.new) }
         ensures err { OnErr result (result ≡ Err Fault.Spent) }
-        ensures spent { result ≡ Err Fault.Spent → EndsSpent log.new }
         ensures goes { (turn asked told queries : _) → Goes turn
             (side_of L.polls asked told queries self.old)
             (side_of L.polls asked told queries self.new) log.old log.new }
@@ -194,11 +184,11 @@ impl<L: Link + Drop> UpstreamWorker<L> {
     {
         let found = self.answers.get(rt);
         let event = Event::Sought(Snapshot::of(&found));
-        let served = found.is_ok();
+        let spent = is_spent_get(&found);
         let quiet = finds_nothing(&found);
         let answer = answer_in(found);
         note(event, quiet, &answer, &mut self.wire, &mut self.events, log);
-        if served { Ok(()) } else { Err(Fault::Spent) }
+        unless_spent(spent)
     }
 
     // Takes at most one request.
@@ -213,9 +203,9 @@ impl<L: Link + Drop> UpstreamWorker<L> {
             ≡ Some self.old.stand.tap.front.lock }
         ensures lock { slice_get at.now self.new.stand.tap.lane
             ≡ Some self.new.stand.tap.front.lock }
-        ensures phase { phase_of log.old ≡ MayTake → phase_of log.new ≡ HasTried }
+        ensures phase { (t : Before) → phase_of t log.old ≡ MayTake
+            → LeadsTo result (λ _. HasTried) (phase_of t log.new) }
         ensures err { OnErr result (result ≡ Err Fault.Spent) }
-        ensures spent { result ≡ Err Fault.Spent → EndsSpent log.new }
         ensures goes { (turn asked told queries : _) → Goes turn
             (side_of L.polls asked told queries self.old)
             (side_of L.polls asked told queries self.new) log.old log.new }
@@ -234,7 +224,7 @@ impl<L: Link + Drop> UpstreamWorker<L> {
     {
         let taken = self.tap.take(at, rt, self.session.latest());
         let event = Event::Took(Snapshot::of(&taken));
-        let served = was_served(&taken);
+        let spent = is_spent_take(&taken);
         let quiet = takes_nothing(&taken);
         let age = self.age.noted_more(take_notes(&taken));
         self.age = age;
@@ -247,10 +237,11 @@ impl<L: Link + Drop> UpstreamWorker<L> {
             &mut self.events,
             log,
         );
-        if served { Ok(()) } else { Err(Fault::Spent) }
+        unless_spent(spent)
     }
 
-    // Decides the PDU that waits. True where nothing is decided after it.
+    // Decides the PDU that waits, which waits still where a lane or a box is spent. True where nothing
+    // is decided after it.
     pub(crate) fn decide<R: Wait, G: Gate, D: Directory>(
         &mut self,
         at: &Exchange,
@@ -259,18 +250,18 @@ impl<L: Link + Drop> UpstreamWorker<L> {
         directory: &mut D,
         now: u64,
         log: &mut Log<Mark, Event>,
-    ) -> Result<bool, Fault>
+    ) -> bool
         requires room { 65536 ≤ self.old.wire.room }
         requires lock { slice_get at.now self.old.stand.tap.lane
             ≡ Some self.old.stand.tap.front.lock }
         requires some { IsSome self.old.held }
+        requires goes_on { self.old.ending ≡ false }
         ensures lock { slice_get at.now self.new.stand.tap.lane
             ≡ Some self.new.stand.tap.front.lock }
-        ensures phase { (ended : _) → phase_of log.old ≡ Deciding ended
-            → LeadsTo result (when_decided ended) (phase_of log.new) }
-        ensures held { OnOk result (self.new.held ≡ None) }
-        ensures err { OnErr result (result ≡ Err Fault.Spent) }
-        ensures spent { result ≡ Err Fault.Spent → EndsSpent log.new }
+        ensures phase { (t : Before) (ended : _) → t.now ≡ now → phase_of t log.old ≡ Deciding ended
+            → phase_of t log.new
+            ≡ unless_spent (is_some self.new.held) (when_decided ended result) }
+        ensures over { self.new.ending ≡ result }
         ensures goes { (turn : _) → Goes turn
             (side_of L.polls (G.asked gate.old) (G.told gate.old) (D.queries directory.old) self.old)
             (side_of L.polls (G.asked gate.new) (G.told gate.new) (D.queries directory.new) self.new)
@@ -286,6 +277,7 @@ impl<L: Link + Drop> UpstreamWorker<L> {
             age = record self.old.stand.age { noted = self.new.stand.age.noted };
           };
           held = self.new.held;
+          ending = self.new.ending;
           events = self.new.events;
         } }
     {
@@ -314,13 +306,11 @@ impl<L: Link + Drop> UpstreamWorker<L> {
             pdu,
         );
         self.held = back;
+        self.ending = over;
         let age = self.age.after_shift(shifted).noted_more(notes);
         self.age = age;
         let event = Event::Decided(read, now, chosen, fate);
         note(event, false, &answer, &mut self.wire, &mut self.events, log);
-        if self.held.is_some() {
-            return Err(Fault::Spent);
-        }
-        Ok(over)
+        over
     }
 }

@@ -6,7 +6,7 @@ ghost use Rattle.smx_pdu.specs.Reading.{destination_at};
 ghost use Rattle.smx_turns.specs.declared.directory.Query.TheVariants.{Found};
 ghost use Rattle.smx_upstream.specs.Events.{those, act_out, fate_out, fate_finds, fate_tells, kept_by, read_of};
 ghost use Rattle.smx_upstream.specs.Ages.{answer_notes, fate_notes, fate_shifts};
-ghost use Rattle.smx_upstream.specs.Phases.{fate_ends, is_last};
+ghost use Rattle.smx_upstream.specs.Ending.{fate_ends, is_last};
 ghost use Rattle.smx_upstream.specs.Standing.{Becomes, Reads};
 
 use crate::event::Fate;

@@ -1,14 +1,14 @@
 //! A request that the centre has left without an answer for too long.
 ghost use Rattle.std.specs.Prelude.{◌≡◌, ◌++◌, slice_get, Some, Err, OnErr};
 ghost use Rattle.smx_upstream.specs.Ages.{expiry_notes};
-ghost use Rattle.smx_upstream.specs.Events.{expiry_tells, was_asked};
-ghost use Rattle.smx_upstream.specs.Phases.{phase_of, Watched, Swept};
+ghost use Rattle.smx_upstream.specs.Events.{expiry_tells};
+ghost use Rattle.smx_upstream.specs.Phases.{phase_of, Before, LeadsTo, Watched, Swept};
 ghost use Rattle.smx_upstream.specs.Quiet.{expires_nothing};
-ghost use Rattle.smx_upstream.specs.Spent.{EndsSpent};
 ghost use Rattle.smx_upstream.specs.Working.{side_of, Goes};
 
 use crate::event::Event;
 use crate::mark::Mark;
+use crate::spent::{is_spent_expiry, unless_spent};
 use crate::worker::{UpstreamWorker, jot};
 use smx_history::Failed;
 use smx_link::Link;
@@ -32,13 +32,6 @@ fn expiry_notes(failed: &Result<Failed, ExpiryFault>) -> usize
         Ok(_) => 1,
         Err(_) => 0,
     }
-}
-
-// Whether the lane was held.
-fn was_asked(failed: &Result<Failed, ExpiryFault>) -> bool
-    ensures { result ≡ was_asked failed.now }
-{
-    !matches!(failed, Err(ExpiryFault::Spent))
 }
 
 // Tells the gate of the client that is to hear of it.
@@ -68,10 +61,9 @@ impl<L: Link + Drop> UpstreamWorker<L> {
             ≡ Some self.old.stand.tap.front.lock }
         ensures lock { slice_get at.now self.new.stand.tap.lane
             ≡ Some self.new.stand.tap.front.lock }
-        ensures phase { (left : _) → phase_of log.old ≡ Watched left
-            → phase_of log.new ≡ Swept left }
+        ensures phase { (t : Before) (left : _) → phase_of t log.old ≡ Watched left
+            → LeadsTo result (λ _. Swept left) (phase_of t log.new) }
         ensures err { OnErr result (result ≡ Err Fault.Spent) }
-        ensures spent { result ≡ Err Fault.Spent → EndsSpent log.new }
         ensures goes { (turn queries : _) → Goes turn
             (side_of L.polls (G.asked gate.old) (G.told gate.old) queries self.old)
             (side_of L.polls (G.asked gate.new) (G.told gate.new) queries self.new) log.old log.new }
@@ -92,10 +84,6 @@ impl<L: Link + Drop> UpstreamWorker<L> {
         let event = Event::Expired(lane, Snapshot::of(&failed));
         let quiet = expires_nothing(&failed);
         jot(event, quiet, &mut self.events, log);
-        if was_asked(&failed) {
-            Ok(())
-        } else {
-            Err(Fault::Spent)
-        }
+        unless_spent(is_spent_expiry(&failed))
     }
 }

@@ -2,6 +2,7 @@
 ghost use Rattle.std.specs.Prelude.{◌≡◌, ◌++◌};
 ghost use Rattle.smx_link.specs.Wiring.{spellings};
 ghost use Rattle.smx_turns.specs.Runs.{Runs};
+ghost use Rattle.smx_upstream.specs.Ending.{has_ended};
 ghost use Rattle.smx_upstream.specs.Events.{ins, outs, those};
 ghost use Rattle.smx_upstream.specs.Standing.{Does};
 ghost use Rattle.smx_upstream.specs.Laws.{Kept};
@@ -11,7 +12,8 @@ use smx_link::Link;
 
 /// The octets that the link gave are the spellings of the PDUs that were decided, at most one that
 /// waits, and a rest; those that it took, followed by those that wait, are the spellings of the
-/// PDUs that the events send. Each event did what its call did, one after another.
+/// PDUs that the events send. Each event did what its call did, one after another. Nothing but
+/// writing is left to do just where one of them ended the session's work.
 pub fn law<L: Link + Drop>(worker: &UpstreamWorker<L>)
     ensures given { L.given worker.now.wire.link
         ≡ L.given worker.now.wire.start
@@ -19,6 +21,7 @@ pub fn law<L: Link + Drop>(worker: &UpstreamWorker<L>)
     ensures taken { L.taken worker.now.wire.link ++ worker.now.wire.unsent
         ≡ L.taken worker.now.wire.start ++ spellings (outs worker.now.events) }
     ensures runs { ∥ Runs Does worker.now.first worker.now.events worker.now.stand ∥₁ }
+    ensures over { worker.now.ending ≡ has_ended worker.now.events }
 
     // The tap's notes and each sender's items, in order.
     ensures kept { ∥ Kept worker.now.first worker.now.events worker.now.stand ∥₁ }

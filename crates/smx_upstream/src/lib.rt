@@ -11,6 +11,7 @@ mod losing;
 mod mark;
 mod rising;
 mod running;
+mod spent;
 mod stopping;
 mod turning;
 mod wiring;

@@ -8,8 +8,6 @@ use smx_turns::Deed;
 pub enum Mark {
     /// It offered all that waited to the link.
     Offered {
-        /// Nothing but writing is left to do in any turn.
-        ending: bool,
         /// Octets waited.
         waited: bool,
         /// Octets wait still.

@@ -1,18 +1,18 @@
 //! Turns of the upstream worker, one after another, and its end.
-ghost use Rattle.std.specs.Prelude.{◌≡◌, ◌≢◌, ◌+◌, ◌++◌, ◌∷◌, [], true, length, slice_get, Some, None, Ok, Err, OnOk};
+ghost use Rattle.std.specs.Prelude.{◌≡◌, ◌≢◌, ℕ, ◌+◌, ◌++◌, ◌∷◌, [], List, true, length, slice_get, Some, None, Ok, Err, OnOk};
 ghost use mathlib.Core.List.{IsPrefix};
 ghost use Rattle.smx_frame.specs.Stream.{HasNone};
 ghost use Rattle.smx_session.specs.Moments.{is_bound};
 ghost use Rattle.smx_shared.specs.Taps.{known_of};
 ghost use Rattle.smx_turns.specs.Rounds.{EndsSo};
-ghost use Rattle.smx_turns.specs.Runs.{Ran};
+ghost use Rattle.smx_turns.specs.Runs.{Runs, Ran};
 ghost use Rattle.smx_upstream.specs.Ages.{next_turn};
 ghost use Rattle.smx_upstream.specs.Quiet.{are_all_quiet};
-ghost use Rattle.smx_upstream.specs.Spent.{EndsSpent};
 ghost use Rattle.smx_upstream.specs.Standing.{Does};
-ghost use Rattle.smx_upstream.specs.Working.{side_of, Turns};
+ghost use Rattle.smx_upstream.specs.Timing.{TurnsAt, timing};
+ghost use Rattle.smx_upstream.specs.Working.{before_turn, side_of, Turns};
 ghost use Rattle.smx_upstream.specs.Losing.{Loses};
-ghost use Rattle.smx_upstream.specs.Phases.{phase_of, is_settled, link_faults, Waits, IsTurn, IsOver};
+ghost use Rattle.smx_upstream.specs.Phases.{phase_of, is_settled, link_faults, Before, Waits, IsTurn, IsOver};
 
 use crate::losing::{Lost, lose};
 use crate::worker::UpstreamWorker;
@@ -59,17 +59,18 @@ impl<L: Link + Drop> UpstreamWorker<L> {
             (side_of L.polls (G.asked gate.new) (G.told gate.new) (D.queries directory.new) self.new)
             self.new.steps }
         ensures order { IsTurn (is_bound self.new.stand.session.state)
-            (are_all_quiet self.new.steps) result (phase_of self.new.steps) }
-        ensures waits { OnOk result (Waits (phase_of self.new.steps) self.new.wire.unsent
-            self.new.wire.rest) }
+            (are_all_quiet self.new.steps) result
+            (phase_of (before_turn now self.old) self.new.steps) }
+        ensures waits { OnOk result (Waits (phase_of (before_turn now self.old) self.new.steps)
+            self.new.wire.unsent self.new.wire.rest) }
         ensures whole { OnOk result
-            (is_settled (phase_of self.new.steps) ≡ true → HasNone 65536 self.new.wire.rest) }
+            (is_settled (phase_of (before_turn now self.old) self.new.steps) ≡ true
+            → HasNone 65536 self.new.wire.rest) }
         ensures offered { IsPrefix (L.offered self.old.wire.link ++ self.old.wire.unsent)
             (L.offered self.new.wire.link) }
         ensures failures { L.failures self.new.wire.link
             ≡ L.failures self.old.wire.link + link_faults result }
         ensures held { OnOk result (self.new.held ≡ None) }
-        ensures spent { result ≡ Err Fault.Spent → EndsSpent self.new.steps }
         ensures count { self.new.stand.age.turns ≡ (next_turn self.old.stand.age).turns }
         ensures ends { self.new.ends ≡ self.old.ends ++ result ∷ [] }
         ensures first { self.new.first ≡ self.old.first }
@@ -132,8 +133,14 @@ pub fn run_upstream<L: Link + Drop, R: Wait, G: Gate, D: Directory, C: FnMut() -
     ensures held { ((fault : Fault) → result ≢ RunEnd.Fault fault) → worker.new.held ≡ None }
     ensures first { worker.new.first ≡ worker.old.first }
     ensures ends { EndsSo turns result worker.old.ends worker.new.ends }
-    ensures left { result ≡ RunEnd.Left → IsOver (phase_of worker.new.steps) }
+    ensures left { result ≡ RunEnd.Left
+        → (t : Before) × IsOver (phase_of t worker.new.steps) }
     ensures ran { Ran Does worker.old.stand worker.old.events worker.new.stand worker.new.events }
+
+    // Each turn is one in the table's order, at the moment that one call of the clock gave.
+    ensures clocked { (moments : List ℕ) × (last : C)
+        × Runs (TurnsAt (λ a now b. C.step a now b)) (timing clock worker.old) moments
+        (timing last worker.new) }
 {
     for _turn in 0..turns {
         let now = clock();

@@ -4,10 +4,9 @@ ghost use mathlib.Core.List.{IsPrefix};
 ghost use Rattle.smx_frame.specs.Stream.{HasNone};
 ghost use Rattle.smx_session.specs.Moments.{is_bound};
 ghost use Rattle.smx_upstream.specs.Ages.{next_turn};
-ghost use Rattle.smx_upstream.specs.Working.{side_of, Goes};
+ghost use Rattle.smx_upstream.specs.Working.{before_turn, side_of, Goes};
 ghost use Rattle.smx_upstream.specs.Quiet.{are_all_quiet};
-ghost use Rattle.smx_upstream.specs.Spent.{EndsSpent};
-ghost use Rattle.smx_upstream.specs.Phases.{phase_of, when_next, when_progress, is_settled, end_of, quiet_end, link_faults, Waits, LeadsTo, IsPart, IsTurn, Opening, Ready, Sated, MayRead, Deciding, Settled};
+ghost use Rattle.smx_upstream.specs.Phases.{phase_of, when_next, when_progress, is_settled, end_of, quiet_end, link_faults, Before, Waits, LeadsTo, IsPart, IsTurn, Opening, Ready, Sated, MayRead, Deciding, Settled};
 
 use crate::event::Event;
 use crate::mark::Mark;
@@ -83,8 +82,8 @@ impl<L: Link + Drop> UpstreamWorker<L> {
         requires goes_on { self.old.ending ≡ false }
         ensures lock { slice_get at.now self.new.stand.tap.lane
             ≡ Some self.new.stand.tap.front.lock }
-        ensures phase { (ended : _) → phase_of log.old ≡ Deciding ended
-            → LeadsTo result (when_next ended) (phase_of log.new) }
+        ensures phase { (t : Before) (ended : _) → t.now ≡ now → phase_of t log.old ≡ Deciding ended
+            → LeadsTo result (when_next ended) (phase_of t log.new) }
         ensures held { OnOk result (self.new.held ≡ None) }
         ensures more { result ≡ Ok Next.More
             → (length self.new.wire.rest < length self.old.wire.rest) × (self.new.ending ≡ false) }
@@ -92,7 +91,6 @@ impl<L: Link + Drop> UpstreamWorker<L> {
             → HasNone 65536 self.new.wire.rest × (self.new.ending ≡ false) }
         ensures over { result ≡ Ok Next.Over → self.new.ending ≡ true }
         ensures faults { link_faults result ≡ 0 }
-        ensures spent { result ≡ Err Fault.Spent → EndsSpent log.new }
         ensures goes { (turn : _) → Goes turn
             (side_of L.polls (G.asked gate.old) (G.told gate.old) (D.queries directory.old) self.old)
             (side_of L.polls (G.asked gate.new) (G.told gate.new) (D.queries directory.new) self.new)
@@ -108,12 +106,11 @@ impl<L: Link + Drop> UpstreamWorker<L> {
             Front::Broken => return Ok(Next::Over),
             Front::Whole => {}
         }
-        let last = self.decide(at, rt, gate, directory, now, log)?;
-        if last {
-            self.ending = true;
-            return Ok(Next::Over);
+        let last = self.decide(at, rt, gate, directory, now, log);
+        if self.held.is_some() {
+            return Err(Fault::Spent);
         }
-        Ok(Next::More)
+        Ok(if last { Next::Over } else { Next::More })
     }
 
     // Decides each whole PDU, as far as what waits for the link allows it.
@@ -133,8 +130,8 @@ impl<L: Link + Drop> UpstreamWorker<L> {
         requires goes_on { self.old.ending ≡ false }
         ensures lock { slice_get at.now self.new.stand.tap.lane
             ≡ Some self.new.stand.tap.front.lock }
-        ensures phase { phase_of log.old ≡ Deciding ended
-            → LeadsTo result (when_progress ended) (phase_of log.new) }
+        ensures phase { (t : Before) → t.now ≡ now → phase_of t log.old ≡ Deciding ended
+            → LeadsTo result (when_progress ended) (phase_of t log.new) }
         ensures held { OnOk result (self.new.held ≡ None) }
         ensures part { result ≡ Ok Progress.Part
             → HasNone 65536 self.new.wire.rest × (self.new.ending ≡ false) }
@@ -142,7 +139,6 @@ impl<L: Link + Drop> UpstreamWorker<L> {
             → (ended ≡ false) × (65536 ≤ length self.new.wire.unsent) }
         ensures over { result ≡ Ok Progress.Over → self.new.ending ≡ true }
         ensures faults { link_faults result ≡ 0 }
-        ensures spent { result ≡ Err Fault.Spent → EndsSpent log.new }
         ensures goes { (turn : _) → Goes turn
             (side_of L.polls (G.asked gate.old) (G.told gate.old) (D.queries directory.old) self.old)
             (side_of L.polls (G.asked gate.new) (G.told gate.new) (D.queries directory.new) self.new)
@@ -179,15 +175,15 @@ impl<L: Link + Drop> UpstreamWorker<L> {
             ≡ Some self.old.stand.tap.front.lock }
         ensures lock { slice_get at.now self.new.stand.tap.lane
             ≡ Some self.new.stand.tap.front.lock }
-        ensures phase { phase_of log.old ≡ Ready → IsPart Sated result (phase_of log.new) }
-        ensures waits { phase_of log.old ≡ Ready
-            → OnOk result (Waits (phase_of log.new) self.new.wire.unsent self.new.wire.rest) }
+        ensures phase { (t : Before) → t ≡ before_turn now self.old → phase_of t log.old ≡ Ready
+            → IsPart Sated result (phase_of t log.new) }
+        ensures waits { (t : Before) → t ≡ before_turn now self.old → phase_of t log.old ≡ Ready
+            → OnOk result (Waits (phase_of t log.new) self.new.wire.unsent self.new.wire.rest) }
         ensures goes_on { result ≡ Ok None → self.new.ending ≡ false }
         ensures offered { IsPrefix (L.offered self.old.wire.link ++ self.old.wire.unsent)
             (L.offered self.new.wire.link) }
         ensures failures { L.failures self.new.wire.link
             ≡ L.failures self.old.wire.link + link_faults result }
-        ensures spent { result ≡ Err Fault.Spent → EndsSpent log.new }
         ensures goes { (turn queries : _) → Goes turn
             (side_of L.polls (G.asked gate.old) (G.told gate.old) queries self.old)
             (side_of L.polls (G.asked gate.new) (G.told gate.new) queries self.new) log.old log.new }
@@ -231,15 +227,15 @@ impl<L: Link + Drop> UpstreamWorker<L> {
         requires intake { 4096 ≤ self.old.wire.intake }
         ensures lock { slice_get at.now self.new.stand.tap.lane
             ≡ Some self.new.stand.tap.front.lock }
-        ensures phase { phase_of log.old ≡ MayRead → IsPart Settled result (phase_of log.new) }
-        ensures waits { phase_of log.old ≡ MayRead
-            → OnOk result (Waits (phase_of log.new) self.new.wire.unsent self.new.wire.rest) }
+        ensures phase { (t : Before) → t.now ≡ now → phase_of t log.old ≡ MayRead
+            → IsPart Settled result (phase_of t log.new) }
+        ensures waits { (t : Before) → t.now ≡ now → phase_of t log.old ≡ MayRead
+            → OnOk result (Waits (phase_of t log.new) self.new.wire.unsent self.new.wire.rest) }
         ensures whole { result ≡ Ok None → HasNone 65536 self.new.wire.rest }
         ensures held { OnOk result (self.new.held ≡ None) }
         ensures offers { IsPrefix (L.offered self.old.wire.link) (L.offered self.new.wire.link) }
         ensures failures { L.failures self.new.wire.link
             ≡ L.failures self.old.wire.link + link_faults result }
-        ensures spent { result ≡ Err Fault.Spent → EndsSpent log.new }
         ensures goes { (turn : _) → Goes turn
             (side_of L.polls (G.asked gate.old) (G.told gate.old) (D.queries directory.old) self.old)
             (side_of L.polls (G.asked gate.new) (G.told gate.new) (D.queries directory.new) self.new)
@@ -280,15 +276,15 @@ impl<L: Link + Drop> UpstreamWorker<L> {
         requires goes_on { self.old.ending ≡ false }
         ensures lock { slice_get at.now self.new.stand.tap.lane
             ≡ Some self.new.stand.tap.front.lock }
-        ensures phase { phase_of log.old ≡ Sated → IsPart Settled result (phase_of log.new) }
-        ensures waits { phase_of log.old ≡ Sated
-            → OnOk result (Waits (phase_of log.new) self.new.wire.unsent self.new.wire.rest) }
+        ensures phase { (t : Before) → t.now ≡ now → phase_of t log.old ≡ Sated
+            → IsPart Settled result (phase_of t log.new) }
+        ensures waits { (t : Before) → t.now ≡ now → phase_of t log.old ≡ Sated
+            → OnOk result (Waits (phase_of t log.new) self.new.wire.unsent self.new.wire.rest) }
         ensures whole { result ≡ Ok None → HasNone 65536 self.new.wire.rest }
         ensures held { OnOk result (self.new.held ≡ None) }
         ensures offers { IsPrefix (L.offered self.old.wire.link) (L.offered self.new.wire.link) }
         ensures failures { L.failures self.new.wire.link
             ≡ L.failures self.old.wire.link + link_faults result }
-        ensures spent { result ≡ Err Fault.Spent → EndsSpent log.new }
         ensures goes { Goes turn
             (side_of L.polls (G.asked gate.old) (G.told gate.old) (D.queries directory.old) self.old)
             (side_of L.polls (G.asked gate.new) (G.told gate.new) (D.queries directory.new) self.new)
@@ -322,12 +318,12 @@ impl<L: Link + Drop> UpstreamWorker<L> {
             ≡ Some self.old.stand.tap.front.lock }
         ensures lock { slice_get at.now self.new.stand.tap.lane
             ≡ Some self.new.stand.tap.front.lock }
-        ensures phase { phase_of log.old ≡ Settled → IsTurn (is_bound self.new.stand.session.state)
-            (are_all_quiet log.new) result (phase_of log.new) }
-        ensures waits { phase_of log.old ≡ Settled
-            → OnOk result (Waits (phase_of log.new) self.new.wire.unsent self.new.wire.rest) }
+        ensures phase { (t : Before) → phase_of t log.old ≡ Settled
+            → IsTurn (is_bound self.new.stand.session.state) (are_all_quiet log.new) result
+            (phase_of t log.new) }
+        ensures waits { (t : Before) → phase_of t log.old ≡ Settled
+            → OnOk result (Waits (phase_of t log.new) self.new.wire.unsent self.new.wire.rest) }
         ensures faults { link_faults result ≡ 0 }
-        ensures spent { result ≡ Err Fault.Spent → EndsSpent log.new }
         ensures goes { (queries : _) → Goes turn
             (side_of L.polls (G.asked gate.old) (G.told gate.old) queries self.old)
             (side_of L.polls (G.asked gate.new) (G.told gate.new) queries self.new) log.old log.new }
@@ -363,21 +359,20 @@ impl<L: Link + Drop> UpstreamWorker<L> {
         requires lock { slice_get at.now self.old.stand.tap.lane
             ≡ Some self.old.stand.tap.front.lock }
         requires none { self.old.held ≡ None }
-        requires opening { phase_of log.old ≡ Opening }
+        requires opening { phase_of (before_turn now self.old) log.old ≡ Opening }
         ensures lock { slice_get at.now self.new.stand.tap.lane
             ≡ Some self.new.stand.tap.front.lock }
-        ensures order { IsTurn (is_bound self.new.stand.session.state)
-            (are_all_quiet log.new) result (phase_of log.new) }
-        ensures waits { OnOk result (Waits (phase_of log.new) self.new.wire.unsent
-            self.new.wire.rest) }
-        ensures whole { OnOk result
-            (is_settled (phase_of log.new) ≡ true → HasNone 65536 self.new.wire.rest) }
+        ensures order { IsTurn (is_bound self.new.stand.session.state) (are_all_quiet log.new)
+            result (phase_of (before_turn now self.old) log.new) }
+        ensures waits { OnOk result (Waits (phase_of (before_turn now self.old) log.new)
+            self.new.wire.unsent self.new.wire.rest) }
+        ensures whole { OnOk result (is_settled (phase_of (before_turn now self.old) log.new) ≡ true
+            → HasNone 65536 self.new.wire.rest) }
         ensures held { OnOk result (self.new.held ≡ None) }
         ensures offered { IsPrefix (L.offered self.old.wire.link ++ self.old.wire.unsent)
             (L.offered self.new.wire.link) }
         ensures failures { L.failures self.new.wire.link
             ≡ L.failures self.old.wire.link + link_faults result }
-        ensures spent { result ≡ Err Fault.Spent → EndsSpent log.new }
         ensures goes { Goes self.new.stand.age.turns
             (side_of L.polls (G.asked gate.old) (G.told gate.old) (D.queries directory.old) self.old)
             (side_of L.polls (G.asked gate.new) (G.told gate.new) (D.queries directory.new) self.new)

@@ -6,7 +6,7 @@ ghost use Rattle.smx_turns.specs.declared.step.Step.TheVariants.{Did};
 ghost use Rattle.smx_upstream.specs.declared.event.Event.TheVariants.{Broke};
 ghost use Rattle.smx_upstream.specs.Events.{out_of};
 ghost use Rattle.smx_upstream.specs.Working.{side_of, Goes};
-ghost use Rattle.smx_upstream.specs.Phases.{phase_of, after_offer, unless_left, when_front, is_end, LeadsTo, link_faults, Ready, Closing, MayRead, Deciding};
+ghost use Rattle.smx_upstream.specs.Phases.{phase_of, some_wait, after_offer, unless_left, when_front, is_end, Before, LeadsTo, link_faults, Ready, Closing, MayRead, Deciding};
 
 use crate::event::Event;
 use crate::mark::Mark;
@@ -66,10 +66,11 @@ fn break_off<L: Link + Drop>(
 impl<L: Link + Drop> UpstreamWorker<L> {
     // Offers what waits to the link. True where octets are left.
     pub(crate) fn offer(&mut self, log: &mut Log<Mark, Event>) -> Result<bool, Fault>
-        ensures opening { phase_of log.old ≡ Ready
-            → LeadsTo result (after_offer self.old.ending) (phase_of log.new) }
-        ensures closing { phase_of log.old ≡ Closing → self.old.ending ≡ true
-            → LeadsTo result unless_left (phase_of log.new) }
+        ensures opening { (t : Before) → t.waited ≡ some_wait self.old.wire.unsent
+            → phase_of t log.old ≡ Ready
+            → LeadsTo result (after_offer t.ending) (phase_of t log.new) }
+        ensures closing { (t : Before) → phase_of t log.old ≡ Closing
+            → LeadsTo result unless_left (phase_of t log.new) }
         ensures left { IfOk result (λ left. (left ≡ true → self.new.wire.unsent ≢ [])
             × (left ≡ false → self.new.wire.unsent ≡ [])) }
         ensures offered { L.offered self.new.wire.link
@@ -89,11 +90,7 @@ impl<L: Link + Drop> UpstreamWorker<L> {
             return Err(Fault::Link);
         }
         let left = !self.wire.is_clear();
-        let mark = Mark::Offered {
-            ending: self.ending,
-            waited,
-            left,
-        };
+        let mark = Mark::Offered { waited, left };
         log.push(&Step::Marked(mark), !waited);
         Ok(left)
     }
@@ -130,7 +127,8 @@ impl<L: Link + Drop> UpstreamWorker<L> {
     pub(crate) fn read(&mut self, log: &mut Log<Mark, Event>) -> Result<bool, Fault>
         requires intake { 4096 ≤ self.old.wire.intake }
         requires goes_on { self.old.ending ≡ false }
-        ensures phase { phase_of log.old ≡ MayRead → LeadsTo result Deciding (phase_of log.new) }
+        ensures phase { (t : Before) → phase_of t log.old ≡ MayRead
+            → LeadsTo result Deciding (phase_of t log.new) }
         ensures offered { L.offered self.new.wire.link ≡ L.offered self.old.wire.link }
         ensures failures { L.failures self.new.wire.link
             ≡ L.failures self.old.wire.link + link_faults result }
@@ -162,8 +160,8 @@ impl<L: Link + Drop> UpstreamWorker<L> {
         requires room { 65536 ≤ self.old.wire.room }
         requires none { self.old.held ≡ None }
         requires goes_on { self.old.ending ≡ false }
-        ensures phase { (ended : _) → phase_of log.old ≡ Deciding ended
-            → LeadsTo result (when_front ended) (phase_of log.new) }
+        ensures phase { (t : Before) (ended : _) → phase_of t log.old ≡ Deciding ended
+            → LeadsTo result (when_front ended) (phase_of t log.new) }
         ensures whole { result ≡ Ok Front.Whole
             → IsSome self.new.held × (length self.new.wire.rest < length self.old.wire.rest)
             × (self.new.ending ≡ false) × (65536 ≤ self.new.wire.room) }

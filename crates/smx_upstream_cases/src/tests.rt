@@ -180,7 +180,7 @@ struct Line<'a> {
 
 impl Line<'_> {
     // Turns the worker at this moment until it has nothing to do, at most so often.
-    fn run<R: Wait>(&mut self, rt: &R, now: u64, turns: u64) -> RunEnd {
+    fn run<R: Wait + Abort>(&mut self, rt: &R, now: u64, turns: u64) -> RunEnd {
         if self.faulty {
             return RunEnd::Left;
         }
@@ -194,6 +194,7 @@ impl Line<'_> {
             turns,
         );
         self.faulty = matches!(end, RunEnd::Fault(_));
+        name_want(rt, end);
         end
     }
 
@@ -203,6 +204,23 @@ impl Line<'_> {
         let closed = worker.close(at, rt);
         is_made_of(closed.link.peer().taken(), parts)
     }
+}
+
+// Names want of memory, which tools/refuse-memory brings about.
+fn name_want(rt: &impl Abort, end: RunEnd) {
+    if end == RunEnd::Fault(Fault::NoMemory) {
+        panic!(rt; "out of memory");
+    }
+}
+
+// A script with each of its pieces and room for what it is to take.
+fn roomy(rt: &impl Abort, script: Script) -> Script {
+    let mut script = script;
+    if !script.is_whole() {
+        panic!(rt; "out of memory");
+    }
+    script.make_room(80_000).expect(rt, "out of memory");
+    script
 }
 
 fn is_made_of(octets: &[u8], parts: &[&[u8]]) -> bool {
@@ -320,7 +338,7 @@ fn line_at<'a>(
         inbox,
     } = boxes;
     let parts = Parts {
-        link: MemoryLink::new(script),
+        link: MemoryLink::new(roomy(rt, script)),
         tap,
         session: session(rt, alloc),
         answers,

@@ -6,7 +6,7 @@ use super::*;
 
 // The worker's runs write the bind, the client's answer and the request, and tell of the response
 // and the message.
-fn runs_through<R: Wait>(rt: &R, line: Line) -> bool {
+fn runs_through<R: Wait + Abort>(rt: &R, line: Line) -> bool {
     let mut line = line;
     let end = line.run(rt, 0, 1_000);
     let stand = (end, line.worker.state(), line.gate.tidings);
@@ -134,12 +134,12 @@ fn greatest(rt: &impl Abort, alloc: Global) -> Pdu {
 }
 
 // How a run of so many turns ends, and how many questions the gate was asked by then.
-fn run_and_asked<R: Wait>(rt: &R, line: &mut Line, turns: u64) -> (RunEnd, u64) {
+fn run_and_asked<R: Wait + Abort>(rt: &R, line: &mut Line, turns: u64) -> (RunEnd, u64) {
     (line.run(rt, 0, turns), line.gate.questions)
 }
 
 // The first two are of one turn.
-fn three_runs<R: Wait>(rt: &R, line: &mut Line) -> [(RunEnd, u64); 3] {
+fn three_runs<R: Wait + Abort>(rt: &R, line: &mut Line) -> [(RunEnd, u64); 3] {
     let first = run_and_asked(rt, line, 1);
     let second = run_and_asked(rt, line, 1);
     [first, second, run_and_asked(rt, line, 1_000)]

@@ -19,7 +19,7 @@ const UNBIND: [u8; 16] = [0, 0, 0, 0x10, 0, 0, 0, 6, 0, 0, 0, 0, 0, 0, 0, 9];
 const UNBIND_ANSWER: [u8; 16] = [0, 0, 0, 0x10, 0x80, 0, 0, 6, 0, 0, 0, 0, 0, 0, 0, 9];
 
 // How the last of the runs at these moments ends.
-fn run_at<R: Wait>(rt: &R, line: &mut Line, moments: &[u64]) -> RunEnd {
+fn run_at<R: Wait + Abort>(rt: &R, line: &mut Line, moments: &[u64]) -> RunEnd {
     let mut end = RunEnd::Idle;
     for now in moments {
         end = line.run(rt, *now, 1_000);

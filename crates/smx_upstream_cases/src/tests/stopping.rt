@@ -15,9 +15,9 @@ const UNBOUND: [u8; 16] = [
 const REFUSAL: [u8; 16] = [0, 0, 0, 0x10, 0x80, 0, 0, 5, 0, 0, 0, 4, 0, 0, 0, 3];
 
 // Whether each stop says so, and the worker is in this state then.
-fn stops(line: &mut Line, wanted: &[bool], state: UpstreamState) -> bool {
+fn stops(rt: &impl Abort, line: &mut Line, wanted: &[bool], state: UpstreamState) -> bool {
     for said in wanted {
-        if line.worker.stop() != Ok(*said) {
+        if line.worker.stop().expect(rt, "out of memory") != *said {
             return false;
         }
     }
@@ -34,10 +34,10 @@ fn runs_out<R: Wait + Abort>(
     client: &mut Client,
 ) -> (RunEnd, bool) {
     let mut line = line;
-    let early = stops(&mut line, &[false], UpstreamState::Binding);
+    let early = stops(rt, &mut line, &[false], UpstreamState::Binding);
     let before = client.submit(rt, alloc);
     let first = line.run(rt, 0, 1_000);
-    let stopped = stops(&mut line, &[true, false], UpstreamState::Unbinding);
+    let stopped = stops(rt, &mut line, &[true, false], UpstreamState::Unbinding);
     let behind = client.submit(rt, alloc);
     let last = line.run(rt, 0, 1_000);
     let taken = line.took(rt, &[&BIND, &SUBMIT, &UNBIND, &REFUSAL]);

@@ -17,3 +17,6 @@ returns-clause-taken g c = rw (← c.worker.view_is)
 
 pub returns-clause-runs : goal.returns-clause-runs
 returns-clause-runs g c = rw (← c.worker.view_is) c.worker.invariant.runs
+
+pub returns-clause-over : goal.returns-clause-over
+returns-clause-over g c = rw (← c.worker.view_is) c.worker.invariant.over

@@ -1,8 +1,9 @@
-use Rattle.std.proofs.Common.{◌≡◌, ◌++◌, [], None, Some, slice_get}
+use Rattle.std.proofs.Common.{◌≡◌, ◌++◌, ℕ, List, [], None, Some, slice_get}
 use denote.Param.Always.{always_mut}
-use Rattle.smx_turns.specs.Runs.{Ran}
+use Rattle.smx_turns.specs.Runs.{Runs, Ran}
 use Rattle.smx_turns.specs.Rounds.{worked_turns}
 use Rattle.smx_upstream.specs.Standing.{Does}
+use Rattle.smx_upstream.specs.Timing.{TurnsAt, timing}
 use Rattle.smx_upstream.proofs.running.run_upstream.Given as goal
 
 abbrev pub invariant-loop-turn : goal.invariant-loop-turn
@@ -12,5 +13,6 @@ invariant-loop-turn g l = record {
   lock : slice_get l.fn.at l.worker.stand.tap.lane ≡ Some l.worker.stand.tap.front.lock;
   first : l.worker.first ≡ l.fn.worker.first;
   ends : l.worker.ends ≡ l.fn.worker.ends ++ worked_turns l._turn [];
+  clocked : (moments : List ℕ) × Runs (TurnsAt (λ a now b. goal.C-step g a now b)) (timing l.initial.clock l.fn.worker) moments (timing l.clock l.worker);
   ran : Ran Does l.fn.worker.stand l.fn.worker.events l.worker.stand l.worker.events;
 }

@@ -1,15 +1,32 @@
-use Rattle.std.proofs.Common.{refl}
+use Rattle.std.proofs.Common.{rules, refl, ap, ◌∙◌}
 use Rattle.smx_turns.specs.declared.step.Step.TheVariants.{Marked}
 use Rattle.smx_upstream.specs.declared.mark.Mark.TheVariants.{Full}
-use Rattle.smx_upstream.specs.Phases.{Deciding}
+use Rattle.smx_upstream.specs.Phases.{Deciding, when_next}
 use Rattle.smx_upstream.proofs.Eventful.{goes_mark, goes_then}
 use Rattle.smx_upstream.proofs.Cells.{stepped, cell_brim}
 use Rattle.smx_upstream.proofs.worker.UpstreamWorker.decide_all.Goals as goal
 
 pub returns-then-unsent-ge-MAX_PDU-clause-phase : goal.returns-then-unsent-ge-MAX_PDU-clause-phase
-returns-then-unsent-ge-MAX_PDU-clause-phase g c = λ was.
-    stepped _ _ (Marked Full) (Deciding c.args.ended) _ c.push.ensures (cell_brim c.args.ended) (c.loop-self.invariant.phase was)
+returns-then-unsent-ge-MAX_PDU-clause-phase g c = λ t same was.
+    stepped t _ _ (Marked Full) (Deciding c.args.ended) _ c.push.ensures (cell_brim t c.args.ended) (c.loop-self.invariant.phase t same was)
 
 pub returns-then-unsent-ge-MAX_PDU-clause-goes : goal.returns-then-unsent-ge-MAX_PDU-clause-goes
 returns-then-unsent-ge-MAX_PDU-clause-goes g c = λ turn.
     goes_then turn _ _ _ _ _ _ (c.loop-self.invariant.goes turn) (goes_mark turn _ _ _ _ Full c.push.ensures refl refl refl refl refl refl)
+
+pub loop-self-preserved : goal.loop-self-preserved
+loop-self-preserved g c = record {
+  held = search rules;
+  on = search rules;
+  lock = search rules;
+  link = search rules;
+  turns = search rules;
+  first = search rules;
+  ends = search rules;
+  phase = λ t same was. c.in_ok-decide_next.ensures.phase t c.args.ended same (c.loop-self.invariant.phase t same was) ∙ ap (when_next c.args.ended) c.in-More.is;
+  goes = λ turn. goes_then turn _ _ _ _ _ _ (c.loop-self.invariant.goes turn) (c.decide_next.ensures.goes turn);
+}
+
+pub returns-in-Part-clause-phase : goal.returns-in-Part-clause-phase
+returns-in-Part-clause-phase g c = λ t same was.
+    c.in_ok-decide_next.ensures.phase t c.args.ended same (c.loop-self.invariant.phase t same was) ∙ ap (when_next c.args.ended) c.in-Part.is

@@ -1,6 +1,6 @@
 use Rattle.std.proofs.Common.{◌≡◌, ℕ, false, None, Some, length, slice_get}
 use Rattle.smx_upstream.specs.Working.{side_of, Goes}
-use Rattle.smx_upstream.specs.Phases.{phase_of, Deciding}
+use Rattle.smx_upstream.specs.Phases.{phase_of, Before, Deciding}
 use Rattle.smx_upstream.proofs.worker.UpstreamWorker.decide_all.Given as goal
 
 abbrev pub invariant-loop-self : goal.invariant-loop-self
@@ -12,7 +12,7 @@ invariant-loop-self g l = record {
   turns : l.self.stand.age.turns ≡ l.fn.self.stand.age.turns;
   first : l.self.first ≡ l.fn.self.first;
   ends : l.self.ends ≡ l.fn.self.ends;
-  phase : phase_of l.fn.log ≡ Deciding l.fn.ended → phase_of l.log ≡ Deciding l.fn.ended;
+  phase : (t : Before) → t.now ≡ l.fn.now → phase_of t l.fn.log ≡ Deciding l.fn.ended → phase_of t l.log ≡ Deciding l.fn.ended;
   goes : (turn : ℕ) → Goes turn (side_of g.L.Link.polls (g.G.Gate.asked l.fn.gate) (g.G.Gate.told l.fn.gate) (g.D.Directory.queries l.fn.directory) l.fn.self)
       (side_of g.L.Link.polls (g.G.Gate.asked l.gate) (g.G.Gate.told l.gate) (g.D.Directory.queries l.directory) l.self) l.fn.log l.log;
 }

@@ -1,6 +1,6 @@
 use Rattle.std.proofs.Common.{ap}
 use Rattle.smx_upstream.specs.Working.{side_of}
-use Rattle.smx_upstream.proofs.Eventful.{goes_then, goes_from, goes_to}
+use Rattle.smx_upstream.proofs.Eventful.{goes_then, goes_from}
 use Rattle.smx_upstream.proofs.worker.UpstreamWorker.decide_next.Goals as goal
 
 pub returns-in-Part-clause-goes : goal.returns-in-Part-clause-goes
@@ -9,13 +9,8 @@ returns-in-Part-clause-goes g c = λ turn. (goes_from turn _ _ _ _ _ (ap (λ w. 
 pub returns-in-Broken-clause-goes : goal.returns-in-Broken-clause-goes
 returns-in-Broken-clause-goes g c = λ turn. (goes_from turn _ _ _ _ _ (ap (λ w. side_of g.L.Link.polls (g.G.Gate.asked c.args.gate.now) (g.G.Gate.told c.args.gate.now) (g.D.Directory.queries c.args.directory.now) w) c.make_room.ensures.same) (c.fetch.ensures.goes turn (g.G.Gate.asked c.args.gate.now) (g.G.Gate.told c.args.gate.now) (g.D.Directory.queries c.args.directory.now)))
 
-pub returns-in_err-last-clause-goes : goal.returns-in_err-last-clause-goes
-returns-in_err-last-clause-goes g c = λ turn. goes_then turn _ _ _ _ _ _ (goes_from turn _ _ _ _ _ (ap (λ w. side_of g.L.Link.polls (g.G.Gate.asked c.args.gate.now) (g.G.Gate.told c.args.gate.now) (g.D.Directory.queries c.args.directory.now) w) c.make_room.ensures.same) (c.fetch.ensures.goes turn (g.G.Gate.asked c.args.gate.now) (g.G.Gate.told c.args.gate.now) (g.D.Directory.queries c.args.directory.now))) (c.decide.ensures.goes turn)
-
-pub returns-then-last-clause-goes : goal.returns-then-last-clause-goes
-returns-then-last-clause-goes g c = λ turn.
-    goes_to turn _ _ _ _ _ (ap (λ w. side_of g.L.Link.polls (g.G.Gate.asked c.decide.new.gate) (g.G.Gate.told c.decide.new.gate) (g.D.Directory.queries c.decide.new.directory) w) c.self.view_is)
-    (goes_then turn _ _ _ _ _ _ (goes_from turn _ _ _ _ _ (ap (λ w. side_of g.L.Link.polls (g.G.Gate.asked c.args.gate.now) (g.G.Gate.told c.args.gate.now) (g.D.Directory.queries c.args.directory.now) w) c.make_room.ensures.same) (c.fetch.ensures.goes turn (g.G.Gate.asked c.args.gate.now) (g.G.Gate.told c.args.gate.now) (g.D.Directory.queries c.args.directory.now))) (c.decide.ensures.goes turn))
-
 pub returns-clause-goes : goal.returns-clause-goes
-returns-clause-goes g c = λ turn. goes_then turn _ _ _ _ _ _ (goes_from turn _ _ _ _ _ (ap (λ w. side_of g.L.Link.polls (g.G.Gate.asked c.args.gate.now) (g.G.Gate.told c.args.gate.now) (g.D.Directory.queries c.args.directory.now) w) c.make_room.ensures.same) (c.fetch.ensures.goes turn (g.G.Gate.asked c.args.gate.now) (g.G.Gate.told c.args.gate.now) (g.D.Directory.queries c.args.directory.now))) (c.decide.ensures.goes turn)
+returns-clause-goes g c = λ turn. goes_then turn _ _ _ _ _ _ (goes_from turn _ _ _ _ _ (ap (λ w. side_of g.L.Link.polls (g.G.Gate.asked c.args.gate.now) (g.G.Gate.told c.args.gate.now) (g.D.Directory.queries c.args.directory.now) w) c.make_room.ensures.same) (c.fetch.ensures.goes turn (g.G.Gate.asked c.args.gate.now) (g.G.Gate.told c.args.gate.now) (g.D.Directory.queries c.args.directory.now))) (c.decide-last.ensures.goes turn)
+
+pub returns-then-is_some-clause-goes : goal.returns-then-is_some-clause-goes
+returns-then-is_some-clause-goes g c = λ turn. goes_then turn _ _ _ _ _ _ (goes_from turn _ _ _ _ _ (ap (λ w. side_of g.L.Link.polls (g.G.Gate.asked c.args.gate.now) (g.G.Gate.told c.args.gate.now) (g.D.Directory.queries c.args.directory.now) w) c.make_room.ensures.same) (c.fetch.ensures.goes turn (g.G.Gate.asked c.args.gate.now) (g.G.Gate.told c.args.gate.now) (g.D.Directory.queries c.args.directory.now))) (c.decide-last.ensures.goes turn)

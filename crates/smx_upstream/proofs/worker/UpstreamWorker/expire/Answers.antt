@@ -5,8 +5,9 @@ use Rattle.smx_turns.specs.declared.step.Step.TheVariants.{Did}
 use Rattle.smx_upstream.specs.declared.event.Event.TheVariants.{Expired}
 use Rattle.smx_upstream.specs.Ages.{noted_more, expiry_notes}
 use Rattle.smx_upstream.specs.Events.{expiry_tells}
-use Rattle.smx_upstream.specs.Phases.{Watched}
-use Rattle.smx_upstream.proofs.Eventful.{did, goes_did, stands_same}
+use Rattle.smx_upstream.specs.Phases.{Watched, Swept, unless_spent}
+use Rattle.smx_upstream.specs.Spent.{is_spent_expiry}
+use Rattle.smx_upstream.proofs.Eventful.{did, goes_did, stands_same, goes_on}
 use Rattle.smx_upstream.proofs.Cells.{stepped, cell_expired}
 use Rattle.smx_upstream.proofs.worker.UpstreamWorker.expire.Goals as goal
 
@@ -18,7 +19,7 @@ invariant_of-self g c =
           (subst (λ n. Expires c.self.inside.tap.front c.fail_expired-failed.new.self.front n c.self.inside.age.response_timer c.fail_expired-failed.result) c.latest-now.ensures c.fail_expired-failed.ensures.served),
       c.fail_expired-failed.ensures.same.0,
       stands_same refl refl refl refl (c.noted_more-age.ensures ∙ ap (λ n. noted_more n c.self.inside.age) (c.expiry_notes.ensures ∙ ap expiry_notes (sym c.of.ensures))),
-    ) c.self.invariant.goes_on
+    ) c.self.invariant.goes_on (goes_on c.self.inside.ending)
 
 pub returns-clause-goes : goal.returns-clause-goes
 returns-clause-goes g c = rw (← c.self.view_is)
@@ -32,4 +33,6 @@ returns-clause-goes g c = rw (← c.self.view_is)
     ) refl)
 
 pub returns-clause-phase : goal.returns-clause-phase
-returns-clause-phase g c = λ left. stepped _ _ (Did (Expired c.lane-lane.result c.of.result)) (Watched left) _ c.jot.ensures.log (cell_expired left _ _)
+returns-clause-phase g c = λ t left was.
+    c.unless_spent.ensures.leads (Swept left) _ (stepped t _ _ (Did (Expired c.lane-lane.result c.of.result)) (Watched left) _ c.jot.ensures.log (cell_expired t left _ _) was
+    ∙ ap (λ b. unless_spent b (Swept left)) (ap is_spent_expiry c.of.ensures ∙ sym c.is_spent_expiry.ensures))

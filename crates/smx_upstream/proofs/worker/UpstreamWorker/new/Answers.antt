@@ -11,4 +11,4 @@ invariant_of-result g c =
     (c.say.ensures.said ∙ ap (λ l. l ++ c.in-Ok.bind ∷ []) (ap (λ w. w.said) c.make_room.ensures.same ∙ c.new-wire.ensures.none.1))
     (stands_same c.of-origin.ensures.session c.of-origin.ensures.tap c.of-origin.ensures.answers (ap (λ v. v.items) c.of-origin.ensures.senders) c.of-origin.ensures.age)
     (c.of.ensures ∙ c.in-Ok.ensures ∙ ap bind_of (sym c.of-origin.ensures.session), sym (stands_same c.of-origin.ensures.session c.of-origin.ensures.tap c.of-origin.ensures.answers (ap (λ v. v.items) c.of-origin.ensures.senders) c.of-origin.ensures.age))
-    (ap (λ w. w.failed) c.say.ensures.same ∙ ap (λ w. w.failed) c.make_room.ensures.same ∙ c.new-wire.ensures.failed)
+    (ap (λ w. w.failed) c.say.ensures.same ∙ ap (λ w. w.failed) c.make_room.ensures.same ∙ c.new-wire.ensures.failed) refl

@@ -5,7 +5,7 @@ use Rattle.smx_upstream.proofs.Cells.{phase_none}
 use Rattle.smx_upstream.proofs.worker.UpstreamWorker.turn.Goals as goal
 
 pub run_turn-end-requires-clause-opening : goal.run_turn-end-requires-clause-opening
-run_turn-end-requires-clause-opening g c = phase_none _ c.new-log.ensures
+run_turn-end-requires-clause-opening g c = phase_none _ _ c.new-log.ensures
 
 pub returns-clause-turned : goal.returns-clause-turned
 returns-clause-turned g c =
