@@ -187,7 +187,8 @@ impl<L: Link + Drop> Wire<L> {
     /// Hears the next whole PDU, where there is one. The fault is that of a bad length, which ends
     /// the stream, or `NoMemory` for the PDU's body.
     pub fn hear(&mut self) -> Result<Option<Pdu>, FrameFault>
-        ensures some { IfOk result (λ found. IfSome found (λ p. (self.new.heard ≡ self.old.heard ++ p ∷ [])
+        ensures some { IfOk result
+            (λ found. IfSome found (λ p. (self.new.heard ≡ self.old.heard ++ p ∷ [])
             × TakesFirst 65536 self.old.rest p self.new.rest × (self.new.failed ≡ None))) }
         ensures none { result ≡ Ok None → HasNone 65536 self.old.rest × (self.new ≡ self.old) }
         ensures bad { IfErr result (λ e. ((e ≡ FrameFault.NoMemory) × (self.new ≡ self.old))

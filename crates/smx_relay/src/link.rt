@@ -28,7 +28,11 @@ impl Model for ClientLink {
 
     ghost Value = { ClientLink };
 
-    ghost view = { λ l. record { session = l.session; stream = l.framer.stream; mailbox = l.mailbox } };
+    ghost view = { λ l. record {
+      session = l.session;
+      stream = l.framer.stream;
+      mailbox = l.mailbox;
+    } };
 }
 
 impl ClientLink {

@@ -76,7 +76,8 @@ fn offer(
     request: Request,
 ) -> Result<Vec<u8>, AllocError>
     requires reached { IsReached state.old }
-    requires known { (k : LinkedClient) × (client_of state.old.clients.list.items request.client ≡ Some k)
+    requires known { (k : LinkedClient)
+        × (client_of state.old.clients.list.items request.client ≡ Some k)
         × (k.last ≡ last) }
     requires next { request.ordinal ≡ last + 1 }
     ensures { (s : Relay) → Agrees state.old s → IfOk result (λ text.

@@ -263,8 +263,10 @@ impl<L: Link + Drop> UpstreamWorker<L> {
             ≡ unless_spent (is_some self.new.held) (when_decided ended result) }
         ensures over { self.new.ending ≡ result }
         ensures goes { (turn : _) → Goes turn
-            (side_of L.polls (G.asked gate.old) (G.told gate.old) (D.queries directory.old) self.old)
-            (side_of L.polls (G.asked gate.new) (G.told gate.new) (D.queries directory.new) self.new)
+            (side_of L.polls (G.asked gate.old) (G.told gate.old)
+            (D.queries directory.old) self.old)
+            (side_of L.polls (G.asked gate.new) (G.told gate.new)
+            (D.queries directory.new) self.new)
             log.old log.new }
         ensures same { self.new ≡ record self.old {
           wire = record self.old.wire {

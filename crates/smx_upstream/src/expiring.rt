@@ -66,7 +66,8 @@ impl<L: Link + Drop> UpstreamWorker<L> {
         ensures err { OnErr result (result ≡ Err Fault.Spent) }
         ensures goes { (turn queries : _) → Goes turn
             (side_of L.polls (G.asked gate.old) (G.told gate.old) queries self.old)
-            (side_of L.polls (G.asked gate.new) (G.told gate.new) queries self.new) log.old log.new }
+            (side_of L.polls (G.asked gate.new)
+            (G.told gate.new) queries self.new) log.old log.new }
         ensures same { self.new ≡ record self.old {
           stand = record self.old.stand {
             tap = self.new.stand.tap;

@@ -55,8 +55,10 @@ impl<L: Link + Drop> UpstreamWorker<L> {
 
         // The turn's steps, and nothing else, lead from what was to what is, in the table's order.
         ensures turned { Turns self.new.stand.age.turns
-            (side_of L.polls (G.asked gate.old) (G.told gate.old) (D.queries directory.old) self.old)
-            (side_of L.polls (G.asked gate.new) (G.told gate.new) (D.queries directory.new) self.new)
+            (side_of L.polls (G.asked gate.old) (G.told gate.old)
+            (D.queries directory.old) self.old)
+            (side_of L.polls (G.asked gate.new) (G.told gate.new)
+            (D.queries directory.new) self.new)
             self.new.steps }
         ensures order { IsTurn (is_bound self.new.stand.session.state)
             (are_all_quiet self.new.steps) result

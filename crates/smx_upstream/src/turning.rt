@@ -92,8 +92,10 @@ impl<L: Link + Drop> UpstreamWorker<L> {
         ensures over { result ≡ Ok Next.Over → self.new.ending ≡ true }
         ensures faults { link_faults result ≡ 0 }
         ensures goes { (turn : _) → Goes turn
-            (side_of L.polls (G.asked gate.old) (G.told gate.old) (D.queries directory.old) self.old)
-            (side_of L.polls (G.asked gate.new) (G.told gate.new) (D.queries directory.new) self.new)
+            (side_of L.polls (G.asked gate.old) (G.told gate.old)
+            (D.queries directory.old) self.old)
+            (side_of L.polls (G.asked gate.new) (G.told gate.new)
+            (D.queries directory.new) self.new)
             log.old log.new }
         ensures kept { (self.new.wire.link ≡ self.old.wire.link)
             × (self.new.stand.age.turns ≡ self.old.stand.age.turns)
@@ -140,8 +142,10 @@ impl<L: Link + Drop> UpstreamWorker<L> {
         ensures over { result ≡ Ok Progress.Over → self.new.ending ≡ true }
         ensures faults { link_faults result ≡ 0 }
         ensures goes { (turn : _) → Goes turn
-            (side_of L.polls (G.asked gate.old) (G.told gate.old) (D.queries directory.old) self.old)
-            (side_of L.polls (G.asked gate.new) (G.told gate.new) (D.queries directory.new) self.new)
+            (side_of L.polls (G.asked gate.old) (G.told gate.old)
+            (D.queries directory.old) self.old)
+            (side_of L.polls (G.asked gate.new) (G.told gate.new)
+            (D.queries directory.new) self.new)
             log.old log.new }
         ensures kept { (self.new.wire.link ≡ self.old.wire.link)
             × (self.new.stand.age.turns ≡ self.old.stand.age.turns)
@@ -186,7 +190,8 @@ impl<L: Link + Drop> UpstreamWorker<L> {
             ≡ L.failures self.old.wire.link + link_faults result }
         ensures goes { (turn queries : _) → Goes turn
             (side_of L.polls (G.asked gate.old) (G.told gate.old) queries self.old)
-            (side_of L.polls (G.asked gate.new) (G.told gate.new) queries self.new) log.old log.new }
+            (side_of L.polls (G.asked gate.new)
+            (G.told gate.new) queries self.new) log.old log.new }
         ensures kept { (self.new.held ≡ self.old.held)
             × (self.new.stand.age.turns ≡ self.old.stand.age.turns)
             × (self.new.first ≡ self.old.first) }
@@ -237,8 +242,10 @@ impl<L: Link + Drop> UpstreamWorker<L> {
         ensures failures { L.failures self.new.wire.link
             ≡ L.failures self.old.wire.link + link_faults result }
         ensures goes { (turn : _) → Goes turn
-            (side_of L.polls (G.asked gate.old) (G.told gate.old) (D.queries directory.old) self.old)
-            (side_of L.polls (G.asked gate.new) (G.told gate.new) (D.queries directory.new) self.new)
+            (side_of L.polls (G.asked gate.old) (G.told gate.old)
+            (D.queries directory.old) self.old)
+            (side_of L.polls (G.asked gate.new) (G.told gate.new)
+            (D.queries directory.new) self.new)
             log.old log.new }
         ensures kept { (self.new.stand.age.turns ≡ self.old.stand.age.turns)
             × (self.new.first ≡ self.old.first) }
@@ -286,8 +293,10 @@ impl<L: Link + Drop> UpstreamWorker<L> {
         ensures failures { L.failures self.new.wire.link
             ≡ L.failures self.old.wire.link + link_faults result }
         ensures goes { Goes turn
-            (side_of L.polls (G.asked gate.old) (G.told gate.old) (D.queries directory.old) self.old)
-            (side_of L.polls (G.asked gate.new) (G.told gate.new) (D.queries directory.new) self.new)
+            (side_of L.polls (G.asked gate.old) (G.told gate.old)
+            (D.queries directory.old) self.old)
+            (side_of L.polls (G.asked gate.new) (G.told gate.new)
+            (D.queries directory.new) self.new)
             log.old log.new }
         ensures kept { (self.new.stand.age.turns ≡ self.old.stand.age.turns)
             × (self.new.first ≡ self.old.first) }
@@ -326,7 +335,8 @@ impl<L: Link + Drop> UpstreamWorker<L> {
         ensures faults { link_faults result ≡ 0 }
         ensures goes { (queries : _) → Goes turn
             (side_of L.polls (G.asked gate.old) (G.told gate.old) queries self.old)
-            (side_of L.polls (G.asked gate.new) (G.told gate.new) queries self.new) log.old log.new }
+            (side_of L.polls (G.asked gate.new)
+            (G.told gate.new) queries self.new) log.old log.new }
         ensures kept { (self.new.held ≡ self.old.held) × (self.new.wire.link ≡ self.old.wire.link)
             × (self.new.wire.rest ≡ self.old.wire.rest)
             × (self.new.stand.age.turns ≡ self.old.stand.age.turns)
@@ -374,8 +384,10 @@ impl<L: Link + Drop> UpstreamWorker<L> {
         ensures failures { L.failures self.new.wire.link
             ≡ L.failures self.old.wire.link + link_faults result }
         ensures goes { Goes self.new.stand.age.turns
-            (side_of L.polls (G.asked gate.old) (G.told gate.old) (D.queries directory.old) self.old)
-            (side_of L.polls (G.asked gate.new) (G.told gate.new) (D.queries directory.new) self.new)
+            (side_of L.polls (G.asked gate.old) (G.told gate.old)
+            (D.queries directory.old) self.old)
+            (side_of L.polls (G.asked gate.new) (G.told gate.new)
+            (D.queries directory.new) self.new)
             log.old log.new }
         ensures count { self.new.stand.age.turns ≡ (next_turn self.old.stand.age).turns }
         ensures first { self.new.first ≡ self.old.first }

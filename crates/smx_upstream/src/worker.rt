@@ -189,7 +189,8 @@ impl<L: Link + Drop> UpstreamWorker<L> {
         requires state { parts.session.state ≡ Binding }
         ensures link { IfOk result (λ w. (w.wire.link ≡ parts.link) × (w.wire.start ≡ parts.link)) }
         ensures stand { IfOk result (λ w. w.stand
-            ≡ stand parts.session parts.tap parts.answers parts.senders.items (new_age history response_timer)) }
+            ≡ stand parts.session parts.tap parts.answers parts.senders.items
+            (new_age history response_timer)) }
         ensures first { IfOk result (λ w. w.first ≡ w.stand) }
         ensures said { IfOk result (λ w. w.wire.said ≡ bind_of parts.session ∷ []) }
         ensures ready { IfOk result (λ w. (w.held ≡ None) × (w.ending ≡ false)) }
