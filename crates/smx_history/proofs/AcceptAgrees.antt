@@ -23,7 +23,7 @@ use Rattle.smx_history.proofs.Pending.{collects_within}
 use Rattle.smx_history.proofs.Rows.{row-same, row_found, rows-changed}
 use Rattle.smx_history.proofs.Reading.{entries_of-push, marks_of-push, shown-kept, length-requests, responses-other}
 use Rattle.smx_history.proofs.Sizes.{length-queue, takes-le-accepts, size_agrees}
-use Rattle.smx_history.proofs.Growing.{AtEachPrefix-whole, last_or-push}
+use Rattle.smx_history.proofs.ListPushes.{AtEachPrefix-whole, last_or-push}
 use Rattle.smx_history.proofs.Frames.{unanswered-other, collects_of-other, admits-other, takes-other, present-other, waiting-other, is_up-other}
 
 -- what is owed grows by three for a request that is queued

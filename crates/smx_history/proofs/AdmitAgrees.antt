@@ -21,7 +21,7 @@ use Rattle.smx_history.proofs.Numbering.{generations-kept, latest-kept}
 use Rattle.smx_history.proofs.Rows.{row-other, rows_each}
 use Rattle.smx_history.proofs.Unchanged.{queue-kept, window-kept, up-kept, entries-pushed, agrees-next}
 use Rattle.smx_history.proofs.Reading.{entries_of-push, length-responses, responses-other, All-each}
-use Rattle.smx_history.proofs.Growing.{filter_push, AtEachPrefix-whole, RiseAbove-push, last_or-push, All-push}
+use Rattle.smx_history.proofs.ListPushes.{filter_push, AtEachPrefix-whole, RiseAbove-push, last_or-push, All-push}
 use Rattle.smx_history.proofs.Frames.{accepts_of-other, collects_of-other}
 use Rattle.smx_history.proofs.Unseen.{none_admitted, unseen, IsUnseen}
 

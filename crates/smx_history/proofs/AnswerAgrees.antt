@@ -20,7 +20,7 @@ use Rattle.smx_history.specs.Contents.{AgreesWith, IsAfter, Content, Member, as_
 use Rattle.smx_history.proofs.Room.{KeepsRoom}
 use Rattle.smx_history.specs.Replies.{member_with}
 use Rattle.smx_history.proofs.Updates.{settled, settled_late, answered, response_for, with_row}
-use Rattle.smx_history.proofs.Growing.{AtEachPrefix-whole, StartsWith-length}
+use Rattle.smx_history.proofs.ListPushes.{AtEachPrefix-whole, StartsWith-length}
 use Rattle.smx_history.proofs.Frames.{accepts_of-other, collects_of-other}
 use Rattle.smx_history.proofs.Numbering.{generations-kept, latest-kept}
 use Rattle.smx_history.proofs.Rows.{row-other, row_found, rows-changed, rows-beside}

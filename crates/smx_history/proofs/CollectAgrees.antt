@@ -14,7 +14,7 @@ use Rattle.smx_history.specs.Contents.{AgreesWith, IsAfter, Content, Member, as_
 use Rattle.smx_history.proofs.Room.{KeepsRoom}
 use Rattle.smx_history.specs.Replies.{member_with, waiting_in, waiting_after}
 use Rattle.smx_history.proofs.Updates.{collected, with_row}
-use Rattle.smx_history.proofs.Growing.{filter_push, AtEachPrefix-whole}
+use Rattle.smx_history.proofs.ListPushes.{filter_push, AtEachPrefix-whole}
 use Rattle.smx_history.proofs.Frames.{accepts_of-other}
 use Rattle.smx_history.proofs.Numbering.{generations-kept, latest-kept}
 use Rattle.smx_history.proofs.Rows.{row-same, row_found, rows-changed}

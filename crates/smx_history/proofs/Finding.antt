@@ -15,7 +15,7 @@ use Rattle.smx_history.specs.History.{entries_of}
 use Rattle.smx_history.specs.Contents.{AgreesWith, Content, place_of, window_after}
 use Rattle.smx_history.specs.Replies.{answers_place}
 use Rattle.smx_history.proofs.Counts.{All-same, count_by-map, count_by-filter, count_split, eqb_sym, length-same}
-use Rattle.smx_history.proofs.Growing.{AtEachPrefix-whole}
+use Rattle.smx_history.proofs.ListPushes.{AtEachPrefix-whole}
 use Rattle.smx_history.proofs.Parts.{count_numbered}
 
 -- what is found is what stands first among what passes

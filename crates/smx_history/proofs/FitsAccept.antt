@@ -10,7 +10,7 @@ use Rattle.smx_history.specs.Prefixes.{last_or}
 use Rattle.smx_history.specs.Entries.{is_admit, is_accept, is_take, is_answer, is_collect, is_retire, is_settling, name_of, accepts, takes, accepts_of, collects_of, is_up}
 use Rattle.smx_history.specs.Legal.{KeepsRules, IsFifo, AreApart, IsBounded, IsServed}
 use Rattle.smx_history.proofs.Fitting.{Fits}
-use Rattle.smx_history.proofs.Growing.{filter_push, filter_other, AtEachPrefix-whole, RiseAbove-push, StartsWith-more}
+use Rattle.smx_history.proofs.ListPushes.{filter_push, filter_other, AtEachPrefix-whole, RiseAbove-push, StartsWith-more}
 use Rattle.smx_history.proofs.Frames.{takes-other, answers_of-other, collects_of-other, is_retired-other, unanswered-other}
 use Rattle.smx_history.proofs.Kept.{takes_kept, settlings_kept, membership_kept, apart_kept, spaced_kept, HasForm-by, StandsWell-by, IsPaired-by}
 

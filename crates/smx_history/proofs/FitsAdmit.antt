@@ -8,7 +8,7 @@ use Rattle.smx_history.specs.Prefixes.{last_or}
 use Rattle.smx_history.specs.Entries.{is_admit, is_accept, is_take, is_answer, is_collect, is_retire, is_settling, admits}
 use Rattle.smx_history.specs.Legal.{KeepsRules, IsFifo, AreApart, IsBounded, HasForm}
 use Rattle.smx_history.proofs.Fitting.{Fits}
-use Rattle.smx_history.proofs.Growing.{filter_push, AtEachPrefix-whole, RiseAbove-push}
+use Rattle.smx_history.proofs.ListPushes.{filter_push, AtEachPrefix-whole, RiseAbove-push}
 use Rattle.smx_history.proofs.Frames.{accepts-other, takes-other, accepts_of-other, collects_of-other, is_retired-other, unanswered-other}
 use Rattle.smx_history.proofs.Kept.{fifo_kept, once_kept, retires_kept, apart_kept, spaced_kept, HasForm-by, StandsWell-by, IsPaired-by}
 

@@ -10,7 +10,7 @@ use Rattle.smx_history.specs.Prefixes.{StartsWith}
 use Rattle.smx_history.specs.Entries.{is_admit, is_accept, is_take, is_answer, is_collect, is_retire, is_settling, answers_of, collects_of, is_retired}
 use Rattle.smx_history.specs.Legal.{KeepsRules, IsFifo, IsMembership, IsServed, AreApart, IsBounded, HasForm}
 use Rattle.smx_history.proofs.Fitting.{Fits}
-use Rattle.smx_history.proofs.Growing.{filter_push, filter_other, AtEachPrefix-whole}
+use Rattle.smx_history.proofs.ListPushes.{filter_push, filter_other, AtEachPrefix-whole}
 use Rattle.smx_history.proofs.Counts.{none_count}
 use Rattle.smx_history.proofs.Frames.{accepts-other, takes-other, admits-other, accepts_of-other, answers_of-other, collects_of-other, is_retired-other, unanswered-other, retired_before}
 use Rattle.smx_history.proofs.Kept.{fifo_kept, once_kept, membership_kept, apart_kept, spaced_kept, HasForm-by, StandsWell-by, IsPaired-by}

@@ -13,7 +13,7 @@ use Rattle.smx_history.specs.Numbers.{AreSpaced}
 use Rattle.smx_history.specs.Failures.{failure_command}
 use Rattle.smx_history.specs.Legal.{KeepsRules, IsFifo, IsOnce, AreApart, IsBounded, Answers}
 use Rattle.smx_history.proofs.Fitting.{Fits}
-use Rattle.smx_history.proofs.Growing.{AtEachPrefix-whole, StartsWith-more}
+use Rattle.smx_history.proofs.ListPushes.{AtEachPrefix-whole, StartsWith-more}
 use Rattle.smx_history.proofs.Counts.{none_count, eqb_sym, length_part}
 use Rattle.smx_history.proofs.Frames.{accepts-other, takes-other, accepts_of-other, collects_of-other, is_retired-other}
 use Rattle.smx_history.proofs.Kept.{takes_kept, membership_kept, HasForm-by, StandsWell-by, IsPaired-by, spaced_kept}

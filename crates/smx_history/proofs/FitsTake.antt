@@ -12,7 +12,7 @@ use Rattle.smx_history.specs.Entries.{is_admit, is_accept, is_take, is_answer, i
 use Rattle.smx_history.specs.Numbers.{AreSpaced}
 use Rattle.smx_history.specs.Legal.{KeepsRules, IsFifo, AreApart, IsBounded, IsPaired}
 use Rattle.smx_history.proofs.Fitting.{Fits}
-use Rattle.smx_history.proofs.Growing.{filter_push, AtEachPrefix-whole}
+use Rattle.smx_history.proofs.ListPushes.{filter_push, AtEachPrefix-whole}
 use Rattle.smx_history.proofs.Counts.{none_count}
 use Rattle.smx_history.proofs.Frames.{accepts-other, accepts_of-other, answers_of-other, collects_of-other, is_retired-other, is_settled-other}
 use Rattle.smx_history.proofs.Kept.{settlings_kept, membership_kept, HasForm-by, StandsWell-by, IsPaired-by}

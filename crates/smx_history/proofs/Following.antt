@@ -10,7 +10,7 @@ use Rattle.smx_history.specs.Numbers.{AreSpaced}
 use Rattle.smx_history.proofs.Spacing.{spaced_start}
 use Rattle.smx_history.specs.Legal.{KeepsRules, IsFifo, IsOnce, IsMembership, AreApart, IsBounded, HasForm, StandsWell, IsPaired}
 use Rattle.smx_history.proofs.Fitting.{Fits}
-use Rattle.smx_history.proofs.Growing.{AtEach-push, AtEach-init, AtEachPrefix-push, AtEachPrefix-init}
+use Rattle.smx_history.proofs.ListPushes.{AtEach-push, AtEach-init, AtEachPrefix-push, AtEachPrefix-init}
 use Rattle.smx_history.proofs.Counts.{count_by-push}
 use Rattle.smx_history.proofs.Parts.{RiseAbove-init}
 

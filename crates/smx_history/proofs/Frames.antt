@@ -1,6 +1,6 @@
 -- What an entry of another kind leaves as it is.
 use Rattle.std.proofs.lemmas.Bool.{false_from_ne_true, both_ways, and_left}
-use Rattle.smx_history.proofs.Growing.{any_kept, filter_other, filter_push, any_other, last_or-push}
+use Rattle.smx_history.proofs.ListPushes.{any_kept, filter_other, filter_push, any_other, last_or-push}
 use Rattle.std.proofs.lemmas.List.{map-append}
 use Rattle.std.proofs.Common.{true, map, ◌≡◌, ◌-◌, ◌==◌, ℕ, false, not, ◌&&◌, List, [], ◌∷◌, ◌++◌, length, ◌∙◌, ap, filter, sum_by}
 use Rattle.std.proofs.lemmas.List.Elements.{filter_agree}

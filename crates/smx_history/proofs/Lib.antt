@@ -1,4 +1,4 @@
-pub mod Growing
+pub mod ListPushes
 pub mod Updates
 pub mod Room
 pub mod Counts

@@ -14,7 +14,7 @@ use Rattle.smx_history.specs.Contents.{AgreesWith, IsAfter, Content, size_of}
 use Rattle.smx_history.proofs.Room.{KeepsRoom}
 use Rattle.smx_history.proofs.Updates.{lowered, raised}
 use Rattle.smx_history.proofs.Fitting.{Fits}
-use Rattle.smx_history.proofs.Growing.{AtEachPrefix-whole}
+use Rattle.smx_history.proofs.ListPushes.{AtEachPrefix-whole}
 use Rattle.smx_history.proofs.Frames.{is_up-push}
 use Rattle.smx_history.proofs.FitsAdmit.{bounds_kept}
 use Rattle.smx_history.proofs.Kept.{fifo_kept, once_kept, membership_kept, apart_kept, spaced_kept}

@@ -19,7 +19,7 @@ use Rattle.smx_history.specs.Numbers.{place_in, generation_in, generation_after,
 use Rattle.smx_history.specs.History.{entry_by, entry_in, note, entries_of, moment_in, latest_after}
 use Rattle.smx_history.specs.Contents.{Content, IsAfter}
 use Rattle.smx_history.proofs.Updates.{following}
-use Rattle.smx_history.proofs.Growing.{AtEach-push, All-push, last_or-push}
+use Rattle.smx_history.proofs.ListPushes.{AtEach-push, All-push, last_or-push}
 use Rattle.smx_history.proofs.Counts.{count_by-push}
 use Rattle.smx_history.proofs.Frames.{numbers-other}
 use Rattle.smx_history.proofs.Reading.{entries_of-push}

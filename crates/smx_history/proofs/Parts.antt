@@ -6,7 +6,7 @@ use Rattle.std.proofs.lemmas.Option.{slice_get_within, get_or_from_slice_get}
 use Rattle.std.proofs.Math.Seq.{take-suc}
 use Rattle.smx_history.specs.declared.entry.Entry.{Entry}
 use Rattle.smx_history.specs.Prefixes.{StartsWith, RiseAbove, last_or}
-use Rattle.smx_history.proofs.Growing.{All-push}
+use Rattle.smx_history.proofs.ListPushes.{All-push}
 use Rattle.smx_history.proofs.Counts.{count_by-push}
 
 pub RiseAbove-init : (low : ℕ) (xs ys : List ℕ) → RiseAbove low (xs ++ ys) → RiseAbove low xs

@@ -13,7 +13,7 @@ use Rattle.smx_history.specs.Entries.{is_accept, is_answer, is_settling, has_nam
 use Rattle.smx_history.specs.Legal.{KeepsRules, IsFifo}
 use Rattle.smx_history.proofs.Counts.{any_count, none_count, count_by-map, count_by-filter, count_by-remove}
 use Rattle.smx_history.proofs.Frames.{sum_by-agree}
-use Rattle.smx_history.proofs.Growing.{AtEachPrefix-whole, StartsWith-length}
+use Rattle.smx_history.proofs.ListPushes.{AtEachPrefix-whole, StartsWith-length}
 use Rattle.smx_history.proofs.Reading.{answers_accepted}
 
 pub found_at : (x : ℕ) (ys : List ℕ) → 1 ≤ count_by (λ y. y == x) ys → (i : ℕ) × (i < length ys) × (x ≡ get_or ys i x)

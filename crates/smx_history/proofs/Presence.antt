@@ -5,7 +5,7 @@ use Rattle.std.proofs.lemmas.List.Folds.{list_any-append}
 use Rattle.smx_history.specs.declared.entry.Entry.{Entry}
 use Rattle.smx_history.specs.declared.entry.Kind.TheVariants as kind
 use Rattle.smx_history.specs.Entries.{is_admit, is_retire, admits, is_retired, present, is_accept, has_name, is_accepted}
-use Rattle.smx_history.proofs.Growing.{filter_push}
+use Rattle.smx_history.proofs.ListPushes.{filter_push}
 use Rattle.smx_history.proofs.Frames.{admits-other, is_retired-other}
 use Rattle.smx_history.proofs.Taking.{filter-and, any_weaker}
 use Rattle.smx_history.proofs.Counts.{eqb_sym, count_by-filter, count-filter-le, any_count}

@@ -18,7 +18,7 @@ use Rattle.smx_history.specs.Entries.{is_accept, is_answer, Name, name_of, has_n
 use Rattle.smx_history.specs.Legal.{IsFifo, IsPaired}
 use Rattle.smx_history.specs.History.{entry_by, entry_in, marks_of, entries_of, requests, request_in, responses, response_in}
 use Rattle.smx_history.specs.Contents.{as_shown}
-use Rattle.smx_history.proofs.Growing.{any_kept}
+use Rattle.smx_history.proofs.ListPushes.{any_kept}
 use Rattle.smx_history.specs.Shifts.{entries_among}
 use Rattle.smx_history.specs.Failures.{failure}
 use Rattle.smx_history.proofs.Shifting.{noted-push}

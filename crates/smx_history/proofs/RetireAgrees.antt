@@ -18,7 +18,7 @@ use Rattle.smx_history.proofs.Numbering.{generations-kept, latest-kept}
 use Rattle.smx_history.proofs.Rows.{row-other, row_found, rows_each}
 use Rattle.smx_history.proofs.Unchanged.{queue-kept, window-kept, greatest-kept, up-kept, entries-pushed, agrees-next}
 use Rattle.smx_history.proofs.Reading.{entries_of-push, All-kept}
-use Rattle.smx_history.proofs.Growing.{AtEachPrefix-whole}
+use Rattle.smx_history.proofs.ListPushes.{AtEachPrefix-whole}
 
 -- part of what rises rises
 rise_lower : (low x : ℕ) (xs : List ℕ) → low < x → RiseAbove x xs → RiseAbove low xs

@@ -15,7 +15,7 @@ use Rattle.smx_history.proofs.Shifting.{size-push}
 use Rattle.smx_history.specs.History.{entry_in, entries_of, marks_of}
 use Rattle.smx_history.specs.Contents.{AgreesWith, IsAfter, Content, place_of, window_after}
 use Rattle.smx_history.proofs.Room.{KeepsRoom}
-use Rattle.smx_history.proofs.Growing.{AtEachPrefix-whole}
+use Rattle.smx_history.proofs.ListPushes.{AtEachPrefix-whole}
 use Rattle.smx_history.proofs.Counts.{remove_only, filter-map, All-same, count_by-map, count_by-filter, count-filter-le}
 use Rattle.smx_history.proofs.Reading.{marks_of-push, entries_of-push, All-from_get, All-filtered, any_at, takes_accepted}
 use Rattle.smx_history.proofs.Sizes.{size_agrees}

@@ -12,7 +12,7 @@ use Rattle.smx_history.specs.Contents.{AgreesWith, Content, place_of, member_aft
 use Rattle.smx_history.specs.Replies.{after_shift}
 use Rattle.smx_history.proofs.Shifting.{noted-shift, stored-shift, IsLegal-shift}
 use Rattle.smx_history.proofs.Rows.{rows_each}
-use Rattle.smx_history.proofs.Growing.{AtEachPrefix-whole}
+use Rattle.smx_history.proofs.ListPushes.{AtEachPrefix-whole}
 use Rattle.smx_history.proofs.Places.{places-kept}
 use Rattle.smx_history.proofs.Numbering.{latest-other}
 

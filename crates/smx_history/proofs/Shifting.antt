@@ -8,7 +8,7 @@ use Rattle.smx_history.specs.Shifts.{entries_among, since, stored_among}
 use Rattle.smx_history.specs.Legal.{IsLegal, KeepsRules, IsWithin, size, owed_count}
 use Rattle.smx_history.specs.Prefixes.{AtEachPrefix}
 use Rattle.smx_history.proofs.Fitting.{Fits}
-use Rattle.smx_history.proofs.Growing.{AtEachPrefix-push, AtEachPrefix-init, AtEachPrefix-whole}
+use Rattle.smx_history.proofs.ListPushes.{AtEachPrefix-push, AtEachPrefix-init, AtEachPrefix-whole}
 use Rattle.smx_history.proofs.Following.{KeepsRules-next, KeepsRules-start}
 
 since-append : (es : List Entry) (xs ys : List (Option Entry)) → since es (xs ++ ys) ≡ since (since es xs) ys

@@ -11,7 +11,7 @@ use Rattle.smx_history.specs.Entries.{is_admit, admits, accepts, takes, answers_
 use Rattle.smx_history.specs.Legal.{IsFifo, size}
 use Rattle.smx_history.specs.History.{entries_of, marks_of, requests, responses}
 use Rattle.smx_history.specs.Contents.{IsAfter, Content, Member, size_of, as_shown, place_of, window_after, member_after}
-use Rattle.smx_history.proofs.Growing.{StartsWith-length}
+use Rattle.smx_history.proofs.ListPushes.{StartsWith-length}
 use Rattle.smx_history.proofs.Reading.{length-requests, length-responses, All-filtered, All-from_get, any_at}
 
 pub length-queue : (h : List Note) (v : Content) → IsAfter h v → length v.queue ≡ length (accepts (entries_of h)) - length (takes (entries_of h))

@@ -22,7 +22,7 @@ use Rattle.smx_history.specs.Legal.{IsFifo, IsOnce, owed_count}
 use Rattle.smx_history.specs.History.{entry_by, note, marks_of, entries_of, requests, request_in}
 use Rattle.smx_history.specs.Contents.{AgreesWith, Content, place_of, window_after}
 use Rattle.smx_history.proofs.Updates.{taken, place_for, following}
-use Rattle.smx_history.proofs.Growing.{filter_other, AtEachPrefix-whole}
+use Rattle.smx_history.proofs.ListPushes.{filter_other, AtEachPrefix-whole}
 use Rattle.smx_history.proofs.Frames.{accepts-other, admits-other, present-other, waiting-other, is_up-other}
 use Rattle.smx_history.proofs.Reading.{requests_are_accepts, unsigned, entries_of-push, marks_of-push, All-to_map, All-of_map}
 use Rattle.smx_history.proofs.Sizes.{length-window}

@@ -10,7 +10,7 @@ use Rattle.smx_history.specs.Prefixes.{AtEach, RiseAbove}
 use Rattle.smx_history.specs.Entries.{is_take, is_settling, takes, has_name, is_settled}
 use Rattle.smx_history.specs.Legal.{IsPaired}
 use Rattle.smx_history.proofs.Reading.{All-from_get}
-use Rattle.smx_history.proofs.Growing.{any_kept}
+use Rattle.smx_history.proofs.ListPushes.{any_kept}
 
 -- a list is what stands before an element, the element and the rest
 pub drop-split : {X : Type 0} (n : ℕ) (xs : List X) (y : X) (ys : List X) → drop n xs ≡ y ∷ ys → xs ≡ take n xs ++ y ∷ ys

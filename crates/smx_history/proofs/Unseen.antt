@@ -9,7 +9,7 @@ use Rattle.smx_history.specs.declared.entry.Entry.{Entry}
 use Rattle.smx_history.specs.Prefixes.{AtEach, RiseAbove, last_or}
 use Rattle.smx_history.specs.Entries.{is_admit, is_accept, is_answer, is_collect, is_retire, has_name, admits, accepts_of, answers_of, collects_of, is_retired, is_accepted}
 use Rattle.smx_history.specs.Legal.{StandsWell, IsPaired, IsServed}
-use Rattle.smx_history.proofs.Growing.{any_kept}
+use Rattle.smx_history.proofs.ListPushes.{any_kept}
 use Rattle.smx_history.proofs.Reading.{All-from_get, All-each, answer_accepted}
 use Rattle.smx_history.proofs.Taking.{any_none, filter_none, any_weaker}
 

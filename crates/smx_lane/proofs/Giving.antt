@@ -6,7 +6,7 @@ use Rattle.std.proofs.lemmas.Option.{slice_get_within, slice_get-get_or}
 use Rattle.smx_history.specs.Numbers.{place_in, generation_in}
 use Rattle.smx_lane.specs.declared.window.Window.TheInside.{Inside}
 use Rattle.smx_lane.specs.Private.Window.{KeepsPlaces, IsEmptyAt}
-use Rattle.smx_lane.proofs.Held.{last-empty}
+use Rattle.smx_lane.proofs.WindowRows.{last-empty}
 
 before_one : (n : ℕ) → n + 1 - 1 ≡ n
 before_one n = omega arith

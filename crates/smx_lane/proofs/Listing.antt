@@ -10,7 +10,7 @@ use Rattle.smx_history.proofs.Spacing.{still_there, at_end}
 use Rattle.smx_lane.specs.declared.ages.Aged.{Aged}
 use Rattle.smx_lane.specs.Private.Places.{HasAt, KeepsListed, aged_of}
 use Rattle.smx_lane.specs.Private.Window.{NameTheirRows, places_in}
-use Rattle.smx_lane.proofs.Held.{at-set, none_passes}
+use Rattle.smx_lane.proofs.WindowRows.{at-set, none_passes}
 use Rattle.smx_history.specs.Replies.{is_expired}
 use Rattle.std.specs.List.{find}
 

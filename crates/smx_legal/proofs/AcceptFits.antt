@@ -11,7 +11,7 @@ use Rattle.smx_history.specs.Entries.{is_accept, is_take, is_collect, is_retire,
 use Rattle.smx_history.specs.Legal.{KeepsRules, IsFifo, HasForm, StandsWell}
 use Rattle.smx_history.proofs.Fitting.{Fits}
 use Rattle.smx_legal.specs.Checks.{Counted, accept_fits}
-use Rattle.smx_history.proofs.Growing.{AtEachPrefix-whole}
+use Rattle.smx_history.proofs.ListPushes.{AtEachPrefix-whole}
 use Rattle.smx_history.proofs.Frames.{takes-other, collects_of-other, is_retired-other}
 use Rattle.smx_history.proofs.Sizes.{takes-le-accepts}
 use Rattle.smx_history.proofs.Unseen.{rise_last}

@@ -12,7 +12,7 @@ use Rattle.smx_history.specs.Entries.{is_link, is_admit, is_accept, is_take, is_
 use Rattle.smx_history.specs.Legal.{KeepsRules, IsFifo, StandsWell, waiting}
 use Rattle.smx_history.proofs.Fitting.{Fits}
 use Rattle.smx_legal.specs.Checks.{Counted, takes_as}
-use Rattle.smx_history.proofs.Growing.{last_or-push, AtEachPrefix-whole}
+use Rattle.smx_history.proofs.ListPushes.{last_or-push, AtEachPrefix-whole}
 use Rattle.smx_history.proofs.Counts.{count_by-push}
 use Rattle.smx_history.proofs.Frames.{accepts-other, takes-other, admits-other, answers_of-other, collects_of-other, unanswered-other, present-other, waiting-other, sum_by-agree, is_up-other}
 use Rattle.smx_history.proofs.Sizes.{takes-le-accepts}

@@ -11,7 +11,7 @@ use Rattle.smx_history.specs.Entries.{is_link, is_admit, is_accept, is_take, is_
 use Rattle.smx_history.specs.Legal.{KeepsRules, IsFifo, StandsWell, IsPaired, Answers, waiting}
 use Rattle.smx_history.proofs.Fitting.{Fits}
 use Rattle.smx_legal.specs.Checks.{Counted, takes_as, settlings_as}
-use Rattle.smx_history.proofs.Growing.{filter_push, filter_other, AtEachPrefix-whole}
+use Rattle.smx_history.proofs.ListPushes.{filter_push, filter_other, AtEachPrefix-whole}
 use Rattle.smx_history.proofs.Counts.{count_by-filter, count_split, count_by-push, any_count}
 use Rattle.smx_history.proofs.Frames.{accepts-other, takes-other, admits-other, collects_of-other, present-other, waiting-other, is_up-other}
 use Rattle.smx_history.proofs.Taking.{any_weaker}

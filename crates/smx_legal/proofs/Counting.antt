@@ -8,7 +8,7 @@ use Rattle.smx_history.specs.declared.entry.Entry.{Entry}
 use Rattle.smx_history.specs.Entries.{is_admit, is_take, is_settling, answers_of, collects_of, is_admitted, unanswered_takes}
 use Rattle.smx_history.specs.Legal.{IsFifo}
 use Rattle.smx_legal.specs.Checks.{takes_as, settlings_as}
-use Rattle.smx_history.proofs.Growing.{filter_other, StartsWith-length}
+use Rattle.smx_history.proofs.ListPushes.{filter_other, StartsWith-length}
 use Rattle.smx_history.proofs.Frames.{unanswered-other}
 use Rattle.smx_history.proofs.Reading.{All-filtered, All-from_get}
 use Rattle.smx_history.proofs.Taking.{any_weaker}

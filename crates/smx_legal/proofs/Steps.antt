@@ -6,7 +6,7 @@ use Rattle.smx_history.specs.declared.entry.Entry.{Entry}
 use Rattle.smx_history.specs.declared.limits.Limits.{Limits}
 use Rattle.smx_history.specs.Legal.{KeepsRules, IsFifo, AreApart, IsBounded, HasForm, StandsWell, IsPaired, IsLegal, owed_count}
 use Rattle.smx_history.proofs.Fitting.{Fits}
-use Rattle.smx_history.proofs.Growing.{AtEach-last, AtEachPrefix-whole}
+use Rattle.smx_history.proofs.ListPushes.{AtEach-last, AtEachPrefix-whole}
 use Rattle.std.proofs.Math.Seq.{take-suc, take-length}
 use Rattle.smx_history.specs.Shifts.{entries_among}
 use Rattle.smx_legal.specs.declared.totals.Totals.{Totals}

@@ -11,7 +11,7 @@ use Rattle.smx_history.specs.History.{note, entries_of, entry_by}
 use Rattle.smx_history.specs.Contents.{AgreesWith, Content}
 use Rattle.smx_history.specs.Replies.{member_with, waiting_in, waiting_after}
 use Rattle.smx_history.specs.Answering.{IsCollected}
-use Rattle.smx_history.proofs.Growing.{All-push}
+use Rattle.smx_history.proofs.ListPushes.{All-push}
 use Rattle.smx_history.proofs.Reading.{entries_of-push}
 use Rattle.smx_history.proofs.CollectAgrees.{waiting-collected}
 use Rattle.smx_history.proofs.Rows.{waiting_same}

@@ -17,7 +17,7 @@ use Rattle.smx_history.specs.Legal.{KeepsRules, StandsWell, IsPaired}
 use Rattle.smx_history.specs.History.{note, entry_by, entries_of}
 use Rattle.smx_history.specs.Contents.{AgreesWith, Content, Member, content_after}
 use Rattle.smx_history.specs.Replies.{admit_refusal, is_present, member_with}
-use Rattle.smx_history.proofs.Growing.{AtEach-init, any_push, any_other, filter_push}
+use Rattle.smx_history.proofs.ListPushes.{AtEach-init, any_push, any_other, filter_push}
 use Rattle.smx_history.proofs.Reading.{entries_of-push}
 use Rattle.smx_history.proofs.Unseen.{none_admitted, unseen}
 use Rattle.smx_history.proofs.Presence.{present_admitted}

@@ -21,7 +21,7 @@ use Rattle.smx_history.proofs.Counts.{count_and-le, count_by-filter, count_by-pu
 use Rattle.smx_history.proofs.Rows.{absent, found_present, is_present-any}
 use Rattle.smx_history.proofs.FitsSettle.{settles_fail}
 use Rattle.smx_history.proofs.Frames.{present-other}
-use Rattle.smx_history.proofs.Growing.{All-push}
+use Rattle.smx_history.proofs.ListPushes.{All-push}
 use Rattle.smx_history.proofs.Numbering.{latest-other}
 use Rattle.smx_history.proofs.Reading.{entries_of-push}
 use Rattle.smx_history.proofs.SettleAgrees.{window-settled}

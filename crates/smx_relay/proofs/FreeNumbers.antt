@@ -15,7 +15,7 @@ use Rattle.smx_history.specs.History.{entries_of, entry_by, note, marks_of}
 use Rattle.smx_history.specs.Contents.{AgreesWith, Content, place_of, window_after}
 use Rattle.smx_history.proofs.Counts.{any_count, none_count, count_none_any, count_by-remove}
 use Rattle.smx_history.proofs.FitsTake.{numbers_push, own_name, unanswered_taken, untaken_unsettled}
-use Rattle.smx_history.proofs.Growing.{AtEachPrefix-whole, AtEach-last}
+use Rattle.smx_history.proofs.ListPushes.{AtEachPrefix-whole, AtEach-last}
 use Rattle.smx_history.proofs.Parts.{IsDistinct-end, count_numbered, count_one}
 use Rattle.smx_history.proofs.Pending.{found_at}
 use Rattle.smx_history.proofs.Reading.{entries_of-push}

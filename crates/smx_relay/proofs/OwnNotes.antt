@@ -20,7 +20,7 @@ use Rattle.smx_history.specs.Entries.{is_accept, is_up}
 use Rattle.smx_history.specs.History.{entry_in, entries_of, note}
 use Rattle.smx_history.specs.Contents.{queue_after, window_after}
 use Rattle.smx_history.specs.Replies.{answers_place, is_present, waiting_after}
-use Rattle.smx_history.proofs.Growing.{All-push}
+use Rattle.smx_history.proofs.ListPushes.{All-push}
 use Rattle.smx_history.proofs.ShiftAgrees.{entries_of-shift}
 use Rattle.smx_history.proofs.Reading.{entries_of-push, entries_of-append, All-each}
 use Rattle.smx_relay.specs.Relay.{take_with, take_on, turn_on, back_to, back_on, collect_lane, enter_lane, enter_and_leave_lane}

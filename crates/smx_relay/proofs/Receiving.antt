@@ -7,7 +7,7 @@ use Rattle.std.proofs.lemmas.List.{append-nil, length-append}
 use Rattle.smx_pdu.specs.declared.pdu.Pdu.{Pdu}
 use Rattle.smx_pdu.specs.Pdu.{spelling}
 use Rattle.smx_pdu.proofs.Spelling.{Spells-length}
-use Rattle.smx_history.proofs.Growing.{All-push}
+use Rattle.smx_history.proofs.ListPushes.{All-push}
 use Rattle.smx_frame.specs.declared.fault.FrameFault.{FrameFault}
 use Rattle.smx_frame.specs.declared.fault.FrameFault.TheVariants.{NoMemory}
 use Rattle.smx_frame.specs.Stream.{Stream, IsFrame, TakesFirst, HasNone, Begins, fault_at}

@@ -14,7 +14,7 @@ use Rattle.smx_shared.specs.Ports.{IsMemberBy, IsPort, HasAccepted}
 use Rattle.smx_shared.specs.Entering.{Enters, Entered, Barred, StopsAt, TurnsBack, RefusesEntry}
 use Rattle.smx_shared.specs.declared.fault.EnterFault.{EnterFault}
 use Rattle.smx_shared.specs.declared.fault.EnterFault.TheVariants.{Exhausted, Spent, HistoryFull, NoMemory, Known}
-use Rattle.smx_shared.proofs.Growing.{on_locks}
+use Rattle.smx_shared.proofs.PortInvariants.{on_locks}
 use Rattle.smx_shared.proofs.Passing.{has_at}
 
 pub enters_of : (c : ℕ) (f g s p : Front Note Limits) → SplitServes f g s → AdmitServes s p c (Ok tt) → Enters c f g p

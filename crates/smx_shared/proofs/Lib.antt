@@ -1,9 +1,9 @@
 pub mod Lists
 pub mod Holding
-pub mod Own
+pub mod OwnNotes
 pub mod Passing
 mod Submitting
-pub mod Growing
+pub mod PortInvariants
 pub mod Leaving
 pub mod Rounds
 pub mod Calls

@@ -23,8 +23,8 @@ use Rattle.smx_shared.specs.Ports.{IsMemberBy}
 use Rattle.smx_shared.specs.Serving.{AcceptServes}
 use Rattle.smx_shared.specs.Steps.{IsBelow, LeadUpTo}
 use Rattle.smx_shared.specs.Submits.{AcceptsOn, FoundFull, FullServes, OnLane, Reaches, Refuses, StopsOn, request_of, start_of}
-use Rattle.smx_shared.proofs.Growing.{Grows, SameNotes, lane_grows, lane_same, member_more, on_locks, same_both, same_then, spent_same, stays_mine}
-use Rattle.smx_shared.proofs.Own.{has_row}
+use Rattle.smx_shared.proofs.PortInvariants.{Grows, SameNotes, lane_grows, lane_same, member_more, on_locks, same_both, same_then, spent_same, stays_mine}
+use Rattle.smx_shared.proofs.OwnNotes.{has_row}
 
 -- a member's request that was refused found the lane full
 pub full_of : (f g : Front Note Limits) (r : Request) (e : Request × Refusal) → IsMemberBy r.client f → AcceptServes f g r (Err e) → FullServes r f g

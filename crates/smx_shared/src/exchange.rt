@@ -8,7 +8,7 @@ ghost use Rattle.smx_shared.specs.Tokens.{SawOneHistory};
 use crate::door::Door;
 use crate::fault::{MakeFault, StateOut};
 use crate::lane_seat::LaneSeat;
-use crate::make::{make_locks, split_taps};
+use crate::opening::{make_locks, split_taps};
 use crate::starts::Starts;
 use crate::tap::Tap;
 use crate::token::{HasSeat, Token};

@@ -2,7 +2,7 @@ use mir.Val.{bool_byte}
 use Rattle.std.proofs.Common.{◌≡◌, ◌∙◌, arith, ap, refl, not, cond, Bool, true, false}
 use Rattle.smx_history.specs.Legal.{IsFifo}
 use Rattle.smx_legal.specs.Checks.{entries_before}
-use Rattle.smx_history.proofs.Growing.{AtEachPrefix-whole}
+use Rattle.smx_history.proofs.ListPushes.{AtEachPrefix-whole}
 use Rattle.smx_legal.proofs.CountedEntries.{counted_admit, counted_accept, counted_take, counted_collect, counted_retire, collect_waiting, leaves}
 use Rattle.smx_legal.proofs.CountedSettle.{counted_answer, counted_late, counted_fail, closes, answers_by, fails_by}
 use Rattle.smx_legal.proofs.CountedLink.{counted_down, counted_up}

@@ -3,7 +3,7 @@ use Rattle.smx_lane.specs.declared.call.Call.TheVariants as call
 use Rattle.smx_lane.specs.declared.call.Reply.TheVariants as reply
 use Rattle.smx_shared.specs.Serving.{CallServes}
 use Rattle.smx_shared.specs.Leaving.{Retired}
-use Rattle.smx_shared.proofs.Own.{own_rows_by, row_there}
+use Rattle.smx_shared.proofs.OwnNotes.{own_rows_by, row_there}
 use Rattle.smx_shared.proofs.Passing.{lock_at}
 use Rattle.smx_shared.proofs.Leaving.{left_none, left_on, left_cur, retired_none, retired_after, spent_on}
 use Rattle.smx_shared.proofs.retire.retire_all.Goals as goal

@@ -4,7 +4,7 @@ use Rattle.smx_lock.specs.Fronts.{IsSpent}
 use Rattle.smx_shared.specs.Ports.{IsMemberBy}
 use Rattle.smx_shared.specs.Serving.{AcceptServes}
 use Rattle.smx_shared.specs.Submits.{FullServes}
-use Rattle.smx_shared.proofs.Own.{own_rows}
+use Rattle.smx_shared.proofs.OwnNotes.{own_rows}
 use Rattle.smx_shared.proofs.Passing.{lock_at}
 use Rattle.smx_shared.proofs.Submitting.{full_locks, full_of, next_here, next_own, next_within, passing_at, passing_end, passing_none, passing_on}
 use Rattle.smx_shared.proofs.submit.try_ring.Goals as goal

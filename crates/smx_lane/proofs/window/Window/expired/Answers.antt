@@ -1,7 +1,7 @@
 use Rattle.std.proofs.Common.{◌≡◌, ◌∙◌, sym, ap, arith, max, Some, slice_get}
 use Rattle.std.proofs.lemmas.Option.{slice_get_within}
 use Rattle.smx_history.specs.Replies.{is_expired}
-use Rattle.smx_lane.proofs.Held.{none_passes, first_passes}
+use Rattle.smx_lane.proofs.WindowRows.{none_passes, first_passes}
 use Rattle.smx_lane.proofs.Listing.{none_found}
 use Rattle.smx_lane.proofs.window.Window.expired.Goals as goal
 

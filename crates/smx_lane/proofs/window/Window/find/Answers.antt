@@ -3,7 +3,7 @@ use Rattle.std.proofs.lemmas.Option.{slice_get_within}
 use Rattle.smx_pdu.specs.Command.{is_response_to}
 use Rattle.smx_history.specs.declared.place.Place.{Place}
 use Rattle.smx_history.specs.Numbers.{place_in}
-use Rattle.smx_lane.proofs.Held.{found_at, not_found, place_at_number}
+use Rattle.smx_lane.proofs.WindowRows.{found_at, not_found, place_at_number}
 use Rattle.smx_lane.proofs.window.Window.find.Goals as goal
 
 pub returns-in-Some-clause-found : goal.returns-in-Some-clause-found

@@ -1,5 +1,5 @@
 use Rattle.std.proofs.Common.{◌≡◌, ◌∙◌, sym, ap, arith, Some, slice_get}
-use Rattle.smx_lane.proofs.Held.{none_held, first_held}
+use Rattle.smx_lane.proofs.WindowRows.{none_held, first_held}
 use Rattle.smx_lane.proofs.window.Window.first.Goals as goal
 
 pub returns-in-Some : goal.returns-in-Some

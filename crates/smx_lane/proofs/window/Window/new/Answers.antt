@@ -1,7 +1,7 @@
 use Rattle.std.proofs.Common.{◌≡◌, ◌-◌, ◌∷◌, [], sym, ◌∙◌, Some, ap, refl, arith, length, length-append, replicate, Option, None}
 use Rattle.std.proofs.lemmas.List.{length-replicate}
 use Rattle.smx_history.specs.declared.place.Place.{Place}
-use Rattle.smx_lane.proofs.Held.{held-replicate, only-replicate, falling-pushed, empty-falling, once-falling, numbered-replicate}
+use Rattle.smx_lane.proofs.WindowRows.{held-replicate, only-replicate, falling-pushed, empty-falling, once-falling, numbered-replicate}
 use Rattle.smx_lane.proofs.window.Window.new.Goals as goal
 
 pub loop-given-preserved : goal.loop-given-preserved

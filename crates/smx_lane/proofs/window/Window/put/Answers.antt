@@ -5,7 +5,7 @@ use Rattle.smx_history.specs.Numbers.{place_in, generation_in}
 use Rattle.smx_history.proofs.Updates.{place_for, following}
 use Rattle.smx_lane.specs.Private.Places.{Places}
 use Rattle.smx_lane.specs.Private.Window.{places_in}
-use Rattle.smx_lane.proofs.Held.{AreEmpty, AreOnce, filled, length-filled, none_numbered, numbered-filled, empty-filled, once-front, at-set}
+use Rattle.smx_lane.proofs.WindowRows.{AreEmpty, AreOnce, filled, length-filled, none_numbered, numbered-filled, empty-filled, once-front, at-set}
 use Rattle.smx_lane.proofs.Listing.{listed_more}
 use Rattle.smx_lane.proofs.Giving.{place_of_number, generation_of_number, given, turn_of}
 use Rattle.smx_lane.proofs.window.Window.put.Goals as goal

@@ -5,7 +5,7 @@ use Rattle.smx_history.specs.declared.place.Place.{Place}
 use Rattle.smx_history.specs.Numbers.{place_in}
 use Rattle.smx_lane.specs.Private.Places.{IsPlaceOf, Places}
 use Rattle.smx_lane.specs.Private.Window.{places_in}
-use Rattle.smx_lane.proofs.Held.{cleared, length-cleared, numbered-cleared, empty-cleared, once-pushed, row_at_number, at-set}
+use Rattle.smx_lane.proofs.WindowRows.{cleared, length-cleared, numbered-cleared, empty-cleared, once-pushed, row_at_number, at-set}
 use Rattle.smx_lane.proofs.Listing.{listed_less}
 use Rattle.smx_lane.proofs.window.Window.remove.Goals as goal
 

@@ -3,7 +3,7 @@ use Rattle.smx_shared.specs.Views.{PortView}
 use Rattle.smx_shared.specs.Submits.{request_of, AcceptsOn, StopsOn, start_of}
 use Rattle.smx_shared.specs.Ports.{IsMemberBy}
 use Rattle.smx_shared.specs.Steps.{IsBelow, offer_of}
-use Rattle.smx_shared.proofs.Growing.{port_below, port_grows, port_same, accepted_more, accepted_same}
+use Rattle.smx_shared.proofs.PortInvariants.{port_below, port_grows, port_same, accepted_more, accepted_same}
 use Rattle.smx_shared.proofs.Submitting.{accepts_grows, accepts_locks, refuses, stops_locks, stops_same}
 use Rattle.smx_shared.proofs.port.Port.submit.Goals as goal
 

@@ -2,8 +2,8 @@ use Rattle.std.proofs.Common.{refl, length, ◌<◌}
 use Rattle.std.proofs.lemmas.Option.{slice_get_read}
 use Rattle.smx_shared.specs.Views.{PortView}
 use Rattle.smx_shared.specs.Serving.{CollectServes, Tried}
-use Rattle.smx_shared.proofs.Own.{own_rows_by}
-use Rattle.smx_shared.proofs.Growing.{try_collect_grows, port_quiet, accepted_quiet, on_locks}
+use Rattle.smx_shared.proofs.OwnNotes.{own_rows_by}
+use Rattle.smx_shared.proofs.PortInvariants.{try_collect_grows, port_quiet, accepted_quiet, on_locks}
 use Rattle.smx_shared.proofs.port.Port.try_collect.Goals as goal
 use Rattle.smx_shared.proofs.port.Port.try_collect.Goals.{in-Ok, in-Err}
 

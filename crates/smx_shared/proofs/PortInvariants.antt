@@ -17,7 +17,7 @@ use Rattle.smx_history.specs.declared.note.Event.TheVariants as event
 use Rattle.smx_history.specs.Entries.{is_admit, is_retire, is_admitted, is_retired}
 use Rattle.smx_history.proofs.Reading.{entries_of-append}
 use Rattle.smx_history.specs.History.{entries_of, note, request_in, requests}
-use Rattle.smx_history.proofs.Growing.{any_kept}
+use Rattle.smx_history.proofs.ListPushes.{any_kept}
 use Rattle.smx_shared.specs.Views.{PortView, locks_of}
 use Rattle.smx_shared.specs.Offers.{Accepted, requests_on, request_for}
 use Rattle.smx_shared.specs.Ports.{IsMemberBy, IsPort, HasAccepted}

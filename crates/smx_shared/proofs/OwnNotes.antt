@@ -21,7 +21,7 @@ use Rattle.smx_history.specs.History.{entry_by, entries_of, request_in, requests
 use Rattle.smx_history.specs.Contents.{Content, Member, AgreesWith}
 use Rattle.smx_lane.specs.Kept.{writer, limits_of, suits}
 use Rattle.smx_history.specs.Replies.{member_with, is_present, refusal_for, accept_refusal, has_room}
-use Rattle.smx_history.proofs.Growing.{any_kept}
+use Rattle.smx_history.proofs.ListPushes.{any_kept}
 use Rattle.smx_history.proofs.Reading.{All-from_get, All-filtered, any_at}
 use Rattle.smx_history.proofs.Sizes.{present_served}
 use Rattle.smx_history.proofs.Rows.{absent, each_row, is_present-any}

@@ -1,6 +1,6 @@
 use Rattle.std.proofs.Common.{◌≤◌, length, vec_capacity}
 use Rattle.smx_shared.specs.Making.{Tapped}
-use Rattle.smx_shared.proofs.make.split_taps.Given as goal
+use Rattle.smx_shared.proofs.opening.split_taps.Given as goal
 
 abbrev pub invariant-loop-lane : goal.invariant-loop-lane
 invariant-loop-lane g l = record {

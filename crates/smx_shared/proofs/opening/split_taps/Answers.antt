@@ -9,7 +9,7 @@ use Rattle.smx_shared.specs.Serving.{SplitServes, SplitFails}
 use Rattle.smx_shared.specs.Making.{Tapped}
 use Rattle.smx_shared.proofs.Passing.{lock_at}
 use Rattle.smx_shared.proofs.Rounds.{makes_none, makes_on, makes_cur}
-use Rattle.smx_shared.proofs.make.split_taps.Goals as goal
+use Rattle.smx_shared.proofs.opening.split_taps.Goals as goal
 
 MadeTap : ℕ → Front Note Limits → Front Note Limits → TapView → Type 0
 MadeTap k f g t = (t.lane ≡ k) × SplitServes f g t.front
