@@ -10,7 +10,7 @@ use std::test::Fail;
 #[test]
 fn each_is_ready_once(rt: HostRuntime) -> Result<(), Fail> {
     let mut ready = Ready::new(rt.alloc(), 3)?;
-    let mut list = Vec::new(rt.alloc());
+    let mut list = Vec::with_capacity(rt.alloc(), 3)?;
     ready.add(2);
     ready.add(0);
     ready.add(2);
