@@ -2,6 +2,7 @@
 use Rattle.std.specs.Prelude.{ℕ, ◌==◌, ◌&&◌, ◌||◌, ◌+◌, ◌-◌, ◌*◌, ◌^◌, Bool, List, [], ◌∷◌, length, slice_index, codes, nat_lt, nat_le, Option, Some, None, Result, Ok, Err, if◌then◌else◌}
 use Rattle.std.specs.Char.{is_ascii_digit}
 use Rattle.std.specs.List.{list_all, slice_split}
+use Rattle.std.specs.Option.{option_map}
 use Rattle.std.specs.Str.{bytes_eq}
 use Rattle.hex.specs.Hex.{decode_of}
 use Rattle.hex.specs.declared.error.FromHexError.{FromHexError}
@@ -78,32 +79,12 @@ lane_command word (Some lane) =
 
 unfoldable pub pair_command : List ℕ → List ℕ → Option Command
 pair_command word what =
-    if bytes_eq word (codes "client") then client_command (entry_of what)
-    else if bytes_eq word (codes "lanes") then lanes_command (number_within 1 16 what)
-    else if bytes_eq word (codes "box") then places_command (number_within 1 256 what)
-    else if bytes_eq word (codes "collect") then collect_command (number_of what)
-    else if bytes_eq word (codes "moment") then moment_command (number_of what)
+    if bytes_eq word (codes "client") then option_map (λ kind. Run (Client kind)) (entry_of what)
+    else if bytes_eq word (codes "lanes") then option_map (λ n. Set (Lanes n)) (number_within 1 16 what)
+    else if bytes_eq word (codes "box") then option_map (λ n. Set (Places n)) (number_within 1 256 what)
+    else if bytes_eq word (codes "collect") then option_map (λ client. Run (Collect client)) (number_of what)
+    else if bytes_eq word (codes "moment") then option_map (λ moment. Run (Moment moment)) (number_of what)
     else lane_command word (number_of what)
-  where
-    client_command : Option (Option Kind) → Option Command
-    client_command None = None
-    client_command (Some kind) = Some (Run (Client kind))
-
-    lanes_command : Option ℕ → Option Command
-    lanes_command None = None
-    lanes_command (Some n) = Some (Set (Lanes n))
-
-    places_command : Option ℕ → Option Command
-    places_command None = None
-    places_command (Some n) = Some (Set (Places n))
-
-    collect_command : Option ℕ → Option Command
-    collect_command None = None
-    collect_command (Some client) = Some (Run (Collect client))
-
-    moment_command : Option ℕ → Option Command
-    moment_command None = None
-    moment_command (Some moment) = Some (Run (Moment moment))
 
 abbrev pub in_command : Option ℕ → Option (List ℕ) → Option Command
 in_command (Some client) (Some octets) = Some (Run (In client octets))
