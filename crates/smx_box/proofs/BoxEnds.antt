@@ -9,7 +9,7 @@ use Rattle.smx_box.specs.declared.letter.Known.{Known}
 use Rattle.smx_box.specs.declared.letter.Note.{Note}
 use Rattle.smx_box.specs.declared.letter.Deed.TheVariants.{Putting, Getting}
 use Rattle.smx_box.specs.Letters.{is_item, letter, of, is_open, Numbered, AllShut}
-use Rattle.smx_box.specs.Boxes.{most_items, note, notes_of, puts, gets, Stood, Posts, Takes, Finds, BoxHistory, Front, PutServes, FullServes, TakeServes, Receiving, Hands, GetServes}
+use Rattle.smx_box.specs.Boxes.{most_items, note, notes_of, puts, gets, Stood, Posts, Takes, Finds, BoxHistory, PassFront, PutServes, FullServes, TakeServes, Receiving, Hands, GetServes}
 use Rattle.smx_box.specs.Private.Ends.{front_of, IsNextLetter, IsFreshPass, IsSender, IsReceiver, shut_below, sending, receiving, PostServes}
 use Rattle.smx_box.specs.declared.receiver.Got.TheVariants.{Item, Shut}
 use Rattle.smx_box.proofs.LetterLists.{of-append, of_yes, of_no, open_snoc, shut_snoc, Numbered_snoc, next_got, numbered_got}
@@ -29,16 +29,16 @@ module _ {T : Type 0} where
   own_gots v found items s pass = own_gets found s.history.own ∙ ap (λ k. gets (notes_of k found)) (sym pass) ∙ ap gets s.own
 
   -- what a step of the queue tells of an end
-  pub put_serves : (f g : Front T) (m : Letter T) → g.queue ≡ f.queue → f.known.number ≡ m.sender + 1 → Posts f.known m g.known → PutServes (sending m.sender f) g m
+  pub put_serves : (f g : PassFront T) (m : Letter T) → g.queue ≡ f.queue → f.known.number ≡ m.sender + 1 → Posts f.known m g.known → PutServes (sending m.sender f) g m
   put_serves f g m same pass s = (same, s.0, s.1, s.2, own_list f.known s.0 s.1 m.sender s.2.finds pass)
 
-  pub full_serves : (f g : Front T) (p : ℕ) → g ≡ f → f.known.number ≡ p + 1 → Held {T = Letter T} f.queue.places (Finds f.known) → FullServes (sending p f) g
+  pub full_serves : (f g : PassFront T) (p : ℕ) → g ≡ f → f.known.number ≡ p + 1 → Held {T = Letter T} f.queue.places (Finds f.known) → FullServes (sending p f) g
   full_serves f g p same pass s = (same, s.2.0, s.0, s.2.1, own_list f.known s.2.0 s.0 p s.2.1 pass, s.1)
 
-  pub got_serves : (f g : Front T) (m : Letter T) → g.queue ≡ f.queue → f.known.number ≡ 0 → Takes f.known m g.known → TakeServes (receiving f) g (Some m)
+  pub got_serves : (f g : PassFront T) (m : Letter T) → g.queue ≡ f.queue → f.known.number ≡ 0 → Takes f.known m g.known → TakeServes (receiving f) g (Some m)
   got_serves f g m same pass s = (same, s.0, s.1, s.2, own_gots f.known s.0 (m ∷ s.1) s.2.finds pass)
 
-  pub empty_serves : (f g : Front T) → g ≡ f → f.known.number ≡ 0 → Held {T = Letter T} 0 (Finds f.known) → TakeServes (receiving f) g None
+  pub empty_serves : (f g : PassFront T) → g ≡ f → f.known.number ≡ 0 → Held {T = Letter T} 0 (Finds f.known) → TakeServes (receiving f) g None
   empty_serves f g same pass s = let none = nil_from_length s.0 s.1 in let stands = subst (Stood f.known s.2.0) none s.2.1 in (same, s.2.0, stands, own_gots f.known s.2.0 [] stands pass)
 
   same_front : (places : ℕ) (p q : Pass (Letter T) (Known T)) → IsSamePass p q → view q ≡ view p → front_of places q ≡ front_of places p
@@ -59,7 +59,7 @@ module _ {T : Type 0} where
   popped places p q None number same told = empty_serves (front_of places p) (front_of places q) (same_front places p q same told.0) number told.1
 
   -- a sender
-  pub first_sender : (f : Front T) (p : ℕ) → IsFreshPass f p → IsSender f p 0
+  pub first_sender : (f : PassFront T) (p : ℕ) → IsFreshPass f p → IsSender f p 0
   first_sender f p first = record {
     pass = first.0;
     counted = ap (λ l. length (puts l)) first.1;
@@ -68,13 +68,13 @@ module _ {T : Type 0} where
     opened = ap (λ l. is_open (puts l)) first.1;
   }
 
-  pub next_of : (f : Front T) (p count : ℕ) (x : Option T) → IsSender f p count → IsNextLetter f (letter p (count + 1) x)
+  pub next_of : (f : PassFront T) (p count : ℕ) (x : Option T) → IsSender f p count → IsNextLetter f (letter p (count + 1) x)
   next_of f p count x is = record { pass = is.pass; number = ap (λ n. n + 1) (sym is.counted); opened = is.opened }
 
-  pub put_more : (f g : Front T) (m : Letter T) → PutServes (sending m.sender f) g m → puts g.known.mine ≡ puts f.known.mine ++ m ∷ []
+  pub put_more : (f g : PassFront T) (m : Letter T) → PutServes (sending m.sender f) g m → puts g.known.mine ≡ puts f.known.mine ++ m ∷ []
   put_more f g m s = ap puts s.3.mine ∙ puts-append f.known.mine (note f.known.number (Putting m) ∷ [])
 
-  pub sender_put : (f g : Front T) (p count n : ℕ) (x : T) → PutServes (sending p f) g (letter p n (Some x)) → n ≡ count + 1 → count < most_items → IsSender f p count → IsSender g p n
+  pub sender_put : (f g : PassFront T) (p count n : ℕ) (x : T) → PutServes (sending p f) g (letter p n (Some x)) → n ≡ count + 1 → count < most_items → IsSender f p count → IsSender g p n
   sender_put f g p count n x s e lt is = let m : Letter T = letter p n (Some x) in let more = put_more f g m s in record {
     pass = s.3.number ∙ is.pass;
     counted = ap length more ∙ (let l = length-append (puts f.known.mine) (m ∷ []) in let c = is.counted in omega arith);
@@ -84,7 +84,7 @@ module _ {T : Type 0} where
   }
 
   -- a receiver got this letter
-  pub record Taken (f g : Front T) (m : Letter T) : Type 0 where
+  pub record Taken (f g : PassFront T) (m : Letter T) : Type 0 where
     pub number : g.known.number ≡ f.known.number
     pub senders : g.known.senders ≡ f.known.senders
     pub more : gets g.known.mine ≡ gets f.known.mine ++ m ∷ []
@@ -98,7 +98,7 @@ module _ {T : Type 0} where
       (sym (of-append p (gets h) (m ∷ items) ∙ ap (λ l. of p (gets h) ++ l) (of-append p (m ∷ []) items ∙ ap (λ l. l ++ of p items) (of_yes p m is)))
       ∙ (b.delivers p).0 ∙ none)
 
-  pub taken : (f g : Front T) (m : Letter T) → f.known.number ≡ 0 → TakeServes (receiving f) g (Some m) → Taken f g m
+  pub taken : (f g : PassFront T) (m : Letter T) → f.known.number ≡ 0 → TakeServes (receiving f) g (Some m) → Taken f g m
   taken f g m first s = let step = s.3 in let found = s.1 in let items = s.2 in
       let more : gets g.known.mine ≡ gets f.known.mine ++ m ∷ [] = ap gets step.mine ∙ gets-append f.known.mine (note f.known.number (Getting m) ∷ []) in
       let got = s.4 in
@@ -118,7 +118,7 @@ module _ {T : Type 0} where
       pick false e = grind (arith, e)
 
   -- a receiver
-  pub first_receiver : (f : Front T) (senders : ℕ) → f.known.number ≡ 0 → f.known.mine ≡ [] → f.known.senders ≡ senders → IsReceiver f senders 0
+  pub first_receiver : (f : PassFront T) (senders : ℕ) → f.known.number ≡ 0 → f.known.mine ≡ [] → f.known.senders ≡ senders → IsReceiver f senders 0
   first_receiver f senders pass mine all = record {
     pass = pass;
     all = all;
@@ -134,7 +134,7 @@ module _ {T : Type 0} where
   opens_same : (got : List (Letter T)) (m : Letter T) → is_item m.content ≡ true → is_open (of m.sender got) ≡ true → (p : ℕ) → is_open (of p (got ++ m ∷ [])) ≡ is_open (of p got)
   opens_same got m e o p = ap is_open (of-append p got (m ∷ [])) ∙ open_more (eqb m.sender p) (of p got) m (λ is. ap (λ q. is_open (of q got)) (sym (eqb-true m.sender p is)) ∙ o) e
 
-  pub receiver_item : (f g : Front T) (senders shut : ℕ) (m : Letter T) → Taken f g m → is_item m.content ≡ true → IsReceiver f senders shut → IsReceiver g senders shut
+  pub receiver_item : (f g : PassFront T) (senders shut : ℕ) (m : Letter T) → Taken f g m → is_item m.content ≡ true → IsReceiver f senders shut → IsReceiver g senders shut
   receiver_item f g senders shut m t item is = record {
     pass = t.number ∙ is.pass;
     all = t.senders ∙ is.all;
@@ -143,7 +143,7 @@ module _ {T : Type 0} where
         (λ p. ap (λ l. is_open (of p l)) t.more ∙ opens_same (gets f.known.mine) m item t.opened p));
   }
 
-  pub receiver_mark : (f g : Front T) (senders shut : ℕ) (m : Letter T) → Taken f g m → is_item m.content ≡ false → IsReceiver f senders shut → IsReceiver g senders (shut + 1)
+  pub receiver_mark : (f g : PassFront T) (senders shut : ℕ) (m : Letter T) → Taken f g m → is_item m.content ≡ false → IsReceiver f senders shut → IsReceiver g senders (shut + 1)
   receiver_mark f g senders shut m t mark is = record {
     pass = t.number ∙ is.pass;
     all = t.senders ∙ is.all;
@@ -155,7 +155,7 @@ module _ {T : Type 0} where
         (let b = t.below in let a = is.all in omega arith));
   }
 
-  pub some_open : (f g : Front T) (senders shut : ℕ) (m : Letter T) → Taken f g m → IsReceiver f senders shut → shut < senders
+  pub some_open : (f g : PassFront T) (senders shut : ℕ) (m : Letter T) → Taken f g m → IsReceiver f senders shut → shut < senders
   some_open f g senders shut m t is = let l = shut_not_all senders m.sender (λ p. is_open (of p (gets f.known.mine))) t.opened (let b = t.below in let a = is.all in omega arith) in let c = is.counted in omega arith
 
   -- what a get hands out
@@ -165,22 +165,22 @@ module _ {T : Type 0} where
   mark_is : (m : Letter T) (n : ℕ) → m.number ≡ n → m.content ≡ None → m ≡ letter m.sender n None
   mark_is m n e f = ap (λ k. letter m.sender k m.content) e ∙ ap (letter m.sender n) f
 
-  pub hands_item : (f g : Front T) (r : Receiving T) (m : Letter T) (x : T) → receiving f ≡ r → Taken f g m → m.content ≡ Some x → Hands r.got (gets g.known.mine) (Item m.sender m.number x)
+  pub hands_item : (f g : PassFront T) (r : Receiving T) (m : Letter T) (x : T) → receiving f ≡ r → Taken f g m → m.content ≡ Some x → Hands r.got (gets g.known.mine) (Item m.sender m.number x)
   hands_item f g r m x is t e = subst (λ (z : Receiving T). Hands z.got (gets g.known.mine) (Item m.sender m.number x)) is
       (t.more ∙ ap (λ l. gets f.known.mine ++ l ∷ []) (item_is m x e), t.next, t.opened)
 
-  pub hands_mark : (f g : Front T) (r : Receiving T) (m : Letter T) → receiving f ≡ r → Taken f g m → m.content ≡ None → Hands r.got (gets g.known.mine) (Shut m.sender)
+  pub hands_mark : (f g : PassFront T) (r : Receiving T) (m : Letter T) → receiving f ≡ r → Taken f g m → m.content ≡ None → Hands r.got (gets g.known.mine) (Shut m.sender)
   hands_mark f g r m is t e = subst (λ (z : Receiving T). Hands z.got (gets g.known.mine) (Shut m.sender)) is
       (t.more ∙ ap (λ l. gets f.known.mine ++ l ∷ []) (mark_is m (length (of m.sender (gets f.known.mine)) + 1) t.next e), t.opened)
 
-  pub mark_serves : (f g : Front T) (r : Receiving T) (m : Letter T) → receiving f ≡ r → Taken f g m → m.content ≡ None → TakeServes (receiving f) g (Some m) → GetServes r g (Shut m.sender)
+  pub mark_serves : (f g : PassFront T) (r : Receiving T) (m : Letter T) → receiving f ≡ r → Taken f g m → m.content ≡ None → TakeServes (receiving f) g (Some m) → GetServes r g (Shut m.sender)
   mark_serves f g r m is t e s = subst (λ (z : Receiving T). GetServes z g (Shut m.sender)) is
       (subst (λ l. TakeServes (receiving f) g (Some l)) (mark_is m (length (of m.sender (gets f.known.mine)) + 1) t.next e) s)
 
-  pub ended_all : (f : Front T) (r : Receiving T) (senders shut : ℕ) → receiving f ≡ r → IsReceiver f senders shut → shut ≡ senders → AllShut r.senders r.got
+  pub ended_all : (f : PassFront T) (r : Receiving T) (senders shut : ℕ) → receiving f ≡ r → IsReceiver f senders shut → shut ≡ senders → AllShut r.senders r.got
   ended_all f r senders shut is keeps e = subst (λ (z : Receiving T). AllShut z.senders z.got) is
       (λ p lt. all_shut senders (λ q. is_open (of q (gets f.known.mine))) (sym keeps.counted ∙ e) p (let a = keeps.all in omega arith))
 
-  pub all_ended : (f : Front T) (r : Receiving T) (senders shut : ℕ) → receiving f ≡ r → IsReceiver f senders shut → AllShut r.senders r.got → shut ≡ senders
+  pub all_ended : (f : PassFront T) (r : Receiving T) (senders shut : ℕ) → receiving f ≡ r → IsReceiver f senders shut → AllShut r.senders r.got → shut ≡ senders
   all_ended f r senders shut is keeps all = let here = subst (λ (z : Receiving T). AllShut z.senders z.got) (sym is) all in
       keeps.counted ∙ shut_all senders (λ q. is_open (of q (gets f.known.mine))) (λ p lt. here p (let a = keeps.all in omega arith))

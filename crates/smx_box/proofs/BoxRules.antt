@@ -12,7 +12,7 @@ use Rattle.smx_box.specs.declared.letter.Deed.TheVariants.{Putting, Getting}
 use Rattle.smx_box.specs.declared.letter.Known.{Known}
 use Rattle.smx_box.specs.Letters.{is_open}
 use Rattle.smx_box.specs.Boxes.{note, puts, BoxHistory, Stood, Posts, Takes, Finds}
-use Rattle.smx_box.specs.Private.Rule.{Fits, Kept, first_known, host, guest}
+use Rattle.smx_box.specs.Private.Rule.{FitsHistory, Kept, first_known, host, guest}
 use Rattle.smx_box.proofs.BoxHistories.{own_puts, history_put, history_got, notes_here, notes_else}
 
 module _ {T : Type 0} where
@@ -40,7 +40,7 @@ module _ {T : Type 0} where
     [],
     record { delivers = (λ p. (refl, tt)); own = tt },
     (λ k le. refl),
-    all_set (Fits [] 1) (first_known ∷ []) 0 first_known record { number = refl; saw = ([], refl); own = refl; counts = λ _. refl }
+    all_set (FitsHistory [] 1) (first_known ∷ []) 0 first_known record { number = refl; saw = ([], refl); own = refl; counts = λ _. refl }
         (λ j u other e. absurd (other (at_end [] _ u j (λ x. some-ne-none u (sym x)) e))),
   )
 
@@ -72,8 +72,8 @@ module _ {T : Type 0} where
         h ++ note v.number d ∷ [],
         history,
         (λ j le. notes_else j h v.number d (λ e. let n = mine.number in absurd (omega arith)) ∙ k.2 j (omega arith)),
-        subst (λ n. All (Fits (h ++ note v.number d ∷ []) n) (set views place w)) (sym long)
-            (all_set (Fits (h ++ note v.number d ∷ []) (length views)) views place w
+        subst (λ n. All (FitsHistory (h ++ note v.number d ∷ []) n) (set views place w)) (sym long)
+            (all_set (FitsHistory (h ++ note v.number d ∷ []) (length views)) views place w
             record { number = mine.number; saw = ([], append-nil _); own = notes_here h v.number d ∙ ap (λ l. l ++ note v.number d ∷ []) mine.own; counts = mine.counts }
             (λ j u other e. let his = k.3 j u e in record {
               number = his.number;
@@ -113,20 +113,20 @@ module _ {T : Type 0} where
       let vs : List (Known T) = set views place (host v) in
       let long : length vs ≡ length views = length-set views place (host v) in
       let longer : length (vs ++ guest v ∷ []) ≡ length views + 1 = length-append vs (guest v ∷ []) ∙ ap (λ n. n + 1) long in
-      let here : All (Fits h (length views + 1)) vs = all_set (Fits h (length views + 1)) views place (host v)
+      let here : All (FitsHistory h (length views + 1)) vs = all_set (FitsHistory h (length views + 1)) views place (host v)
       record { number = mine.number; saw = mine.saw; own = mine.own; counts = λ _. ap (λ n. n + 1) count }
       (λ j u other e. let his = k.3 j u e in
       record { number = his.number; saw = his.saw; own = his.own; counts = λ z. absurd (other (sym his.number ∙ z ∙ sym first ∙ mine.number)) }) in (
         h,
         k.1,
         (λ j le. k.2 j (omega arith)),
-        subst (λ n. All (Fits h n) (vs ++ guest v ∷ [])) (sym longer)
+        subst (λ n. All (FitsHistory h n) (vs ++ guest v ∷ [])) (sym longer)
             (λ j u e. ⊎_elim (λ x. here j u x)
             (λ (is : guest v ≡ u).
             let new : u.number ≡ length views = ap (λ (y : Known T). y.number) (sym is) ∙ count in
             let his : get_elem? vs j ≡ some u → ⊥ = λ x. (let o = (here j u x).number in let b = within vs j u x in omega (arith, new, o, b, long)) in
             let last : j ≡ length vs = at_end vs (guest v) u j his e in
-            subst (λ (y : Known T). Fits h (length views + 1) j y) is record {
+            subst (λ (y : Known T). FitsHistory h (length views + 1) j y) is record {
               number = omega (arith, count, last, long);
               saw = mine.saw;
               own = k.2 (v.senders + 1) (omega (arith, count));

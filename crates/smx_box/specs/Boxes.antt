@@ -95,7 +95,7 @@ pub record QueueId : Type 0 where
   pub places : ℕ
 
 -- what clauses see of a pass: which queue it is of, and what it knows
-pub record Front (T : Type 0) : Type 0 where
+pub record PassFront (T : Type 0) : Type 0 where
   pub queue : QueueId
   pub known : Known T
 
@@ -103,30 +103,30 @@ pub record Front (T : Type 0) : Type 0 where
 pub record Sending (T : Type 0) : Type 0 where
   pub sender : ℕ
   pub put : List (Letter T)
-  pub front : Front T
+  pub front : PassFront T
 
 -- what clauses see of a receiver: how many senders there are, all that it got, and its pass
 pub record Receiving (T : Type 0) : Type 0 where
   pub senders : ℕ
   pub got : List (Letter T)
-  pub front : Front T
+  pub front : PassFront T
 
 module _ {T : Type 0} where
   -- one step put the letter; what the history says of this sender is what it put
-  abbrev pub PutServes : Sending T → Front T → Letter T → Type 0
+  abbrev pub PutServes : Sending T → PassFront T → Letter T → Type 0
   PutServes s g m = (g.queue ≡ s.front.queue) × (found : List (Note T)) × (items : List (Letter T))
       × OneStep s.front.known g.known found (note s.front.known.number (Putting m) ∷ []) items (items ++ m ∷ [])
       × (of s.sender (puts found) ≡ s.put)
 
   -- one step found every place with a letter; nothing changed
-  abbrev pub FullServes : Sending T → Front T → Type 0
+  abbrev pub FullServes : Sending T → PassFront T → Type 0
   FullServes s g = (g ≡ s.front) × (found : List (Note T)) × (items : List (Letter T))
       × Stood s.front.known found items
       × (of s.sender (puts found) ≡ s.put)
       × (length items ≡ s.front.queue.places)
 
   -- one step got the oldest letter, or found none, and then nothing changed; what the history says was got is what the receiver got
-  abbrev pub TakeServes : Receiving T → Front T → Option (Letter T) → Type 0
+  abbrev pub TakeServes : Receiving T → PassFront T → Option (Letter T) → Type 0
   TakeServes r g (Some m) = (g.queue ≡ r.front.queue) × (found : List (Note T)) × (items : List (Letter T))
       × OneStep r.front.known g.known found (note r.front.known.number (Getting m) ∷ []) (m ∷ items) items
       × (gets found ≡ r.got)
@@ -139,7 +139,7 @@ module _ {T : Type 0} where
   Hands old new Empty = new ≡ old
 
   -- one step served a get
-  abbrev pub GetServes : Receiving T → Front T → Got T → Type 0
+  abbrev pub GetServes : Receiving T → PassFront T → Got T → Type 0
   GetServes r g (Item p n x) = TakeServes r g (Some (letter p n (Some x)))
   GetServes r g (Shut p) = TakeServes r g (Some (letter p (length (of p r.got) + 1) None))
   GetServes r g Empty = TakeServes r g None

@@ -22,10 +22,10 @@ pub(crate) struct End<T: Drop> {
 impl<T: Drop> Model for End<T> {
     ghost use Rattle.std.specs.Arc.{arc_value};
     ghost use Rattle.crossbeam_queue.specs.Passes.{IsPassOf, ruled_capacity};
-    ghost use Rattle.smx_box.specs.Boxes.{Front};
+    ghost use Rattle.smx_box.specs.Boxes.{PassFront};
     ghost use Rattle.smx_box.specs.Private.Ends.{front_of};
 
-    ghost Value = { Front T };
+    ghost Value = { PassFront T };
 
     ghost view = { λ e. front_of (ruled_capacity (arc_value e.queue)) e.pass };
 

@@ -1,7 +1,7 @@
 //! The end of a box at which items are put.
 ghost use Rattle.std.specs.Prelude.{◌≡◌, ◌<◌, ◌+◌, ◌++◌, [], ◌∷◌, true, length, Some, None, IfOk, OnOk, IfErr, IsSome};
 ghost use Rattle.smx_box.specs.Letters.{letter, is_open, Numbered};
-ghost use Rattle.smx_box.specs.Boxes.{Front, most_items, PutServes, FullServes};
+ghost use Rattle.smx_box.specs.Boxes.{PassFront, most_items, PutServes, FullServes};
 ghost use Rattle.smx_box.specs.Private.Ends.{IsFreshPass};
 
 use crate::end::End;
@@ -104,7 +104,7 @@ impl<T: Drop> Sender<T> {
     /// Puts the closing mark, which takes one place, and ends the sender. Where the box is full the
     /// sender is handed back. It is never refused as spent.
     pub fn shut<R: Wait>(self, rt: &R) -> Result<(), (Sender<T>, PutFault)>
-        ensures ok { OnOk result ((g : Front T)
+        ensures ok { OnOk result ((g : PassFront T)
             × PutServes self g (letter self.sender (length self.put + 1) None)) }
         ensures err { IfErr result (λ e. (e.0 ≡ self) × (e.1 ≡ PutFault.Full)) }
         ensures full { IfErr result (λ e. FullServes self e.0.front) }

@@ -49,13 +49,13 @@ abbrev pub stranger : Pdu → Pdu
 stranger r = record r { number = 0x7000_0000 }
 
 -- the PDUs that a response to a forwarded command makes, by the mode and the response that waits
-abbrev pub pdus_sent : Mode → Option Pdu → Pdu → List Pdu
-pdus_sent Plain held r = r ∷ []
-pdus_sent Reversed None r = []
-pdus_sent Reversed (Some first) r = r ∷ first ∷ []
-pdus_sent Twice held r = r ∷ r ∷ []
-pdus_sent Stranger held r = r ∷ stranger r ∷ []
-pdus_sent Silent held r = []
+abbrev pub responses_sent : Mode → Option Pdu → Pdu → List Pdu
+responses_sent Plain held r = r ∷ []
+responses_sent Reversed None r = []
+responses_sent Reversed (Some first) r = r ∷ first ∷ []
+responses_sent Twice held r = r ∷ r ∷ []
+responses_sent Stranger held r = r ∷ stranger r ∷ []
+responses_sent Silent held r = []
 
 -- the response that waits then
 abbrev pub response_kept : Mode → Option Pdu → Pdu → Option Pdu
@@ -70,22 +70,22 @@ response_kept Silent held r = held
 abbrev pub answers : Class → Centring → Pdu → List Pdu
 answers Bind c p = response p ESME_ROK (codes "centre" ++ 0 ∷ []) ∷ []
 answers Session c p = response p ESME_ROK [] ∷ []
-answers Message c p = pdus_sent c.mode c.held (forwarded_response (Some (next c.messages)) p)
-answers Forwarded c p = pdus_sent c.mode c.held (forwarded_response None p)
+answers Message c p = responses_sent c.mode c.held (forwarded_response (Some (next c.messages)) p)
+answers Forwarded c p = responses_sent c.mode c.held (forwarded_response None p)
 answers OtherRequest c p = unknown p.number ∷ []
 answers Response c p = []
 
 -- and what the centre keeps after it
-abbrev pub after : Class → Centring → Pdu → Centring
-after Bind c p = c
-after Session c p = c
-after Message c p = record c {
+abbrev pub centring_after : Class → Centring → Pdu → Centring
+centring_after Bind c p = c
+centring_after Session c p = c
+centring_after Message c p = record c {
   messages = next c.messages;
   held = response_kept c.mode c.held (forwarded_response (Some (next c.messages)) p);
 }
-after Forwarded c p = record c { held = response_kept c.mode c.held (forwarded_response None p) }
-after OtherRequest c p = c
-after Response c p = c
+centring_after Forwarded c p = record c { held = response_kept c.mode c.held (forwarded_response None p) }
+centring_after OtherRequest c p = c
+centring_after Response c p = c
 
 -- a message to a destination, all else in it empty (4.6.1)
 abbrev pub delivery : ℕ → List ℕ → Pdu

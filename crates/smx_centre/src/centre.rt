@@ -56,7 +56,7 @@ fn next(number: u32) -> u32
 
 impl Centre {
     ghost use Rattle.std.specs.Prelude.{Contains, IfOk, OnOk, OnErr, IsOk, length, ℕ};
-    ghost use Rattle.smx_centre.specs.Answers.{class_of, answers, after, delivery, pdus_sent, response_kept, forwarded_response};
+    ghost use Rattle.smx_centre.specs.Answers.{class_of, answers, centring_after, delivery, responses_sent, response_kept, forwarded_response};
 
     /// A centre that has given no number. It takes no memory.
     pub fn new(alloc: Global, mode: Mode) -> Centre
@@ -76,7 +76,7 @@ impl Centre {
     fn send(&mut self, request: &Pdu, message: Option<u32>) -> Result<Vec<Pdu>, AllocError>
         requires { request.now.command < RESPONSE }
         ensures ok { IfOk result (λ pdus. pdus.items
-            ≡ pdus_sent self.old.mode self.old.held (forwarded_response message request.now)) }
+            ≡ responses_sent self.old.mode self.old.held (forwarded_response message request.now)) }
         ensures held { OnOk result (self.new ≡ record self.old {
           held = response_kept self.old.mode self.old.held (forwarded_response message request.now);
         }) }
@@ -104,7 +104,7 @@ impl Centre {
     fn send_reversed(&mut self, response: Pdu) -> Result<Vec<Pdu>, AllocError>
         requires { self.old.mode ≡ Mode.Reversed }
         ensures ok { IfOk result (λ pdus. pdus.items
-            ≡ pdus_sent Mode.Reversed self.old.held response) }
+            ≡ responses_sent Mode.Reversed self.old.held response) }
         ensures held { OnOk result (self.new
             ≡ record self.old { held = response_kept Mode.Reversed self.old.held response }) }
         ensures err { OnErr result (self.new ≡ self.old) }
@@ -125,7 +125,8 @@ impl Centre {
     pub fn on_pdu(&mut self, pdu: &Pdu) -> Result<Vec<Pdu>, AllocError>
         ensures ok { IfOk result (λ pdus. pdus.items
             ≡ answers (class_of pdu.now.command) self.old pdu.now) }
-        ensures after { OnOk result (self.new ≡ after (class_of pdu.now.command) self.old pdu.now) }
+        ensures after { OnOk result (self.new
+            ≡ centring_after (class_of pdu.now.command) self.old pdu.now) }
         ensures err { OnErr result (self.new ≡ self.old) }
     {
         let alloc = self.alloc;

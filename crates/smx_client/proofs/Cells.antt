@@ -37,7 +37,7 @@ use Rattle.smx_frame.specs.Stream.{HasNone}
 use Rattle.smx_shared.specs.Views.{PortView}
 use Rattle.smx_client.specs.Scenes.{is_there}
 use Rattle.smx_client.specs.Sayings.{IsVerdict}
-use Rattle.smx_client.specs.Table.{Before, Phase, Opening, Written, MayCollect, Clear, Draining, MayRead, Deciding, MaySubmit, Unentered, Settled, Stopped, Clogged, Closing, Ending, Over, Failed, Exhausted, Wrong, step_of, phase_from, phase_of, go, from_opening, when_offered, begins, halts, from_written, from_boxing, from_collecting, from_draining, from_clear, from_may_read, from_deciding, from_may_submit, from_entering, from_closing, after_reply, after_got, after_collect, after_read, after_act, after_bind, after_verdict, Faulted, EndsIn, Stands, IsAt, last_end}
+use Rattle.smx_client.specs.Table.{Before, Phase, Opening, Written, MayCollect, Clear, Draining, MayRead, Deciding, MaySubmit, Unentered, Settled, Stopped, Clogged, Closing, Ending, Over, Failed, Exhausted, Wrong, step_of, phase_from, phase_of, go, from_opening, when_offered, when_written, halts, from_written, from_boxing, from_collecting, from_draining, from_clear, from_may_read, from_deciding, from_may_submit, from_entering, from_closing, after_reply, after_got, after_collect, after_read, after_act, after_bind, after_verdict, Faulted, EndsIn, Stands, IsAt, last_end}
 
 from_push : (t : Before) (p : Phase) (ss : List step_of) (s : step_of) → phase_from t p (ss ++ s ∷ []) ≡ go t (phase_from t p ss) s
 from_push t p [] s = refl
@@ -219,14 +219,14 @@ left_ends t q left quiet u rest held parked settled stage some h same unsent =
     halted Closed e = (tt, (unsent, sym e))
 
 -- what waited was written
-pub begun : (t : Before) (q : Phase) (left : Bool) → left ≡ false → (wrote : Bool) × (q ≡ go t Opening (Marked (Offered wrote left))) → q ≡ begins t t.stage
+pub begun : (t : Before) (q : Phase) (left : Bool) → left ≡ false → (wrote : Bool) × (q ≡ go t Opening (Marked (Offered wrote left))) → q ≡ when_written t t.stage
 begun t q left none h = h.1 ∙ ap (λ x. go t Opening (Marked (Offered h.0 x))) none ∙ opened t h.0 false
 
 -- where the worker was closed, that is all
-pub over_ends : (t : Before) (q : Phase) (quiet : Bool) (u rest : List ℕ) (held : Option Pdu) (parked : Option Answer) (settled : Bool) (stage : Stage) → q ≡ begins t t.stage → t.stage ≡ stage → stage ≡ Closed → u ≡ []
+pub over_ends : (t : Before) (q : Phase) (quiet : Bool) (u rest : List ℕ) (held : Option Pdu) (parked : Option Answer) (settled : Bool) (stage : Stage) → q ≡ when_written t t.stage → t.stage ≡ stage → stage ≡ Closed → u ≡ []
     → EndsIn Done quiet q × Stands q u rest held parked settled stage
 over_ends t q quiet u rest held parked settled stage at same closed none =
-    let e = at ∙ ap (begins t) (same ∙ closed) in (e, subst (λ x. Stands x u rest held parked settled stage) (sym e) (none, closed))
+    let e = at ∙ ap (when_written t) (same ∙ closed) in (e, subst (λ x. Stands x u rest held parked settled stage) (sym e) (none, closed))
 
 -- what is true where a part came so far
 pub stands_at : (at : Progress) (p : Phase) (u rest : List ℕ) (held : Option Pdu) (parked : Option Answer) (settled : Bool) (stage : Stage) → at ≢ progress.Closed → IsAt at p

@@ -10,7 +10,7 @@ use Rattle.smx_shared.specs.Ports.{HasAccepted}
 use Rattle.smx_turns.specs.Runs.{Runs}
 use Rattle.smx_client.specs.declared.event.Event.{Event}
 use Rattle.smx_client.specs.Replies.{parked_on}
-use Rattle.smx_client.specs.Events.{out_of, accepts_of, answers_of, outs, accepts, answers}
+use Rattle.smx_client.specs.Events.{out_of, event_accepts, event_answers, outs, accepts, answers}
 use Rattle.smx_client.specs.Parts.{Parts, Does, Chain}
 
 abbrev due : ℕ → Parts → List (Option Pdu)
@@ -22,19 +22,19 @@ runs_says a b [] r = ap (λ x. x.said) r ∙ sym (append-nil a.said)
 runs_says a b (e ∷ es) r =
     runs_says r.0 b es r.2 ∙ ap (λ l. l ++ flat_map out_of es) r.1.says ∙ append_assoc a.said (out_of e) (flat_map out_of es)
 
-runs_answers : (k : ℕ) (a b : Parts) (es : List Event) → k < a.lanes → Runs Does a es b → due k b ≡ due k a ++ flat_map (answers_of k) es
+runs_answers : (k : ℕ) (a b : Parts) (es : List Event) → k < a.lanes → Runs Does a es b → due k b ≡ due k a ++ flat_map (event_answers k) es
 unfolding Runs
 runs_answers k a b [] within r = ap (λ x. due k x) r ∙ sym (append-nil (due k a))
 runs_answers k a b (e ∷ es) within r =
     runs_answers k r.0 b es (subst (λ n. k < n) (sym r.1.lanes) within) r.2
-    ∙ ap (λ l. l ++ flat_map (answers_of k) es) (r.1.answers k within)
-    ∙ append_assoc (due k a) (answers_of k e) (flat_map (answers_of k) es)
+    ∙ ap (λ l. l ++ flat_map (event_answers k) es) (r.1.answers k within)
+    ∙ append_assoc (due k a) (event_answers k e) (flat_map (event_answers k) es)
 
-runs_lists : (a b : Parts) (es : List Event) → Runs Does a es b → (all : List Accepted) → HasAccepted a.port all → HasAccepted b.port (all ++ flat_map accepts_of es)
+runs_lists : (a b : Parts) (es : List Event) → Runs Does a es b → (all : List Accepted) → HasAccepted a.port all → HasAccepted b.port (all ++ flat_map event_accepts es)
 unfolding Runs
 runs_lists a b [] r all has = subst (λ x. HasAccepted x.port (all ++ [])) (sym r) (subst (HasAccepted a.port) (sym (append-nil all)) has)
 runs_lists a b (e ∷ es) r all has =
-    subst (HasAccepted b.port) (append_assoc all (accepts_of e) (flat_map accepts_of es)) (runs_lists r.0 b es r.2 (all ++ accepts_of e) (r.1.lists all has))
+    subst (HasAccepted b.port) (append_assoc all (event_accepts e) (flat_map event_accepts es)) (runs_lists r.0 b es r.2 (all ++ event_accepts e) (r.1.lists all has))
 
 pub chain_says : (a b : Parts) (es : List Event) → Chain a es b → b.said ≡ a.said ++ outs es
 unfolding outs

@@ -10,7 +10,7 @@ use Rattle.smx_client.specs.declared.reply.Parked.{Parked}
 use Rattle.smx_turns.specs.declared.mo_item.MoItem.{MoItem}
 use Rattle.smx_turns.proofs.Chains.{runs_none}
 use Rattle.smx_client.specs.declared.leaver.Leaving.{Leaving}
-use Rattle.smx_client.specs.Leaving.{Left, Leaves, rest_of, Gives, gets, get_of, is_put, is_answered}
+use Rattle.smx_client.specs.Leaving.{Left, LeavesRest, rest_of, GivesItem, gets, get_of, is_put, is_answered}
 
 gets_more : (es : List Leaving) (e : Leaving) → gets (es ++ e ∷ []) ≡ gets es + get_of e
 unfolding gets
@@ -25,7 +25,7 @@ pub gets_same : (es es' : List Leaving) (e : Leaving) → es' ≡ es ++ e ∷ []
 gets_same es es' e grown none = let h = gets_push es es' e grown in omega (arith, h, none)
 
 pub gives_is : (a b : Receiving MoItem) (r : Result (Got MoItem) Spent) → IfOk r (λ f. GetServes a b.front f) → IfOk r (λ f. Hands a.got b.got f)
-    → IsOk r → Gives a r b
+    → IsOk r → GivesItem a r b
 gives_is a b (Ok found) served hands fine = (served, hands)
 gives_is a b (Err e) served hands fine = absurd (true≢false (sym fine))
 
@@ -37,7 +37,7 @@ left_first h h' w w' i i' x x' es none parked window inbox senders =
     (subst (λ o. Left (rest_of h o i' x') [] (rest_of h w i x)) (sym window)
     (subst (λ o. Left (rest_of h w o x') [] (rest_of h w i x)) (sym inbox)
     (subst (λ o. Left (rest_of h w i o) [] (rest_of h w i x)) (sym senders)
-    ∣ runs_none Leaves (rest_of h w i x) ∣₁))))
+    ∣ runs_none LeavesRest (rest_of h w i x) ∣₁))))
 
 pub gets_none : (es : List Leaving) → es ≡ [] → gets es ≡ 0
 unfolding gets

@@ -94,12 +94,12 @@ fate_accepts Own = []
 fate_accepts (Submitted o r) = accepted_by o.value r.value
 fate_accepts (Settled found reply) = []
 
-abbrev pub accepts_of : Event → List Accepted
-accepts_of (Decided p a f) = fate_accepts f
-accepts_of (Broke a) = []
-accepts_of (Collected lane r) = []
-accepts_of (Fetched g d) = []
-accepts_of (PutAgain lane reply) = []
+abbrev pub event_accepts : Event → List Accepted
+event_accepts (Decided p a f) = fate_accepts f
+event_accepts (Broke a) = []
+event_accepts (Collected lane r) = []
+event_accepts (Fetched g d) = []
+event_accepts (PutAgain lane reply) = []
 
 abbrev pub settled_out : ℕ → Pdu → Option (ℕ × ℕ) → List (Option Pdu)
 settled_out k p None = []
@@ -119,12 +119,12 @@ got_answers k (Ok found) d = item_answers k found d
 got_answers k (Err e) d = []
 
 -- the answers that an event has for the return box of lane k
-abbrev pub answers_of : ℕ → Event → List (Option Pdu)
-answers_of k (Decided p a f) = fate_answers k p.value f
-answers_of k (Broke a) = []
-answers_of k (Collected lane r) = []
-answers_of k (Fetched g d) = got_answers k g.value d
-answers_of k (PutAgain lane reply) = []
+abbrev pub event_answers : ℕ → Event → List (Option Pdu)
+event_answers k (Decided p a f) = fate_answers k p.value f
+event_answers k (Broke a) = []
+event_answers k (Collected lane r) = []
+event_answers k (Fetched g d) = got_answers k g.value d
+event_answers k (PutAgain lane reply) = []
 
 abbrev pub fate_puts : ℕ → Pdu → Fate → List (Option Pdu)
 fate_puts k p Own = []
@@ -223,10 +223,10 @@ unfoldable pub outs : List Event → List Pdu
 outs es = flat_map out_of es
 
 unfoldable pub accepts : List Event → List Accepted
-accepts es = flat_map accepts_of es
+accepts es = flat_map event_accepts es
 
 unfoldable pub answers : ℕ → List Event → List (Option Pdu)
-answers k es = flat_map (answers_of k) es
+answers k es = flat_map (event_answers k) es
 
 -- the PDU that waits
 abbrev pub held_list : Option Pdu → List Pdu

@@ -36,9 +36,9 @@ item_refused k (Ok (found.Item p n item)) = on_lane k item.lane (refused_up (res
 item_refused k _ = []
 
 -- one step of the box served a get, which is never spent
-abbrev pub Gives : Receiving MoItem → Result (Got MoItem) Spent → Receiving MoItem → Type 0
-Gives a (Ok found) b = GetServes a b.front found × Hands a.got b.got found
-Gives a (Err e) b = ⊥
+abbrev pub GivesItem : Receiving MoItem → Result (Got MoItem) Spent → Receiving MoItem → Type 0
+GivesItem a (Ok found) b = GetServes a b.front found × Hands a.got b.got found
+GivesItem a (Err e) b = ⊥
 
 -- the order: the answer that waits before all, then the messages that were sent by rising number, then the box's items
 abbrev pub answers_next : Rest → Leaving → Rest → Type 0
@@ -47,14 +47,14 @@ answers_next v (Kept took) w = (a : Parked) × (v.parked ≡ Some a) × (w.parke
 answers_next v (Row lane number command took) w = (row : Waiting) × (v.parked ≡ None) × IsFirst v.window.waiting row × (lane ≡ row.lane) × (number ≡ row.number) × (command ≡ row.command)
     × (w.parked ≡ None) × (w.window ≡ record v.window { waiting = without row.given v.window.waiting }) × (w.inbox ≡ v.inbox)
     × ((k : ℕ) → k < v.lanes → w.put k ≡ v.put k ++ when took (on_lane k lane (refused_up (response_of command) number)))
-answers_next v (Item g took) w = (v.parked ≡ None) × (v.window.waiting ≡ []) × (w.parked ≡ None) × (w.window ≡ v.window) × Gives v.inbox g.value w.inbox
+answers_next v (Item g took) w = (v.parked ≡ None) × (v.window.waiting ≡ []) × (w.parked ≡ None) × (w.window ≡ v.window) × GivesItem v.inbox g.value w.inbox
     × ((k : ℕ) → k < v.lanes → w.put k ≡ v.put k ++ when took (item_refused k g.value))
 
-abbrev pub Leaves : Rest → Leaving → Rest → Type 0
-Leaves v e w = answers_next v e w × (w.lanes ≡ v.lanes)
+abbrev pub LeavesRest : Rest → Leaving → Rest → Type 0
+LeavesRest v e w = answers_next v e w × (w.lanes ≡ v.lanes)
 
 abbrev pub Left : Rest → List Leaving → Rest → Type 0
-Left a es b = ∥ Runs Leaves a es b ∥₁
+Left a es b = ∥ Runs LeavesRest a es b ∥₁
 
 abbrev pub IsNothing : Result (Got MoItem) Spent → Type 0
 IsNothing (Ok (found.Item p n item)) = ⊥

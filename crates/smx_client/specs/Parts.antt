@@ -21,7 +21,7 @@ use Rattle.smx_box.specs.declared.receiver.Got.{Got}
 use Rattle.smx_box.specs.declared.receiver.Got.TheVariants.{Item, Shut, Empty}
 use Rattle.smx_routes.specs.declared.mo_window.Waiting.{Waiting}
 use Rattle.smx_box.specs.Boxes.{Sending, Receiving, GetServes, Hands}
-use Rattle.smx_routes.specs.Window.{Window, IsNext, message_for, without}
+use Rattle.smx_routes.specs.Window.{Window, IsFirstFree, message_for, without}
 use Rattle.smx_turns.specs.Runs.{Runs}
 use Rattle.smx_turns.specs.declared.mo_item.MoItem.{MoItem}
 use Rattle.smx_client.specs.declared.desk.Desk.{Desk}
@@ -33,7 +33,7 @@ use Rattle.smx_client.specs.declared.event.Fate.TheVariants.{Own, Submitted, Set
 use Rattle.smx_client.specs.declared.event.Delivery.{Delivery}
 use Rattle.smx_client.specs.declared.event.Delivery.TheVariants.{Given, Refused, Dropped}
 use Rattle.smx_client.specs.Replies.{Parks, put_in, parked_on}
-use Rattle.smx_client.specs.Events.{out_of, accepts_of, answers_of, puts_of}
+use Rattle.smx_client.specs.Events.{out_of, event_accepts, event_answers, puts_of}
 
 -- the offer is the request that the PDU asks for
 pub record IsOfferOf (p : Pdu) (o : Offer) : Type 0 where
@@ -93,7 +93,7 @@ fate_window p (Settled found reply) w u = settle_step p found w u
 
 -- an item waits under the number that it is given
 abbrev pub item_step : Got MoItem → Delivery → Window → Window → Type 0
-item_step (Item p n item) (Given number) w u = IsNext w number × (u ≡ record w {
+item_step (Item p n item) (Given number) w u = IsFirstFree w number × (u ≡ record w {
   last = number;
   waiting = w.waiting ++ record { given = number; lane = item.lane; number = item.number; command = item.pdu.command } ∷ [];
 })
@@ -167,12 +167,12 @@ pub record Parts : Type 0 where
 pub record Does (v : Parts) (e : Event) (w : Parts) : Type 0 where
   pub says : w.said ≡ v.said ++ out_of e
   pub port : port_step v.port e w.port
-  pub lists : (all : List Accepted) → HasAccepted v.port all → HasAccepted w.port (all ++ accepts_of e)
+  pub lists : (all : List Accepted) → HasAccepted v.port all → HasAccepted w.port (all ++ event_accepts e)
   pub session : session_step v.desk.accounts.items v.session e w.session
   pub window : window_step v.window e w.window
   pub inbox : inbox_step v.port.client v.lanes v.inbox e w.inbox
   pub puts : (k : ℕ) → k < v.lanes → w.put k ≡ v.put k ++ puts_of k v.parked e
-  pub answers : (k : ℕ) → k < v.lanes → w.put k ++ parked_on k w.parked ≡ v.put k ++ parked_on k v.parked ++ answers_of k e
+  pub answers : (k : ℕ) → k < v.lanes → w.put k ++ parked_on k w.parked ≡ v.put k ++ parked_on k v.parked ++ event_answers k e
   pub parked : parked_step v.parked e w.parked
   pub desk : w.desk ≡ v.desk
   pub lanes : w.lanes ≡ v.lanes

@@ -19,5 +19,5 @@ items_in None = []
 items_in (Some ps) = ps.items
 
 -- those of an account
-abbrev pub prefixes_of : List (Vec (Vec ℕ Global) Global) → ℕ → List (Vec ℕ Global)
-prefixes_of all account = items_in (slice_get all account)
+abbrev pub account_prefixes : List (Vec (Vec ℕ Global) Global) → ℕ → List (Vec ℕ Global)
+account_prefixes all account = items_in (slice_get all account)

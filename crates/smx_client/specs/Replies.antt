@@ -21,15 +21,15 @@ refused_up (Some id) number = record { command = id; status = ESME_RX_T_APPN; nu
 abbrev pub on_lane : ℕ → ℕ → List Pdu → List (Option Pdu)
 on_lane k lane ps = if k == lane then map Some ps else []
 
-abbrev pub is_taken : Reply → Bool
-is_taken Taken = true
-is_taken Full = false
-is_taken Spent = false
-is_taken Nobody = false
+abbrev pub is_answer_taken : Reply → Bool
+is_answer_taken Taken = true
+is_answer_taken Full = false
+is_answer_taken Spent = false
+is_answer_taken Nobody = false
 
 -- those that a return box took
 abbrev pub if_taken : Reply → List (Option Pdu) → List (Option Pdu)
-if_taken reply ps = if is_taken reply then ps else []
+if_taken reply ps = if is_answer_taken reply then ps else []
 
 -- the answer waits then where its box refused it
 abbrev pub Parks : Reply → Option Parked → Type 0

@@ -97,10 +97,10 @@ when_drained true = Draining
 when_drained false = Deciding true
 
 -- where a turn stands once what waited was written
-abbrev pub begins : Before → Stage → Phase
-begins t Open = Written
-begins t Drained = when_drained t.parked
-begins t Closed = Over
+abbrev pub when_written : Before → Stage → Phase
+when_written t Open = Written
+when_written t Drained = when_drained t.parked
+when_written t Closed = Over
 
 -- where it stands where some is left
 abbrev pub halts : Stage → Phase
@@ -109,7 +109,7 @@ halts Drained = Left
 halts Closed = Ending
 
 abbrev pub when_offered : Before → Bool → Phase
-when_offered t false = begins t t.stage
+when_offered t false = when_written t t.stage
 when_offered t true = halts t.stage
 
 unfoldable pub from_opening : Before → step_of → Phase
@@ -307,9 +307,9 @@ abbrev pub IsOffered : Before → Phase → Result Bool Fault → Phase → Type
 IsOffered t p (Ok left) q = (wrote : Bool) × (q ≡ go t p (Marked (Offered wrote left)))
 IsOffered t p (Err e) q = (e ≡ fault.Link) × (q ≡ go t p (Marked WriteFailed))
 
-abbrev pub IsCollected : ℕ → Result (Unit {0}) Fault → Phase → Type 0
-IsCollected n (Ok _) p = p ≡ MayCollect (n + 1)
-IsCollected n (Err e) p = Faulted e p
+abbrev pub IsCollectedFrom : ℕ → Result (Unit {0}) Fault → Phase → Type 0
+IsCollectedFrom n (Ok _) p = p ≡ MayCollect (n + 1)
+IsCollectedFrom n (Err e) p = Faulted e p
 
 abbrev pub IsAt : Progress → Phase → Type 0
 IsAt progress.Settled p = p ≡ Settled

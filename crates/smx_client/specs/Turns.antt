@@ -15,7 +15,7 @@ use Rattle.smx_client.specs.declared.mark.Mark.TheVariants.{Offered, WriteFailed
 use Rattle.smx_client.specs.declared.event.Event.{Event}
 use Rattle.smx_client.specs.Events.{out_of, tells_of}
 use Rattle.smx_client.specs.Parts.{Parts, Does}
-use Rattle.smx_client.specs.Prefixes.{Adds, prefixes_of}
+use Rattle.smx_client.specs.Prefixes.{Adds, account_prefixes}
 
 -- What a turn may change, as contracts see it
 pub record Scene : Type 0 where
@@ -64,7 +64,7 @@ Marks a Clogs b = (65536 ≤ length a.unsent) × (b ≡ a)
 Marks a NoRoom b = (length a.parts.window.waiting ≡ a.parts.window.places) × (b ≡ a)
 Marks a Part b = b ≡ a
 Marks a (Entered account whole) b =
-    Adds a.parts.port.client (prefixes_of a.parts.desk.prefixes.items account) a.queries b.queries whole × (b ≡ record a { queries = b.queries })
+    Adds a.parts.port.client (account_prefixes a.parts.desk.prefixes.items account) a.queries b.queries whole × (b ≡ record a { queries = b.queries })
 
 -- an event is a step of the parts, tells the gate, and what it says waits to be written
 pub record Happens (a : Scene) (e : Event) (b : Scene) : Type 0 where

@@ -1,6 +1,6 @@
 //! How a client that binds is entered into the directory.
 ghost use Rattle.std.specs.Prelude.{◌≡◌, ℕ};
-ghost use Rattle.smx_client.specs.Prefixes.{Adds, prefixes_of};
+ghost use Rattle.smx_client.specs.Prefixes.{Adds, account_prefixes};
 
 use crate::desk::Desk;
 use smx_routes::RouteFault;
@@ -28,7 +28,7 @@ pub(crate) fn add_all<D: Directory, R: Wait>(
 
 // The prefixes of an account.
 pub(crate) fn prefixes_at(desk: &Desk, account: usize) -> &[Vec<u8>]
-    ensures { result.now ≡ prefixes_of desk.now.prefixes.items account }
+    ensures { result.now ≡ account_prefixes desk.now.prefixes.items account }
 {
     match desk.prefixes.get(account) {
         Some(prefixes) => prefixes.as_slice(),

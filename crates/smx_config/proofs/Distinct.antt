@@ -6,7 +6,7 @@ use Rattle.std.proofs.lemmas.List.Folds.{list_any_at}
 use Rattle.std.proofs.lemmas.Slice.Eq.{bytes_eq-Decides}
 use Rattle.toml.specs.Data.{Data}
 use Rattle.smx_config.specs.declared.text.Text.TheVariants.{Prefix}
-use Rattle.smx_config.specs.Reading.{prefix_of, text_of}
+use Rattle.smx_config.specs.Reading.{prefix_in, text_of}
 
 pub list_any-map : {A B : Type 0} (p : B → Bool) (f : A → B) (xs : List A) → list_any (λ x. p (f x)) xs ≡ list_any p (map f xs)
 list_any-map p f [] = refl
@@ -22,8 +22,8 @@ All-from_none name s xs none k d h e =
     cc
 
 -- a text that is among those before it states no prefix, and another one does
-pub prefix_of-known : (s : List ℕ) (before : List (List ℕ)) (d : Data) → Some s ≡ text_of Prefix d → list_any (bytes_eq s) before ≡ true → None ≡ prefix_of before d
-prefix_of-known s before d is known = rw (← is, known)
+pub prefix_in-known : (s : List ℕ) (before : List (List ℕ)) (d : Data) → Some s ≡ text_of Prefix d → list_any (bytes_eq s) before ≡ true → None ≡ prefix_in before d
+prefix_in-known s before d is known = rw (← is, known)
 
-pub prefix_of-new : (s : List ℕ) (before : List (List ℕ)) (d : Data) → Some s ≡ text_of Prefix d → list_any (bytes_eq s) before ≡ false → Some s ≡ prefix_of before d
-prefix_of-new s before d is other = rw (← is, other)
+pub prefix_in-new : (s : List ℕ) (before : List (List ℕ)) (d : Data) → Some s ≡ text_of Prefix d → list_any (bytes_eq s) before ≡ false → Some s ≡ prefix_in before d
+prefix_in-new s before d is other = rw (← is, other)

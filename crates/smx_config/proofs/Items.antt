@@ -7,7 +7,7 @@ use Rattle.toml.proofs.Views.{items_view-drop}
 use Rattle.toml.specs.Data.{Data}
 use Rattle.toml.specs.View.{view, items_view}
 use Rattle.toml.specs.declared.value.Value.{Value}
-use Rattle.smx_config.specs.Reading.{are_tables, item_count, prefix_of, prefixes_of, stated_after, tables_within}
+use Rattle.smx_config.specs.Reading.{are_tables, item_count, prefix_in, prefixes_of, stated_after, tables_within}
 
 pub item_count-items_view : (vs : List Value) → item_count (items_view vs) ≡ length vs
 item_count-items_view [] = refl
@@ -22,7 +22,7 @@ prefixes_of-long vs h =
     let long : nat_le (length vs) 16 ≡ false = grind (arith, nat_tests) in
     rw (item_count-items_view vs, long)
 
-pub prefixes_of-few : (vs : List Value) → length vs ≤ 16 → prefixes_of (items_view vs) ≡ result_ok (stated_after prefix_of [] (items_view vs))
+pub prefixes_of-few : (vs : List Value) → length vs ≤ 16 → prefixes_of (items_view vs) ≡ result_ok (stated_after prefix_in [] (items_view vs))
 prefixes_of-few vs h = rw (item_count-items_view vs, le-leb (length vs) 16 h)
 
 -- where an item states something, the others state theirs after it

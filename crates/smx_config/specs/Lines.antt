@@ -43,17 +43,17 @@ file_line file.NotUtf8 = text_line (codes "fault file")
 file_line file.NoMemory = fault_line NoMemory
 
 -- what reading a text comes to: what the text states, but for want of memory
-abbrev pub ComesTo : List ℕ → Result Settings ConfigFault → Type 0
-ComesTo text outcome = (outcome ≡ settings_of text) ⊎ (outcome ≡ Err NoMemory)
+abbrev pub ReadsAs : List ℕ → Result Settings ConfigFault → Type 0
+ReadsAs text outcome = (outcome ≡ settings_of text) ⊎ (outcome ≡ Err NoMemory)
 
 -- the part of a configuration that a fault speaks of, before the words on it
-abbrev pub place_of : ConfigFault → List ℕ
-place_of NotToml = []
-place_of Listen = []
-place_of Numbers = []
-place_of Limits = codes "limits: "
-place_of Upstreams = []
-place_of (Upstream i) = codes "upstream " ++ (decimal i ++ codes ": ")
-place_of Accounts = []
-place_of (Account i) = codes "account " ++ (decimal i ++ codes ": ")
-place_of NoMemory = []
+abbrev pub fault_place : ConfigFault → List ℕ
+fault_place NotToml = []
+fault_place Listen = []
+fault_place Numbers = []
+fault_place Limits = codes "limits: "
+fault_place Upstreams = []
+fault_place (Upstream i) = codes "upstream " ++ (decimal i ++ codes ": ")
+fault_place Accounts = []
+fault_place (Account i) = codes "account " ++ (decimal i ++ codes ": ")
+fault_place NoMemory = []

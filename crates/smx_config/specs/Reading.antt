@@ -26,8 +26,8 @@ abbrev pub number_of : Number → Data → Option ℕ
 number_of key d = option_and_then (number_within key) (as_integer d)
 
 -- the number at a key, or its default where the key is absent
-abbrev pub number_at : Number → Members → Option ℕ
-number_at key ms = option_map_or (number_of key) (get_member (number_key key) ms) (Some (default_of key))
+abbrev pub number_or_default : Number → Members → Option ℕ
+number_or_default key ms = option_map_or (number_of key) (get_member (number_key key) ms) (Some (default_of key))
 
 -- the text, where it may stand at the key
 abbrev pub text_within : Text → List ℕ → Option (List ℕ)
@@ -51,7 +51,7 @@ all_three (Some clients) (Some places) None = None
 all_three (Some clients) (Some places) (Some silence) = Some (clients, places, silence)
 
 abbrev pub numbers_of : Members → Option (ℕ × ℕ × ℕ)
-numbers_of ms = all_three (number_at number.Clients ms) (number_at number.Places ms) (number_at number.Silence ms)
+numbers_of ms = all_three (number_or_default number.Clients ms) (number_or_default number.Places ms) (number_or_default number.Silence ms)
 
 -- a lane's limits, where each is in its range
 abbrev pub all_four : Option ℕ → Option ℕ → Option ℕ → Option ℕ → Option Limits
@@ -61,12 +61,12 @@ all_four (Some queue) (Some window) None history = None
 all_four (Some queue) (Some window) (Some client) None = None
 all_four (Some queue) (Some window) (Some client) (Some history) = Some (record { queue = queue; window = window; client = client; history = history })
 
-abbrev pub limits_of : Members → Option Limits
-limits_of ms = all_four (number_at number.Queue ms) (number_at number.Window ms) (number_at number.Client ms) (number_at number.History ms)
+abbrev pub stated_limits : Members → Option Limits
+stated_limits ms = all_four (number_or_default number.Queue ms) (number_or_default number.Window ms) (number_or_default number.Client ms) (number_or_default number.History ms)
 
 -- the limits that a table states; where it is absent, each is the default
 abbrev pub limits_at : Members → Option Limits
-limits_at ms = option_map_or (λ d. option_and_then limits_of (as_table d)) (get_member (codes "limits") ms) (limits_of no_members)
+limits_at ms = option_map_or (λ d. option_and_then stated_limits (as_table d)) (get_member (codes "limits") ms) (stated_limits no_members)
 
 abbrev pub item_count : Items → ℕ
 item_count no_items = 0
@@ -95,19 +95,19 @@ upstream_from (Some address) None password = None
 upstream_from (Some address) (Some system_id) None = None
 upstream_from (Some address) (Some system_id) (Some password) = Some (record { address = address; system_id = system_id; password = password })
 
-abbrev pub upstream_of : List UpstreamSettings → Data → Option UpstreamSettings
-upstream_of before d = upstream_from (text_in text.Address d) (text_in text.SystemId d) (text_in text.Password d)
+abbrev pub upstream_in : List UpstreamSettings → Data → Option UpstreamSettings
+upstream_in before d = upstream_from (text_in text.Address d) (text_in text.SystemId d) (text_in text.Password d)
 
 -- a prefix that no earlier one of the account equals
 abbrev pub new_prefix : List (List ℕ) → List ℕ → Option (List ℕ)
 new_prefix before p = if list_any (bytes_eq p) before then None else Some p
 
-abbrev pub prefix_of : List (List ℕ) → Data → Option (List ℕ)
-prefix_of before d = option_and_then (new_prefix before) (text_of text.Prefix d)
+abbrev pub prefix_in : List (List ℕ) → Data → Option (List ℕ)
+prefix_in before d = option_and_then (new_prefix before) (text_of text.Prefix d)
 
 -- at most 16 prefixes
 abbrev pub prefixes_of : Items → Option (List (List ℕ))
-prefixes_of ds = if nat_le (item_count ds) 16 then result_ok (stated_after prefix_of [] ds) else None
+prefixes_of ds = if nat_le (item_count ds) 16 then result_ok (stated_after prefix_in [] ds) else None
 
 -- the prefixes of an account, of which it may have none
 abbrev pub prefixes_in : Data → Option (List (List ℕ))
@@ -123,8 +123,8 @@ account_from (Some system_id) (Some password) (Some prefixes) = Some (record { s
 abbrev pub new_account : List AccountSettings → AccountSettings → Option AccountSettings
 new_account before a = if list_any (λ b. bytes_eq a.system_id b.system_id) before then None else Some a
 
-abbrev pub account_of : List AccountSettings → Data → Option AccountSettings
-account_of before d = option_and_then (new_account before) (account_from (text_in text.SystemId d) (text_in text.Password d) (prefixes_in d))
+abbrev pub account_in : List AccountSettings → Data → Option AccountSettings
+account_in before d = option_and_then (new_account before) (account_from (text_in text.SystemId d) (text_in text.Password d) (prefixes_in d))
 
 -- goes on with what is stated, or stops at the fault
 abbrev pub on : {A B E : Type 0} → Result A E → (A → Result B E) → Result B E
@@ -137,10 +137,10 @@ faulty fault (Ok a) = Ok a
 faulty fault (Err i) = Err (fault i)
 
 abbrev pub upstreams_of : Items → Result (List UpstreamSettings) ConfigFault
-upstreams_of ds = faulty fault.Upstream (stated_after upstream_of [] ds)
+upstreams_of ds = faulty fault.Upstream (stated_after upstream_in [] ds)
 
 abbrev pub accounts_of : Items → Result (List AccountSettings) ConfigFault
-accounts_of ds = faulty fault.Account (stated_after account_of [] ds)
+accounts_of ds = faulty fault.Account (stated_after account_in [] ds)
 
 -- the settings that a table states, or the first fault in this order
 abbrev pub config_of : Members → Result Settings ConfigFault

@@ -6,7 +6,7 @@ ghost use Rattle.toml.specs.View.{view, items_view};
 ghost use Rattle.smx_config.specs.declared.text.Text.TheVariants as text;
 ghost use Rattle.smx_config.specs.Keys.{is_text};
 ghost use Rattle.smx_config.specs.Settings.{ArePrefixes};
-ghost use Rattle.smx_config.specs.Reading.{prefix_of, prefixes_of, prefixes_in, account_of, accounts_of};
+ghost use Rattle.smx_config.specs.Reading.{prefix_in, prefixes_of, prefixes_in, account_in, accounts_of};
 
 use crate::fault::ConfigFault;
 use crate::text::Text;
@@ -80,7 +80,7 @@ fn read_prefix(
     value: &Value,
 ) -> Result<Option<String>, AllocError>
     ensures value { IfOk result (λ r. option_map string_bytes r
-        ≡ prefix_of (map string_bytes before.now) (view value.now)) }
+        ≡ prefix_in (map string_bytes before.now) (view value.now)) }
     ensures short { IfOk result (λ r. IfSome r
         (λ p. IsTrue (is_text text.Prefix (string_bytes p)))) }
     ensures new { IfOk result (λ r. IfSome r
@@ -136,7 +136,7 @@ fn read_account(
     before: &[Account],
     value: &Value,
 ) -> Result<Option<Account>, AllocError>
-    ensures value { IfOk result (λ a. a ≡ account_of before.now (view value.now)) }
+    ensures value { IfOk result (λ a. a ≡ account_in before.now (view value.now)) }
     ensures new { IfOk result (λ r. IfSome r
         (λ a. All (λ b. b.system_id ≢ a.system_id) before.now)) }
 {

@@ -1,6 +1,6 @@
 //! What is wrong with a configuration and what would be right, in words for a person.
 ghost use Rattle.std.specs.Prelude.{◌≡◌, List, ℕ, ◌++◌, IfOk, string_bytes};
-ghost use Rattle.smx_config.specs.Lines.{place_of};
+ghost use Rattle.smx_config.specs.Lines.{fault_place};
 
 use crate::account::MAX_PREFIXES;
 use crate::fault::ConfigFault;
@@ -14,7 +14,7 @@ use toml::{Table, Value};
 
 // What stands before the words on a part of the configuration.
 fn place(alloc: Global, fault: ConfigFault) -> Result<String, AllocError>
-    ensures { IfOk result (λ place. string_bytes place ≡ place_of fault) }
+    ensures { IfOk result (λ place. string_bytes place ≡ fault_place fault) }
 {
     match fault {
         ConfigFault::Limits => String::from_str(alloc, "limits: "),
@@ -246,7 +246,7 @@ fn words_on(alloc: Global, text: &str, fault: ConfigFault) -> Result<String, All
 /// one sentence. Of its words no clause says more than the place with which they begin.
 pub fn advice(alloc: Global, text: &str, fault: ConfigFault) -> Result<String, AllocError>
     ensures place { IfOk result (λ advice. (words : List ℕ)
-        × (string_bytes advice ≡ place_of fault ++ words)) }
+        × (string_bytes advice ≡ fault_place fault ++ words)) }
 {
     let mut advice = place(alloc, fault)?;
     let words = words_on(alloc, text, fault)?;

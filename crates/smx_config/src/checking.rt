@@ -3,7 +3,7 @@ ghost use Rattle.std.specs.Prelude.{◌≡◌, ℕ, List, ◌++◌, length, IfOk
 ghost use Rattle.std.specs.Io.KnownBytes.{Appends};
 ghost use Rattle.smx_config.specs.declared.fault.ConfigFault.{ConfigFault};
 ghost use Rattle.smx_config.specs.Settings.{Settings};
-ghost use Rattle.smx_config.specs.Lines.{ComesTo, fault_line, file_line, line_of, ok_line};
+ghost use Rattle.smx_config.specs.Lines.{ReadsAs, fault_line, file_line, line_of, ok_line};
 
 use crate::config::Config;
 use crate::fault::ConfigFault;
@@ -51,10 +51,10 @@ fn fault_line(alloc: Global, fault: ConfigFault) -> Result<String, AllocError>
 /// fault's name and its index, if it has one. True for `ok`. The writer isn't flushed.
 pub fn check<W: Write>(alloc: Global, text: &str, writer: &mut W) -> Result<bool, WriteFault>
     ensures ok { IfOk result (λ fine. (outcome : Result Settings ConfigFault)
-        × ComesTo text.now outcome × (fine ≡ is_ok outcome)
+        × ReadsAs text.now outcome × (fine ≡ is_ok outcome)
         × Appends (W.contents writer.old) (W.contents writer.new) (line_of outcome)) }
     ensures err { OnErr result ((outcome : Result Settings ConfigFault) × (front back : List ℕ)
-        × ComesTo text.now outcome × (line_of outcome ≡ front ++ back)
+        × ReadsAs text.now outcome × (line_of outcome ≡ front ++ back)
         × Appends (W.contents writer.old) (W.contents writer.new) front) }
 {
     let (line, fine) = match read(alloc, text) {

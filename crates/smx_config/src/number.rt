@@ -2,7 +2,7 @@
 ghost use Rattle.std.specs.Prelude.{◌≡◌, IfSome, IsTrue};
 ghost use Rattle.toml.specs.View.{table_view, view};
 ghost use Rattle.smx_config.specs.Keys.{number_key, least_of, most_of, default_of, is_number};
-ghost use Rattle.smx_config.specs.Reading.{number_of, number_at};
+ghost use Rattle.smx_config.specs.Reading.{number_of, number_or_default};
 
 use crate::table::find;
 use toml::{Table, Value};
@@ -100,7 +100,7 @@ impl Number {
 
     /// The number at this key, or its default where the key is absent.
     pub(crate) fn at(self, table: &Table) -> Option<u32>
-        ensures value { result ≡ number_at self (table_view table.now) }
+        ensures value { result ≡ number_or_default self (table_view table.now) }
         ensures kept { IfSome result (λ n. IsTrue (is_number self n)) }
     {
         match find(table, self.key()) {

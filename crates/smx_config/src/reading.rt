@@ -3,7 +3,7 @@ ghost use Rattle.std.specs.Prelude.{◌≡◌, ◌≢◌, ◌⊎◌, ◌≤◌, 
 ghost use Rattle.toml.specs.Parse.{parse_document};
 ghost use Rattle.toml.specs.View.{table_view};
 ghost use Rattle.smx_history.specs.Room.{AreLimits};
-ghost use Rattle.smx_config.specs.Reading.{numbers_of, limits_of, limits_at, config_of, settings_of};
+ghost use Rattle.smx_config.specs.Reading.{numbers_of, stated_limits, limits_at, config_of, settings_of};
 
 use crate::account::read_accounts;
 use crate::config::Config;
@@ -36,7 +36,7 @@ fn numbers(table: &Table) -> Option<(u32, u32, u32)>
 
 // What the keys of a table say of a lane's limits.
 fn limits_in(table: &Table) -> Option<Limits>
-    ensures value { result ≡ limits_of (table_view table.now) }
+    ensures value { result ≡ stated_limits (table_view table.now) }
     ensures kept { IfSome result (λ limits. AreLimits limits) }
 {
     let queue = Number::Queue.at(table)?;

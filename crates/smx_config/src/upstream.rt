@@ -1,7 +1,7 @@
 //! The binds to the message centre.
 ghost use Rattle.std.specs.Prelude.{◌≡◌, ◌≢◌, ◌⊎◌, [], IfOk, IfErr, MatchResult, length};
 ghost use Rattle.toml.specs.View.{view, items_view};
-ghost use Rattle.smx_config.specs.Reading.{upstream_of, upstreams_of};
+ghost use Rattle.smx_config.specs.Reading.{upstream_in, upstreams_of};
 
 use crate::fault::ConfigFault;
 use crate::text::Text;
@@ -50,7 +50,7 @@ impl fmt::Debug for Upstream {
 
 // The upstream that a value states.
 fn read_upstream(alloc: Global, value: &Value) -> Result<Option<Upstream>, AllocError>
-    ensures { IfOk result (λ u. u ≡ upstream_of [] (view value.now)) }
+    ensures { IfOk result (λ u. u ≡ upstream_in [] (view value.now)) }
 {
     let Some(address) = Text::Address.within(value) else {
         return Ok(None);

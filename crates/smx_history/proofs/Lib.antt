@@ -36,7 +36,7 @@ pub mod FitsTake
 pub mod FitsSettle
 pub mod FitsCollect
 pub mod Presence
-pub mod Finding
+pub mod WindowOrder
 pub mod Rows
 pub mod Pending
 pub mod Shifting

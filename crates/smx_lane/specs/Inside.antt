@@ -17,7 +17,7 @@ content_of a = record {
   entries = a.entries.items;
 }
 
-pub record Holds (a : Inside) : Type 0 where
+pub record KeepsLimits (a : Inside) : Type 0 where
   pub room : KeepsRoom (content_of a)
   pub queue : a.queue.capacity ≡ a.limits.queue
   pub window : a.window.most ≡ a.limits.window

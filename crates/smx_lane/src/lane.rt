@@ -39,11 +39,11 @@ impl Model for Lane {
 
     ghost Value = { Content };
 
-    ghost use Rattle.smx_lane.specs.Inside.{content_of, Holds};
+    ghost use Rattle.smx_lane.specs.Inside.{content_of, KeepsLimits};
 
     ghost view = { content_of };
 
-    ghost invariant = { Holds };
+    ghost invariant = { KeepsLimits };
 }
 
 // Whether the limits are in their ranges.

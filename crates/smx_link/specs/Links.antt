@@ -19,9 +19,9 @@ IsPolledWithin (Octets n) room = n ≤ room
 IsPolledWithin Nothing room = Unit {0}
 IsPolledWithin End room = Unit {0}
 
-abbrev pub IsWithin : Result Polled LinkFault → ℕ → Type 0
-IsWithin (Ok polled) room = IsPolledWithin polled room
-IsWithin (Err fault) room = Unit {0}
+abbrev pub IsReadWithin : Result Polled LinkFault → ℕ → Type 0
+IsReadWithin (Ok polled) room = IsPolledWithin polled room
+IsReadWithin (Err fault) room = Unit {0}
 
 abbrev pub octets_written : Result ℕ LinkFault → List ℕ → List ℕ
 octets_written (Ok n) octets = take n octets

@@ -2,7 +2,7 @@
 ghost use Rattle.std.specs.Prelude.{◌≡◌, ℕ, ◌+◌, ◌≤◌, ◌++◌, List, length, IfOk, Result};
 ghost use Rattle.smx_link.specs.declared.link.Polled.{Polled};
 ghost use Rattle.smx_link.specs.declared.link.LinkFault.{LinkFault};
-ghost use Rattle.smx_link.specs.Links.{octets_read, octets_written, IsWithin, polls_of, fault_count};
+ghost use Rattle.smx_link.specs.Links.{octets_read, octets_written, IsReadWithin, polls_of, fault_count};
 
 /// What a read found.
 #[derive(Clone, Copy, Debug, PartialEq, Eq)]
@@ -43,7 +43,7 @@ pub trait Link {
         ensures offered { offered self.new ≡ offered self.old }
         ensures polls { polls self.new ≡ polls self.old ++ polls_of (length buffer.new) result }
         ensures failures { failures self.new ≡ failures self.old + fault_count result }
-        ensures within { IsWithin result (length buffer.new) };
+        ensures within { IsReadWithin result (length buffer.new) };
 
     /// Takes some of the octets, from the first on. 0 of them: nothing now.
     fn write(&mut self, octets: &[u8]) -> Result<usize, LinkFault>

@@ -17,7 +17,7 @@ use Rattle.smx_ticket_core.specs.declared.callers.Caller.{Caller}
 use Rattle.smx_ticket_core.specs.declared.callers.Caller.TheVariants.{Idle, Read, Saw, Waiting, Holding}
 use Rattle.smx_ticket_core.specs.declared.callers.Event.{Event}
 use Rattle.smx_ticket_core.specs.declared.callers.Event.TheVariants.{ReadNext, Draw, Look, Leave, ReadServing, TryDraw}
-use Rattle.smx_ticket_core.specs.Machine.{Machine, Reached, most, who, row, Sound, Fits, ticket}
+use Rattle.smx_ticket_core.specs.Machine.{Machine, Reached, most, who, row, Sound, FitsNumbers, ticket}
 use Rattle.smx_ticket_core.proofs.Lists.{at_end}
 use Rattle.smx_ticket_core.proofs.Reach.{reached_sound, reached_start, runs_on, reached_more, draw_wins, draw_loses, look_hits, look_misses, try_wins, try_loses}
 use Rattle.smx_lock.specs.declared.views.Case.{Case}
@@ -47,7 +47,7 @@ module _ {S N F : Type 0} (writer : N → ℕ) (fixed_of : S → F) (suits : S �
   sound : (s : St) (r : R s) → Sound (machine_of r.next r.serving s.views)
   sound s r = reached_sound first (machine_of r.next r.serving s.views) r.low r.reached
 
-  fits : (s : St) (r : R s) (id : ℕ) (v : V) → get_elem? s.views id ≡ some v → Fits r.next r.serving v.caller
+  fits : (s : St) (r : R s) (id : ℕ) (v : V) → get_elem? s.views id ≡ some v → FitsNumbers r.next r.serving v.caller
   fits s r id v at = (sound s r).each id v.caller (at_map caller s.views id v at)
 
   abbrev KnowsAt : List N → ℕ → ℕ → Type 0 → V → Type 0
@@ -231,10 +231,10 @@ module _ {S N F : Type 0} (writer : N → ℕ) (fixed_of : S → F) (suits : S �
 
   -- *look-in-vain* and *look-and-enter*
   pub looks : (n id : ℕ) (me : M) (t : ℕ) → me.0.caller ≡ Waiting t → Allows R n id me 1 (λ x. x) (looked writer fixed_of suits (step n 1 0 0 none) me)
-  looks n id me t waiting s r wide at _ = let y : ℕ = get_or s.words 1 0 in let is = word_1 s r in let tells = looked writer fixed_of suits (step n 1 0 0 none) me in let f = subst (Fits r.next r.serving) waiting (fits s r id me.0 at) in let so = sound s r in
+  looks n id me t waiting s r wide at _ = let y : ℕ = get_or s.words 1 0 in let is = word_1 s r in let tells = looked writer fixed_of suits (step n 1 0 0 none) me in let f = subst (FitsNumbers r.next r.serving) waiting (fits s r id me.0 at) in let so = sound s r in
       dite (ℕ_discrete r.serving t)
       (λ hit. let here : y ≡ t = is ∙ hit in begins s r 1 y id t r.next me (Look id) refl at (ap (row r.next r.serving (Look id)) waiting ∙ look_hits id r.next r.serving t hit) (set_1 s r y ∙ ap (λ (k : ℕ). r.next ∷ k ∷ []) is) (seat_at s r id me.0 (Waiting t) at waiting (idle_waiting t)) (sym hit) f.1 so.bounded
-      (λ i u o there h. let g = subst (Fits r.next r.serving) h (so.each i o.caller (at_map caller s.views i o there)) in let same : ticket me.0.caller ≡ ticket o.caller = ap ticket waiting ∙ (let z : t + 1 ≡ u + 1 = omega arith in z) ∙ sym (ap ticket h) in
+      (λ i u o there h. let g = subst (FitsNumbers r.next r.serving) h (so.each i o.caller (at_map caller s.views i o there)) in let same : ticket me.0.caller ≡ ticket o.caller = ap ticket waiting ∙ (let z : t + 1 ≡ u + 1 = omega arith in z) ∙ sym (ap ticket h) in
       let one : id ≡ i = so.apart id i me.0.caller o.caller (at_map caller s.views id me.0 at) (at_map caller s.views i o there) (subst (λ (c : Caller). 0 < ticket c) (sym waiting) (omega arith)) same in
       waiting_not t u (sym waiting ∙ ap caller (some-injective me.0 o (sym at ∙ ap (get_elem? s.views) one ∙ there)) ∙ h)) tells
       (λ m' took. ((λ _. subst (λ (k : ℕ). Takes writer fixed_of suits me k m') (sym here) took), λ miss. absurd (miss (waiting ∙ ap (λ (k : ℕ). Waiting k) (sym here))))))
@@ -252,7 +252,7 @@ module _ {S N F : Type 0} (writer : N → ℕ) (fixed_of : S → F) (suits : S �
   -- *leave*
   pub leaves : (n id : ℕ) (me : M) (t : ℕ) (x : Case S) (new : List N) → me.0.caller ≡ Holding t → me.1 ≡ (0, Some x) ∷ [] → All (λ k. writer k ≡ me.0.number) new → Agrees fixed_of suits me.0.fixed (me.0.seen ++ new) me.0.seats x
       → Allows R n id me 1 (λ _. t + 1) (λ _. released new (step n 1 (t + 1) 0 none) me)
-  leaves n id me t x new holding has all agrees s r wide at _ = let so = sound s r in let f = subst (Fits r.next r.serving) holding (fits s r id me.0 at) in let mine = r.each_seat id me.0 at in let h = mine.holds t holding in let here : t ≡ r.serving = f.0 in let seat = seat_at s r id me.0 (Holding t) at holding (idle_not t) in
+  leaves n id me t x new holding has all agrees s r wide at _ = let so = sound s r in let f = subst (FitsNumbers r.next r.serving) holding (fits s r id me.0 at) in let mine = r.each_seat id me.0 at in let h = mine.holds t holding in let here : t ≡ r.serving = f.0 in let seat = seat_at s r id me.0 (Holding t) at holding (idle_not t) in
       let w : V = left me.0 new in let is : w.last ≡ t + 1 = ap ticket holding in let homes' = homes_after s.homes me.1 gives in
       let back : homes' ≡ some (Some x) ∷ [] = ap (λ (z : List (maybe.Option (Option (Case S))) × List (ℕ × Option (Case S))). homes_after z.0 z.1 gives) (λ k. (h.2 k, has k)) in
       let grown : (k : ℕ) → notes_of writer k (me.0.seen ++ new) ≡ notes_of writer k r.history ++ notes_of writer k new = λ k. filter-append (λ z. writer z == k) me.0.seen new ∙ ap (λ (l : List N). notes_of writer k l ++ notes_of writer k new) h.0 in
@@ -276,7 +276,7 @@ module _ {S N F : Type 0} (writer : N → ℕ) (fixed_of : S → F) (suits : S �
               counts = o.counts;
               alone = o.alone;
               acts = o.acts;
-              holds = λ q e. let g = subst (Fits r.next r.serving) e (so.each j u.caller (at_map caller s.views j u there)) in let same : ticket u.caller ≡ ticket me.0.caller = ap ticket e ∙ (let z : q + 1 ≡ t + 1 = omega arith in z) ∙ sym (ap ticket holding) in
+              holds = λ q e. let g = subst (FitsNumbers r.next r.serving) e (so.each j u.caller (at_map caller s.views j u there)) in let same : ticket u.caller ≡ ticket me.0.caller = ap ticket e ∙ (let z : q + 1 ≡ t + 1 = omega arith in z) ∙ sym (ap ticket holding) in
                   absurd (other (so.apart j id u.caller me.0.caller (at_map caller s.views j u there) (at_map caller s.views id me.0 at) (subst (λ (c : Caller). 0 < ticket c) (sym e) (omega arith)) same));
             })
             (λ k le. none_of k (λ e. let q = mine.number in omega arith) ∙ r.no_others k le),
@@ -325,10 +325,10 @@ module _ {S N F : Type 0} (writer : N → ℕ) (fixed_of : S → F) (suits : S �
   -- *try-draw*
   pub tries : (n id : ℕ) (me : M) (x : ℕ) → me.0.caller ≡ Saw x → x ≢ most → Allows R n id me 0 (λ y. either (eqb y x) (x + 1) y) (tried writer fixed_of suits (step n 0 x (x + 1) none) me)
   tries n id me x saw left_over s r wide at _ = let y : ℕ = get_or s.words 0 0 in let is = word_0 s r in let so = sound s r in let a : r.serving ≤ r.next = so.behind in let b : r.next ≤ most = so.bounded in let tells = tried writer fixed_of suits (step n 0 x (x + 1) none) me in
-      let f : x ≤ r.serving = subst (Fits r.next r.serving) saw (fits s r id me.0 at) in
+      let f : x ≤ r.serving = subst (FitsNumbers r.next r.serving) saw (fits s r id me.0 at) in
       exchanged y x (x + 1) (Goes s 0 id me tells)
       (λ hit. let here : r.next ≡ x = sym is ∙ hit in begins s r 0 (x + 1) id x (x + 1) me (TryDraw id) refl at (ap (row r.next r.serving (TryDraw id)) saw ∙ try_wins id r.next r.serving x here left_over) (set_0 s r (x + 1)) (seat_at s r id me.0 (Saw x) at saw (idle_saw x)) (omega arith) (omega arith) (omega arith)
-      (λ i u o there h. let g = subst (Fits r.next r.serving) h (so.each i o.caller (at_map caller s.views i o there)) in omega arith) tells
+      (λ i u o there h. let g = subst (FitsNumbers r.next r.serving) h (so.each i o.caller (at_map caller s.views i o there)) in omega arith) tells
       (λ m' took. ((λ _. subst (λ (k : ℕ). Takes writer fixed_of suits me k m') (sym hit) took), λ miss. absurd (miss hit))))
       (λ miss. (
         turned me.0 Idle,
@@ -377,7 +377,7 @@ module _ {S N F : Type 0} (writer : N → ℕ) (fixed_of : S → F) (suits : S �
 
   -- *split*
   pub splits : (id : ℕ) (v : V) (t : ℕ) → v.caller ≡ Holding t → v.seats < most → Splits R id v (host v) (guest v)
-  splits id v t holding room s r at = let so = sound s r in let f = subst (Fits r.next r.serving) holding (fits s r id v at) in let mine = r.each_seat id v at in let h = mine.holds t holding in let seat = seat_at s r id v (Holding t) at holding (idle_not t) in
+  splits id v t holding room s r at = let so = sound s r in let f = subst (FitsNumbers r.next r.serving) holding (fits s r id v at) in let mine = r.each_seat id v at in let h = mine.holds t holding in let seat = seat_at s r id v (Holding t) at holding (idle_not t) in
       let out : s.homes ≡ none ∷ [] = h.2 in
       grows s r id v (host v) (guest v) (r.seats + 1) at refl refl refl refl (λ _. h.1) (omega arith) (let z = h.1 in omega arith)
       (inr (out, (id, t, host v, at_longer (set s.views id (host v)) (guest v ∷ []) id (host v) (set_there s.views id (host v) v at), holding)))
@@ -408,7 +408,7 @@ module _ {S N F : Type 0} (writer : N → ℕ) (fixed_of : S → F) (suits : S �
         counts = (let z = o.counts in omega arith);
         alone = λ stands e. (let a = o.alone stands e in let b = o.number in let d = mine.number in let same : u.number ≡ v.number = omega arith in absurd (other (r.apart j id u v there at stands seat same)));
         acts = o.acts;
-        holds = λ q e. let g = subst (Fits r.next r.serving) e (so.each j u.caller (at_map caller s.views j u there)) in let same : ticket u.caller ≡ ticket v.caller = ap ticket e ∙ (let z : q + 1 ≡ t + 1 = omega arith in z) ∙ sym (ap ticket holding) in
+        holds = λ q e. let g = subst (FitsNumbers r.next r.serving) e (so.each j u.caller (at_map caller s.views j u there)) in let same : ticket u.caller ≡ ticket v.caller = ap ticket e ∙ (let z : q + 1 ≡ t + 1 = omega arith in z) ∙ sym (ap ticket holding) in
             absurd (other (so.apart j id u.caller v.caller (at_map caller s.views j u there) (at_map caller s.views id v at) (subst (λ (c : Caller). 0 < ticket c) (sym e) (omega arith)) same));
       })
 
@@ -483,5 +483,5 @@ module _ {S N F : Type 0} (writer : N → ℕ) (fixed_of : S → F) (suits : S �
   ends id v words slots n final a b seat = let s = final.0 in let r = final.1.0 in let at = final.1.1 in let so = sound s r in
       let na : r.next ≡ n = some-injective r.next n (sym (ap (λ (l : List ℕ). get_elem? l 0) (sym final.2 ∙ r.words)) ∙ a) in
       let nb : r.serving ≡ n = some-injective r.serving n (sym (ap (λ (l : List ℕ). get_elem? l 1) (sym final.2 ∙ r.words)) ∙ b) in
-      let home = at_home s r (λ i t u there e. let g = subst (Fits r.next r.serving) e (so.each i u.caller (at_map caller s.views i u there)) in omega arith) in
+      let home = at_home s r (λ i t u there e. let g = subst (FitsNumbers r.next r.serving) e (so.each i u.caller (at_map caller s.views i u there)) in omega arith) in
       (home.0, final.4 0 (Some home.0) (ap (λ (l : List (maybe.Option (Option (Case S)))). get_elem? l 0) home.1), (r.history, (r.each_seat id v at).saw, (r.each_seat id v at).own seat, home.2.agrees, home.2.fixed_is))

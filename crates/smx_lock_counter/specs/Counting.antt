@@ -21,12 +21,12 @@ limit c = c.limit
 abbrev pub agrees : Counter → List Added → Type 0
 agrees c h = c.count ≡ total h
 
-abbrev pub note : ℕ → ℕ → Added
-note k amount = record { by = k; amount = amount }
+abbrev pub addition_note : ℕ → ℕ → Added
+addition_note k amount = record { by = k; amount = amount }
 
 -- the notes of a deed of the seat k
 abbrev pub notes_told : Deed → ℕ → List Added
-notes_told (Addition amount) k = note k amount ∷ []
+notes_told (Addition amount) k = addition_note k amount ∷ []
 notes_told Nothing k = []
 
 abbrev pub deed_of : Bool → ℕ → Deed
@@ -39,7 +39,7 @@ DidAdd old new n done = (new.limit ≡ old.limit) × MatchBool done ((new.count 
 
 -- one hold served an addition: it was noted exactly where it kept the limit
 abbrev pub AddServes : Front Added ℕ → Front Added ℕ → ℕ → Bool → Type 0
-AddServes f g amount true = (found : List Added) × Serves by f g found (note f.number amount ∷ []) × (total found + amount ≤ f.lock.fixed)
+AddServes f g amount true = (found : List Added) × Serves by f g found (addition_note f.number amount ∷ []) × (total found + amount ≤ f.lock.fixed)
 AddServes f g amount false = (found : List Added) × Serves by f g found [] × (f.lock.fixed < total found + amount)
 
 -- one hold served a look at the count

@@ -5,7 +5,7 @@ use Rattle.std.specs.List.{All}
 use Rattle.std.proofs.lemmas.Bool.{cases_lt, le-leb, lt-leb, eq-eqb, ne_eqb}
 use Rattle.std.proofs.lemmas.List.Elements.{All-cons, All-head, All-tail}
 use Rattle.smx_routes.specs.declared.mo_window.Waiting.{Waiting}
-use Rattle.smx_routes.specs.Window.{AreApart, IsFirst, without}
+use Rattle.smx_routes.specs.Window.{HaveDistinctNumbers, IsFirst, without}
 use Rattle.smx_routes.proofs.Apart.{without-other}
 use Rattle.smx_mailbox.specs.Mailbox.{Mailbox, among, rising, unanswered_messages}
 
@@ -25,7 +25,7 @@ All-rising : (P : Waiting → Type 0) (ws : List Waiting) → All P ws → All P
 All-rising P [] all = all
 All-rising P (w ∷ ws) all = All-among P w (rising ws) (All-head P w ws all) (All-rising P ws (All-tail P w ws all))
 
-first_at : (ws : List Waiting) (k : ℕ) (w : Waiting) → AreApart ws → k < length ws → get_or ws k w ≡ w → All (λ v. w.given ≤ v.given) ws → rising ws ≡ w ∷ rising (without w.given ws)
+first_at : (ws : List Waiting) (k : ℕ) (w : Waiting) → HaveDistinctNumbers ws → k < length ws → get_or ws k w ≡ w → All (λ v. w.given ≤ v.given) ws → rising ws ≡ w ∷ rising (without w.given ws)
 first_at [] k w apart within is least = absurd (omega arith)
 first_at (x ∷ ws) zero w apart within is least =
     let same : (x.given == w.given) ≡ true = eq-eqb x.given w.given (ap (λ (v : Waiting). v.given) is) in
@@ -41,7 +41,7 @@ first_at (x ∷ ws) (suc k) w apart within is least =
     rw (other, rest, behind) refl
 
 -- the message with the least number is the first, and the others follow
-pub rising-first : (ws : List Waiting) (w : Waiting) → AreApart ws → IsFirst ws w → rising ws ≡ w ∷ rising (without w.given ws)
+pub rising-first : (ws : List Waiting) (w : Waiting) → HaveDistinctNumbers ws → IsFirst ws w → rising ws ≡ w ∷ rising (without w.given ws)
 rising-first ws w apart first = first_at ws first.there.0 w apart first.there.1 first.there.2 first.least
 
 length-among : (w : Waiting) (vs : List Waiting) → length (among w vs) ≡ length vs + 1

@@ -3,7 +3,7 @@ use Rattle.std.proofs.Common.{◌≡◌, ◌<◌, ◌≤◌, ◌+◌, ◌∷◌,
 use Rattle.std.specs.List.{find, range_with_len}
 use Rattle.std.proofs.lemmas.Bool.{cases_lt, le-leb, lt-leb}
 use Rattle.smx_pdu.specs.declared.pdu.Pdu.{Pdu}
-use Rattle.smx_routes.specs.Window.{Window, IsNext, number_behind, waits}
+use Rattle.smx_routes.specs.Window.{Window, IsFirstFree, number_behind, waits}
 use Rattle.smx_mailbox.specs.declared.message.Message.{Message}
 use Rattle.smx_mailbox.specs.Mailbox.{next_number, with_given, sent_as, pdus_sent, after_sent}
 
@@ -22,7 +22,7 @@ find_first p f (suc n) a j from within here before =
     ]
 
 -- the number that a window gives is the next one
-next_is : (w : Window) (number : ℕ) → IsNext w number → next_number w ≡ number
+next_is : (w : Window) (number : ℕ) → IsFirstFree w number → next_number w ≡ number
 next_is w number next =
     let is_free : not (waits (number_behind w.last next.passed) w.waiting) ≡ true = ap (λ n. not (waits n w.waiting)) (sym next.is) ∙ ap not next.free in
     let found = find_first (λ n. not (waits n w.waiting)) (number_behind w.last) w.places 0 next.passed (omega arith) (omega (arith, next.within)) is_free (λ i low high. ap not (next.others i high)) in
@@ -48,7 +48,7 @@ under number w m = record w {
   waiting = w.waiting ++ record { given = number; lane = m.lane; number = m.pdu.number; command = m.pdu.command } ∷ [];
 }
 
-given_is : (w : Window) (m : Message) (number : ℕ) → IsNext w number → with_given w m ≡ under number w m
+given_is : (w : Window) (m : Message) (number : ℕ) → IsFirstFree w number → with_given w m ≡ under number w m
 given_is w m number next = ap (λ n. under n w m) (next_is w number next)
 
 sent-more : (w : Window) (m : Message) (ms : List Message) → length w.waiting < w.places → pdus_sent w (m ∷ ms) ≡ sent_as m (next_number w) ∷ pdus_sent (with_given w m) ms
@@ -60,7 +60,7 @@ after_sent-more w m ms room = rw (lt-leb w.places (length w.waiting) room) refl
 -- the window has given the first message that waited this number
 pub record GaveFirst (w v : Window) (ms rest : List Message) (m : Message) (number : ℕ) : Type 0 where
   pub room : length w.waiting < w.places
-  pub next : IsNext w number
+  pub next : IsFirstFree w number
   pub window : v ≡ under number w m
   pub first : slice_get ms 0 ≡ Some m
   pub rest_is : rest ≡ drop 1 ms

@@ -23,13 +23,13 @@ pub struct Mailbox {
 
 impl Model for Mailbox {
     ghost use Rattle.smx_mailbox.specs.Mailbox.{Mailbox};
-    ghost use Rattle.smx_mailbox.specs.Private.Fields.{mailbox_of, HasPlaces};
+    ghost use Rattle.smx_mailbox.specs.Private.Fields.{mailbox_of, HasMessagePlaces};
 
     ghost Value = { Mailbox };
 
     ghost view = { mailbox_of };
 
-    ghost invariant = { HasPlaces };
+    ghost invariant = { HasMessagePlaces };
 }
 
 impl Mailbox {

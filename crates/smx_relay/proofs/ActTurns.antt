@@ -13,18 +13,18 @@ use Rattle.smx_relay.specs.Messages.{answer_turn, leave_turn, message_turn}
 use Rattle.smx_relay.specs.ClientTurn.{client_act, followed_by, forward, hang_up}
 use Rattle.smx_relay.specs.LaneLinks.{lower_lane}
 use Rattle.smx_relay.specs.CentreTurn.{centre_act, to_lane}
-use Rattle.smx_relay.specs.Private.Agrees.{Agrees, Turned}
+use Rattle.smx_relay.specs.Private.States.{StandsFor, Turned}
 
 -- ---- clients
 
 client_by : (c : ℕ) (p : Pdu) (a x : Act) (s : Relay) (state : State) (text : List ℕ) → a ≡ x → Turned (client_act c p x s) state text → Turned (client_act c p a s) state text
 client_by c p a x s state text is turned = subst (λ (y : Act). Turned (client_act c p y s) state text) (sym is) turned
 
-pub client_answers : (c : ℕ) (p : Pdu) (a : Act) (answer : Pdu) (s : Relay) (state : State) (text : List ℕ) → a ≡ act.Answer answer → Agrees state s → text ≡ pdu_line (to_client c) answer → Turned (client_act c p a s) state text
+pub client_answers : (c : ℕ) (p : Pdu) (a : Act) (answer : Pdu) (s : Relay) (state : State) (text : List ℕ) → a ≡ act.Answer answer → StandsFor state s → text ≡ pdu_line (to_client c) answer → Turned (client_act c p a s) state text
 unfolding client_act
 client_answers c p a answer s state text is agrees e = client_by c p a (act.Answer answer) s state text is (record { text = e; left = agrees })
 
-pub client_binds : (c : ℕ) (p : Pdu) (a : Act) (kind : Kind) (account : ℕ) (answer : Pdu) (s : Relay) (state : State) (text : List ℕ) → a ≡ act.Bind kind account answer → Agrees state s → text ≡ pdu_line (to_client c) answer → Turned (client_act c p a s) state text
+pub client_binds : (c : ℕ) (p : Pdu) (a : Act) (kind : Kind) (account : ℕ) (answer : Pdu) (s : Relay) (state : State) (text : List ℕ) → a ≡ act.Bind kind account answer → StandsFor state s → text ≡ pdu_line (to_client c) answer → Turned (client_act c p a s) state text
 unfolding client_act
 client_binds c p a kind account answer s state text is agrees e = client_by c p a (act.Bind kind account answer) s state text is (record { text = e; left = agrees })
 
@@ -44,7 +44,7 @@ pub client_answers_message : (c : ℕ) (p : Pdu) (a : Act) (number : ℕ) (s : R
 unfolding client_act
 client_answers_message c p a number s state text is turned = client_by c p a (act.MoAnswer number) s state text is turned
 
-pub client_ignored : (c : ℕ) (p : Pdu) (a : Act) (s : Relay) (state : State) (text : List ℕ) → a ≡ act.Ignore → Agrees state s → text ≡ [] → Turned (client_act c p a s) state text
+pub client_ignored : (c : ℕ) (p : Pdu) (a : Act) (s : Relay) (state : State) (text : List ℕ) → a ≡ act.Ignore → StandsFor state s → text ≡ [] → Turned (client_act c p a s) state text
 unfolding client_act
 client_ignored c p a s state text is agrees e = client_by c p a act.Ignore s state text is (record { text = e; left = agrees })
 
@@ -53,11 +53,11 @@ client_ignored c p a s state text is agrees e = client_by c p a act.Ignore s sta
 centre_by : (i : ℕ) (p : Pdu) (a x : UpAct) (s : Relay) (state : State) (text : List ℕ) → a ≡ x → Turned (centre_act i p x s) state text → Turned (centre_act i p a s) state text
 centre_by i p a x s state text is turned = subst (λ (y : UpAct). Turned (centre_act i p y s) state text) (sym is) turned
 
-pub centre_answers : (i : ℕ) (p : Pdu) (a : UpAct) (answer : Pdu) (s : Relay) (state : State) (text : List ℕ) → a ≡ up.Answer answer → Agrees state s → text ≡ pdu_line (up_lane i) answer → Turned (centre_act i p a s) state text
+pub centre_answers : (i : ℕ) (p : Pdu) (a : UpAct) (answer : Pdu) (s : Relay) (state : State) (text : List ℕ) → a ≡ up.Answer answer → StandsFor state s → text ≡ pdu_line (up_lane i) answer → Turned (centre_act i p a s) state text
 unfolding centre_act
 centre_answers i p a answer s state text is agrees e = centre_by i p a (up.Answer answer) s state text is (record { text = e; left = agrees })
 
-pub centre_leaves : (i : ℕ) (p : Pdu) (a : UpAct) (answer : Pdu) (s : Relay) (state : State) (text : List ℕ) → a ≡ up.Leave answer → Agrees state (going_on s i lower_lane) → text ≡ pdu_line (up_lane i) answer ++ down_line i → Turned (centre_act i p a s) state text
+pub centre_leaves : (i : ℕ) (p : Pdu) (a : UpAct) (answer : Pdu) (s : Relay) (state : State) (text : List ℕ) → a ≡ up.Leave answer → StandsFor state (going_on s i lower_lane) → text ≡ pdu_line (up_lane i) answer ++ down_line i → Turned (centre_act i p a s) state text
 unfolding centre_act
 centre_leaves i p a answer s state text is agrees e = centre_by i p a (up.Leave answer) s state text is (record { text = e; left = agrees })
 
@@ -65,19 +65,19 @@ pub centre_messages : (i : ℕ) (p : Pdu) (a : UpAct) (s : Relay) (state : State
 unfolding centre_act
 centre_messages i p a s state text is turned = centre_by i p a up.Mo s state text is turned
 
-pub centre_up : (i : ℕ) (p : Pdu) (a : UpAct) (s : Relay) (state : State) (text : List ℕ) → a ≡ up.Up → Agrees state s → text ≡ [] → Turned (centre_act i p a s) state text
+pub centre_up : (i : ℕ) (p : Pdu) (a : UpAct) (s : Relay) (state : State) (text : List ℕ) → a ≡ up.Up → StandsFor state s → text ≡ [] → Turned (centre_act i p a s) state text
 unfolding centre_act
 centre_up i p a s state text is agrees e = centre_by i p a up.Up s state text is (record { text = e; left = agrees })
 
-pub centre_failed : (i : ℕ) (p : Pdu) (a : UpAct) (status : ℕ) (s : Relay) (state : State) (text : List ℕ) → a ≡ up.Failed status → Agrees state (going_on s i lower_lane) → text ≡ down_line i → Turned (centre_act i p a s) state text
+pub centre_failed : (i : ℕ) (p : Pdu) (a : UpAct) (status : ℕ) (s : Relay) (state : State) (text : List ℕ) → a ≡ up.Failed status → StandsFor state (going_on s i lower_lane) → text ≡ down_line i → Turned (centre_act i p a s) state text
 unfolding centre_act
 centre_failed i p a status s state text is agrees e = centre_by i p a (up.Failed status) s state text is (record { text = e; left = agrees })
 
-pub centre_closed : (i : ℕ) (p : Pdu) (a : UpAct) (s : Relay) (state : State) (text : List ℕ) → a ≡ up.Closed → Agrees state (going_on s i lower_lane) → text ≡ down_line i → Turned (centre_act i p a s) state text
+pub centre_closed : (i : ℕ) (p : Pdu) (a : UpAct) (s : Relay) (state : State) (text : List ℕ) → a ≡ up.Closed → StandsFor state (going_on s i lower_lane) → text ≡ down_line i → Turned (centre_act i p a s) state text
 unfolding centre_act
 centre_closed i p a s state text is agrees e = centre_by i p a up.Closed s state text is (record { text = e; left = agrees })
 
-pub centre_ignored : (i : ℕ) (p : Pdu) (a : UpAct) (s : Relay) (state : State) (text : List ℕ) → a ≡ up.Ignore → Agrees state s → text ≡ [] → Turned (centre_act i p a s) state text
+pub centre_ignored : (i : ℕ) (p : Pdu) (a : UpAct) (s : Relay) (state : State) (text : List ℕ) → a ≡ up.Ignore → StandsFor state s → text ≡ [] → Turned (centre_act i p a s) state text
 unfolding centre_act
 centre_ignored i p a s state text is agrees e = centre_by i p a up.Ignore s state text is (record { text = e; left = agrees })
 

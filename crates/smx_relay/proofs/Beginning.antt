@@ -8,8 +8,8 @@ use Rattle.smx_relay.specs.declared.state.State.{State}
 use Rattle.smx_relay.specs.declared.state.LinkedLane.{LinkedLane}
 use Rattle.smx_relay.specs.Links.{bound_centre}
 use Rattle.smx_relay.specs.Relay.{Relay, RelayLane, begin_lanes, new_lane}
-use Rattle.smx_relay.specs.Private.OnLane.{IsLane, lasts}
-use Rattle.smx_relay.specs.Private.Agrees.{Agrees}
+use Rattle.smx_relay.specs.Private.Lanes.{IsLane, lasts}
+use Rattle.smx_relay.specs.Private.States.{StandsFor}
 use Rattle.smx_relay.proofs.Lanes.{zip-push}
 
 -- the settings stand, and so many lanes are made
@@ -25,7 +25,7 @@ pub record IsBeginning (s : Relay) (state : State) (n : ℕ) : Type 0 where
   pub routes : state.routes ≡ s.routes
 
 abbrev pub Beginning : State → State → ℕ → Type 0
-Beginning old state n = (s : Relay) → Agrees old s → s.started ≡ false → IsBeginning s state n
+Beginning old state n = (s : Relay) → StandsFor old s → s.started ≡ false → IsBeginning s state n
 
 none_made : (R : RelayLane → LinkedLane → Type 0) (ls : List RelayLane) (lanes : List LinkedLane) → ls ≡ [] → AllZip R ls lanes → AllZip R [] lanes
 none_made R ls lanes e z = subst (λ xs. AllZip R xs lanes) e z
@@ -60,7 +60,7 @@ beginning_more old v new n k b is agrees bound limits count started clients lane
       lanes = rw (lanes, ← replicate_more {X = RelayLane} n new_lane) (zip-push (IsLane s.limits (lasts s.clients)) (replicate n new_lane) v.lanes.items new_lane k x.lanes (record { on = record { agrees = agrees; limits_are = is ∙ x.limits; own = tt }; link_is = bound }));
     }
 
-pub beginning_end : (old new : State) (n : ℕ) → Beginning old new n → n ≡ old.count → old.started ≡ false → (s : Relay) → Agrees old s → Agrees new (begin_lanes s)
+pub beginning_end : (old new : State) (n : ℕ) → Beginning old new n → n ≡ old.count → old.started ≡ false → (s : Relay) → StandsFor old s → StandsFor new (begin_lanes s)
 beginning_end old new n b all un s a =
     let off : s.started ≡ false = sym a.started ∙ un in
     let x = b s a off in
@@ -80,5 +80,5 @@ beginning_end old new n b all un s a =
 pub begun_on : (s : Relay) → s.started ≡ true → begin_lanes s ≡ s
 begun_on s e = ap (λ (b : Bool). cond b s (record s { started = true; lanes = replicate s.count new_lane })) e
 
-pub already : (old : State) → old.started ≡ true → (s : Relay) → Agrees old s → Agrees old (begin_lanes s)
-already old on s a = subst (Agrees old) (sym (begun_on s (sym a.started ∙ on))) a
+pub already : (old : State) → old.started ≡ true → (s : Relay) → StandsFor old s → StandsFor old (begin_lanes s)
+already old on s a = subst (StandsFor old) (sym (begun_on s (sym a.started ∙ on))) a

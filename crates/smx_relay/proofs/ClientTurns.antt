@@ -14,8 +14,8 @@ use Rattle.smx_relay.specs.declared.state.LinkedClient.{LinkedClient}
 use Rattle.smx_relay.specs.Texts.{text_line}
 use Rattle.smx_relay.specs.declared.state.LinkedLane.{LinkedLane}
 use Rattle.smx_relay.specs.Relay.{Relay, RelayLane, client_of, enter_lane, enter_and_leave_lane, client_turn, lane_after, new_client, new_lane}
-use Rattle.smx_relay.specs.Private.OnLane.{IsLane, last_in, lasts}
-use Rattle.smx_relay.specs.Private.Agrees.{Agrees, HasRoutes, Turned, AreOn, Enters, HaveEntered}
+use Rattle.smx_relay.specs.Private.Lanes.{IsLane, last_in, lasts}
+use Rattle.smx_relay.specs.Private.States.{StandsFor, HasRoutes, Turned, AreOn, EntersLanes, HaveEntered}
 use Rattle.smx_relay.specs.Private.Lending.{IsKnown}
 use Rattle.smx_relay.proofs.Lanes.{zip-weaker}
 use Rattle.smx_relay.proofs.Entering.{refuses}
@@ -34,7 +34,7 @@ place_within : (limits : Limits) (c i : ℕ) (ls : List RelayLane) → position 
 place_within limits c i ls e = let w = position-Some (refuses limits c) ls i new_lane e in w.0
 
 -- one number more
-routes_push : (old new : State) (s : Relay) (o : Option LinkedClient) → Agrees old s → KeepsSettings old new → HasRoutes new (s.clients ++ o ∷ []) s.accounts s.places s.routes
+routes_push : (old new : State) (s : Relay) (o : Option LinkedClient) → StandsFor old s → KeepsSettings old new → HasRoutes new (s.clients ++ o ∷ []) s.accounts s.places s.routes
 routes_push old new s o a keeps = record {
   accounts_are = keeps.accounts ∙ a.routes.accounts_are;
   places_are = keeps.places ∙ a.routes.places_are;
@@ -46,11 +46,11 @@ routes_push old new s o a keeps = record {
 abbrev fresh : ClientLink → LinkedClient
 fresh link = record { last = 0; link = link }
 
-pub entered_all : (old new : State) (s : Relay) (kind : Option Kind) (c : ℕ) (link : ClientLink) (text : List ℕ) → Agrees old s → c ≡ length old.clients.list.items → Enters s.limits (lasts s.clients) s.lanes c None new.lanes.items → KeepsSettings old new → new.clients.list.items ≡ old.clients.list.items ++ Some (fresh link) ∷ [] → link ≡ new_link old.places kind
+pub entered_all : (old new : State) (s : Relay) (kind : Option Kind) (c : ℕ) (link : ClientLink) (text : List ℕ) → StandsFor old s → c ≡ length old.clients.list.items → EntersLanes s.limits (lasts s.clients) s.lanes c None new.lanes.items → KeepsSettings old new → new.clients.list.items ≡ old.clients.list.items ++ Some (fresh link) ∷ [] → link ≡ new_link old.places kind
     → text ≡ text_line (codes "client " ++ decimal c) → Turned (client_turn s kind) new text
 entered_all old new s kind c link text a is enters keeps clients made e =
     let c_is : c ≡ length s.clients = is ∙ ap length a.clients in
-    let here : Enters s.limits (lasts s.clients) s.lanes (length s.clients) None new.lanes.items = subst (λ n. Enters s.limits (lasts s.clients) s.lanes n None new.lanes.items) c_is enters in
+    let here : EntersLanes s.limits (lasts s.clients) s.lanes (length s.clients) None new.lanes.items = subst (λ n. EntersLanes s.limits (lasts s.clients) s.lanes n None new.lanes.items) c_is enters in
     rw here.0 (record {
       text = e ∙ ap (λ n. text_line (codes "client " ++ decimal n)) c_is;
       left = record {
@@ -65,7 +65,7 @@ entered_all old new s kind c link text a is enters keeps clients made e =
       };
     })
 
-pub have_entered : (old : State) (s : Relay) (c i : ℕ) (lanes : List LinkedLane) → Agrees old s → Enters s.limits (lasts s.clients) s.lanes c (Some i) lanes → HaveEntered c i lanes
+pub have_entered : (old : State) (s : Relay) (c i : ℕ) (lanes : List LinkedLane) → StandsFor old s → EntersLanes s.limits (lasts s.clients) s.lanes c (Some i) lanes → HaveEntered c i lanes
 have_entered old s c i lanes a enters =
     let within = place_within s.limits c i s.lanes enters.0 in
     (s.limits, lasts s.clients, take i s.lanes, drop i s.lanes, length-take-le i s.lanes (omega arith), enters.1)
@@ -77,7 +77,7 @@ none_parted c i ls e = ap (λ xs. map (lane_after (enter_and_leave_lane c)) (tak
     none_left zero = refl
     none_left (suc i) = refl
 
-pub entered_none : (old : State) (mid : List LinkedLane) (new : State) (s : Relay) (kind : Option Kind) (c i : ℕ) (text : List ℕ) → Agrees old s → c ≡ length old.clients.list.items → Enters s.limits (lasts s.clients) s.lanes c (Some i) mid
+pub entered_none : (old : State) (mid : List LinkedLane) (new : State) (s : Relay) (kind : Option Kind) (c i : ℕ) (text : List ℕ) → StandsFor old s → c ≡ length old.clients.list.items → EntersLanes s.limits (lasts s.clients) s.lanes c (Some i) mid
     → ((limits : Limits) (clients : List (Option ℕ)) (some : List RelayLane) (others : List RelayLane) → length some ≡ i → AreOn limits clients (map (lane_after (enter_lane c)) some ++ others) mid → AreOn limits clients (map (lane_after (enter_and_leave_lane c)) some ++ others) new.lanes.items)
     → KeepsSettings old new → new.clients.list.items ≡ old.clients.list.items ++ None ∷ [] → text ≡ text_line (codes "refused") → Turned (client_turn s kind) new text
 entered_none old mid new s kind c i text a is enters leaves keeps clients e =
@@ -101,5 +101,5 @@ entered_none old mid new s kind c i text a is enters leaves keeps clients e =
     })
 
 -- a client that there is, or not
-pub client_same : (old : State) (s : Relay) (c : ℕ) (o : Option LinkedClient) → Agrees old s → client_of old.clients.list.items c ≡ o → client_of s.clients c ≡ o
+pub client_same : (old : State) (s : Relay) (c : ℕ) (o : Option LinkedClient) → StandsFor old s → client_of old.clients.list.items c ≡ o → client_of s.clients c ≡ o
 client_same old s c o a is = ap (λ (cs : List (Option LinkedClient)). client_of cs c) (sym a.clients) ∙ is

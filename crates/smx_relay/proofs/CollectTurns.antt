@@ -10,12 +10,12 @@ use Rattle.smx_relay.specs.Relay.{Relay, RelayLane, collect_lanes, collect_text,
 use Rattle.smx_relay.specs.ClientTurn.{followed_by}
 use Rattle.smx_relay.specs.Messages.{send_turn}
 use Rattle.smx_relay.specs.Turns.{collect_turn, or_none}
-use Rattle.smx_relay.specs.Private.OnLane.{lasts}
-use Rattle.smx_relay.specs.Private.Agrees.{Agrees, AreOn, Prints, Turned}
+use Rattle.smx_relay.specs.Private.Lanes.{lasts}
+use Rattle.smx_relay.specs.Private.States.{StandsFor, AreOn, Prints, Turned}
 use Rattle.smx_relay.proofs.Keeping.{KeepsSettings, kept_routes}
 use Rattle.smx_relay.proofs.ClientTurns.{client_same}
 
-collect_left : (old new : State) (s : Relay) (c : ℕ) → Agrees old s → AreOn s.limits (lasts s.clients) (map (lane_after (collect_lane c)) s.lanes) new.lanes.items → KeepsSettings old new → new.clients.list.items ≡ old.clients.list.items → Agrees new (record s { lanes = map (lane_after (collect_lane c)) s.lanes })
+collect_left : (old new : State) (s : Relay) (c : ℕ) → StandsFor old s → AreOn s.limits (lasts s.clients) (map (lane_after (collect_lane c)) s.lanes) new.lanes.items → KeepsSettings old new → new.clients.list.items ≡ old.clients.list.items → StandsFor new (record s { lanes = map (lane_after (collect_lane c)) s.lanes })
 collect_left old new s c a on keeps clients = record {
   limits = keeps.limits ∙ a.limits;
   count = keeps.count ∙ a.count;
@@ -28,7 +28,7 @@ collect_left old new s c a on keeps clients = record {
 }
 
 -- the client collected its responses
-pub lanes_collected : (old new : State) (s : Relay) (c : ℕ) (text : List ℕ) → Agrees old s → text ≡ flat_map (λ (l : RelayLane). collect_text c l.history) s.lanes → AreOn s.limits (lasts s.clients) (map (lane_after (collect_lane c)) s.lanes) new.lanes.items → KeepsSettings old new → new.clients.list.items ≡ old.clients.list.items
+pub lanes_collected : (old new : State) (s : Relay) (c : ℕ) (text : List ℕ) → StandsFor old s → text ≡ flat_map (λ (l : RelayLane). collect_text c l.history) s.lanes → AreOn s.limits (lasts s.clients) (map (lane_after (collect_lane c)) s.lanes) new.lanes.items → KeepsSettings old new → new.clients.list.items ≡ old.clients.list.items
     → Turned (collect_lanes c s) new text
 lanes_collected old new s c text a e on keeps clients = record { text = e; left = collect_left old new s c a on keeps clients }
 
@@ -43,5 +43,5 @@ pub collected_none : (s : Relay) (c : ℕ) (k : LinkedClient) (new : State) (non
     → Prints (collect_turn s c (client_of s.clients c)) new (Some text)
 collected_none s c k new none text known turned empty e = rw known (record { text = e ∙ ap (or_none c) (sym empty ∙ turned.text); left = turned.left })
 
-pub collect_unknown : (old new : State) (s : Relay) (c : ℕ) → Agrees old s → client_of old.clients.list.items c ≡ None → Prints (collect_turn s c (client_of s.clients c)) new None
+pub collect_unknown : (old new : State) (s : Relay) (c : ℕ) → StandsFor old s → client_of old.clients.list.items c ≡ None → Prints (collect_turn s c (client_of s.clients c)) new None
 collect_unknown old new s c a none = rw (client_same old s c None a none) tt

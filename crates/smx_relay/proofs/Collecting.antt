@@ -17,7 +17,7 @@ use Rattle.smx_history.proofs.CollectAgrees.{waiting-collected}
 use Rattle.smx_history.proofs.Rows.{waiting_same}
 use Rattle.smx_relay.specs.Texts.{pdu_line, to_client}
 use Rattle.smx_relay.specs.Relay.{collect_text, collect_lane}
-use Rattle.smx_relay.specs.Private.OnLane.{TurnsLane, AreOurs}
+use Rattle.smx_relay.specs.Private.Lanes.{TurnsLane, AreOurs}
 
 -- the notes of collects
 unfoldable pub collects : ℕ → List Response → List Note

@@ -25,8 +25,8 @@ use Rattle.smx_history.proofs.Refusals.{admit_refusal_same}
 use Rattle.smx_history.proofs.Rows.{absent, is_present-any}
 use Rattle.smx_relay.specs.declared.state.LinkedLane.{LinkedLane}
 use Rattle.smx_relay.specs.Relay.{RelayLane, enter_lane, enter_and_leave_lane, collect_text, collect_lane, lane_after}
-use Rattle.smx_relay.specs.Private.OnLane.{OnLane, IsLane, TurnsLane, AreOurs}
-use Rattle.smx_relay.specs.Private.Agrees.{AreOn, AreReached, Enters, HaveEntered}
+use Rattle.smx_relay.specs.Private.Lanes.{IsContentAfter, IsLane, TurnsLane, AreOurs}
+use Rattle.smx_relay.specs.Private.States.{AreOn, AreReached, EntersLanes, HaveEntered}
 use Rattle.smx_relay.proofs.Lanes.{zip-length, zip-get, zip-set, zip-middle, zip-middle_set, lane_goes, reordered_on}
 use Rattle.smx_relay.proofs.Rows.{rows_ours, ours_of_own}
 use Rattle.smx_relay.proofs.Passing.{IsPassing, passing_start, passing_at, passing_more, passing_end, first_place, no_place}
@@ -66,7 +66,7 @@ entering_more c old lanes i k after so_far lt is allowed goes kept limits client
     let h = l.history in
     let there : IsLane limits clients l k = subst (IsLane limits clients l) (sym is) at.3 in
     let free : refuses limits c l ≡ false = ap is_some (sym (admit_refusal_same (content_after limits h) k.lane c (reordered_on limits clients h k.lane there.on)) ∙ allowed) in
-    let longer : OnLane limits clients (enter_lane c h) after = record { agrees = goes h there.on.agrees; limits_are = kept ∙ there.on.limits_are; own = own_entered clients c h there.on.own } in (
+    let longer : IsContentAfter limits clients (enter_lane c h) after = record { agrees = goes h there.on.agrees; limits_are = kept ∙ there.on.limits_are; own = own_entered clients c h there.on.own } in (
       x.0 ++ l ∷ [],
       at.1,
       record {
@@ -76,7 +76,7 @@ entering_more c old lanes i k after so_far lt is allowed goes kept limits client
     )
 
 pub entering_refused : (c : ℕ) (old lanes new : List LinkedLane) (i : ℕ) (k : LinkedLane) (e : AdmitFault) → Entering c old lanes i → i < length lanes → k ≡ get_or lanes i k → admit_refusal k.lane c ≡ Some e → new ≡ lanes
-    → (limits : Limits) (clients : List (Option ℕ)) (ls : List RelayLane) → AreOn limits clients ls old → Enters limits clients ls c (Some i) new
+    → (limits : Limits) (clients : List (Option ℕ)) (ls : List RelayLane) → AreOn limits clients ls old → EntersLanes limits clients ls c (Some i) new
 entering_refused c old lanes new i k e so_far lt is refused same limits clients ls on =
     let x = so_far limits clients ls on in
     let at = passing_at (IsLane limits clients) (lane_after (enter_lane c)) ls x.0 x.1 lanes i k x.2.passing lt in
@@ -90,7 +90,7 @@ entering_refused c old lanes new i k e so_far lt is refused same limits clients 
     let back : drop i ls ≡ x.1 = ap (drop i) x.2.passing.all ∙ ap (λ n. drop n (x.0 ++ x.1)) (sym x.2.passing.count) ∙ drop_front x.0 x.1 in
     (place, rw (same, front, back) x.2.passing.lanes_are)
 
-pub entering_end : (c : ℕ) (old lanes : List LinkedLane) (i : ℕ) → Entering c old lanes i → length lanes ≤ i → (limits : Limits) (clients : List (Option ℕ)) (ls : List RelayLane) → AreOn limits clients ls old → Enters limits clients ls c None lanes
+pub entering_end : (c : ℕ) (old lanes : List LinkedLane) (i : ℕ) → Entering c old lanes i → length lanes ≤ i → (limits : Limits) (clients : List (Option ℕ)) (ls : List RelayLane) → AreOn limits clients ls old → EntersLanes limits clients ls c None lanes
 entering_end c old lanes i so_far le limits clients ls on =
     let x = so_far limits clients ls on in
     let end = passing_end (IsLane limits clients) (lane_after (enter_lane c)) ls x.0 x.1 lanes i x.2.passing le in
@@ -231,7 +231,7 @@ pub record IsLeft (c : ℕ) (lane after : Content) : Type 0 where
 left_on : (limits : Limits) (clients : List (Option ℕ)) (c : ℕ) (l : RelayLane) (k : LinkedLane) (after : Content) → IsLane limits clients (lane_after (enter_lane c) l) k → IsLeft c k.lane after → IsLane limits clients (lane_after (enter_and_leave_lane c) l) (record k { lane = after })
 left_on limits clients c l k after is leaves =
     let h = l.history in
-    let longer : OnLane limits clients (enter_and_leave_lane c h) after = record {
+    let longer : IsContentAfter limits clients (enter_and_leave_lane c h) after = record {
       agrees = leaves.goes (member_there c h k.lane is.on.agrees (member_with c k.lane.members) refl) (enter_lane c h) is.on.agrees;
       limits_are = leaves.kept ∙ is.on.limits_are;
       own = own_left clients c h is.on.own;

@@ -29,7 +29,7 @@ use Rattle.smx_history.proofs.Updates.{failing_entry}
 use Rattle.smx_relay.specs.Texts.{kept_line, failed_line}
 use Rattle.smx_relay.specs.Relay.{moment_on}
 use Rattle.smx_relay.specs.Expiring.{expire_on, expired_after, failed_to, or_kept}
-use Rattle.smx_relay.specs.Private.OnLane.{TurnsLane}
+use Rattle.smx_relay.specs.Private.Lanes.{TurnsLane}
 
 -- failures leave who is present and the moment of the last take
 present_failing : (h : List Note) (qs : List Place) (c : ℕ) → is_present c (h ++ map (failing 0) qs) ≡ is_present c h
@@ -93,7 +93,7 @@ expiring_start moment age old text none h a =
     ([], record { counts = a.after.window; aged = tt; lines = none; agrees = subst (λ g. AgreesWith g old) (sym (append-nil h)) a })
 
 -- the note of a failure, and whom it reaches
-record Fails (v new : Content) (q : Place) (r : Failed) : Type 0 where
+record FailsOne (v new : Content) (q : Place) (r : Failed) : Type 0 where
   pub agrees : (g : List Note) → AgreesWith g v → AgreesWith (g ++ failing 0 q ∷ []) new
   pub told : (g : List Note) → AgreesWith g v → r ≡ failed_to g q
 
@@ -101,7 +101,7 @@ here_told : (v : Content) (q : Place) (g : List Note) (o : Option Member) → Ag
 here_told v q g None a found some = absurd (let z : false ≡ true = some in cc)
 here_told v q g (Some m) a found some = rw (found_present g v q.client m a found) refl
 
-fails_of : (moment age : ℕ) (v new : Content) (r : Failed) (x : IsExpired v 0 moment age r new) → Fails v new x.0 r
+fails_of : (moment age : ℕ) (v new : Content) (r : Failed) (x : IsExpired v 0 moment age r new) → FailsOne v new x.0 r
 fails_of moment age v new (Queued c) x = record {
   agrees = x.2.2;
   told = λ g a. ap Queued (sym x.2.0) ∙ here_told v x.0 g (member_with x.0.client v.members) a refl (subst (λ d. is_some (member_with d v.members) ≡ true) (sym x.2.0) x.2.1);
@@ -160,10 +160,10 @@ expires_smaller moment age old v new r text x fed so_far =
     all_counted (q ∷ qs) = omega (arith, all_counted qs, sum_by-cons (λ p. 1) q qs)
 
 -- what a line printed and left of a lane
-abbrev pub Expires : ℕ → ℕ → ℕ → Content → Content → List ℕ → Type 0
-Expires at moment age old new text = (h : List Note) → AgreesWith h old → (qs : List Place) × SameCounts (expired_after moment age h) qs × TurnsLane (expire_on at qs h) old new text
+abbrev pub ExpiresLane : ℕ → ℕ → ℕ → Content → Content → List ℕ → Type 0
+ExpiresLane at moment age old new text = (h : List Note) → AgreesWith h old → (qs : List Place) × SameCounts (expired_after moment age h) qs × TurnsLane (expire_on at qs h) old new text
 
-expiring_end : (at moment age : ℕ) (old now new : Content) (text printed : List ℕ) → old.up ≡ true → expired_in now moment age ≡ None → new ≡ now → new.limits ≡ old.limits → Expiring moment age old now text → printed ≡ or_kept at text → Expires at moment age old new printed
+expiring_end : (at moment age : ℕ) (old now new : Content) (text printed : List ℕ) → old.up ≡ true → expired_in now moment age ≡ None → new ≡ now → new.limits ≡ old.limits → Expiring moment age old now text → printed ≡ or_kept at text → ExpiresLane at moment age old new printed
 unfolding expire_on
 expiring_end at moment age old now new text printed up none same limits so_far e h a =
     let y = so_far h a in
@@ -184,18 +184,18 @@ expiring_end at moment age old now new text printed up none same limits so_far e
     ) in
     (qs, rw up' counts, record { text = e ∙ ap (or_kept at) is.lines; agrees = rw same is.agrees; limits_are = limits })
 
-pub expires_none : (at moment age : ℕ) (old now new : Content) (text printed : List ℕ) → old.up ≡ true → expired_in now moment age ≡ None → new ≡ now → new.limits ≡ old.limits → Expiring moment age old now text → length text ≡ 0 → printed ≡ kept_line at → Expires at moment age old new printed
+pub expires_none : (at moment age : ℕ) (old now new : Content) (text printed : List ℕ) → old.up ≡ true → expired_in now moment age ≡ None → new ≡ now → new.limits ≡ old.limits → Expiring moment age old now text → length text ≡ 0 → printed ≡ kept_line at → ExpiresLane at moment age old new printed
 expires_none at moment age old now new text printed up none same limits so_far empty e = expiring_end at moment age old now new text printed up none same limits so_far (e ∙ ap (or_kept at) (sym (empty_of text empty)))
 
 or_kept-some : (at : ℕ) (text : List ℕ) → length text ≢ 0 → or_kept at text ≡ text
 or_kept-some at [] some = absurd (some refl)
 or_kept-some at (x ∷ xs) some = refl
 
-pub expires_some : (at moment age : ℕ) (old now new : Content) (text : List ℕ) → old.up ≡ true → expired_in now moment age ≡ None → new ≡ now → new.limits ≡ old.limits → Expiring moment age old now text → length text ≢ 0 → Expires at moment age old new text
+pub expires_some : (at moment age : ℕ) (old now new : Content) (text : List ℕ) → old.up ≡ true → expired_in now moment age ≡ None → new ≡ now → new.limits ≡ old.limits → Expiring moment age old now text → length text ≢ 0 → ExpiresLane at moment age old new text
 expires_some at moment age old now new text up none same limits so_far some = expiring_end at moment age old now new text text up none same limits so_far (sym (or_kept-some at text some))
 
 -- on a lane that is down nothing fails
-pub expires_down : (at moment age : ℕ) (v : Content) (text : List ℕ) → v.up ≡ false → text ≡ kept_line at → Expires at moment age v v text
+pub expires_down : (at moment age : ℕ) (v : Content) (text : List ℕ) → v.up ≡ false → text ≡ kept_line at → ExpiresLane at moment age v v text
 unfolding expire_on
 expires_down at moment age v text down e h a =
     let down' : is_up (entries_of h) ≡ false = sym a.after.up ∙ down in

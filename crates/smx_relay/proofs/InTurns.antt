@@ -9,7 +9,7 @@ use Rattle.smx_relay.specs.Texts.{closed_line}
 use Rattle.smx_relay.specs.Links.{ClientLink, Receives, has_failed}
 use Rattle.smx_relay.specs.Relay.{Relay, client_of, with_link}
 use Rattle.smx_relay.specs.ClientTurn.{InTurn, OnClient, OnStream, client_end, client_pdu, each_pdu, followed_by}
-use Rattle.smx_relay.specs.Private.Agrees.{Agrees, MayPrint, Turned}
+use Rattle.smx_relay.specs.Private.States.{StandsFor, MayPrint, Turned}
 use Rattle.smx_relay.proofs.Turning.{turned_then}
 use Rattle.smx_relay.proofs.Links.{IsLinked, linked}
 
@@ -17,7 +17,7 @@ pub in_unknown : (s : Relay) (c : ℕ) (octets : List ℕ) (new : State) → cli
 unfolding InTurn
 in_unknown s c octets new none = (None, rw none refl, tt)
 
-pub in_closed : (s : Relay) (c : ℕ) (octets : List ℕ) (k : LinkedClient) (state : State) (text : Vec ℕ) → client_of s.clients c ≡ Some k → has_failed k.link.stream ≡ true → Agrees state s → text.items ≡ closed_line c → MayPrint (InTurn s c octets) state (Some text)
+pub in_closed : (s : Relay) (c : ℕ) (octets : List ℕ) (k : LinkedClient) (state : State) (text : Vec ℕ) → client_of s.clients c ≡ Some k → has_failed k.link.stream ≡ true → StandsFor state s → text.items ≡ closed_line c → MayPrint (InTurn s c octets) state (Some text)
 unfolding InTurn
 in_closed s c octets k state text known failed a e = (Some (closed_line c, s), rw (known, failed) refl, record { text = e; left = a })
 
@@ -30,13 +30,13 @@ in_open s c octets k ps stream state text known sound received turned =
     (Some y, subst (λ (o : Option LinkedClient). OnClient s c octets o (Some y)) (sym known) here, turned)
 
 -- the link's stream went on
-pub streamed : (old mid : State) (s : Relay) (c : ℕ) (k : LinkedClient) (after : ClientLink) → Agrees old s → IsLinked old mid c k after → (after.session ≡ k.link.session) × (after.mailbox ≡ k.link.mailbox) → Agrees mid (with_link s c (record k.link { stream = after.stream }))
+pub streamed : (old mid : State) (s : Relay) (c : ℕ) (k : LinkedClient) (after : ClientLink) → StandsFor old s → IsLinked old mid c k after → (after.session ≡ k.link.session) × (after.mailbox ≡ k.link.mailbox) → StandsFor mid (with_link s c (record k.link { stream = after.stream }))
 streamed old mid s c k after a is same =
     let whole : after ≡ record k.link { stream = after.stream } = ap (λ x. record { session = x; stream = after.stream; mailbox = after.mailbox }) same.0 ∙ ap (λ x. record { session = k.link.session; stream = after.stream; mailbox = x }) same.1 in
-    subst (λ (l : ClientLink). Agrees mid (with_link s c l)) whole (linked old mid s c k after a is)
+    subst (λ (l : ClientLink). StandsFor mid (with_link s c l)) whole (linked old mid s c k after a is)
 
 -- each PDU's turn, and then the end's
-pub in_turns : (s : Relay) (c : ℕ) (ps : List Pdu) (b failed : Bool) (mid last new : State) (text more all : List ℕ) → Agrees mid s → ((t : Relay) → Agrees mid t → Turned (each_pdu (client_pdu c) t ps) last text) → ((t : Relay) → Agrees last t → Turned (client_end c b t) new more) → b ≡ failed → all ≡ text ++ more
+pub in_turns : (s : Relay) (c : ℕ) (ps : List Pdu) (b failed : Bool) (mid last new : State) (text more all : List ℕ) → StandsFor mid s → ((t : Relay) → StandsFor mid t → Turned (each_pdu (client_pdu c) t ps) last text) → ((t : Relay) → StandsFor last t → Turned (client_end c b t) new more) → b ≡ failed → all ≡ text ++ more
     → Turned (followed_by (each_pdu (client_pdu c) s ps) (client_end c failed)) new all
 in_turns s c ps b failed mid last new text more all a turns ends is e =
     subst (λ (t : List ℕ). Turned (followed_by (each_pdu (client_pdu c) s ps) (client_end c failed)) new t) (sym e)

@@ -4,7 +4,7 @@ use Rattle.smx_session.specs.Login.{Login}
 use Rattle.smx_routes.specs.Routing.{Route}
 use Rattle.smx_relay.specs.declared.state.LinkedClient.{LinkedClient}
 use Rattle.smx_relay.specs.declared.state.State.{State}
-use Rattle.smx_relay.specs.Private.Agrees.{HasRoutes}
+use Rattle.smx_relay.specs.Private.States.{HasRoutes}
 
 -- the settings stay
 pub record KeepsSettings (old new : State) : Type 0 where

@@ -17,12 +17,12 @@ use Rattle.smx_history.specs.Contents.{AgreesWith, Content, queue_after, window_
 use Rattle.smx_history.specs.Replies.{is_present, moment_at, take_refusal}
 use Rattle.smx_history.specs.Answering.{IsAnswered}
 use Rattle.smx_history.proofs.Counts.{length-same}
-use Rattle.smx_history.proofs.Finding.{place_same}
+use Rattle.smx_history.proofs.WindowOrder.{place_same}
 use Rattle.smx_history.proofs.Rows.{absent, found_present}
 use Rattle.smx_relay.specs.Texts.{text_line, pdu_line, up_lane, upstream_of, down_line}
 use Rattle.smx_relay.specs.Relay.{moment_on, take_with, take_on, back_on}
 use Rattle.smx_relay.specs.Turns.{IsFree}
-use Rattle.smx_relay.specs.Private.OnLane.{TurnsLane}
+use Rattle.smx_relay.specs.Private.Lanes.{TurnsLane}
 use Rattle.smx_relay.proofs.FreeNumbers.{some_free, taken_free}
 
 window_length : (h : List Note) (v : Content) → AgreesWith h v → length v.window ≡ length (window_after h)

@@ -9,7 +9,7 @@ use Rattle.smx_history.specs.Contents.{Content, IsReordered, content_after}
 use Rattle.smx_relay.specs.declared.state.LinkedLane.{LinkedLane}
 use Rattle.smx_relay.specs.Links.{CentreLink}
 use Rattle.smx_relay.specs.Relay.{RelayLane, lane_after}
-use Rattle.smx_relay.specs.Private.OnLane.{OnLane, IsLane}
+use Rattle.smx_relay.specs.Private.Lanes.{IsContentAfter, IsLane}
 
 pub zip-length : {X Y : Type 0} (R : X → Y → Type 0) (xs : List X) (ys : List Y) → AllZip R xs ys → length xs ≡ length ys
 zip-length R [] [] z = refl
@@ -101,11 +101,11 @@ pub written_back : {X : Type 0} (xs : List X) (i : ℕ) (x y : X) → x ≡ get_
 written_back xs i x y e same = ap (λ z. set xs i z) (same ∙ e) ∙ set-get_or xs i x
 
 -- the lane is what its history leaves, in some order of the window
-pub reordered_on : (limits : Limits) (clients : List (Option ℕ)) (h : List Note) (v : Content) → OnLane limits clients h v → IsReordered (content_after limits h) v
+pub reordered_on : (limits : Limits) (clients : List (Option ℕ)) (h : List Note) (v : Content) → IsContentAfter limits clients h v → IsReordered (content_after limits h) v
 reordered_on limits clients h v on = subst (λ l. IsReordered (content_after l h) v) on.limits_are on.agrees.after
 
 -- the history of a lane went on, or its link did
-pub lane_goes : (limits : Limits) (clients : List (Option ℕ)) (f : List Note → List Note) (l : RelayLane) (k : LinkedLane) (after : Content) → IsLane limits clients l k → OnLane limits clients (f l.history) after → IsLane limits clients (lane_after f l) (record k { lane = after })
+pub lane_goes : (limits : Limits) (clients : List (Option ℕ)) (f : List Note → List Note) (l : RelayLane) (k : LinkedLane) (after : Content) → IsLane limits clients l k → IsContentAfter limits clients (f l.history) after → IsLane limits clients (lane_after f l) (record k { lane = after })
 lane_goes limits clients f l k after is on = record { on = on; link_is = is.link_is }
 
 pub link_goes : (limits : Limits) (clients : List (Option ℕ)) (l : RelayLane) (k : LinkedLane) (after : CentreLink) → IsLane limits clients l k → IsLane limits clients (record l { link = after }) (record k { link = after })

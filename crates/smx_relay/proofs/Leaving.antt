@@ -10,27 +10,27 @@ use Rattle.smx_history.proofs.Rows.{absent, found_present}
 use Rattle.smx_lane.specs.declared.fault.NotAdmitted.{NotAdmitted}
 use Rattle.smx_relay.specs.declared.state.LinkedLane.{LinkedLane}
 use Rattle.smx_relay.specs.Relay.{RelayLane, lane_after, leave_lane}
-use Rattle.smx_relay.specs.Private.OnLane.{OnLane, IsLane}
-use Rattle.smx_relay.specs.Private.Agrees.{AreOn, AreReached}
+use Rattle.smx_relay.specs.Private.Lanes.{IsContentAfter, IsLane}
+use Rattle.smx_relay.specs.Private.States.{AreOn, AreReached}
 use Rattle.smx_relay.proofs.Lanes.{zip-get, zip-set, lane_goes}
 use Rattle.smx_relay.proofs.Passing.{IsPassing, passing_start, passing_at, passing_more, passing_end}
 use Rattle.smx_relay.proofs.OwnNotes.{own_retired}
 
 -- a lane that the client leaves
-abbrev pub Leaves : ℕ → Content → Content → Type 0
-Leaves c lane after = (limits : Limits) (clients : List (Option ℕ)) (h : List Note) → OnLane limits clients h lane → OnLane limits clients (leave_lane c h) after
+abbrev pub LeavesLane : ℕ → Content → Content → Type 0
+LeavesLane c lane after = (limits : Limits) (clients : List (Option ℕ)) (h : List Note) → IsContentAfter limits clients h lane → IsContentAfter limits clients (leave_lane c h) after
 
-leaves_found : (c : ℕ) (lane after : Content) (o : Option Member) → member_with c lane.members ≡ o → IsSome o → ((h : List Note) → AgreesWith h lane → AgreesWith (h ++ note 0 (Retire c) ∷ []) after) → after.limits ≡ lane.limits → Leaves c lane after
+leaves_found : (c : ℕ) (lane after : Content) (o : Option Member) → member_with c lane.members ≡ o → IsSome o → ((h : List Note) → AgreesWith h lane → AgreesWith (h ++ note 0 (Retire c) ∷ []) after) → after.limits ≡ lane.limits → LeavesLane c lane after
 leaves_found c lane after None found some goes kept limits clients h on = absurd (search rules)
 leaves_found c lane after (Some m) found some goes kept limits clients h on =
     rw (found_present h lane c m on.agrees found) (record { agrees = goes h on.agrees; limits_are = kept ∙ on.limits_are; own = own_retired clients c h on.own })
 
-leaves_absent : (c : ℕ) (lane after : Content) → member_with c lane.members ≡ None → after ≡ lane → Leaves c lane after
-leaves_absent c lane after none same limits clients h on = rw (absent h lane c on.agrees none) (subst (OnLane limits clients h) (sym same) on)
+leaves_absent : (c : ℕ) (lane after : Content) → member_with c lane.members ≡ None → after ≡ lane → LeavesLane c lane after
+leaves_absent c lane after none same limits clients h on = rw (absent h lane c on.agrees none) (subst (IsContentAfter limits clients h) (sym same) on)
 
 -- what a retire answers and leaves
 pub leaves_one : (c : ℕ) (lane after : Content) (result : Result (Unit {0}) NotAdmitted) → MatchResult result (λ _. IsSome (member_with c lane.members)) (λ _. member_with c lane.members ≡ None)
-    → OnOk result ((h : List Note) → AgreesWith h lane → AgreesWith (h ++ note 0 (Retire c) ∷ []) after) → OnErr result (after ≡ lane) → after.limits ≡ lane.limits → Leaves c lane after
+    → OnOk result ((h : List Note) → AgreesWith h lane → AgreesWith (h ++ note 0 (Retire c) ∷ []) after) → OnErr result (after ≡ lane) → after.limits ≡ lane.limits → LeavesLane c lane after
 leaves_one c lane after (Ok x) reply goes same kept = leaves_found c lane after (member_with c lane.members) refl reply goes kept
 leaves_one c lane after (Err e) reply goes same kept = leaves_absent c lane after reply same
 
@@ -42,7 +42,7 @@ LeavingAll c old lanes i = (limits : Limits) (clients : List (Option ℕ)) (ls :
 pub leaving_all_start : (c : ℕ) (lanes : List LinkedLane) → LeavingAll c lanes lanes 0
 leaving_all_start c lanes limits clients ls on = ([], ls, passing_start (IsLane limits clients) (lane_after (leave_lane c)) ls lanes on)
 
-pub leaving_all_more : (c : ℕ) (old lanes : List LinkedLane) (i : ℕ) (k : LinkedLane) (after : Content) → LeavingAll c old lanes i → i < length lanes → k ≡ get_or lanes i k → Leaves c k.lane after → LeavingAll c old (set lanes i (record k { lane = after })) (i + 1)
+pub leaving_all_more : (c : ℕ) (old lanes : List LinkedLane) (i : ℕ) (k : LinkedLane) (after : Content) → LeavingAll c old lanes i → i < length lanes → k ≡ get_or lanes i k → LeavesLane c k.lane after → LeavingAll c old (set lanes i (record k { lane = after })) (i + 1)
 leaving_all_more c old lanes i k after so_far lt is leaves limits clients ls on =
     let x = so_far limits clients ls on in
     let at = passing_at (IsLane limits clients) (lane_after (leave_lane c)) ls x.0 x.1 lanes i k x.2 lt in
@@ -55,7 +55,7 @@ leaving_all_end c old lanes i so_far le limits clients ls on =
     let end = passing_end (IsLane limits clients) (lane_after (leave_lane c)) ls x.0 x.1 lanes i x.2 le in
     end.1
 
-pub still_reached : (c : ℕ) (lanes : List LinkedLane) (i : ℕ) (k : LinkedLane) (after : Content) → AreReached lanes → i < length lanes → k ≡ get_or lanes i k → Leaves c k.lane after → AreReached (set lanes i (record k { lane = after }))
+pub still_reached : (c : ℕ) (lanes : List LinkedLane) (i : ℕ) (k : LinkedLane) (after : Content) → AreReached lanes → i < length lanes → k ≡ get_or lanes i k → LeavesLane c k.lane after → AreReached (set lanes i (record k { lane = after }))
 still_reached c lanes i k after r lt is leaves =
     let w = zip-get (IsLane r.0 r.1) r.2 lanes i k r.3 lt in
     let on : IsLane r.0 r.1 w.0 k = subst (IsLane r.0 r.1 w.0) (sym is) w.2 in

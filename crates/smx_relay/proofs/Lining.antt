@@ -7,7 +7,7 @@ use Rattle.smx_script.specs.declared.command.Command.TheVariants.{Skip, Set, Run
 use Rattle.smx_script.specs.Script.{command_of}
 use Rattle.smx_relay.specs.declared.state.LinkedClient.{LinkedClient}
 use Rattle.smx_relay.specs.Links.{ClientLink, CentreLink, has_failed}
-use Rattle.smx_relay.specs.LaneLinks.{GivesUp, LosesWhere, LosesLink, LoseTurn, is_up_at, lower_lane, with_centre}
+use Rattle.smx_relay.specs.LaneLinks.{GivesUpLane, LosesWhere, LosesLink, LoseTurn, is_up_at, lower_lane, with_centre}
 use Rattle.smx_relay.specs.Texts.{down_line}
 use Rattle.smx_history.specs.Contents.{window_after}
 use Rattle.smx_relay.specs.Relay.{Relay, begin_lanes, going_on, has_lane, history_of, lane_at, client_of}
@@ -40,7 +40,7 @@ some_in : (s : Relay) (c : ℕ) (octets : List ℕ) → Some_of (InTurn s c octe
 unfolding InTurn
 some_in s c octets = some_client s c octets (client_of s.clients c)
 
-some_given_up : (i : ℕ) (y : List ℕ × Relay) → Some_of (GivesUp i y)
+some_given_up : (i : ℕ) (y : List ℕ × Relay) → Some_of (GivesUpLane i y)
 some_given_up i y = (_, (window_after (history_of y.1 i), λ test. refl, refl))
 
 some_up : (s : Relay) (i : ℕ) (octets : List ℕ) (k : CentreLink) → Some_of (OnUp s i octets k)

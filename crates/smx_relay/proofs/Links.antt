@@ -18,9 +18,9 @@ use Rattle.smx_relay.specs.Relay.{Relay, RelayLane, client_at, client_of, leave_
 use Rattle.smx_relay.specs.ClientTurn.{hang_up, client_act, client_pdu, client_pdu_on, client_end, decides}
 use Rattle.smx_relay.specs.LaneLinks.{with_centre, lower_lane}
 use Rattle.smx_relay.specs.CentreTurn.{centre_act, centre_pdu, centre_end, link_pdu, act_of, session_after}
-use Rattle.smx_relay.specs.Private.Agrees.{Agrees, AreOn, HasLeft, IsReached, AreReached, Turned}
+use Rattle.smx_relay.specs.Private.States.{StandsFor, AreOn, HasLeftLanes, IsReached, AreReached, Turned}
 use Rattle.smx_relay.specs.Private.Lending.{IsKnown}
-use Rattle.smx_relay.specs.Private.OnLane.{IsLane, lasts}
+use Rattle.smx_relay.specs.Private.Lanes.{IsLane, lasts}
 use Rattle.smx_relay.proofs.Lanes.{link_goes, written_back, zip-set}
 use Rattle.smx_relay.proofs.Keeping.{KeepsSettings, kept_routes}
 use Rattle.smx_relay.proofs.KnownClients.{client_there, known_set, lasts_linked, routes_set}
@@ -36,20 +36,20 @@ pub record IsLinked (old new : State) (c : ℕ) (k : LinkedClient) (after : Clie
   pub keeps : KeepsSettings old new
 
 -- the client that there is
-pub client_is : (old : State) (s : Relay) (c : ℕ) (k : LinkedClient) → Agrees old s → client_of old.clients.list.items c ≡ Some k → client_at s c ≡ k
+pub client_is : (old : State) (s : Relay) (c : ℕ) (k : LinkedClient) → StandsFor old s → client_of old.clients.list.items c ≡ Some k → client_at s c ≡ k
 client_is old s c k a here = client_there s c k (ap (λ (cs : List (Option LinkedClient)). client_of cs c) (sym a.clients) ∙ here)
 
-pub link_is : (old : State) (s : Relay) (c : ℕ) (k : LinkedClient) → Agrees old s → client_of old.clients.list.items c ≡ Some k → (client_at s c).link ≡ k.link
+pub link_is : (old : State) (s : Relay) (c : ℕ) (k : LinkedClient) → StandsFor old s → client_of old.clients.list.items c ≡ Some k → (client_at s c).link ≡ k.link
 link_is old s c k a here = ap (λ (x : LinkedClient). x.link) (client_is old s c k a here)
 
-pub linked : (old new : State) (s : Relay) (c : ℕ) (k : LinkedClient) (after : ClientLink) → Agrees old s → IsLinked old new c k after → Agrees new (with_link s c after)
+pub linked : (old new : State) (s : Relay) (c : ℕ) (k : LinkedClient) (after : ClientLink) → StandsFor old s → IsLinked old new c k after → StandsFor new (with_link s c after)
 linked old new s c k after a is =
     let known : client_of s.clients c ≡ Some k = ap (λ (cs : List (Option LinkedClient)). client_of cs c) (sym a.clients) ∙ is.here in
     let after_it : LinkedClient = record k { link = after } in
     let now = set s.clients c (Some after_it) in
     let same : lasts now ≡ lasts s.clients = lasts_linked s.clients c k after known in
     let lanes : AreOn s.limits (lasts s.clients) s.lanes new.lanes.items = rw is.lanes a.lanes in
-    let left : Agrees new (with_client s c after_it) = record {
+    let left : StandsFor new (with_client s c after_it) = record {
       limits = is.keeps.limits ∙ a.limits;
       count = is.keeps.count ∙ a.count;
       started = is.keeps.started ∙ a.started;
@@ -59,7 +59,7 @@ linked old new s c k after a is =
       none_yet = a.none_yet;
       routes = kept_routes old new now s.accounts s.places s.routes is.keeps (routes_set old s.clients c after_it s.accounts s.places s.routes a.routes);
     } in
-    subst (λ (x : LinkedClient). Agrees new (with_client s c (record x { link = after }))) (sym (client_there s c k known)) left
+    subst (λ (x : LinkedClient). StandsFor new (with_client s c (record x { link = after }))) (sym (client_there s c k known)) left
 
 pub still_linked : (old new : State) (c : ℕ) (k : LinkedClient) (after : ClientLink) → IsReached old → IsLinked old new c k after → IsReached new
 still_linked old new c k after reached is = (with_link reached.0 c after, linked old new reached.0 c k after reached.1 is)
@@ -69,13 +69,13 @@ pub known_linked : (old new : State) (c d : ℕ) (k : LinkedClient) (after : Cli
 known_linked old new c d k after is known = subst (λ (cs : List (Option LinkedClient)). IsKnown cs d) (sym is.clients) (known_set old.clients.list.items d c (record k { link = after }) known)
 
 -- a link that was read only
-pub link_untouched : (old new : State) (s : Relay) (c : ℕ) (k : LinkedClient) → Agrees old s → IsLinked old new c k k.link → Agrees new s
+pub link_untouched : (old new : State) (s : Relay) (c : ℕ) (k : LinkedClient) → StandsFor old s → IsLinked old new c k k.link → StandsFor new s
 link_untouched old new s c k a is =
     let known : client_of s.clients c ≡ Some k = ap (λ (cs : List (Option LinkedClient)). client_of cs c) (sym a.clients) ∙ is.here in
     let same : set s.clients c (Some k) ≡ s.clients = ap (λ (o : Option LinkedClient). set s.clients c o) (sym known) ∙ set-get_or s.clients c None in
     let there : with_link s c k.link ≡ s =
     ap (λ (x : LinkedClient). with_client s c (record x { link = k.link })) (client_there s c k known) ∙ ap (λ (cs : List (Option LinkedClient)). record s { clients = cs }) same in
-    subst (Agrees new) there (linked old new s c k k.link a is)
+    subst (StandsFor new) there (linked old new s c k k.link a is)
 
 pub client_pdu_some : (s : Relay) (c : ℕ) (p : Pdu) (k after : ClientLink) (act : Act) → (client_at s c).link ≡ k → act ≡ (decides s.accounts k.session p).0 → after ≡ record k { session = (decides s.accounts k.session p).1 }
     → client_act c p act (with_link s c after) ≡ client_pdu c p s
@@ -85,8 +85,8 @@ client_pdu_some s c p k after act at is link =
     ∙ sym (ap (λ (l : ClientLink). client_pdu_on c p l s) at)
 
 -- a client left the lanes, and its prefixes are gone
-pub left_by_all : (old new : State) (s : Relay) (c : ℕ) → Agrees old s → HasLeft c old.lanes.items new.lanes.items → KeepsSettings old (record new { routes = old.routes }) → new.clients.list.items ≡ old.clients.list.items
-    → new.routes ≡ filter (λ r. not (r.client == c)) old.routes → Agrees new (leave_lanes c s)
+pub left_by_all : (old new : State) (s : Relay) (c : ℕ) → StandsFor old s → HasLeftLanes c old.lanes.items new.lanes.items → KeepsSettings old (record new { routes = old.routes }) → new.clients.list.items ≡ old.clients.list.items
+    → new.routes ≡ filter (λ r. not (r.client == c)) old.routes → StandsFor new (leave_lanes c s)
 left_by_all old new s c a leaves keeps clients routes = record {
   limits = keeps.limits ∙ a.limits;
   count = keeps.count ∙ a.count;
@@ -124,7 +124,7 @@ pub record IsCentre (old new : State) (i : ℕ) (k : LinkedLane) (after : Centre
   pub clients : new.clients.list.items ≡ old.clients.list.items
   pub keeps : KeepsSettings old new
 
-pub centred : (old new : State) (s : Relay) (i : ℕ) (k : LinkedLane) (after : CentreLink) → Agrees old s → IsCentre old new i k after → Agrees new (with_centre s i after)
+pub centred : (old new : State) (s : Relay) (i : ℕ) (k : LinkedLane) (after : CentreLink) → StandsFor old s → IsCentre old new i k after → StandsFor new (with_centre s i after)
 centred old new s i k after a is =
     let R = IsLane s.limits (lasts s.clients) in
     let l : RelayLane = record (lane_at s i) { link = after } in
@@ -142,14 +142,14 @@ centred old new s i k after a is =
     }
 
 -- the link that there is
-pub centre_at : (old : State) (s : Relay) (i : ℕ) (k : LinkedLane) → Agrees old s → i < length old.lanes.items → k ≡ get_or old.lanes.items i k → k.link ≡ (lane_at s i).link
+pub centre_at : (old : State) (s : Relay) (i : ℕ) (k : LinkedLane) → StandsFor old s → i < length old.lanes.items → k ≡ get_or old.lanes.items i k → k.link ≡ (lane_at s i).link
 centre_at old s i k a within here = (lane_is old s i k a within here).link_is
 
-pub left_is : (old : State) (s : Relay) (i : ℕ) (k : LinkedLane) (b : Bool) → Agrees old s → i < length old.lanes.items → k ≡ get_or old.lanes.items i k → has_left k.link ≡ b → has_left (lane_at s i).link ≡ b
+pub left_is : (old : State) (s : Relay) (i : ℕ) (k : LinkedLane) (b : Bool) → StandsFor old s → i < length old.lanes.items → k ≡ get_or old.lanes.items i k → has_left k.link ≡ b → has_left (lane_at s i).link ≡ b
 left_is old s i k b a within here e = ap has_left (sym (centre_at old s i k a within here)) ∙ e
 
 -- a link that was read only
-pub centre_untouched : (old new : State) (s : Relay) (i : ℕ) (k : LinkedLane) → Agrees old s → IsCentre old new i k k.link → Agrees new s
+pub centre_untouched : (old new : State) (s : Relay) (i : ℕ) (k : LinkedLane) → StandsFor old s → IsCentre old new i k k.link → StandsFor new s
 centre_untouched old new s i k a is =
     let lanes : new.lanes.items ≡ old.lanes.items = is.lanes ∙ written_back old.lanes.items i k k is.here refl in
     record {
@@ -180,7 +180,7 @@ centre_end_left s i true gone = rw gone refl
 centre_end_left s i false gone = refl
 
 -- a bad length came
-pub centre_ended : (state : State) (s : Relay) (i : ℕ) (answer : Pdu) (text : List ℕ) → has_left (lane_at s i).link ≡ false → answer ≡ nack_of_undecoded → text ≡ pdu_line (up_lane i) answer ++ down_line i → Agrees state (going_on s i lower_lane) → Turned (centre_end i true s) state text
+pub centre_ended : (state : State) (s : Relay) (i : ℕ) (answer : Pdu) (text : List ℕ) → has_left (lane_at s i).link ≡ false → answer ≡ nack_of_undecoded → text ≡ pdu_line (up_lane i) answer ++ down_line i → StandsFor state (going_on s i lower_lane) → Turned (centre_end i true s) state text
 unfolding centre_end
 centre_ended state s i answer text here said e a =
     rw here (subst (λ (p : Pdu). Turned (pdu_line (up_lane i) p ++ down_line i, going_on s i lower_lane) state text) said (record { text = e; left = a }))

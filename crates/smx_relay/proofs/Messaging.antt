@@ -21,21 +21,21 @@ use Rattle.smx_relay.specs.Links.{ClientLink}
 use Rattle.smx_relay.specs.Texts.{text_line, pdu_line, to_client, up_lane}
 use Rattle.smx_relay.specs.Relay.{Relay, client_at, client_of, leave_lanes, with_link}
 use Rattle.smx_relay.specs.Messages.{answer_on, answer_turn, answer_with, empty_on, leave_turn, left_line, message_turn, put_to, put_with, send_on, send_turn}
-use Rattle.smx_relay.specs.Private.Agrees.{Agrees, Turned}
+use Rattle.smx_relay.specs.Private.States.{StandsFor, Turned}
 use Rattle.smx_relay.specs.Private.Lending.{IsKnown}
 use Rattle.smx_relay.proofs.Links.{IsLinked, link_is, linked, link_untouched}
 
 -- the client's link is this from now on
-gone_on : (old new : State) (s : Relay) (c : ℕ) (k : LinkedClient) (after x : ClientLink) → Agrees old s → IsLinked old new c k after → after ≡ x → Agrees new (with_link s c x)
-gone_on old new s c k after x a is same = subst (λ (l : ClientLink). Agrees new (with_link s c l)) same (linked old new s c k after a is)
+gone_on : (old new : State) (s : Relay) (c : ℕ) (k : LinkedClient) (after x : ClientLink) → StandsFor old s → IsLinked old new c k after → after ≡ x → StandsFor new (with_link s c x)
+gone_on old new s c k after x a is same = subst (λ (l : ClientLink). StandsFor new (with_link s c l)) same (linked old new s c k after a is)
 
 -- the client's link stayed
-link_same : (old new : State) (s : Relay) (c : ℕ) (k : LinkedClient) (after : ClientLink) → Agrees old s → IsLinked old new c k after → after ≡ k.link → Agrees new s
+link_same : (old new : State) (s : Relay) (c : ℕ) (k : LinkedClient) (after : ClientLink) → StandsFor old s → IsLinked old new c k after → after ≡ k.link → StandsFor new s
 link_same old new s c k after a is same = link_untouched old new s c k a (subst (IsLinked old new c k) same is)
 
 -- ---- a message comes
 
-pub put_refused : (s : Relay) (i : ℕ) (p : Pdu) (state : State) (text : List ℕ) → Agrees state s → text ≡ pdu_line (up_lane i) (refusal p.command ESME_RX_T_APPN p.number) → Turned (put_to s i p None) state text
+pub put_refused : (s : Relay) (i : ℕ) (p : Pdu) (state : State) (text : List ℕ) → StandsFor state s → text ≡ pdu_line (up_lane i) (refusal p.command ESME_RX_T_APPN p.number) → Turned (put_to s i p None) state text
 unfolding put_to
 put_refused s i p state text a e = record { text = e; left = a }
 
@@ -46,24 +46,24 @@ put_by s i p c k b state text at full turned =
     let here : Turned (put_with s i p c k (is_full k.mailbox)) state text = subst (λ x. Turned (put_with s i p c k x) state text) (sym full) turned in
     subst (λ (l : ClientLink). Turned (put_with s i p c l (is_full l.mailbox)) state text) (sym at) here
 
-pub put_there : (old new : State) (s : Relay) (i : ℕ) (p : Pdu) (c : ℕ) (k : LinkedClient) (after : ClientLink) (text : List ℕ) → Agrees old s → is_full k.link.mailbox ≡ false → IsLinked old new c k after
+pub put_there : (old new : State) (s : Relay) (i : ℕ) (p : Pdu) (c : ℕ) (k : LinkedClient) (after : ClientLink) (text : List ℕ) → StandsFor old s → is_full k.link.mailbox ≡ false → IsLinked old new c k after
     → after ≡ record k.link { mailbox = with_message (record { lane = i; pdu = p }) k.link.mailbox } → text ≡ text_line (codes "mo " ++ decimal c) → Turned (put_to s i p (Some c)) new text
 put_there old new s i p c k after text a room is same e =
     put_by s i p c k.link false new text (link_is old s c k a is.here) room (record { text = e; left = gone_on old new s c k after (record k.link { mailbox = with_message (record { lane = i; pdu = p }) k.link.mailbox }) a is same })
 
-pub put_full : (old new : State) (s : Relay) (i : ℕ) (p : Pdu) (c : ℕ) (k : LinkedClient) (after : ClientLink) (text : List ℕ) → Agrees old s → is_full k.link.mailbox ≡ true → IsLinked old new c k after → after ≡ k.link → text ≡ pdu_line (up_lane i) (refusal p.command ESME_RMSGQFUL p.number)
+pub put_full : (old new : State) (s : Relay) (i : ℕ) (p : Pdu) (c : ℕ) (k : LinkedClient) (after : ClientLink) (text : List ℕ) → StandsFor old s → is_full k.link.mailbox ≡ true → IsLinked old new c k after → after ≡ k.link → text ≡ pdu_line (up_lane i) (refusal p.command ESME_RMSGQFUL p.number)
     → Turned (put_to s i p (Some c)) new text
 put_full old new s i p c k after text a full is same e = put_by s i p c k.link true new text (link_is old s c k a is.here) full (record { text = e; left = link_same old new s c k after a is same })
 
 -- the client of a route is there
-pub routed_known : (state : State) (s : Relay) (address : List ℕ) (c : ℕ) → Agrees state s → IsRouted state.routes address (Some c) → IsKnown state.clients.list.items c
+pub routed_known : (state : State) (s : Relay) (address : List ℕ) (c : ℕ) → StandsFor state s → IsRouted state.routes address (Some c) → IsKnown state.clients.list.items c
 routed_known state s address c a routed =
     let r = routed.0 in
     let there : Contains s.routes r = subst (λ (rs : List Route). Contains rs r) a.routes.routes_are routed.1.there in
     let known : IsKnown s.clients r.client = All-contains (λ (x : Route). IsKnown s.clients x.client) s.routes r a.routes.known there in
     subst (λ (cs : List (Option LinkedClient)). IsKnown cs c) (sym a.clients) (subst (IsKnown s.clients) routed.2 known)
 
-pub message_unread : (s : Relay) (i : ℕ) (p : Pdu) (fault : BodyFault) (state : State) (text : List ℕ) → destination_at p.body ≡ Err fault → Agrees state s → text ≡ pdu_line (up_lane i) (refusal p.command ESME_RINVCMDLEN p.number) → Turned (message_turn i p s) state text
+pub message_unread : (s : Relay) (i : ℕ) (p : Pdu) (fault : BodyFault) (state : State) (text : List ℕ) → destination_at p.body ≡ Err fault → StandsFor state s → text ≡ pdu_line (up_lane i) (refusal p.command ESME_RINVCMDLEN p.number) → Turned (message_turn i p s) state text
 unfolding message_turn
 message_unread s i p fault state text at a e = rw at (record { text = e; left = a })
 
@@ -82,10 +82,10 @@ answer_by s c p k o state text at found turned =
     let here : Turned (answer_on s c p k) state text = subst (λ (x : Option Waiting). Turned (answer_with s c p k x) state text) (sym found) turned in
     subst (λ (l : ClientLink). Turned (answer_on s c p l) state text) (sym at) here
 
-pub answer_dropped : (old new : State) (s : Relay) (c : ℕ) (p : Pdu) (k : LinkedClient) (after : ClientLink) (text : List ℕ) → Agrees old s → message_for p.number p.command k.link.mailbox.window.waiting ≡ None → IsLinked old new c k after → after ≡ k.link → text ≡ [] → Turned (answer_turn c p s) new text
+pub answer_dropped : (old new : State) (s : Relay) (c : ℕ) (p : Pdu) (k : LinkedClient) (after : ClientLink) (text : List ℕ) → StandsFor old s → message_for p.number p.command k.link.mailbox.window.waiting ≡ None → IsLinked old new c k after → after ≡ k.link → text ≡ [] → Turned (answer_turn c p s) new text
 answer_dropped old new s c p k after text a none is same e = answer_by s c p k.link None new text (link_is old s c k a is.here) none (record { text = e; left = link_same old new s c k after a is same })
 
-pub answer_passed : (old new : State) (s : Relay) (c : ℕ) (p : Pdu) (k : LinkedClient) (after : ClientLink) (w : Waiting) (lane number : ℕ) (text : List ℕ) → Agrees old s → message_for p.number p.command k.link.mailbox.window.waiting ≡ Some w → IsLinked old new c k after
+pub answer_passed : (old new : State) (s : Relay) (c : ℕ) (p : Pdu) (k : LinkedClient) (after : ClientLink) (w : Waiting) (lane number : ℕ) (text : List ℕ) → StandsFor old s → message_for p.number p.command k.link.mailbox.window.waiting ≡ Some w → IsLinked old new c k after
     → after ≡ record k.link { mailbox = after_settling p.number k.link.mailbox } → lane ≡ w.lane → number ≡ w.number → text ≡ pdu_line (up_lane lane) (record p { number = number }) → Turned (answer_turn c p s) new text
 answer_passed old new s c p k after w lane number text a some is same from under e = answer_by s c p k.link (Some w) new text (link_is old s c k a is.here) some (record {
   text = e ∙ ap (λ l. pdu_line (up_lane l) (record p { number = number })) from ∙ ap (λ n. pdu_line (up_lane w.lane) (record p { number = n })) under;
@@ -94,7 +94,7 @@ answer_passed old new s c p k after w lane number text a some is same from under
 
 -- ---- a client leaves
 
-pub leave_emptied : (old mid new : State) (s : Relay) (c : ℕ) (k : LinkedClient) (after : ClientLink) (messages : List Unanswered) (text : List ℕ) → Agrees old s → Agrees mid (leave_lanes c s) → mid.clients.list.items ≡ old.clients.list.items → IsLinked mid new c k after → after ≡ record k.link { mailbox = empty_mailbox k.link.mailbox }
+pub leave_emptied : (old mid new : State) (s : Relay) (c : ℕ) (k : LinkedClient) (after : ClientLink) (messages : List Unanswered) (text : List ℕ) → StandsFor old s → StandsFor mid (leave_lanes c s) → mid.clients.list.items ≡ old.clients.list.items → IsLinked mid new c k after → after ≡ record k.link { mailbox = empty_mailbox k.link.mailbox }
     → messages ≡ unanswered_messages k.link.mailbox → text ≡ flat_map left_line messages → Turned (leave_turn c s) new text
 unfolding leave_turn
 leave_emptied old mid new s c k after messages text b a kept is same all e =
@@ -107,7 +107,7 @@ leave_emptied old mid new s c k after messages text b a kept is same all e =
 
 -- ---- a client collects
 
-pub send_some : (old new : State) (s : Relay) (c : ℕ) (k : LinkedClient) (after : ClientLink) (pdus : List Pdu) (text : List ℕ) → Agrees old s → IsLinked old new c k after → after ≡ record k.link { mailbox = after_sent k.link.mailbox.window k.link.mailbox.waiting }
+pub send_some : (old new : State) (s : Relay) (c : ℕ) (k : LinkedClient) (after : ClientLink) (pdus : List Pdu) (text : List ℕ) → StandsFor old s → IsLinked old new c k after → after ≡ record k.link { mailbox = after_sent k.link.mailbox.window k.link.mailbox.waiting }
     → pdus ≡ pdus_sent k.link.mailbox.window k.link.mailbox.waiting → text ≡ flat_map (pdu_line (to_client c)) pdus → Turned (send_turn c s) new text
 unfolding send_turn
 send_some old new s c k after pdus text a is same all e =

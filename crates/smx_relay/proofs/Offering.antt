@@ -19,8 +19,8 @@ use Rattle.smx_relay.specs.declared.state.LinkedClient.{LinkedClient}
 use Rattle.smx_relay.specs.Relay.{Relay, client_at, client_of, going_on, history_of, lane_after, lane_at, lane_for, in_turn_at, new_lane, request_of, with_client, with_request}
 use Rattle.smx_relay.specs.ClientTurn.{forward, offer_at}
 use Rattle.smx_relay.proofs.Offers.{request_named}
-use Rattle.smx_relay.specs.Private.OnLane.{OnLane, IsLane, last_in, last_of, lasts}
-use Rattle.smx_relay.specs.Private.Agrees.{Agrees, Turned, MayAccept, accepts_in}
+use Rattle.smx_relay.specs.Private.Lanes.{IsContentAfter, IsLane, last_in, last_of, lasts}
+use Rattle.smx_relay.specs.Private.States.{StandsFor, Turned, MayAcceptNext, accepts_in}
 use Rattle.smx_relay.proofs.Lanes.{zip-length, zip-set, zip-weaker, find-agree, reordered_on}
 use Rattle.smx_history.specs.Ring.{ring}
 use Rattle.smx_history.proofs.Ring.{ring_within}
@@ -51,17 +51,17 @@ found_at (y ∷ ys) zero x e = (omega arith, let same : y ≡ x = cc in sym same
 found_at (y ∷ ys) (suc i) x e = let w = found_at ys i x e in (omega (arith, w.0), w.1)
 
 -- the last ordinal of a client that there is
-known_last : (state : State) (s : Relay) (c n : ℕ) (k : LinkedClient) → Agrees state s → client_of state.clients.list.items c ≡ Some k → k.last ≡ n → last_of (lasts s.clients) c ≡ Some n
+known_last : (state : State) (s : Relay) (c n : ℕ) (k : LinkedClient) → StandsFor state s → client_of state.clients.list.items c ≡ Some k → k.last ≡ n → last_of (lasts s.clients) c ≡ Some n
 known_last state s c n k a known is_last = last_at s.clients c k (ap (λ (cs : List (Option LinkedClient)). client_of cs c) (sym a.clients) ∙ known) ∙ ap (λ x. Some x) is_last
 
-pub lanes_may_accept : (state : State) (s : Relay) (c n m : ℕ) (k : LinkedClient) → Agrees state s → client_of state.clients.list.items c ≡ Some k → k.last ≡ n → m ≡ n + 1 → AllByRecursion (MayAccept c m) state.lanes.items
+pub lanes_may_accept : (state : State) (s : Relay) (c n m : ℕ) (k : LinkedClient) → StandsFor state s → client_of state.clients.list.items c ≡ Some k → k.last ≡ n → m ≡ n + 1 → AllByRecursion (MayAcceptNext c m) state.lanes.items
 lanes_may_accept state s c n m k a known is_last e =
     let last = known_last state s c n k a known is_last in
-    subst (λ x. AllByRecursion (MayAccept c x) state.lanes.items) (sym e)
-    (zip-all (IsLane s.limits (lasts s.clients)) (MayAccept c (n + 1)) (λ l v is. rows_below (lasts s.clients) l.history v.lane c n is.on.agrees is.on.own last) s.lanes state.lanes.items a.lanes)
+    subst (λ x. AllByRecursion (MayAcceptNext c x) state.lanes.items) (sym e)
+    (zip-all (IsLane s.limits (lasts s.clients)) (MayAcceptNext c (n + 1)) (λ l v is. rows_below (lasts s.clients) l.history v.lane c n is.on.agrees is.on.own last) s.lanes state.lanes.items a.lanes)
 
 -- the lane that the engine finds is the one that the histories say
-lane_same : (state : State) (s : Relay) (c last : ℕ) → Agrees state s → lane_for s c last ≡ find (λ i. accepts_in c (slice_get state.lanes.items i)) (ring (last % length state.lanes.items) (length state.lanes.items))
+lane_same : (state : State) (s : Relay) (c last : ℕ) → StandsFor state s → lane_for s c last ≡ find (λ i. accepts_in c (slice_get state.lanes.items i)) (ring (last % length state.lanes.items) (length state.lanes.items))
 unfolding lane_for
 lane_same state s c last a =
     let n = length s.lanes in
@@ -87,7 +87,7 @@ pub record IsAccepted (old new : State) (last at : ℕ) (r : Request) (x : Linke
   pub clients : new.clients.list.items ≡ set old.clients.list.items r.client (Some (record x { last = r.ordinal }))
   pub keeps : KeepsSettings old new
 
-pub offered_some : (old new : State) (s : Relay) (last at : ℕ) (r : Request) (x : LinkedClient) (k : LinkedLane) (after : Content) (text : List ℕ) → Agrees old s → r.ordinal ≡ last + 1 → IsAccepted old new last at r x k after
+pub offered_some : (old new : State) (s : Relay) (last at : ℕ) (r : Request) (x : LinkedClient) (k : LinkedLane) (after : Content) (text : List ℕ) → StandsFor old s → r.ordinal ≡ last + 1 → IsAccepted old new last at r x k after
     → text ≡ text_line (codes "accepted " ++ (decimal r.client ++ (codes " " ++ decimal at))) → Turned (in_turn_at s r (lane_for s r.client last)) new text
 offered_some old new s last at r x k after text a next is e =
     let c = r.client in
@@ -101,7 +101,7 @@ offered_some old new s last at r x k after text a next is e =
     let grows : Grows before clients = subst (λ n. Grows before (set before c (Some n))) (sym next) (grows_set before c last was_last) in
     let own = own_push clients l.history (note 0 (Accept r)) (entry_by 0 (Accept r)) refl (own_grows before clients l.history grows was.on.own)
     (record { by = refl; known = λ accept. omega (arith, ap (λ o. unwrap_or o 0) (last_set before c last r.ordinal was_last)) }) in
-    let longer : OnLane s.limits clients (with_request r l.history) after = record { agrees = is.goes l.history was.on.agrees; limits_are = is.limits_kept ∙ was.on.limits_are; own = own } in
+    let longer : IsContentAfter s.limits clients (with_request r l.history) after = record { agrees = is.goes l.history was.on.agrees; limits_are = is.limits_kept ∙ was.on.limits_are; own = own } in
     let R = IsLane s.limits clients in
     let on : R (lane_after (with_request r) l) (record k { lane = after }) = record { on = longer; link_is = was.link_is } in
     let weaker = zip-weaker (IsLane s.limits before) R (λ g v y. record { on = record { agrees = y.on.agrees; limits_are = y.on.limits_are; own = own_grows before clients g.history grows y.on.own }; link_is = y.link_is }) s.lanes old.lanes.items a.lanes in
@@ -112,7 +112,7 @@ offered_some old new s last at r x k after text a next is e =
     let now = set s.clients c (Some after_it) in
     let there : AllZip (IsLane s.limits (lasts now)) (set s.lanes at (lane_after (with_request r) l)) new.lanes.items =
     subst (λ cs. AllZip (IsLane s.limits cs) (set s.lanes at (lane_after (with_request r) l)) new.lanes.items) (sym (map-set last_in s.clients c (Some after_it))) lanes in
-    let left : Agrees new (with_client (going_on s at (with_request r)) c after_it) = record {
+    let left : StandsFor new (with_client (going_on s at (with_request r)) c after_it) = record {
       limits = is.keeps.limits ∙ a.limits;
       count = is.keeps.count ∙ a.count;
       started = is.keeps.started ∙ a.started;
@@ -124,10 +124,10 @@ offered_some old new s last at r x k after text a next is e =
     } in
     rw found (record {
       text = e;
-      left = subst (λ (y : LinkedClient). Agrees new (with_client (going_on s at (with_request r)) c (record y { last = r.ordinal }))) (sym (client_there s c x known)) left;
+      left = subst (λ (y : LinkedClient). StandsFor new (with_client (going_on s at (with_request r)) c (record y { last = r.ordinal }))) (sym (client_there s c x known)) left;
     })
 
-pub offered_none : (old new : State) (s : Relay) (last : ℕ) (r : Request) (p : Pdu) (text : List ℕ) → Agrees old s → find (λ i. accepts_in r.client (slice_get old.lanes.items i)) (ring (last % length old.lanes.items) (length old.lanes.items)) ≡ None
+pub offered_none : (old new : State) (s : Relay) (last : ℕ) (r : Request) (p : Pdu) (text : List ℕ) → StandsFor old s → find (λ i. accepts_in r.client (slice_get old.lanes.items i)) (ring (last % length old.lanes.items) (length old.lanes.items)) ≡ None
     → new.lanes.items ≡ old.lanes.items → new.clients.list.items ≡ old.clients.list.items → KeepsSettings old new
     → p ≡ refusal_of r → text ≡ pdu_line (to_client r.client) p → Turned (in_turn_at s r (lane_for s r.client last)) new text
 offered_none old new s last r p text a none lanes clients keeps is e =
@@ -155,7 +155,7 @@ forwarded s c last p r state text is_last is turned =
     subst (λ n. Turned (offer_at s c n (request_of c (n + 1) p)) state text) (sym is_last) here
 
 -- one that isn't
-pub dropped : (s : Relay) (c last : ℕ) (p : Pdu) (state : State) (text : List ℕ) → (client_at s c).last ≡ last → request_of c (last + 1) p ≡ None → Agrees state s → text ≡ [] → Turned (forward c p s) state text
+pub dropped : (s : Relay) (c last : ℕ) (p : Pdu) (state : State) (text : List ℕ) → (client_at s c).last ≡ last → request_of c (last + 1) p ≡ None → StandsFor state s → text ≡ [] → Turned (forward c p s) state text
 unfolding forward
 dropped s c last p state text is_last none a e =
     let here : Turned (offer_at s c last (request_of c (last + 1) p)) state text = rw none (record { text = e; left = a }) in

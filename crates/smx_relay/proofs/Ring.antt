@@ -7,7 +7,7 @@ use Rattle.smx_history.specs.Replies.{accept_refusal}
 use Rattle.smx_history.specs.Ring.{ring}
 use Rattle.smx_history.proofs.Ring.{ring_step, ring_end}
 use Rattle.smx_relay.specs.declared.state.LinkedLane.{LinkedLane}
-use Rattle.smx_relay.specs.Private.Agrees.{accepts_in}
+use Rattle.smx_relay.specs.Private.States.{accepts_in}
 use Rattle.smx_relay.proofs.Lanes.{find-here, find-next}
 
 -- whether the lane at an index accepts a request of the client

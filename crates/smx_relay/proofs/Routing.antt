@@ -13,7 +13,7 @@ use Rattle.smx_relay.specs.declared.state.LinkedClient.{LinkedClient}
 use Rattle.smx_relay.specs.Links.{may_receive}
 use Rattle.smx_relay.specs.Relay.{Relay, client_of}
 use Rattle.smx_relay.specs.Turns.{RouteTurn, is_bad_route}
-use Rattle.smx_relay.specs.Private.Agrees.{Agrees, MayPrint}
+use Rattle.smx_relay.specs.Private.States.{StandsFor, MayPrint}
 use Rattle.smx_relay.specs.Private.Lending.{IsKnown}
 use Rattle.smx_relay.proofs.Keeping.{KeepsSettings}
 use Rattle.smx_relay.proofs.KnownClients.{known_from}
@@ -51,7 +51,7 @@ pub record IsRouting (old new : State) (c : ℕ) (prefix : List ℕ) : Type 0 wh
   pub clients : new.clients.list.items ≡ old.clients.list.items
   pub keeps : KeepsSettings old (record new { routes = old.routes })
 
-routed_on : (old new : State) (s : Relay) (c : ℕ) (prefix : List ℕ) → Agrees old s → IsKnown s.clients c → IsRouting old new c prefix → Agrees new (record s { routes = new.routes })
+routed_on : (old new : State) (s : Relay) (c : ℕ) (prefix : List ℕ) → StandsFor old s → IsKnown s.clients c → IsRouting old new c prefix → StandsFor new (record s { routes = new.routes })
 routed_on old new s c prefix a known is = record {
   limits = is.keeps.limits ∙ a.limits;
   count = is.keeps.count ∙ a.count;
@@ -69,7 +69,7 @@ routed_on old new s c prefix a known is = record {
   };
 }
 
-pub route_added : (old new : State) (s : Relay) (c : ℕ) (prefix : List ℕ) (k : LinkedClient) (text : Vec ℕ) → Agrees old s → client_of s.clients c ≡ Some k → may_receive k.link.session ≡ true → IsRouting old new c prefix → text.items ≡ [] → MayPrint (RouteTurn s c prefix) new (Some text)
+pub route_added : (old new : State) (s : Relay) (c : ℕ) (prefix : List ℕ) (k : LinkedClient) (text : Vec ℕ) → StandsFor old s → client_of s.clients c ≡ Some k → may_receive k.link.session ≡ true → IsRouting old new c prefix → text.items ≡ [] → MayPrint (RouteTurn s c prefix) new (Some text)
 unfolding RouteTurn
 route_added old new s c prefix k text a known may is e =
     let near : nat_lt 64 (length prefix) ≡ false = grind (arith, nat_tests, is.fresh.0) in

@@ -11,10 +11,10 @@ use Rattle.smx_history.specs.History.{entries_of}
 use Rattle.smx_history.specs.Contents.{AgreesWith, Content}
 use Rattle.smx_history.proofs.Reading.{All-kept, All-each}
 use Rattle.smx_history.proofs.Rows.{each_row}
-use Rattle.smx_relay.specs.Private.OnLane.{IsOwn, AreOwn, AreOurs, last_of}
+use Rattle.smx_relay.specs.Private.Lanes.{IsOwnEntry, AreOwnEntries, AreOurs, last_of}
 
-pub ours_of_own : (clients : List (Option ℕ)) (h : List Note) → AreOwn clients h → AreOurs h
-ours_of_own clients h own = All-each (IsOwn clients) (λ e. e.by ≡ 0) (λ e is. is.by) (entries_of h) own
+pub ours_of_own : (clients : List (Option ℕ)) (h : List Note) → AreOwnEntries clients h → AreOurs h
+ours_of_own clients h own = All-each (IsOwnEntry clients) (λ e. e.by ≡ 0) (λ e is. is.by) (entries_of h) own
 
 ours_present : (h : List Note) → AreOurs h → AllByRecursion (λ e. e.by ≡ 0) (present (entries_of h))
 ours_present h ours =
@@ -30,7 +30,7 @@ last_up_to : (low n : ℕ) (xs : List ℕ) → low ≤ n → AllByRecursion (λ 
 last_up_to low n [] le all = le
 last_up_to low n (x ∷ xs) le all = last_up_to x n xs all.0 all.1
 
-accepts_up_to : (clients : List (Option ℕ)) (c n : ℕ) (es : List Entry) → last_of clients c ≡ Some n → AllByRecursion (IsOwn clients) es → AllByRecursion (λ x. x ≤ n) (map (λ e. e.ordinal) (accepts_of c es))
+accepts_up_to : (clients : List (Option ℕ)) (c n : ℕ) (es : List Entry) → last_of clients c ≡ Some n → AllByRecursion (IsOwnEntry clients) es → AllByRecursion (λ x. x ≤ n) (map (λ e. e.ordinal) (accepts_of c es))
 accepts_up_to clients c n [] last own = tt
 accepts_up_to clients c n (e ∷ es) last own = at (is_accept e.kind && (e.client == c)) refl (accepts_up_to clients c n es last own.1)
   where
@@ -42,7 +42,7 @@ accepts_up_to clients c n (e ∷ es) last own = at (is_accept e.kind && (e.clien
     at false is later = later
 
 -- the next ordinal of a client is above its last one on each lane
-pub rows_below : (clients : List (Option ℕ)) (h : List Note) (v : Content) (c n : ℕ) → AgreesWith h v → AreOwn clients h → last_of clients c ≡ Some n → AllByRecursion (λ m. m.client ≡ c → (m.last < n + 1) × (m.by ≡ 0)) v.members
+pub rows_below : (clients : List (Option ℕ)) (h : List Note) (v : Content) (c n : ℕ) → AgreesWith h v → AreOwnEntries clients h → last_of clients c ≡ Some n → AllByRecursion (λ m. m.client ≡ c → (m.last < n + 1) × (m.by ≡ 0)) v.members
 rows_below clients h v c n a own last =
     each_row (λ e. e.by ≡ 0) (λ m. m.client ≡ c → (m.last < n + 1) × (m.by ≡ 0)) h v
     (λ e by is.

@@ -2,7 +2,7 @@
 use Rattle.std.proofs.Common.{◌≡◌, ℕ, ◌+◌, List, [], ◌∷◌, ◌++◌, Option, Some, None, refl, sym, ap, subst, ◌∙◌, append_assoc}
 use Rattle.std.proofs.lemmas.List.{append-nil}
 use Rattle.smx_relay.specs.Texts.{bad_line}
-use Rattle.smx_relay.specs.Relay.{Relay, start}
+use Rattle.smx_relay.specs.Relay.{Relay, new_relay}
 use Rattle.smx_relay.specs.Turns.{Lines}
 use Rattle.smx_relay.specs.Runs.{Runs}
 use Rattle.smx_relay.proofs.Lining.{some_line}
@@ -33,35 +33,35 @@ runs_on n s (line ∷ lines) =
 
 -- what was written, before whatever the lines from here print, is what all lines print
 pub record SoFar (n : ℕ) (s : Relay) (lines all : List (List ℕ)) (written : List ℕ) : Type 0 where
-  pub goes_on : (out : List ℕ) (stop : Option ℕ) → Runs n s lines out stop → Runs 1 start all (written ++ out) stop
+  pub goes_on : (out : List ℕ) (stop : Option ℕ) → Runs n s lines out stop → Runs 1 new_relay all (written ++ out) stop
 
-pub so_far_start : (all : List (List ℕ)) → SoFar 1 start all all []
+pub so_far_start : (all : List (List ℕ)) → SoFar 1 new_relay all all []
 so_far_start all = record { goes_on = λ out stop r. r }
 
 pub so_far_more : (n : ℕ) (s : Relay) (line : List ℕ) (lines all : List (List ℕ)) (written : List ℕ) (x : List ℕ × Relay) → SoFar n s (line ∷ lines) all written → Lines s line (Some x) → SoFar (n + 1) x.1 lines all (written ++ x.0)
 so_far_more n s line lines all written x so_far does = record {
   goes_on = λ out stop r.
-      let P : List ℕ → Type 0 = λ w. Runs 1 start all w stop in
+      let P : List ℕ → Type 0 = λ w. Runs 1 new_relay all w stop in
       subst P (sym (append_assoc written x.0 out)) (so_far.goes_on (x.0 ++ out) stop (runs_more n s line lines x out stop does r));
 }
 
-pub so_far_end : (n : ℕ) (s : Relay) (all : List (List ℕ)) (written : List ℕ) → SoFar n s [] all written → Runs 1 start all written None
+pub so_far_end : (n : ℕ) (s : Relay) (all : List (List ℕ)) (written : List ℕ) → SoFar n s [] all written → Runs 1 new_relay all written None
 so_far_end n s all written so_far =
-    let P : List ℕ → Type 0 = λ w. Runs 1 start all w None in
+    let P : List ℕ → Type 0 = λ w. Runs 1 new_relay all w None in
     subst P (append-nil written) (so_far.goes_on [] None (runs_end n s))
 
-pub so_far_bad : (n : ℕ) (s : Relay) (line : List ℕ) (lines all : List (List ℕ)) (written : List ℕ) → SoFar n s (line ∷ lines) all written → Lines s line None → Runs 1 start all (written ++ bad_line n) (Some n)
+pub so_far_bad : (n : ℕ) (s : Relay) (line : List ℕ) (lines all : List (List ℕ)) (written : List ℕ) → SoFar n s (line ∷ lines) all written → Lines s line None → Runs 1 new_relay all (written ++ bad_line n) (Some n)
 so_far_bad n s line lines all written so_far bad = so_far.goes_on (bad_line n) (Some n) (runs_bad n s line lines bad)
 
 -- what was written is a front of what all lines print
-pub so_far_front : (n : ℕ) (s : Relay) (lines all : List (List ℕ)) (written : List ℕ) → SoFar n s lines all written → (more : List ℕ) × (stop : Option ℕ) × Runs 1 start all (written ++ more) stop
+pub so_far_front : (n : ℕ) (s : Relay) (lines all : List (List ℕ)) (written : List ℕ) → SoFar n s lines all written → (more : List ℕ) × (stop : Option ℕ) × Runs 1 new_relay all (written ++ more) stop
 so_far_front n s lines all written so_far =
     let others = runs_on n s lines in
     (others.0, others.1, so_far.goes_on others.0 others.1 others.2)
 
 -- so it is with a front of what the next line prints
-pub so_far_part : (front : List ℕ) (octet : ℕ) (back text : List ℕ) (n : ℕ) (s : Relay) (lines all : List (List ℕ)) (written : List ℕ) → text ≡ front ++ octet ∷ back → SoFar n s lines all (written ++ text) → (more : List ℕ) × (stop : Option ℕ) × Runs 1 start all ((written ++ front) ++ octet ∷ more) stop
+pub so_far_part : (front : List ℕ) (octet : ℕ) (back text : List ℕ) (n : ℕ) (s : Relay) (lines all : List (List ℕ)) (written : List ℕ) → text ≡ front ++ octet ∷ back → SoFar n s lines all (written ++ text) → (more : List ℕ) × (stop : Option ℕ) × Runs 1 new_relay all ((written ++ front) ++ octet ∷ more) stop
 so_far_part front octet back text n s lines all written e so_far =
     let whole = so_far_front n s lines all (written ++ text) so_far in
-    let P : List ℕ → Type 0 = λ w. Runs 1 start all w whole.1 in
+    let P : List ℕ → Type 0 = λ w. Runs 1 new_relay all w whole.1 in
     (back ++ whole.0, whole.1, subst P (ap (λ (t : List ℕ). (written ++ t) ++ whole.0) e ∙ simp append_assoc) whole.2)

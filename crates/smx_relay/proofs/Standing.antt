@@ -10,20 +10,20 @@ use Rattle.std.proofs.lemmas.List.{drop_all}
 use Rattle.smx_relay.specs.declared.state.State.{State}
 use Rattle.smx_script.specs.Script.{lines_of}
 use Rattle.smx_relay.specs.Texts.{bad_line}
-use Rattle.smx_relay.specs.Relay.{Relay, start}
+use Rattle.smx_relay.specs.Relay.{Relay, new_relay}
 use Rattle.smx_relay.specs.Turns.{Lines}
 use Rattle.smx_relay.specs.Runs.{Runs, Relays}
-use Rattle.smx_relay.specs.Private.Agrees.{Agrees, Turned, MayPrint}
+use Rattle.smx_relay.specs.Private.States.{StandsFor, Turned, MayPrint}
 use Rattle.smx_relay.specs.Ends.{BeginsRelay, BreaksOff}
 use Rattle.smx_relay.proofs.Running.{SoFar, so_far_start, so_far_more, so_far_end, so_far_bad, so_far_front, so_far_part, runs_on}
 
 -- the state stands for some history, and what was written goes before what the lines from the i-th on print
 abbrev pub Stands : Option (List ℕ) → Option (List ℕ) → State → ℕ → List (List ℕ) → Type 0
-Stands before now state i lines = (s : Relay) × Agrees state s × (written : List ℕ) × Appends before now written × SoFar (i + 1) s (drop i lines) lines written
+Stands before now state i lines = (s : Relay) × StandsFor state s × (written : List ℕ) × Appends before now written × SoFar (i + 1) s (drop i lines) lines written
 
 -- what a line's turn may have printed and left
 abbrev pub Turns : State → List ℕ → State → Option (Vec ℕ) → Type 0
-Turns old line new text = (s : Relay) → Agrees old s → MayPrint (Lines s line) new text
+Turns old line new text = (s : Relay) → StandsFor old s → MayPrint (Lines s line) new text
 
 prints_some : (May : Option (List ℕ × Relay) → Type 0) (state : State) (text : Vec ℕ) → MayPrint May state (Some text) → (x : List ℕ × Relay) × May (Some x) × Turned x state text.items
 prints_some May state text (None, may, p) = absurd p
@@ -33,8 +33,8 @@ prints_none : (May : Option (List ℕ × Relay) → Type 0) (state : State) → 
 prints_none May state (None, may, p) = may
 prints_none May state (Some x, may, p) = absurd p
 
-pub stands_start : (known : Option (List ℕ)) (state : State) (lines : List (List ℕ)) → Agrees state start → Stands known known state 0 lines
-stands_start known state lines agrees = (start, agrees, [], Appends-nil known, so_far_start lines)
+pub stands_start : (known : Option (List ℕ)) (state : State) (lines : List (List ℕ)) → StandsFor state new_relay → Stands known known state 0 lines
+stands_start known state lines agrees = (new_relay, agrees, [], Appends-nil known, so_far_start lines)
 
 pub stands_more : (a b c : Option (List ℕ)) (old new : State) (i : ℕ) (lines : List (List ℕ)) (line : List ℕ) (text : Vec ℕ) → drop i lines ≡ line ∷ drop (i + 1) lines → Stands a b old i lines → Turns old line new (Some text) → Appends b c text.items → Stands a c new (i + 1) lines
 stands_more a b c old new i lines line text at stands turns wrote =
@@ -47,12 +47,12 @@ stands_more a b c old new i lines line text at stands turns wrote =
 pub stands_end : (a b : Option (List ℕ)) (state : State) (i : ℕ) (lines : List (List ℕ)) (script : List ℕ) → length lines ≤ i → lines ≡ lines_of script → Stands a b state i lines → (out : List ℕ) × Appends a b out × Relays script out None
 stands_end a b state i lines script past same stands =
     let here : SoFar (i + 1) stands.0 [] lines stands.2 = subst (λ (ls : List (List ℕ)). SoFar (i + 1) stands.0 ls lines stands.2) (drop_all i lines past) stands.4 in
-    (stands.2, stands.3, subst (λ (ls : List (List ℕ)). Runs 1 start ls stands.2 None) same (so_far_end (i + 1) stands.0 lines stands.2 here))
+    (stands.2, stands.3, subst (λ (ls : List (List ℕ)). Runs 1 new_relay ls stands.2 None) same (so_far_end (i + 1) stands.0 lines stands.2 here))
 
 pub stands_front : (a b : Option (List ℕ)) (state : State) (i : ℕ) (lines : List (List ℕ)) (script : List ℕ) → lines ≡ lines_of script → Stands a b state i lines → (out : List ℕ) × Appends a b out × BeginsRelay script out
 stands_front a b state i lines script same stands =
     let whole = so_far_front (i + 1) stands.0 (drop i lines) lines stands.2 stands.4 in
-    (stands.2, stands.3, (whole.0, whole.1, subst (λ (ls : List (List ℕ)). Runs 1 start ls (stands.2 ++ whole.0) whole.1) same whole.2))
+    (stands.2, stands.3, (whole.0, whole.1, subst (λ (ls : List (List ℕ)). Runs 1 new_relay ls (stands.2 ++ whole.0) whole.1) same whole.2))
 
 -- a part of what the line prints was written
 pub stands_part : (a b c : Option (List ℕ)) (old new : State) (i : ℕ) (lines : List (List ℕ)) (script line : List ℕ) (text : Vec ℕ) → lines ≡ lines_of script → drop i lines ≡ line ∷ drop (i + 1) lines → Stands a b old i lines → Turns old line new (Some text)
@@ -63,7 +63,7 @@ stands_part a b c old new i lines script line text same at stands turns wrote =
     let here : SoFar (i + 1) s (line ∷ drop (i + 1) lines) lines stands.2 = subst (λ (ls : List (List ℕ)). SoFar (i + 1) s ls lines stands.2) at stands.4 in
     let next = so_far_more (i + 1) s line (drop (i + 1) lines) lines stands.2 found.0 here found.1 in
     let whole = so_far_part wrote.0 wrote.1 wrote.2 found.0.0 (i + 1 + 1) found.0.1 (drop (i + 1) lines) lines stands.2 (sym found.2.text ∙ wrote.3) next in
-    (stands.2 ++ wrote.0, Appends-trans a b c stands.2 wrote.0 stands.3 wrote.4, (wrote.1, whole.0, whole.1, subst (λ (ls : List (List ℕ)). Runs 1 start ls ((stands.2 ++ wrote.0) ++ wrote.1 ∷ whole.0) whole.1) same whole.2))
+    (stands.2 ++ wrote.0, Appends-trans a b c stands.2 wrote.0 stands.3 wrote.4, (wrote.1, whole.0, whole.1, subst (λ (ls : List (List ℕ)). Runs 1 new_relay ls ((stands.2 ++ wrote.0) ++ wrote.1 ∷ whole.0) whole.1) same whole.2))
 
 pub stands_bad : (a b c : Option (List ℕ)) (old new : State) (i : ℕ) (lines : List (List ℕ)) (script line text : List ℕ) → lines ≡ lines_of script → drop i lines ≡ line ∷ drop (i + 1) lines → Stands a b old i lines → Turns old line new None → text ≡ bad_line (i + 1) → Appends b c text
     → (out : List ℕ) × Appends a c out × Relays script out (Some (i + 1))
@@ -71,7 +71,7 @@ stands_bad a b c old new i lines script line text same at stands turns e wrote =
     let s = stands.0 in
     let here : SoFar (i + 1) s (line ∷ drop (i + 1) lines) lines stands.2 = subst (λ (ls : List (List ℕ)). SoFar (i + 1) s ls lines stands.2) at stands.4 in
     let whole = so_far_bad (i + 1) s line (drop (i + 1) lines) lines stands.2 here (prints_none (Lines s line) new (turns s stands.1)) in
-    (stands.2 ++ text, Appends-trans a b c stands.2 text stands.3 wrote, subst (λ (t : List ℕ). Relays script (stands.2 ++ t) (Some (i + 1))) (sym e) (subst (λ (ls : List (List ℕ)). Runs 1 start ls (stands.2 ++ bad_line (i + 1)) (Some (i + 1))) same whole))
+    (stands.2 ++ text, Appends-trans a b c stands.2 text stands.3 wrote, subst (λ (t : List ℕ). Relays script (stands.2 ++ t) (Some (i + 1))) (sym e) (subst (λ (ls : List (List ℕ)). Runs 1 new_relay ls (stands.2 ++ bad_line (i + 1)) (Some (i + 1))) same whole))
 
 pub stands_bad_part : (a b c : Option (List ℕ)) (old new : State) (i : ℕ) (lines : List (List ℕ)) (script line text : List ℕ) → lines ≡ lines_of script → drop i lines ≡ line ∷ drop (i + 1) lines → Stands a b old i lines → Turns old line new None → text ≡ bad_line (i + 1)
     → (front : List ℕ) × (octet : ℕ) × (back : List ℕ) × (text ≡ front ++ octet ∷ back) × Appends b c front → (out : List ℕ) × Appends a c out × BreaksOff script out
@@ -80,12 +80,12 @@ stands_bad_part a b c old new i lines script line text same at stands turns e wr
     let here : SoFar (i + 1) s (line ∷ drop (i + 1) lines) lines stands.2 = subst (λ (ls : List (List ℕ)). SoFar (i + 1) s ls lines stands.2) at stands.4 in
     let whole = so_far_bad (i + 1) s line (drop (i + 1) lines) lines stands.2 here (prints_none (Lines s line) new (turns s stands.1)) in
     let parts : stands.2 ++ bad_line (i + 1) ≡ (stands.2 ++ wrote.0) ++ wrote.1 ∷ wrote.2 = ap (λ (t : List ℕ). stands.2 ++ t) (sym e ∙ wrote.3) ∙ sym (append_assoc stands.2 wrote.0 (wrote.1 ∷ wrote.2)) in
-    (stands.2 ++ wrote.0, Appends-trans a b c stands.2 wrote.0 stands.3 wrote.4, (wrote.1, wrote.2, Some (i + 1), subst (λ (ls : List (List ℕ)). Runs 1 start ls ((stands.2 ++ wrote.0) ++ wrote.1 ∷ wrote.2) (Some (i + 1))) same (subst (λ (t : List ℕ). Runs 1 start lines t (Some (i + 1))) parts whole)))
+    (stands.2 ++ wrote.0, Appends-trans a b c stands.2 wrote.0 stands.3 wrote.4, (wrote.1, wrote.2, Some (i + 1), subst (λ (ls : List (List ℕ)). Runs 1 new_relay ls ((stands.2 ++ wrote.0) ++ wrote.1 ∷ wrote.2) (Some (i + 1))) same (subst (λ (t : List ℕ). Runs 1 new_relay lines t (Some (i + 1))) parts whole)))
 
 -- nothing was written
 pub stands_nothing : (known : Option (List ℕ)) (script : List ℕ) → (out : List ℕ) × Appends known known out × BeginsRelay script out
 stands_nothing known script =
-    let whole = runs_on 1 start (lines_of script) in
+    let whole = runs_on 1 new_relay (lines_of script) in
     ([], Appends-nil known, (whole.0, whole.1, whole.2))
 
 -- the lines from the i-th on

@@ -9,7 +9,7 @@ use Rattle.smx_session.specs.Moments.{Upstream, act_on, after_pdu}
 use Rattle.smx_relay.specs.Texts.{pdu_line, up_lane, down_line}
 use Rattle.smx_relay.specs.Links.{CentreLink, Receives, has_failed, has_left}
 use Rattle.smx_relay.specs.Relay.{Relay, going_on, has_lane, lane_at, lane_turn, back_on}
-use Rattle.smx_relay.specs.LaneLinks.{with_centre, is_up_at, lower_lane, GivesUp}
+use Rattle.smx_relay.specs.LaneLinks.{with_centre, is_up_at, lower_lane, GivesUpLane}
 use Rattle.smx_relay.specs.Messages.{message_turn}
 use Rattle.smx_relay.specs.ClientTurn.{followed_by, each_pdu}
 
@@ -59,7 +59,7 @@ centre_end i true s = if has_left (lane_at s i).link then ([], s) else lose_lane
 abbrev pub OnUp : Relay → ℕ → List ℕ → CentreLink → Option (List ℕ × Relay) → Type 0
 OnUp s i octets k x =
     (ps : List Pdu) × (stream : Stream) × Receives k.stream octets ps stream
-    × GivesUp i (followed_by (each_pdu (centre_pdu i) (with_centre s i (record k { stream = stream })) ps) (centre_end i (has_failed stream))) x
+    × GivesUpLane i (followed_by (each_pdu (centre_pdu i) (with_centre s i (record k { stream = stream })) ps) (centre_end i (has_failed stream))) x
 
 -- where the lane is up
 abbrev pub OnCentre : Relay → ℕ → List ℕ → Bool → Option (List ℕ × Relay) → Type 0

@@ -39,12 +39,12 @@ abbrev pub AreTakenOn : Relay → ℕ → List Place → Type 0
 AreTakenOn s i qs = SameCounts (window_after (history_of s i)) qs
 
 -- at the end of a turn on a lane that is down then, each such request fails, without a print; which of them first, isn't said
-abbrev pub GivesUp : ℕ → List ℕ × Relay → Option (List ℕ × Relay) → Type 0
-GivesUp i y x = (qs : List Place) × AreTakenOn y.1 i qs × (x ≡ Some (y.0, going_on y.1 i (give_up_lane qs)))
+abbrev pub GivesUpLane : ℕ → List ℕ × Relay → Option (List ℕ × Relay) → Type 0
+GivesUpLane i y x = (qs : List Place) × AreTakenOn y.1 i qs × (x ≡ Some (y.0, going_on y.1 i (give_up_lane qs)))
 
 -- a lane that is down stays as it is
 abbrev pub LosesLink : Relay → ℕ → Bool → Option (List ℕ × Relay) → Type 0
-LosesLink s i true x = GivesUp i (down_line i, going_on s i lower_lane) x
+LosesLink s i true x = GivesUpLane i (down_line i, going_on s i lower_lane) x
 LosesLink s i false x = x ≡ Some (down_line i, s)
 
 -- whether there is such a lane

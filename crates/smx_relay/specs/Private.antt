@@ -1,5 +1,5 @@
 -- What contracts of private functions cite: no public contract does.
-pub mod OnLane
-pub mod Agrees
+pub mod Lanes
+pub mod States
 pub mod Inboxes
 pub mod Lending

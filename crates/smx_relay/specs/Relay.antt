@@ -55,8 +55,8 @@ pub record Relay : Type 0 where
   -- the prefixes of the clients that messages go to
   pub routes : List Route
 
-abbrev pub start : Relay
-start = record {
+abbrev pub new_relay : Relay
+new_relay = record {
   limits = record { queue = 100; window = 10; client = 20; history = 10000 };
   count = 1;
   places = 16;
@@ -110,8 +110,8 @@ abbrev pub lane_turn : Relay → ℕ → (List Note → List ℕ × List Note) �
 lane_turn s i f = ((f (history_of s i)).0, going_on s i (λ h. (f h).1))
 
 -- so it is on a lane that there is
-abbrev pub on_lane : Relay → ℕ → (List Note → List ℕ × List Note) → Option (List ℕ × Relay)
-on_lane s i f = if has_lane s i then Some (lane_turn s i f) else None
+abbrev pub known_lane_turn : Relay → ℕ → (List Note → List ℕ × List Note) → Option (List ℕ × Relay)
+known_lane_turn s i f = if has_lane s i then Some (lane_turn s i f) else None
 
 -- a client enters on each lane
 abbrev pub enter_lane : ℕ → List Note → List Note

@@ -19,7 +19,7 @@ use Rattle.smx_script.specs.Script.{command_of}
 use Rattle.smx_relay.specs.Texts.{text_line}
 use Rattle.smx_relay.specs.Links.{ClientLink, may_receive}
 use Rattle.smx_relay.specs.declared.state.LinkedClient.{LinkedClient}
-use Rattle.smx_relay.specs.Relay.{Relay, set_turn, begin_lanes, client_of, history_of, on_lane, take_on, client_turn, collect_lanes, history_on, turn_on}
+use Rattle.smx_relay.specs.Relay.{Relay, set_turn, begin_lanes, client_of, history_of, known_lane_turn, take_on, client_turn, collect_lanes, history_on, turn_on}
 use Rattle.smx_relay.specs.Messages.{send_turn}
 use Rattle.smx_relay.specs.ClientTurn.{InTurn, followed_by}
 use Rattle.smx_relay.specs.CentreTurn.{BackTurn}
@@ -38,7 +38,7 @@ IsFree h u = length (window_after h) < 1024 → MayBear (entries_of h) u
 
 -- a request that is taken gets some free number
 abbrev pub TakeTurn : Relay → ℕ → Option (List ℕ × Relay) → Type 0
-TakeTurn s i x = (u : ℕ) × IsFree (history_of s i) u × (x ≡ on_lane s i (take_on s.limits s.moment u i))
+TakeTurn s i x = (u : ℕ) × IsFree (history_of s i) u × (x ≡ known_lane_turn s i (take_on s.limits s.moment u i))
 
 -- these are all the requests that fail on the lane, in any order
 abbrev pub AreExpiredOn : Relay → ℕ → ℕ → List Place → Type 0
@@ -46,7 +46,7 @@ AreExpiredOn s i age qs = SameCounts (expired_after s.moment age (history_of s i
 
 -- each request fails that was taken so long ago; which of them first, isn't said
 abbrev pub ExpireTurn : Relay → ℕ → ℕ → Option (List ℕ × Relay) → Type 0
-ExpireTurn s i age x = (qs : List Place) × AreExpiredOn s i age qs × (x ≡ on_lane s i (expire_on i qs))
+ExpireTurn s i age x = (qs : List Place) × AreExpiredOn s i age qs × (x ≡ known_lane_turn s i (expire_on i qs))
 
 -- the moment never falls
 abbrev pub moment_turn : Relay → ℕ → Option (List ℕ × Relay)
@@ -87,8 +87,8 @@ Acts s (In c octets) x = InTurn s c octets x
 Acts s (Take i) x = TakeTurn s i x
 Acts s (Back i octets) x = BackTurn s i octets x
 Acts s (Collect c) x = x ≡ collect_turn s c (client_of s.clients c)
-Acts s (History i) x = x ≡ on_lane s i history_on
-Acts s (Turn i) x = x ≡ on_lane s i (turn_on i)
+Acts s (History i) x = x ≡ known_lane_turn s i history_on
+Acts s (Turn i) x = x ≡ known_lane_turn s i (turn_on i)
 Acts s (Lose i) x = LoseTurn s i x
 Acts s (Bind i) x = x ≡ bind_turn s i
 Acts s (Moment moment) x = x ≡ moment_turn s moment

@@ -4,7 +4,7 @@ ghost use Rattle.smx_pdu.specs.Answers.{nack_of_undecoded};
 ghost use Rattle.smx_relay.specs.Relay.{Relay};
 ghost use Rattle.smx_relay.specs.ClientTurn.{each_pdu};
 ghost use Rattle.smx_relay.specs.CentreTurn.{BackTurn, centre_act, centre_end, centre_pdu, to_lane};
-ghost use Rattle.smx_relay.specs.Private.Agrees.{Agrees, IsReached, MayPrint, Turned};
+ghost use Rattle.smx_relay.specs.Private.States.{StandsFor, IsReached, MayPrint, Turned};
 
 use crate::lane_link::{give_up, lower};
 use crate::messages::message;
@@ -18,7 +18,7 @@ use std::alloc::{AllocError, Global};
 // Hands a response to a lane.
 fn back(alloc: Global, state: &mut State, lane: u64, response: Pdu) -> Result<Vec<u8>, AllocError>
     requires { lane < length state.old.lanes.items }
-    ensures turned { (s : Relay) → Agrees state.old s → IfOk result (λ text.
+    ensures turned { (s : Relay) → StandsFor state.old s → IfOk result (λ text.
         Turned (to_lane lane response s) state.new text.items) }
     ensures lanes { length state.new.lanes.items ≡ length state.old.lanes.items }
 {
@@ -35,7 +35,7 @@ fn centre_act(
 ) -> Result<Vec<u8>, AllocError>
     requires there { lane < length state.old.lanes.items }
     requires reached { IsReached state.old }
-    ensures turned { (s : Relay) → Agrees state.old s → IfOk result (λ text.
+    ensures turned { (s : Relay) → StandsFor state.old s → IfOk result (λ text.
         Turned (centre_act lane pdu act s) state.new text.items) }
     ensures lanes { length state.new.lanes.items ≡ length state.old.lanes.items }
 {
@@ -64,7 +64,7 @@ fn centre_act(
 fn centre_pdu(alloc: Global, state: &mut State, lane: u64, pdu: Pdu) -> Result<Vec<u8>, AllocError>
     requires there { lane < length state.old.lanes.items }
     requires reached { IsReached state.old }
-    ensures turned { (s : Relay) → Agrees state.old s → IfOk result (λ text.
+    ensures turned { (s : Relay) → StandsFor state.old s → IfOk result (λ text.
         Turned (centre_pdu lane pdu s) state.new text.items) }
     ensures lanes { length state.new.lanes.items ≡ length state.old.lanes.items }
 {
@@ -85,7 +85,7 @@ fn each_centre_pdu(
 ) -> Result<Vec<u8>, AllocError>
     requires there { lane < length state.old.lanes.items }
     requires reached { IsReached state.old }
-    ensures turned { (s : Relay) → Agrees state.old s → IfOk result (λ text.
+    ensures turned { (s : Relay) → StandsFor state.old s → IfOk result (λ text.
         Turned (each_pdu (centre_pdu lane) s pdus.items) state.new text.items) }
     ensures lanes { length state.new.lanes.items ≡ length state.old.lanes.items }
 {
@@ -104,7 +104,7 @@ fn centre_end(
     has_failed: bool,
 ) -> Result<Vec<u8>, AllocError>
     requires { lane < length state.old.lanes.items }
-    ensures turned { (s : Relay) → Agrees state.old s → IfOk result (λ text.
+    ensures turned { (s : Relay) → StandsFor state.old s → IfOk result (λ text.
         Turned (centre_end lane has_failed s) state.new text.items) }
     ensures lanes { length state.new.lanes.items ≡ length state.old.lanes.items }
 {
@@ -126,7 +126,7 @@ pub(crate) fn receive_back(
     octets: &[u8],
 ) -> Result<Option<Vec<u8>>, AllocError>
     requires { IsReached state.old }
-    ensures { (s : Relay) → Agrees state.old s → IfOk result (λ text.
+    ensures { (s : Relay) → StandsFor state.old s → IfOk result (λ text.
         MayPrint (BackTurn s lane octets.now) state.new text) }
 {
     let at = lane as usize;

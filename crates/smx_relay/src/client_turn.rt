@@ -3,7 +3,7 @@ ghost use Rattle.std.specs.Prelude.{◌≡◌, IfOk};
 ghost use Rattle.smx_relay.specs.Relay.{Relay};
 ghost use Rattle.smx_relay.specs.ClientTurn.{InTurn, client_act, client_end, client_pdu, each_pdu};
 ghost use Rattle.smx_relay.specs.ClientTurn.{hang_up};
-ghost use Rattle.smx_relay.specs.Private.Agrees.{Agrees, IsReached, MayPrint, Turned};
+ghost use Rattle.smx_relay.specs.Private.States.{StandsFor, IsReached, MayPrint, Turned};
 ghost use Rattle.smx_relay.specs.Private.Lending.{IsKnown};
 
 use crate::clients::leave;
@@ -24,7 +24,7 @@ fn hang_up(
 ) -> Result<Vec<u8>, AllocError>
     requires reached { IsReached state.old }
     requires known { IsKnown state.old.clients.list.items client }
-    ensures { (s : Relay) → Agrees state.old s → IfOk result (λ text.
+    ensures { (s : Relay) → StandsFor state.old s → IfOk result (λ text.
         Turned (hang_up client answer.now s) state.new text.items) }
 {
     let mut text = hangup_lines(alloc, client, answer)?;
@@ -42,7 +42,7 @@ fn client_act(
 ) -> Result<Vec<u8>, AllocError>
     requires reached { IsReached state.old }
     requires known { IsKnown state.old.clients.list.items client }
-    ensures { (s : Relay) → Agrees state.old s → IfOk result (λ text.
+    ensures { (s : Relay) → StandsFor state.old s → IfOk result (λ text.
         Turned (client_act client pdu act s) state.new text.items) }
 {
     match act {
@@ -73,7 +73,7 @@ fn client_pdu(
 ) -> Result<Vec<u8>, AllocError>
     requires reached { IsReached state.old }
     requires known { IsKnown state.old.clients.list.items client }
-    ensures { (s : Relay) → Agrees state.old s → IfOk result (λ text.
+    ensures { (s : Relay) → StandsFor state.old s → IfOk result (λ text.
         Turned (client_pdu client pdu s) state.new text.items) }
 {
     let known = state.clients.known_mut(client);
@@ -90,7 +90,7 @@ fn each_client_pdu(
 ) -> Result<Vec<u8>, AllocError>
     requires reached { IsReached state.old }
     requires known { IsKnown state.old.clients.list.items client }
-    ensures { (s : Relay) → Agrees state.old s → IfOk result (λ text.
+    ensures { (s : Relay) → StandsFor state.old s → IfOk result (λ text.
         Turned (each_pdu (client_pdu client) s pdus.items) state.new text.items) }
 {
     let mut text = Vec::new(alloc);
@@ -109,7 +109,7 @@ fn client_end(
 ) -> Result<Vec<u8>, AllocError>
     requires reached { IsReached state.old }
     requires known { IsKnown state.old.clients.list.items client }
-    ensures { (s : Relay) → Agrees state.old s → IfOk result (λ text.
+    ensures { (s : Relay) → StandsFor state.old s → IfOk result (λ text.
         Turned (client_end client has_failed s) state.new text.items) }
 {
     if !has_failed {
@@ -127,7 +127,7 @@ pub(crate) fn receive_in(
     octets: &[u8],
 ) -> Result<Option<Vec<u8>>, AllocError>
     requires { IsReached state.old }
-    ensures { (s : Relay) → Agrees state.old s → IfOk result (λ text.
+    ensures { (s : Relay) → StandsFor state.old s → IfOk result (λ text.
         MayPrint (InTurn s client octets.now) state.new text) }
 {
     if state.clients.get(client).is_none() {

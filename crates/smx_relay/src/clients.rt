@@ -7,8 +7,8 @@ ghost use Rattle.smx_relay.specs.Relay.{enter_lane, enter_and_leave_lane};
 ghost use Rattle.smx_relay.specs.Relay.{client_of, lane_after};
 ghost use Rattle.smx_relay.specs.Messages.{leave_turn};
 ghost use Rattle.smx_relay.specs.Turns.{collect_turn};
-ghost use Rattle.smx_relay.specs.Private.Agrees.{Agrees, AreOn, AreReached, Enters, HasLeft};
-ghost use Rattle.smx_relay.specs.Private.Agrees.{HaveEntered, IsReached, Prints, Turned};
+ghost use Rattle.smx_relay.specs.Private.States.{StandsFor, AreOn, AreReached, EntersLanes, HasLeftLanes};
+ghost use Rattle.smx_relay.specs.Private.States.{HaveEntered, IsReached, Prints, Turned};
 ghost use Rattle.smx_relay.specs.Private.Lending.{IsKnown};
 
 use crate::link::ClientLink;
@@ -24,7 +24,7 @@ use std::alloc::{AllocError, Global};
 fn admit_all(lanes: &mut Vec<LinkedLane>, client: u64) -> Result<Option<usize>, AllocError>
     ensures { (limits : Limits) (clients : List (Option ℕ)) (ls : List RelayLane)
         → AreOn limits clients ls lanes.old.items
-        → IfOk result (λ refusing. Enters limits clients ls client refusing lanes.new.items) }
+        → IfOk result (λ refusing. EntersLanes limits clients ls client refusing lanes.new.items) }
 {
     for at in 0..lanes.len() {
         match lanes[at].lane.admit(CALLER, client) {
@@ -55,7 +55,7 @@ fn retire_before(lanes: &mut Vec<LinkedLane>, count: usize, client: u64)
 /// still to bind.
 pub fn enter(alloc: Global, state: &mut State, kind: Option<Kind>) -> Result<Vec<u8>, AllocError>
     requires { IsReached state.old }
-    ensures { (s : Relay) → Agrees state.old s → IfOk result (λ text.
+    ensures { (s : Relay) → StandsFor state.old s → IfOk result (λ text.
         Turned (client_turn s kind) state.new text.items) }
 {
     let client = state.clients.list.len() as u64;
@@ -79,7 +79,7 @@ pub fn enter(alloc: Global, state: &mut State, kind: Option<Kind>) -> Result<Vec
 // The client leaves each lane where it is present.
 fn leave_all(lanes: &mut Vec<LinkedLane>, client: u64)
     requires { AreReached lanes.old.items }
-    ensures { HasLeft client lanes.old.items lanes.new.items }
+    ensures { HasLeftLanes client lanes.old.items lanes.new.items }
 {
     for at in 0..lanes.len() {
         let _left = lanes[at].lane.retire(CALLER, client);
@@ -90,7 +90,7 @@ fn leave_all(lanes: &mut Vec<LinkedLane>, client: u64)
 pub(crate) fn leave(alloc: Global, state: &mut State, client: u64) -> Result<Vec<u8>, AllocError>
     requires reached { IsReached state.old }
     requires known { IsKnown state.old.clients.list.items client }
-    ensures { (s : Relay) → Agrees state.old s → IfOk result (λ text.
+    ensures { (s : Relay) → StandsFor state.old s → IfOk result (λ text.
         Turned (leave_turn client s) state.new text.items) }
 {
     leave_all(&mut state.lanes, client);
@@ -122,7 +122,7 @@ fn collect_all(
 /// A client collects what waits for it. There is no text where the client isn't known.
 pub fn collect(alloc: Global, state: &mut State, client: u64) -> Result<Option<Vec<u8>>, AllocError>
     requires { IsReached state.old }
-    ensures { (s : Relay) → Agrees state.old s → IfOk result (λ text.
+    ensures { (s : Relay) → StandsFor state.old s → IfOk result (λ text.
         Prints (collect_turn s client (client_of s.clients client)) state.new text) }
 {
     if state.clients.get(client).is_none() {

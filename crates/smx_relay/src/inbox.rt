@@ -24,11 +24,11 @@ pub struct Inbox {
 
 impl Model for Inbox {
     ghost use Rattle.smx_mailbox.specs.Mailbox.{Mailbox};
-    ghost use Rattle.smx_relay.specs.Private.Inboxes.{mailbox_of, KeepsSize};
+    ghost use Rattle.smx_relay.specs.Private.Inboxes.{mailbox_in, KeepsSize};
 
     ghost Value = { Mailbox };
 
-    ghost view = { mailbox_of };
+    ghost view = { mailbox_in };
 
     ghost invariant = { KeepsSize };
 }

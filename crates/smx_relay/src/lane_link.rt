@@ -4,7 +4,7 @@ ghost use Rattle.smx_history.specs.declared.place.Place.{Place};
 ghost use Rattle.smx_relay.specs.Relay.{Relay, going_on};
 ghost use Rattle.smx_relay.specs.LaneLinks.{AreTakenOn, LoseTurn, bind_turn, give_up_lane};
 ghost use Rattle.smx_relay.specs.LaneLinks.{lower_lane};
-ghost use Rattle.smx_relay.specs.Private.Agrees.{Agrees, IsReached, MayPrint, Prints};
+ghost use Rattle.smx_relay.specs.Private.States.{StandsFor, IsReached, MayPrint, Prints};
 
 use crate::link::CentreLink;
 use crate::on_lane::{CALLER, give_up_on};
@@ -16,8 +16,8 @@ use std::alloc::{AllocError, Global};
 /// The link of a lane is lost, where it is up.
 pub(crate) fn lower(state: &mut State, lane: u64)
     requires { lane < length state.old.lanes.items }
-    ensures agrees { (s : Relay) → Agrees state.old s
-        → Agrees state.new (going_on s lane lower_lane) }
+    ensures agrees { (s : Relay) → StandsFor state.old s
+        → StandsFor state.new (going_on s lane lower_lane) }
     ensures lanes { length state.new.lanes.items ≡ length state.old.lanes.items }
 {
     let _was_down = state.lanes[lane as usize].lane.down(CALLER);
@@ -27,8 +27,8 @@ pub(crate) fn lower(state: &mut State, lane: u64)
 pub(crate) fn give_up(state: &mut State, lane: u64)
     requires there { lane < length state.old.lanes.items }
     requires reached { IsReached state.old }
-    ensures { (s : Relay) → Agrees state.old s → (qs : List Place) × AreTakenOn s lane qs
-        × Agrees state.new (going_on s lane (give_up_lane qs)) }
+    ensures { (s : Relay) → StandsFor state.old s → (qs : List Place) × AreTakenOn s lane qs
+        × StandsFor state.new (going_on s lane (give_up_lane qs)) }
 {
     give_up_on(&mut state.lanes[lane as usize].lane);
 }
@@ -41,7 +41,7 @@ pub(crate) fn lose(
     lane: u64,
 ) -> Result<Option<Vec<u8>>, AllocError>
     requires { IsReached state.old }
-    ensures { (s : Relay) → Agrees state.old s → IfOk result (λ text.
+    ensures { (s : Relay) → StandsFor state.old s → IfOk result (λ text.
         MayPrint (LoseTurn s lane) state.new text) }
 {
     let at = lane as usize;
@@ -63,7 +63,7 @@ pub(crate) fn bind(
     state: &mut State,
     lane: u64,
 ) -> Result<Option<Vec<u8>>, AllocError>
-    ensures { (s : Relay) → Agrees state.old s → IfOk result (λ text.
+    ensures { (s : Relay) → StandsFor state.old s → IfOk result (λ text.
         Prints (bind_turn s lane) state.new text) }
 {
     let at = lane as usize;

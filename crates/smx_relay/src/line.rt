@@ -1,8 +1,8 @@
 //! One line of a script, run on the lanes.
 ghost use Rattle.std.specs.Prelude.{◌≡◌, ℕ, List, Option, IfOk};
-ghost use Rattle.smx_relay.specs.Relay.{Relay, history_on, on_lane, turn_on};
+ghost use Rattle.smx_relay.specs.Relay.{Relay, history_on, known_lane_turn, turn_on};
 ghost use Rattle.smx_relay.specs.Turns.{Acts, Does, ExpireTurn, Lines, TakeTurn, moment_turn};
-ghost use Rattle.smx_relay.specs.Private.Agrees.{Agrees, IsReached, MayPrint, Prints};
+ghost use Rattle.smx_relay.specs.Private.States.{StandsFor, IsReached, MayPrint, Prints};
 
 use crate::centre_turn::receive_back;
 use crate::client_turn::receive_in;
@@ -17,7 +17,7 @@ use std::alloc::{AllocError, Global};
 
 // Takes the oldest request of a lane. There is no text where there is no such lane.
 fn take(alloc: Global, state: &mut State, lane: u64) -> Result<Option<Vec<u8>>, AllocError>
-    ensures { (s : Relay) → Agrees state.old s → IfOk result (λ text.
+    ensures { (s : Relay) → StandsFor state.old s → IfOk result (λ text.
         MayPrint (TakeTurn s lane) state.new text) }
 {
     let at = lane as usize;
@@ -36,7 +36,7 @@ fn expire(
     age: u64,
 ) -> Result<Option<Vec<u8>>, AllocError>
     requires { IsReached state.old }
-    ensures { (s : Relay) → Agrees state.old s → IfOk result (λ text.
+    ensures { (s : Relay) → StandsFor state.old s → IfOk result (λ text.
         MayPrint (ExpireTurn s lane age) state.new text) }
 {
     let at = lane as usize;
@@ -49,7 +49,7 @@ fn expire(
 
 // Sets the moment. There is no text where it would fall.
 fn set_moment(alloc: Global, state: &mut State, moment: u64) -> Option<Vec<u8>>
-    ensures { (s : Relay) → Agrees state.old s → Prints (moment_turn s moment) state.new result }
+    ensures { (s : Relay) → StandsFor state.old s → Prints (moment_turn s moment) state.new result }
 {
     if moment < state.moment {
         return None;
@@ -60,8 +60,8 @@ fn set_moment(alloc: Global, state: &mut State, moment: u64) -> Option<Vec<u8>>
 
 // Lists the stored entries of a lane. There is no text where there is no such lane.
 fn history(alloc: Global, state: &State, lane: u64) -> Result<Option<Vec<u8>>, AllocError>
-    ensures { (s : Relay) → Agrees state.now s → IfOk result (λ text.
-        Prints (on_lane s lane history_on) state.now text) }
+    ensures { (s : Relay) → StandsFor state.now s → IfOk result (λ text.
+        Prints (known_lane_turn s lane history_on) state.now text) }
 {
     let at = lane as usize;
     if at >= state.lanes.len() {
@@ -73,8 +73,8 @@ fn history(alloc: Global, state: &State, lane: u64) -> Result<Option<Vec<u8>>, A
 // Lists the stored entries of a lane, which goes on without them. There is no text where there is no
 // such lane.
 fn turn(alloc: Global, state: &mut State, lane: u64) -> Result<Option<Vec<u8>>, AllocError>
-    ensures { (s : Relay) → Agrees state.old s → IfOk result (λ text.
-        Prints (on_lane s lane (turn_on lane)) state.new text) }
+    ensures { (s : Relay) → StandsFor state.old s → IfOk result (λ text.
+        Prints (known_lane_turn s lane (turn_on lane)) state.new text) }
 {
     let at = lane as usize;
     if at >= state.lanes.len() {
@@ -91,7 +91,7 @@ fn run_action(
     action: Action,
 ) -> Result<Option<Vec<u8>>, AllocError>
     requires { IsReached state.old }
-    ensures { (s : Relay) → Agrees state.old s → IfOk result (λ text.
+    ensures { (s : Relay) → StandsFor state.old s → IfOk result (λ text.
         MayPrint (Acts s action) state.new text) }
 {
     match action {
@@ -118,7 +118,7 @@ fn run_command(
     command: Command,
 ) -> Result<Option<Vec<u8>>, AllocError>
     requires { IsReached state.old }
-    ensures { (s : Relay) → Agrees state.old s → IfOk result (λ text.
+    ensures { (s : Relay) → StandsFor state.old s → IfOk result (λ text.
         MayPrint (Does s command) state.new text) }
 {
     match command {
@@ -139,7 +139,7 @@ pub fn run_line(
     line: &[u8],
 ) -> Result<Option<Vec<u8>>, AllocError>
     requires { IsReached state.old }
-    ensures { (s : Relay) → Agrees state.old s → IfOk result (λ text.
+    ensures { (s : Relay) → StandsFor state.old s → IfOk result (λ text.
         MayPrint (Lines s line.now) state.new text) }
 {
     match read_command(alloc, line)? {

@@ -6,7 +6,7 @@ ghost use Rattle.smx_pdu.specs.Answers.{refusal};
 ghost use Rattle.smx_relay.specs.Relay.{Relay};
 ghost use Rattle.smx_relay.specs.Messages.{answer_turn, left_line, message_turn, put_to, send_turn};
 ghost use Rattle.smx_relay.specs.Turns.{RouteTurn};
-ghost use Rattle.smx_relay.specs.Private.Agrees.{Agrees, IsReached, MayPrint, Turned};
+ghost use Rattle.smx_relay.specs.Private.States.{StandsFor, IsReached, MayPrint, Turned};
 ghost use Rattle.smx_relay.specs.Private.Lending.{IsKnown};
 
 use crate::state::State;
@@ -25,7 +25,7 @@ pub(crate) fn route(
     client: u64,
     prefix: &[u8],
 ) -> Result<Option<Vec<u8>>, AllocError>
-    ensures { (s : Relay) → Agrees state.old s → IfOk result (λ text.
+    ensures { (s : Relay) → StandsFor state.old s → IfOk result (λ text.
         MayPrint (RouteTurn s client prefix.now) state.new text) }
 {
     let Some(known) = state.clients.get(client) else {
@@ -61,7 +61,7 @@ fn put(
     pdu: Pdu,
 ) -> Result<Vec<u8>, AllocError>
     requires { IsKnown state.old.clients.list.items client }
-    ensures turned { (s : Relay) → Agrees state.old s → IfOk result (λ text.
+    ensures turned { (s : Relay) → StandsFor state.old s → IfOk result (λ text.
         Turned (put_to s lane pdu (Some client)) state.new text.items) }
     ensures lanes { state.new.lanes ≡ state.old.lanes }
 {
@@ -83,7 +83,7 @@ pub(crate) fn message(
     pdu: Pdu,
 ) -> Result<Vec<u8>, AllocError>
     requires { IsReached state.old }
-    ensures turned { (s : Relay) → Agrees state.old s → IfOk result (λ text.
+    ensures turned { (s : Relay) → StandsFor state.old s → IfOk result (λ text.
         Turned (message_turn lane pdu s) state.new text.items) }
     ensures lanes { state.new.lanes ≡ state.old.lanes }
 {
@@ -106,7 +106,7 @@ pub(crate) fn answer(
     pdu: Pdu,
 ) -> Result<Vec<u8>, AllocError>
     requires { IsKnown state.old.clients.list.items client }
-    ensures { (s : Relay) → Agrees state.old s → IfOk result (λ text.
+    ensures { (s : Relay) → StandsFor state.old s → IfOk result (λ text.
         Turned (answer_turn client pdu s) state.new text.items) }
 {
     match state
@@ -160,7 +160,7 @@ fn sent_lines(alloc: Global, client: u64, pdus: &[Pdu]) -> Result<Vec<u8>, Alloc
 /// The client is sent the messages that its window has places for.
 pub(crate) fn send(alloc: Global, state: &mut State, client: u64) -> Result<Vec<u8>, AllocError>
     requires { IsKnown state.old.clients.list.items client }
-    ensures { (s : Relay) → Agrees state.old s → IfOk result (λ text.
+    ensures { (s : Relay) → StandsFor state.old s → IfOk result (λ text.
         Turned (send_turn client s) state.new text.items) }
 {
     let pdus = state.clients.known_mut(client).link.send()?;

@@ -4,7 +4,7 @@ ghost use Rattle.smx_history.specs.declared.note.Note.{Note};
 ghost use Rattle.smx_history.specs.Contents.{AgreesWith};
 ghost use Rattle.smx_relay.specs.Relay.{take_on, back_on, history_on, turn_on};
 ghost use Rattle.smx_relay.specs.Turns.{IsFree};
-ghost use Rattle.smx_relay.specs.Private.OnLane.{TurnsLane};
+ghost use Rattle.smx_relay.specs.Private.Lanes.{TurnsLane};
 
 use crate::texts::{
     down_line, empty_line, entry_lines, failed_line, full_line, kept_line, push_to_client,
@@ -137,7 +137,7 @@ pub fn expire_on(
 }
 
 ghost use Rattle.smx_relay.specs.Relay.{collect_text, collect_lane};
-ghost use Rattle.smx_relay.specs.Private.OnLane.{AreOurs};
+ghost use Rattle.smx_relay.specs.Private.Lanes.{AreOurs};
 
 /// Collects each response that waits for the client.
 pub fn collect_on(alloc: Global, lane: &mut Lane, client: u64) -> Result<Vec<u8>, AllocError>

@@ -11,9 +11,9 @@ ghost use Rattle.smx_relay.specs.Texts.{refusal_of};
 ghost use Rattle.smx_relay.specs.Relay.{Relay, client_of, in_turn_at, lane_for, request_of};
 ghost use Rattle.smx_relay.specs.Relay.{with_request};
 ghost use Rattle.smx_relay.specs.ClientTurn.{forward};
-ghost use Rattle.smx_relay.specs.Private.Agrees.{Agrees, IsReached, MayAccept, Turned};
+ghost use Rattle.smx_relay.specs.Private.States.{StandsFor, IsReached, MayAcceptNext, Turned};
 ghost use Rattle.smx_relay.specs.Private.Lending.{IsKnown};
-ghost use Rattle.smx_relay.specs.Private.Agrees.{accepts_in};
+ghost use Rattle.smx_relay.specs.Private.States.{accepts_in};
 
 use crate::on_lane::CALLER;
 use crate::state::{LinkedLane, State};
@@ -25,7 +25,7 @@ use std::alloc::{AllocError, Global};
 
 // Offers a request to each lane, from one on in a ring, and gives the first that accepts it.
 fn accept_in_ring(lanes: &mut Vec<LinkedLane>, last: u64, request: Request) -> Option<usize>
-    requires own { AllByRecursion (MayAccept request.client request.ordinal) lanes.old.items }
+    requires own { AllByRecursion (MayAcceptNext request.client request.ordinal) lanes.old.items }
     ensures first { result ≡ find (λ i. accepts_in request.client (slice_get lanes.old.items i))
         (ring (last % length lanes.old.items) (length lanes.old.items)) }
     ensures accepted { IfSome result (λ i.
@@ -80,7 +80,7 @@ fn offer(
         × (client_of state.old.clients.list.items request.client ≡ Some k)
         × (k.last ≡ last) }
     requires next { request.ordinal ≡ last + 1 }
-    ensures { (s : Relay) → Agrees state.old s → IfOk result (λ text.
+    ensures { (s : Relay) → StandsFor state.old s → IfOk result (λ text.
         Turned (in_turn_at s request (lane_for s request.client last)) state.new text.items) }
 {
     let client = request.client;
@@ -105,7 +105,7 @@ pub fn forward(
 ) -> Result<Vec<u8>, AllocError>
     requires reached { IsReached state.old }
     requires known { IsKnown state.old.clients.list.items client }
-    ensures { (s : Relay) → Agrees state.old s → IfOk result (λ text.
+    ensures { (s : Relay) → StandsFor state.old s → IfOk result (λ text.
         Turned (forward client pdu s) state.new text.items) }
 {
     let Some(known) = state.clients.get(client) else {

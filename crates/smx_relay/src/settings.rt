@@ -1,7 +1,7 @@
 //! The settings, and the start of the lanes.
 ghost use Rattle.std.specs.Prelude.{◌≡◌, ℕ, List, IfOk, OnOk};
-ghost use Rattle.smx_relay.specs.Relay.{Relay, start, begin_lanes, set_turn};
-ghost use Rattle.smx_relay.specs.Private.Agrees.{Agrees, Prints};
+ghost use Rattle.smx_relay.specs.Relay.{Relay, new_relay, begin_lanes, set_turn};
+ghost use Rattle.smx_relay.specs.Private.States.{StandsFor, Prints};
 
 use crate::link::CentreLink;
 use crate::state::{Clients, LinkedLane, State};
@@ -16,7 +16,7 @@ const PLACES: u32 = 16;
 
 /// The state before the first line.
 pub fn new_state(alloc: Global) -> Result<State, AllocError>
-    ensures { IfOk result (λ state. Agrees state start) }
+    ensures { IfOk result (λ state. StandsFor state new_relay) }
 {
     let mut clients = Vec::new(alloc);
     clients.push(None)?;
@@ -47,7 +47,7 @@ pub fn set(
     state: &mut State,
     setting: Setting,
 ) -> Result<Option<Vec<u8>>, AllocError>
-    ensures { (s : Relay) → Agrees state.old s → IfOk result (λ text.
+    ensures { (s : Relay) → StandsFor state.old s → IfOk result (λ text.
         Prints (set_turn s setting) state.new text) }
 {
     if state.started {
@@ -69,7 +69,8 @@ pub fn set(
 
 /// Makes the lanes and their links, unless they were made.
 pub fn begin(alloc: Global, state: &mut State) -> Result<(), AllocError>
-    ensures { (s : Relay) → Agrees state.old s → OnOk result (Agrees state.new (begin_lanes s)) }
+    ensures { (s : Relay) → StandsFor state.old s
+        → OnOk result (StandsFor state.new (begin_lanes s)) }
 {
     if state.started {
         return Ok(());

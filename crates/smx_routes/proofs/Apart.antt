@@ -5,7 +5,7 @@ use Rattle.std.proofs.lemmas.Bool.{eq-eqb, ne_eqb, eqb-true}
 use Rattle.std.proofs.lemmas.List.Elements.{All-tail}
 use Rattle.smx_pdu.specs.Command.{is_response_to}
 use Rattle.smx_routes.specs.declared.mo_window.Waiting.{Waiting}
-use Rattle.smx_routes.specs.Window.{AreApart, without, message_for}
+use Rattle.smx_routes.specs.Window.{HaveDistinctNumbers, without, message_for}
 
 -- nothing is taken out where nothing waits under the number
 pub without-other : (number : ℕ) (ws : List Waiting) → All (λ w. w.given ≢ number) ws → without number ws ≡ ws
@@ -14,7 +14,7 @@ without-other number (w ∷ ws) others =
     let here : (w.given == number) ≡ false = ne_eqb w.given number (others 0 w (omega arith)) in
     rw here (ap (λ xs. w ∷ xs) (without-other number ws (All-tail (λ (v : Waiting). v.given ≢ number) w ws others)))
 
-one_at : (ws : List Waiting) (k : ℕ) (w : Waiting) → AreApart ws → k < length ws → get_or ws k w ≡ w → length (without w.given ws) + 1 ≡ length ws
+one_at : (ws : List Waiting) (k : ℕ) (w : Waiting) → HaveDistinctNumbers ws → k < length ws → get_or ws k w ≡ w → length (without w.given ws) + 1 ≡ length ws
 one_at [] k w apart within is = absurd (omega arith)
 one_at (x ∷ ws) zero w apart within is =
     let here : (x.given == w.given) ≡ true = eq-eqb x.given w.given (ap (λ (v : Waiting). v.given) is) in
@@ -26,7 +26,7 @@ one_at (x ∷ ws) (suc k) w apart within is =
     rw other (omega (arith, rest))
 
 -- one message is taken out
-pub length-without : (ws : List Waiting) (w : Waiting) → AreApart ws → Contains ws w → length (without w.given ws) + 1 ≡ length ws
+pub length-without : (ws : List Waiting) (w : Waiting) → HaveDistinctNumbers ws → Contains ws w → length (without w.given ws) + 1 ≡ length ws
 length-without ws w apart has = one_at ws has.0 w apart has.1 has.2
 
 found_at : {X : Type 0} (p : X → Bool) (y x : X) (xs : List X) (b : Bool) → p y ≡ b → (find p xs ≡ Some x → Contains xs x × (p x ≡ true)) → cond b (Some y) (find p xs) ≡ Some x → Contains (y ∷ xs) x × (p x ≡ true)
@@ -43,7 +43,7 @@ first_so true b h = refl
 first_so false b h = cc
 
 -- one message is settled
-pub length-settled : (ws : List Waiting) (number command : ℕ) (w : Waiting) → AreApart ws → message_for number command ws ≡ Some w → length (without number ws) + 1 ≡ length ws
+pub length-settled : (ws : List Waiting) (number command : ℕ) (w : Waiting) → HaveDistinctNumbers ws → message_for number command ws ≡ Some w → length (without number ws) + 1 ≡ length ws
 length-settled ws number command w apart is =
     let there = found (λ (v : Waiting). (v.given == number) && is_response_to v.command command) ws w is in
     let same : w.given ≡ number = eqb-true w.given number (first_so (w.given == number) (is_response_to w.command command) there.1) in

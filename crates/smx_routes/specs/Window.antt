@@ -33,7 +33,7 @@ abbrev pub number_behind : ℕ → ℕ → ℕ
 number_behind last k = (last + k) % greatest + 1
 
 -- the first number after the last one given under which no message waits, of one number for each place
-pub record IsNext (w : Window) (number : ℕ) : Type 0 where
+pub record IsFirstFree (w : Window) (number : ℕ) : Type 0 where
   pub passed : ℕ
   pub is : number ≡ number_behind w.last passed
   pub within : passed < w.places
@@ -50,8 +50,8 @@ pub record IsFirst (messages : List Waiting) (w : Waiting) : Type 0 where
   pub least : All (λ v. w.given ≤ v.given) messages
 
 -- no two messages wait under one number
-abbrev pub AreApart : List Waiting → Type 0
-AreApart messages = AllPairs (λ v w. v.given ≢ w.given) messages
+abbrev pub HaveDistinctNumbers : List Waiting → Type 0
+HaveDistinctNumbers messages = AllPairs (λ v w. v.given ≢ w.given) messages
 
 -- the messages but that under the number
 abbrev pub without : ℕ → List Waiting → List Waiting

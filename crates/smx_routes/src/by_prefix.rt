@@ -1,6 +1,6 @@
 //! Which clients have a prefix, by the prefix.
 ghost use Rattle.std.specs.Prelude.{◌≡◌, true, false, OnOk, OnErr};
-ghost use Rattle.smx_routes.specs.Private.Holders.{has_holder, HasNone, HasSame, IsLeast, SetsHolder};
+ghost use Rattle.smx_routes.specs.Private.Holders.{has_holder, HasNoHolder, HasSame, IsLeast, SetsHolder};
 
 use std::alloc::{AllocError, Global};
 use std::collections::{BTreeMap, BTreeSet};
@@ -15,7 +15,7 @@ pub(crate) struct ByPrefix {
 impl ByPrefix {
     // No client has a prefix.
     pub(crate) fn new(alloc: Global) -> ByPrefix
-        ensures { HasNone result }
+        ensures { HasNoHolder result }
     {
         ByPrefix {
             alloc,

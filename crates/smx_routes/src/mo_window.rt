@@ -1,7 +1,7 @@
 //! The messages that a client was sent and has not answered.
 ghost use Rattle.std.specs.Prelude.{◌≡◌, ◌≤◌, ◌<◌, ◌+◌, ◌↔◌, [], ◌∷◌, ◌++◌, length, Some, None, IsTrue, IsErr, IfOk, IfErr, IfSome, IfNone, OnSome, OnErr, MatchOption};
 ghost use Rattle.smx_pdu.specs.Command.{is_response_to};
-ghost use Rattle.smx_routes.specs.Window.{IsSize, IsWindowFault, greatest, waits, without, message_for, AreApart, IsNext, IsFirst};
+ghost use Rattle.smx_routes.specs.Window.{IsSize, IsWindowFault, greatest, waits, without, message_for, HaveDistinctNumbers, IsFirstFree, IsFirst};
 
 use crate::fault::WindowFault;
 use smx_pdu::is_response_to;
@@ -121,7 +121,7 @@ impl MoWindow {
     // The number that is given next.
     fn next(&self) -> u32
         requires { length self.now.waiting < self.now.places }
-        ensures next { IsNext self.now result }
+        ensures next { IsFirstFree self.now result }
     {
         for passed in 0..self.places {
             let number = (self.last + passed) % GREATEST + 1;
@@ -137,7 +137,7 @@ impl MoWindow {
     /// It takes no memory.
     pub fn give(&mut self, lane: usize, number: u32, command: u32) -> Result<u32, Full>
         ensures full { IsErr result ↔ (length self.old.waiting ≡ self.old.places) }
-        ensures next { IfOk result (IsNext self.old) }
+        ensures next { IfOk result (IsFirstFree self.old) }
         ensures ok { IfOk result (λ given. self.new ≡ record self.old {
           last = given;
           waiting = self.old.waiting
@@ -187,7 +187,7 @@ impl MoWindow {
     // The message with the least number given.
     fn first(&self) -> Option<Waiting>
         ensures first { MatchOption result (self.now.waiting ≡ []) (IsFirst self.now.waiting) }
-        ensures apart { AreApart self.now.waiting }
+        ensures apart { HaveDistinctNumbers self.now.waiting }
     {
         self.waiting
             .iter()
@@ -205,7 +205,7 @@ impl MoWindow {
             × (r.2 ≡ w.command)
             × (self.new ≡ record self.old { waiting = without w.given self.old.waiting })) }
         ensures one { OnSome result (length self.new.waiting + 1 ≡ length self.old.waiting) }
-        ensures apart { AreApart self.old.waiting }
+        ensures apart { HaveDistinctNumbers self.old.waiting }
         ensures none { IfNone result ((self.old.waiting ≡ []) × (self.new ≡ self.old)) }
     {
         let message = self.first()?;

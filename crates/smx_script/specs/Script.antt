@@ -54,8 +54,8 @@ abbrev pub is_printable : ℕ → Bool
 is_printable octet = nat_le 33 octet && nat_le octet 126
 
 -- a word of printable ASCII, which has one octet and at most so many
-abbrev pub is_text : ℕ → List ℕ → Bool
-is_text most word = nat_le 1 (length word) && nat_le (length word) most && list_all is_printable word
+abbrev pub is_printable_word : ℕ → List ℕ → Bool
+is_printable_word most word = nat_le 1 (length word) && nat_le (length word) most && list_all is_printable word
 
 -- how a client enters: it binds itself, or is bound so
 abbrev pub entry_of : List ℕ → Option (Option Kind)
@@ -95,11 +95,11 @@ back_command (Some lane) (Some octets) = Some (Run (Back lane octets))
 back_command _ _ = None
 
 abbrev pub account_command : List ℕ → List ℕ → Option Command
-account_command id password = if is_text 15 id && is_text 8 password then Some (Set (Account (record { system_id = id; password = password }))) else None
+account_command id password = if is_printable_word 15 id && is_printable_word 8 password then Some (Set (Account (record { system_id = id; password = password }))) else None
 
 -- a word of printable ASCII, of at most 20 octets; one hyphen stands for no octet
 abbrev pub prefix_of : List ℕ → Option (List ℕ)
-prefix_of word = if is_text 20 word then Some (if bytes_eq word (codes "-") then [] else word) else None
+prefix_of word = if is_printable_word 20 word then Some (if bytes_eq word (codes "-") then [] else word) else None
 
 abbrev pub route_command : Option ℕ → Option (List ℕ) → Option Command
 route_command (Some client) (Some prefix) = Some (Run (Prefix client prefix))

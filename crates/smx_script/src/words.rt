@@ -1,7 +1,7 @@
 //! The parts of a line, and the numbers and octets that they spell.
 ghost use Rattle.std.specs.Prelude.{◌≡◌, ◌==◌, IfOk, map};
 ghost use Rattle.std.specs.List.{list_all, slice_split};
-ghost use Rattle.smx_script.specs.Script.{is_printable, is_text, number_of, number_within, octets_in, prefix_of};
+ghost use Rattle.smx_script.specs.Script.{is_printable, is_printable_word, number_of, number_within, octets_in, prefix_of};
 
 use crate::octets::Octets;
 use std::alloc::{AllocError, Global};
@@ -70,7 +70,7 @@ fn are_printable(word: &[u8]) -> bool
 
 /// Whether a word is printable ASCII of one octet to so many.
 pub(crate) fn is_text(most: usize, word: &[u8]) -> bool
-    ensures { result ≡ is_text most word.now }
+    ensures { result ≡ is_printable_word most word.now }
 {
     !word.is_empty() && word.len() <= most && are_printable(word)
 }

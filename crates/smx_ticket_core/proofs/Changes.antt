@@ -8,32 +8,32 @@ use Rattle.smx_ticket_core.specs.declared.callers.Event.{Event}
 use Rattle.smx_ticket_core.specs.declared.callers.Event.TheVariants.{ReadNext, Draw, Look, Leave, ReadServing, TryDraw}
 use Rattle.smx_ticket_core.specs.declared.callers.Illegal.{Illegal}
 use Rattle.smx_ticket_core.specs.declared.callers.Illegal.TheVariants.{Spent}
-use Rattle.smx_ticket_core.specs.Machine.{most, Turn, draw, row, holding, begins, Fits, ticket}
+use Rattle.smx_ticket_core.specs.Machine.{most, Turn, draw, row, holding, begins, FitsNumbers, ticket}
 
 pub record Change (n s : ℕ) (c : Caller) (t : Turn) : Type 0 where
   pub behind : t.1.0 ≤ t.0
   pub bounded : t.0 ≤ most
-  pub fits : Fits t.0 t.1.0 t.1.1
-  pub others : (d : Caller) → Fits n s d → (0 < ticket c → ticket c ≡ ticket d → ⊥) → Fits t.0 t.1.0 d
+  pub fits : FitsNumbers t.0 t.1.0 t.1.1
+  pub others : (d : Caller) → FitsNumbers n s d → (0 < ticket c → ticket c ≡ ticket d → ⊥) → FitsNumbers t.0 t.1.0 d
   pub fresh : 0 < ticket t.1.1 → (ticket t.1.1 ≡ ticket c) ⊎ (ticket t.1.1 ≡ n + 1)
   pub counted : t.1.0 + holding t.1.1 ≡ s + holding c + length (begins c t.1.1)
   pub first : (begins c t.1.1 ≡ []) ⊎ ((begins c t.1.1 ≡ s ∷ []) × (holding c ≡ 0) × ((ticket c ≡ s + 1) ⊎ (n ≡ s)))
 
-pub ticket_below : (n s : ℕ) (d : Caller) → Fits n s d → ticket d ≤ n
+pub ticket_below : (n s : ℕ) (d : Caller) → FitsNumbers n s d → ticket d ≤ n
 ticket_below n s Idle f = omega arith
 ticket_below n s (Read x) f = omega arith
 ticket_below n s (Saw x) f = omega arith
 ticket_below n s (Waiting t) f = omega arith
 ticket_below n s (Holding t) f = omega arith
 
-more : (n s : ℕ) (d : Caller) → Fits n s d → Fits (n + 1) s d
+more : (n s : ℕ) (d : Caller) → FitsNumbers n s d → FitsNumbers (n + 1) s d
 more n s Idle f = tt
 more n s (Read x) f = omega arith
 more n s (Saw x) f = omega arith
 more n s (Waiting t) f = (f.0, omega arith)
 more n s (Holding t) f = (f.0, omega arith)
 
-served : (n s : ℕ) (d : Caller) → Fits n s d → (s + 1 ≡ ticket d → ⊥) → Fits n (s + 1) d
+served : (n s : ℕ) (d : Caller) → FitsNumbers n s d → (s + 1 ≡ ticket d → ⊥) → FitsNumbers n (s + 1) d
 served n s Idle f not = tt
 served n s (Read x) f not = omega arith
 served n s (Saw x) f not = omega arith
@@ -41,7 +41,7 @@ served n s (Waiting t) f not = let away : s ≢ t = λ e. not (ap (λ (k : ℕ).
 served n s (Holding t) f not = absurd (not (ap (λ (k : ℕ). k + 1) (sym f.0)))
 
 -- the numbers stay, and the caller has no ticket before or after
-plain : (n s : ℕ) (c d : Caller) → s ≤ n → n ≤ most → ticket c ≡ 0 → ticket d ≡ 0 → holding c ≡ 0 → holding d ≡ 0 → begins c d ≡ [] → Fits n s d → Change n s c (n, (s, d))
+plain : (n s : ℕ) (c d : Caller) → s ≤ n → n ≤ most → ticket c ≡ 0 → ticket d ≡ 0 → holding c ≡ 0 → holding d ≡ 0 → begins c d ≡ [] → FitsNumbers n s d → Change n s c (n, (s, d))
 plain n s c d le bd tc td hc hd nil f = record {
   behind = le;
   bounded = bd;
@@ -118,13 +118,13 @@ leaves n s t is le bd below = record {
   behind = omega arith;
   bounded = bd;
   fits = tt;
-  others = λ d g not. subst (λ (k : ℕ). Fits n (k + 1) d) (sym is) (served n s d g (λ e. not (omega arith) (let g : t + 1 ≡ ticket d = omega arith in g)));
+  others = λ d g not. subst (λ (k : ℕ). FitsNumbers n (k + 1) d) (sym is) (served n s d g (λ e. not (omega arith) (let g : t + 1 ≡ ticket d = omega arith in g)));
   fresh = λ pos. absurd (omega arith);
   counted = omega arith;
   first = inl refl;
 }
 
-pub row_changes : (n s : ℕ) (e : Event) (c : Caller) (t : Turn) → row n s e c ≡ Ok t → s ≤ n → n ≤ most → Fits n s c → Change n s c t
+pub row_changes : (n s : ℕ) (e : Event) (c : Caller) (t : Turn) → row n s e c ≡ Ok t → s ≤ n → n ≤ most → FitsNumbers n s c → Change n s c t
 row_changes n s (ReadNext i) Idle t e le bd f = took n s Idle _ t e (plain n s Idle (Read n) le bd refl refl refl refl refl (omega arith))
 row_changes n s (ReadNext i) (Read x) t e le bd f = took n s (Read x) _ t e (plain n s (Read x) (Read n) le bd refl refl refl refl refl (omega arith))
 row_changes n s (ReadNext i) (Saw x) t e le bd f = none_of n s (Saw x) _ t e

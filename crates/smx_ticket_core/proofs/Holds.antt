@@ -6,7 +6,7 @@ use Rattle.std.proofs.lemmas.List.{append-nil}
 use Rattle.smx_ticket_core.specs.declared.callers.Caller.{Caller}
 use Rattle.smx_ticket_core.specs.declared.callers.Caller.TheVariants.{Idle, Read, Saw, Waiting, Holding}
 use Rattle.smx_ticket_core.specs.declared.callers.Event.{Event}
-use Rattle.smx_ticket_core.specs.Machine.{Machine, most, who, Turn, start, holding, begins, begins_between, Run, InTicketOrder, ExclusionLaw, Fits, ticket, Sound}
+use Rattle.smx_ticket_core.specs.Machine.{Machine, most, who, Turn, start, holding, begins, begins_between, Run, InTicketOrder, ExclusionLaw, FitsNumbers, ticket, Sound}
 use Rattle.smx_ticket_core.proofs.Changes.{Change, row_changes}
 use Rattle.smx_ticket_core.proofs.Lists.{sum_by, set_here, sum_set, sum_zero, at_copies, at_end}
 use Rattle.smx_ticket_core.proofs.Rows.{changed, after_row}
@@ -27,7 +27,7 @@ start_counted callers first = record {
 no_holder : (m : Machine) (i : ℕ) (c : Caller) → Sound m → get_elem? m.callers i ≡ some c → holding c ≡ 0 → (ticket c ≡ m.serving + 1) ⊎ (m.next ≡ m.serving) → sum_by holding m.callers ≡ 0
 no_holder m i c s at free why = sum_zero holding m.callers (λ j d there. one j d there (s.each j d there))
   where
-    one : (j : ℕ) (d : Caller) → get_elem? m.callers j ≡ some d → Fits m.next m.serving d → holding d ≡ 0
+    one : (j : ℕ) (d : Caller) → get_elem? m.callers j ≡ some d → FitsNumbers m.next m.serving d → holding d ≡ 0
     one j Idle there f = refl
     one j (Read x) there f = refl
     one j (Saw x) there f = refl

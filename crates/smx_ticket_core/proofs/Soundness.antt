@@ -5,7 +5,7 @@ use lib.ListN.{get_elem?}
 use Rattle.smx_ticket_core.specs.declared.callers.Caller.{Caller}
 use Rattle.smx_ticket_core.specs.declared.callers.Caller.TheVariants.{Idle, Holding}
 use Rattle.smx_ticket_core.specs.declared.callers.Event.{Event}
-use Rattle.smx_ticket_core.specs.Machine.{Machine, most, who, Turn, after, start, Run, AtMostOne, Fits, ticket, Sound}
+use Rattle.smx_ticket_core.specs.Machine.{Machine, most, who, Turn, after, start, Run, AtMostOne, FitsNumbers, ticket, Sound}
 use Rattle.smx_ticket_core.proofs.Changes.{Change, row_changes, ticket_below}
 use Rattle.smx_ticket_core.proofs.Lists.{at_set, at_copies}
 use Rattle.smx_ticket_core.proofs.Rows.{changed, after_row}
@@ -14,7 +14,7 @@ pub changes_sound : (m : Machine) (i : ℕ) (c : Caller) (t : Turn) → Sound m 
 changes_sound m i c t s at ch = record {
   behind = ch.behind;
   bounded = ch.bounded;
-  each = λ j d here. ⊎_elim (λ (z : (j ≡ i) × (t.1.1 ≡ d)). subst (Fits t.0 t.1.0) z.1 ch.fits)
+  each = λ j d here. ⊎_elim (λ (z : (j ≡ i) × (t.1.1 ≡ d)). subst (FitsNumbers t.0 t.1.0) z.1 ch.fits)
       (λ (z : (j ≢ i) × (get_elem? m.callers j ≡ some d)). ch.others d (s.each j d z.1) (λ pos same. z.0 (sym (s.apart i j c d at z.1 pos same)))) (at_set m.callers i j t.1.1 d here);
   apart = λ j k d f a b pos same. ⊎_elim
       (λ (z : (j ≡ i) × (t.1.1 ≡ d)). ⊎_elim (λ (w : (k ≡ i) × (t.1.1 ≡ f)). z.0 ∙ sym w.0)
@@ -31,7 +31,7 @@ pub start_sound : (callers first : ℕ) → first ≤ most → Sound (start call
 start_sound callers first le = record {
   behind = omega arith;
   bounded = le;
-  each = λ i c e. subst (Fits first first) (at_copies callers i Idle c e) tt;
+  each = λ i c e. subst (FitsNumbers first first) (at_copies callers i Idle c e) tt;
   apart = λ i j c d a b pos same. absurd (let z : ticket Idle ≡ ticket c = ap ticket (at_copies callers i Idle c a) in omega arith);
 }
 

@@ -97,12 +97,12 @@ abbrev pub ExclusionLaw : Type 0
 ExclusionLaw = (callers first : ℕ) (es : List Event) (m : Machine) (holds : List ℕ) → first ≤ most → Run callers first es m holds → AtMostOne m × InTicketOrder first holds
 
 -- what a caller's state says of the two numbers
-abbrev pub Fits : ℕ → ℕ → Caller → Type 0
-Fits n s Idle = Unit {0}
-Fits n s (Read x) = x ≤ n
-Fits n s (Saw x) = x ≤ s
-Fits n s (Waiting t) = (s ≤ t) × (t < n)
-Fits n s (Holding t) = (t ≡ s) × (t < n)
+abbrev pub FitsNumbers : ℕ → ℕ → Caller → Type 0
+FitsNumbers n s Idle = Unit {0}
+FitsNumbers n s (Read x) = x ≤ n
+FitsNumbers n s (Saw x) = x ≤ s
+FitsNumbers n s (Waiting t) = (s ≤ t) × (t < n)
+FitsNumbers n s (Holding t) = (t ≡ s) × (t < n)
 
 -- one more than the caller's ticket, or 0
 abbrev pub ticket : Caller → ℕ
@@ -116,5 +116,5 @@ ticket (Holding t) = t + 1
 pub record Sound (m : Machine) : Type 0 where
   pub behind : m.serving ≤ m.next
   pub bounded : m.next ≤ most
-  pub each : (i : ℕ) (c : Caller) → get_elem? m.callers i ≡ some c → Fits m.next m.serving c
+  pub each : (i : ℕ) (c : Caller) → get_elem? m.callers i ≡ some c → FitsNumbers m.next m.serving c
   pub apart : (i j : ℕ) (c d : Caller) → get_elem? m.callers i ≡ some c → get_elem? m.callers j ≡ some d → 0 < ticket c → ticket c ≡ ticket d → i ≡ j

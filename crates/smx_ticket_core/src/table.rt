@@ -9,7 +9,7 @@
 //! | `ReadServing` | `Idle`       | `Saw(serving)` |
 //! | `TryDraw`     | `Saw(x)`     | next is x: refused at 2^62, else next rises by one and the caller is `Holding(x)`. Next is not x: `Idle` |
 ghost use Rattle.std.specs.Prelude.{◌≡◌, ◌≤◌, MatchResult, Ok, Err};
-ghost use Rattle.smx_ticket_core.specs.Machine.{most, who, row, draw, Fits};
+ghost use Rattle.smx_ticket_core.specs.Machine.{most, who, row, draw, FitsNumbers};
 
 use crate::{Caller, Event, Illegal};
 
@@ -50,7 +50,7 @@ pub(crate) fn turn(
     event: Event,
     caller: Caller,
 ) -> Result<(u64, u64, Caller), Illegal>
-    requires fits { Fits next serving caller }
+    requires fits { FitsNumbers next serving caller }
     requires bounded { next ≤ most }
     ensures { MatchResult result (λ t. row next serving event caller ≡ Ok (t.0, (t.1, t.2)))
         (λ x. row next serving event caller ≡ Err x) }

@@ -4,7 +4,7 @@ use Rattle.std.proofs.lemmas.List.{append-nil}
 use Rattle.std.proofs.lemmas.List.Concat.{flat_map-append}
 use Rattle.std.proofs.Math.Logic.{∥∥₁_map}
 use Rattle.std.specs.List.{flat_map}
-use Rattle.smx_turns.specs.Runs.{Runs, Ran}
+use Rattle.smx_turns.specs.Runs.{Runs, RunsOn}
 
 -- a filter of a list with one more at its end
 pub pushed : {A B : Type 0} (f : A → List B) (xs : List A) (x : A) → flat_map f (xs ++ x ∷ []) ≡ flat_map f xs ++ f x
@@ -35,11 +35,11 @@ module _ {S E : Type 0} (does : S → E → S → Type 0) where
   chain_first s t u es es' e same none grown d =
       ∣ runs_push s t u [] es' e (grown ∙ ap (λ l. l ++ e ∷ []) none) d (subst (λ (x : S). Runs does s [] x) (sym same) (runs_none s)) ∣₁
 
-  pub ran_none : (s t : S) (es es' : List E) → t ≡ s → es' ≡ es → Ran does s es t es'
+  pub ran_none : (s t : S) (es es' : List E) → t ≡ s → es' ≡ es → RunsOn does s es t es'
   unfolding Runs
   ran_none s t es es' same kept = record { more = []; grown = kept ∙ sym (append-nil es); runs = same }
 
-  pub ran_more : (s t u : S) (es es' es'' more : List E) → Ran does s es t es' → es'' ≡ es' ++ more → Runs does t more u → Ran does s es u es''
+  pub ran_more : (s t u : S) (es es' es'' more : List E) → RunsOn does s es t es' → es'' ≡ es' ++ more → Runs does t more u → RunsOn does s es u es''
   ran_more s t u es es' es'' more f grown r = record {
     more = f.more ++ more;
     grown = grown ∙ ap (λ l. l ++ more) f.grown ∙ append_assoc es f.more more;

@@ -11,7 +11,7 @@ use Rattle.smx_turns.specs.declared.gate.Party.{Party}
 use Rattle.smx_turns.specs.declared.directory.Query.{Query}
 use Rattle.smx_turns.specs.declared.step.Step.{Step}
 use Rattle.smx_turns.specs.declared.step.Step.TheVariants.{Asked, Read, Marked, Did}
-use Rattle.smx_turns.specs.Runs.{Runs, Ran}
+use Rattle.smx_turns.specs.Runs.{Runs, RunsOn}
 use Rattle.smx_turns.specs.Steps.{asks, ask_of, polls, poll_of, events, event_of, is_quiet_step, are_quiet, Side, side, Turned}
 use Rattle.smx_turns.proofs.Chains.{pushed, runs_append, runs_one, runs_none, ran_more}
 
@@ -124,5 +124,5 @@ module _ {S M E : Type 0} (does : S → E → S → Type 0) (tells : E → List 
       (told ∙ ap (λ l. b.told ++ l) (sym (append-nil (tells e)))) (queried ∙ ap (λ l. b.queries ++ l) (sym (append-nil (finds e)))) more (runs_one does b.stand c.stand e d) (read ∙ sym (append-nil b.polls)) t
 
   -- after a turn more events were done
-  pub ran_turn : (s : S) (es : List E) (a b : Side S E) (ss : List (Step M E)) → Ran does s es a.stand a.events → Turned does tells finds n a b ss → Ran does s es b.stand b.events
+  pub ran_turn : (s : S) (es : List E) (a b : Side S E) (ss : List (Step M E)) → RunsOn does s es a.stand a.events → Turned does tells finds n a b ss → RunsOn does s es b.stand b.events
   ran_turn s es a b ss f t = ran_more does s a.stand b.stand es a.events b.events (events ss) f t.events_are t.runs

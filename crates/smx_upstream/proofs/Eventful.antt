@@ -30,9 +30,9 @@ use Rattle.smx_upstream.specs.declared.event.Fate.{Fate}
 use Rattle.smx_upstream.specs.declared.event.Fate.TheVariants as fate
 use Rattle.smx_upstream.specs.Ending.{event_ends, has_ended}
 use Rattle.smx_upstream.specs.Events.{ins, outs, in_of, out_of, those, tell_of, find_of, unless_kept, kept_by}
-use Rattle.smx_upstream.specs.Ages.{noted_more, after_shift, fate_notes, fate_shifts}
+use Rattle.smx_upstream.specs.Ages.{noted_more, age_after_shift, fate_notes, fate_shifts}
 use Rattle.smx_upstream.specs.Standing.{Stand, Does, Gets, stand}
-use Rattle.smx_upstream.specs.Working.{Working, IsWorker, Goes, Turns}
+use Rattle.smx_upstream.specs.Working.{Working, IsWorker, LeadsOn, ChangesSide}
 
 ins_push : (es es' : List Event) (e : Event) → es' ≡ es ++ e ∷ [] → ins es' ≡ ins es ++ in_of e
 unfolding ins
@@ -87,32 +87,32 @@ began w e p one heard held nothing sends said first does on last = record {
 
 -- a turn with one thing more
 pub goes_did : (n : ℕ) (a b : Side Stand Event) (ss ss' : List (Step Mark Event)) (e : Event) → ss' ≡ ss ++ Did e ∷ [] → b.asked ≡ a.asked → b.told ≡ a.told ++ tell_of e
-    → b.queries ≡ a.queries ++ find_of e → b.events ≡ a.events ++ e ∷ [] → Does a.stand e b.stand → b.polls ≡ a.polls → Goes n a b ss ss'
+    → b.queries ≡ a.queries ++ find_of e → b.events ≡ a.events ++ e ∷ [] → Does a.stand e b.stand → b.polls ≡ a.polls → LeadsOn n a b ss ss'
 goes_did n a b ss ss' e grown asked told queried more does polls = λ start t. turned_did Does tell_of find_of n start a b ss ss' e grown asked told queried more does polls t
 
 pub goes_mark : (n : ℕ) (a b : Side Stand Event) (ss ss' : List (Step Mark Event)) (m : Mark) → ss' ≡ ss ++ Marked m ∷ [] → b.asked ≡ a.asked → b.told ≡ a.told → b.queries ≡ a.queries
-    → b.events ≡ a.events → b.stand ≡ a.stand → b.polls ≡ a.polls → Goes n a b ss ss'
+    → b.events ≡ a.events → b.stand ≡ a.stand → b.polls ≡ a.polls → LeadsOn n a b ss ss'
 unfolding Runs
 goes_mark n a b ss ss' m grown q d f e s p = λ start t. turned_step Does tell_of find_of n start a b ss ss' (Marked m) grown (q ∙ sym (append-nil a.asked)) (d ∙ sym (append-nil a.told)) (f ∙ sym (append-nil a.queries))
     (e ∙ sym (append-nil a.events)) s (p ∙ sym (append-nil a.polls)) t
 
 pub goes_read : (n : ℕ) (a b : Side Stand Event) (ss ss' : List (Step Mark Event)) (r : Result Polled LinkFault) → ss' ≡ ss ++ Read r ∷ [] → b.asked ≡ a.asked → b.told ≡ a.told → b.queries ≡ a.queries
-    → b.events ≡ a.events → b.stand ≡ a.stand → b.polls ≡ a.polls ++ r ∷ [] → Goes n a b ss ss'
+    → b.events ≡ a.events → b.stand ≡ a.stand → b.polls ≡ a.polls ++ r ∷ [] → LeadsOn n a b ss ss'
 unfolding Runs
 goes_read n a b ss ss' r grown q d f e s p = λ start t. turned_step Does tell_of find_of n start a b ss ss' (Read r) grown (q ∙ sym (append-nil a.asked)) (d ∙ sym (append-nil a.told)) (f ∙ sym (append-nil a.queries))
     (e ∙ sym (append-nil a.events)) s p t
 
 pub goes_ask : (n : ℕ) (a b : Side Stand Event) (ss ss' : List (Step Mark Event)) (p : Point) (answer : Bool) → ss' ≡ ss ++ Asked p answer ∷ []
-    → b.asked ≡ a.asked ++ record { point = p; turn = n; answer = answer } ∷ [] → b.told ≡ a.told → b.queries ≡ a.queries → b.events ≡ a.events → b.stand ≡ a.stand → b.polls ≡ a.polls → Goes n a b ss ss'
+    → b.asked ≡ a.asked ++ record { point = p; turn = n; answer = answer } ∷ [] → b.told ≡ a.told → b.queries ≡ a.queries → b.events ≡ a.events → b.stand ≡ a.stand → b.polls ≡ a.polls → LeadsOn n a b ss ss'
 unfolding Runs
 goes_ask n a b ss ss' p answer grown q d f e s l = λ start t. turned_step Does tell_of find_of n start a b ss ss' (Asked p answer) grown q (d ∙ sym (append-nil a.told)) (f ∙ sym (append-nil a.queries))
     (e ∙ sym (append-nil a.events)) s (l ∙ sym (append-nil a.polls)) t
 
-pub goes_same : (n : ℕ) (a b : Side Stand Event) (ss ss' : List (Step Mark Event)) → ss' ≡ ss → b ≡ a → Goes n a b ss ss'
-goes_same n a b ss ss' kept same = λ start t. subst (λ (x : Side Stand Event). Turns n start x ss') (sym same)
-    (subst (λ (l : List (Step Mark Event)). Turns n start a l) (sym kept) t)
+pub goes_same : (n : ℕ) (a b : Side Stand Event) (ss ss' : List (Step Mark Event)) → ss' ≡ ss → b ≡ a → LeadsOn n a b ss ss'
+goes_same n a b ss ss' kept same = λ start t. subst (λ (x : Side Stand Event). ChangesSide n start x ss') (sym same)
+    (subst (λ (l : List (Step Mark Event)). ChangesSide n start a l) (sym kept) t)
 
-pub goes_then : (n : ℕ) (a b c : Side Stand Event) (ss ss' ss'' : List (Step Mark Event)) → Goes n a b ss ss' → Goes n b c ss' ss'' → Goes n a c ss ss''
+pub goes_then : (n : ℕ) (a b c : Side Stand Event) (ss ss' ss'' : List (Step Mark Event)) → LeadsOn n a b ss ss' → LeadsOn n b c ss' ss'' → LeadsOn n a c ss ss''
 goes_then n a b c ss ss' ss'' f g = λ start t. g start (f start t)
 
 -- a PDU is decided, or waits
@@ -128,10 +128,10 @@ kept_or_in p (fate.Full place) = refl
 kept_or_in p (fate.BoxSpent place) = refl
 
 -- the age after a PDU was decided
-pub aged : (f : Fate) (a b c : Age) (shifted : Bool) (notes : ℕ) → c ≡ noted_more notes b → b ≡ after_shift shifted a → notes ≡ fate_notes f → shifted ≡ fate_shifts f
-    → c ≡ noted_more (fate_notes f) (after_shift (fate_shifts f) a)
+pub aged : (f : Fate) (a b c : Age) (shifted : Bool) (notes : ℕ) → c ≡ noted_more notes b → b ≡ age_after_shift shifted a → notes ≡ fate_notes f → shifted ≡ fate_shifts f
+    → c ≡ noted_more (fate_notes f) (age_after_shift (fate_shifts f) a)
 aged f a b c shifted notes more after n s =
-    more ∙ ap (λ (k : ℕ). noted_more k b) n ∙ ap (noted_more (fate_notes f)) (after ∙ ap (λ (x : Bool). after_shift x a) s)
+    more ∙ ap (λ (k : ℕ). noted_more k b) n ∙ ap (noted_more (fate_notes f)) (after ∙ ap (λ (x : Bool). age_after_shift x a) s)
 
 -- what the contract of a get says
 pub gets_from : (a b : Receiving Pdu) (r : Result (Got Pdu) Spent) → IfOk r (Hands a.got b.got) → IfOk r (GetServes a b.front) → IsOk r → Gets a b r
@@ -147,20 +147,20 @@ pub bad_heard : {L : Type 0} (old new : Wiring L) (e : FrameFault) → ((e ≡ N
 bad_heard old new e h = ⊎_elim (λ x. ap (λ w. w.heard) x.1) (λ x. ap (λ w. w.heard) x.1) h
 
 -- the same sides by other names
-pub goes_from : (n : ℕ) (a a' b : Side Stand Event) (ss ss' : List (Step Mark Event)) → a' ≡ a → Goes n a' b ss ss' → Goes n a b ss ss'
-goes_from n a a' b ss ss' same f = subst (λ (x : Side Stand Event). Goes n x b ss ss') same f
+pub goes_from : (n : ℕ) (a a' b : Side Stand Event) (ss ss' : List (Step Mark Event)) → a' ≡ a → LeadsOn n a' b ss ss' → LeadsOn n a b ss ss'
+goes_from n a a' b ss ss' same f = subst (λ (x : Side Stand Event). LeadsOn n x b ss ss') same f
 
-pub goes_to : (n : ℕ) (a b b' : Side Stand Event) (ss ss' : List (Step Mark Event)) → b' ≡ b → Goes n a b ss ss' → Goes n a b' ss ss'
-goes_to n a b b' ss ss' same f = subst (λ (x : Side Stand Event). Goes n a x ss ss') (sym same) f
+pub goes_to : (n : ℕ) (a b b' : Side Stand Event) (ss ss' : List (Step Mark Event)) → b' ≡ b → LeadsOn n a b ss ss' → LeadsOn n a b' ss ss'
+goes_to n a b b' ss ss' same f = subst (λ (x : Side Stand Event). LeadsOn n a x ss ss') (sym same) f
 
 -- the first steps of a turn are all its steps
-pub goes_first : (n : ℕ) (a b : Side Stand Event) (ss ss' : List (Step Mark Event)) → ss ≡ [] → Goes n a b ss ss' → Turns n a b ss'
-goes_first n a b ss ss' none f = f a (subst (λ (l : List (Step Mark Event)). Turns n a a l) (sym none) (turned_none Does tell_of find_of n a))
+pub goes_first : (n : ℕ) (a b : Side Stand Event) (ss ss' : List (Step Mark Event)) → ss ≡ [] → LeadsOn n a b ss ss' → ChangesSide n a b ss'
+goes_first n a b ss ss' none f = f a (subst (λ (l : List (Step Mark Event)). ChangesSide n a a l) (sym none) (turned_none Does tell_of find_of n a))
 
 -- the same turn by other names
-pub turns_as : (n n' : ℕ) (a a' b b' : Side Stand Event) (ss ss' : List (Step Mark Event)) → n' ≡ n → a ≡ a' → b' ≡ b → ss' ≡ ss → Turns n a b ss → Turns n' a' b' ss'
-turns_as n n' a a' b b' ss ss' d e f g t = subst (λ (k : ℕ). Turns k a' b' ss') (sym d) (subst (λ (x : Side Stand Event). Turns n x b' ss') e
-    (subst (λ (x : Side Stand Event). Turns n a x ss') (sym f) (subst (λ (l : List (Step Mark Event)). Turns n a b l) (sym g) t)))
+pub turns_as : (n n' : ℕ) (a a' b b' : Side Stand Event) (ss ss' : List (Step Mark Event)) → n' ≡ n → a ≡ a' → b' ≡ b → ss' ≡ ss → ChangesSide n a b ss → ChangesSide n' a' b' ss'
+turns_as n n' a a' b b' ss ss' d e f g t = subst (λ (k : ℕ). ChangesSide k a' b' ss') (sym d) (subst (λ (x : Side Stand Event). ChangesSide n x b' ss') e
+    (subst (λ (x : Side Stand Event). ChangesSide n a x ss') (sym f) (subst (λ (l : List (Step Mark Event)). ChangesSide n a b l) (sym g) t)))
 
-pub goes_at : (n n' : ℕ) (a b : Side Stand Event) (ss ss' : List (Step Mark Event)) → n' ≡ n → Goes n a b ss ss' → Goes n' a b ss ss'
-goes_at n n' a b ss ss' same f = subst (λ (k : ℕ). Goes k a b ss ss') (sym same) f
+pub goes_at : (n n' : ℕ) (a b : Side Stand Event) (ss ss' : List (Step Mark Event)) → n' ≡ n → LeadsOn n a b ss ss' → LeadsOn n' a b ss ss'
+goes_at n n' a b ss ss' same f = subst (λ (k : ℕ). LeadsOn k a b ss ss') (sym same) f

@@ -29,9 +29,9 @@ next_turn a = record a { turns = min (a.turns + 1) (2 ^ 64 - 1) }
 abbrev pub noted_more : ℕ → Age → Age
 noted_more notes a = record a { noted = min (a.noted + notes) (2 ^ 64 - 1) }
 
-abbrev pub after_shift : Bool → Age → Age
-after_shift true a = record a { noted = 0 }
-after_shift false a = a
+abbrev pub age_after_shift : Bool → Age → Age
+age_after_shift true a = record a { noted = 0 }
+age_after_shift false a = a
 
 -- in every 1,000th turn half of the history; and an eighth, where the tap has noted so much since the last shift
 abbrev pub shift_due : Age → Option ℕ
@@ -41,10 +41,10 @@ shift_due a =
     else None
 
 -- how many notes an answer of the lane tells
-abbrev pub answer_notes : Answered → ℕ
-answer_notes (answered.Queued c) = 1
-answer_notes answered.Late = 1
-answer_notes (answered.Unknown back) = 0
+abbrev pub answered_notes : Answered → ℕ
+answered_notes (answered.Queued c) = 1
+answered_notes answered.Late = 1
+answered_notes (answered.Unknown back) = 0
 
 -- an up is noted, and what was noted before a shift no longer counts
 abbrev pub up_notes : Result (Unit {0}) UpFault → ℕ
@@ -57,7 +57,7 @@ rise_notes r = up_notes (said_last r)
 abbrev pub fate_notes : Fate → ℕ
 fate_notes fate.Own = 0
 fate_notes (fate.Up rise) = rise_notes rise.value
-fate_notes (fate.Lane lane a) = answer_notes a.value
+fate_notes (fate.Lane lane a) = answered_notes a.value
 fate_notes fate.LaneSpent = 0
 fate_notes fate.Unread = 0
 fate_notes (fate.Unrouted found) = 0

@@ -14,13 +14,13 @@ abbrev pub GivesUp : Front Note Limits → Failed → Front Note Limits → Type
 GivesUp f failed g = Fails f g (Ok failed)
 
 -- the lane refused to give one more up, or was not asked
-abbrev pub StopsAt : Front Note Limits → Front Note Limits → Option FailFault → Type 0
-StopsAt f g (Some fault) = Fails f g (Err fault)
-StopsAt f g None = g ≡ f
+abbrev pub StopsGivingUp : Front Note Limits → Front Note Limits → Option FailFault → Type 0
+StopsGivingUp f g (Some fault) = Fails f g (Err fault)
+StopsGivingUp f g None = g ≡ f
 
 -- one request after another was given up, until the lane refused
 abbrev pub GivesAll : Front Note Limits → Front Note Limits → List Failed → Option FailFault → Type 0
-GivesAll f g given end = (last : Front Note Limits) × Runs GivesUp f given last × StopsAt last g end
+GivesAll f g given end = (last : Front Note Limits) × Runs GivesUp f given last × StopsGivingUp last g end
 
 -- the lane was brought down, and then what was taken was given up
 abbrev pub Loses : Front Note Limits → Front Note Limits → Lost → Type 0

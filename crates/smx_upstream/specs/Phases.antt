@@ -276,12 +276,12 @@ IsTurn bound quiet (Ok end) p = IsTurnEnd bound quiet end p
 IsTurn bound quiet (Err e) p = Faulted e p
 
 -- every whole PDU was decided, and the link goes on
-abbrev pub is_settled : Phase → Bool
-is_settled Settled = true
-is_settled MayTake = true
-is_settled HasTried = true
-is_settled Refrained = true
-is_settled _ = false
+abbrev pub is_all_decided : Phase → Bool
+is_all_decided Settled = true
+is_all_decided MayTake = true
+is_all_decided HasTried = true
+is_all_decided Refrained = true
+is_all_decided _ = false
 
 -- a call that succeeds leads to this phase, and one that fails to where its fault may stand
 abbrev pub LeadsTo : {A : Type 0} → Result A Fault → (A → Phase) → Phase → Type 0
@@ -291,7 +291,7 @@ LeadsTo (Err e) next p = Faulted e p
 -- how a part of a turn may end the turn
 pub record EndsEarly (end : TurnEnd) (p : Phase) : Type 0 where
   pub allowed : (bound quiet : Bool) → IsTurnEnd bound quiet end p
-  pub early : is_settled p ≡ false
+  pub early : is_all_decided p ≡ false
 
 -- a part of a turn ends the turn, or leads to this phase
 abbrev pub EndsOr : Phase → Option TurnEnd → Phase → Type 0

@@ -14,12 +14,12 @@ use Rattle.smx_upstream.specs.declared.event.Rise.{Rise}
 use Rattle.smx_upstream.specs.declared.event.Rise.TheVariants as rise
 
 -- the lane's history has no room
-abbrev pub is_full : Result (Unit {0}) UpFault → Bool
-is_full (Ok done) = false
-is_full (Err ups.Spent) = false
-is_full (Err (ups.Refused refusal.AlreadyUp)) = false
-is_full (Err (ups.Refused refusal.WindowNotEmpty)) = false
-is_full (Err (ups.Refused refusal.HistoryFull)) = true
+abbrev pub is_history_full : Result (Unit {0}) UpFault → Bool
+is_history_full (Ok done) = false
+is_history_full (Err ups.Spent) = false
+is_history_full (Err (ups.Refused refusal.AlreadyUp)) = false
+is_history_full (Err (ups.Refused refusal.WindowNotEmpty)) = false
+is_history_full (Err (ups.Refused refusal.HistoryFull)) = true
 
 -- a lane that is up already stays so
 abbrev pub stays_down : Result (Unit {0}) UpFault → Bool
@@ -36,7 +36,7 @@ said_last (rise.Renewed entries said) = said
 
 -- one call served it; or its history was found full, a second call was to hand out the entries, and a third served it
 abbrev pub Rises : Front Note Limits → Front Note Limits → Rise → Type 0
-Rises f g (rise.Asked said) = ComesUp f g said × (is_full said ≡ false)
+Rises f g (rise.Asked said) = ComesUp f g said × (is_history_full said ≡ false)
 Rises f g (rise.Renewed entries said) =
     (full : Front Note Limits) × (mid : Front Note Limits) × ComesUp f full (Err (ups.Refused refusal.HistoryFull))
     × Turns (λ (es : Vec Entry Global). es.items) full mid 1 entries × ComesUp mid g said

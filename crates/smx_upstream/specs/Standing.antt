@@ -25,7 +25,7 @@ use Rattle.smx_shared.specs.Views.{TapView}
 use Rattle.smx_shared.specs.Serving.{Takes, Expires, AnswerServes, TurnServes, IsTurnFault}
 use Rattle.std.specs.Option.{option_map}
 use Rattle.smx_upstream.specs.declared.age.Age.{Age}
-use Rattle.smx_upstream.specs.Ages.{next_turn, noted_more, after_shift, shift_due, fate_notes, fate_shifts, take_notes, expiry_notes, has_shifted}
+use Rattle.smx_upstream.specs.Ages.{next_turn, noted_more, age_after_shift, shift_due, fate_notes, fate_shifts, take_notes, expiry_notes, has_shifted}
 use Rattle.smx_upstream.specs.Rising.{Rises}
 use Rattle.smx_turns.specs.declared.directory.Place.{Place}
 use Rattle.smx_turns.specs.declared.mo_item.MoItem.{MoItem}
@@ -72,12 +72,12 @@ abbrev pub ReadsNone : Pdu → Type 0
 ReadsNone p = (e : BodyFault) × (destination_at p.body ≡ Err e)
 
 -- the session itself settled the PDU
-abbrev pub IsOwn : UpAct → Type 0
-IsOwn a = (a ≢ act.ToLane) × (a ≢ act.Mo) × (a ≢ act.Up)
+abbrev pub IsSessionAct : UpAct → Type 0
+IsSessionAct a = (a ≢ act.ToLane) × (a ≢ act.Mo) × (a ≢ act.Up)
 
 -- what became of a PDU that the session decided so: on the left what the tap and the senders were, on the right what they are
 abbrev pub Becomes : Pdu → UpAct → Fate → TapView → List (Sending MoItem) → TapView → List (Sending MoItem) → Type 0
-Becomes p a fate.Own t ss t' ss' = IsOwn a × (t' ≡ t) × (ss' ≡ ss)
+Becomes p a fate.Own t ss t' ss' = IsSessionAct a × (t' ≡ t) × (ss' ≡ ss)
 Becomes p a (fate.Up rise) t ss t' ss' = (a ≡ act.Up) × Rises t.front t'.front rise.value × (t'.lane ≡ t.lane) × (ss' ≡ ss)
 Becomes p a (fate.Lane lane r) t ss t' ss' = (a ≡ act.ToLane) × AnswerServes t.front t'.front p r.value × (lane ≡ t.lane) × (t'.lane ≡ t.lane) × (ss' ≡ ss)
 Becomes p a fate.LaneSpent t ss t' ss' = (a ≡ act.ToLane) × IsSpent t.front t'.front × (t'.lane ≡ t.lane) × (ss' ≡ ss)
@@ -102,10 +102,10 @@ Does s (Expired lane r) t = (lane ≡ s.tap.lane) × Expires s.tap.front t.tap.f
 Does s Young t = (shift_due s.age ≡ None) × (t ≡ s)
 Does s (Shifted least r) t = (shift_due s.age ≡ Some least)
     × Shifts s.tap.front t.tap.front least r.value
-    × (t.tap.lane ≡ s.tap.lane) × (t ≡ record s { tap = t.tap; age = after_shift (has_shifted r.value) s.age })
+    × (t.tap.lane ≡ s.tap.lane) × (t ≡ record s { tap = t.tap; age = age_after_shift (has_shifted r.value) s.age })
 Does s (Sought r) t = Gets s.answers t.answers r.value × (t ≡ record s { answers = t.answers })
 Does s (Decided p now a f) t = (a.value ≡ act_on s.session p.value) × Becomes p.value a.value f s.tap s.senders t.tap t.senders
-    × (t ≡ record s { session = after_pdu s.session p.value now; tap = t.tap; senders = t.senders; age = noted_more (fate_notes f) (after_shift (fate_shifts f) s.age) })
+    × (t ≡ record s { session = after_pdu s.session p.value now; tap = t.tap; senders = t.senders; age = noted_more (fate_notes f) (age_after_shift (fate_shifts f) s.age) })
 Does s (Took r) t = Takes s.tap.front t.tap.front s.session.latest r.value × (t.tap.lane ≡ s.tap.lane) × (t ≡ record s { tap = t.tap; age = noted_more (take_notes r.value) s.age })
 Does s Broke t = t ≡ s
 Does s (Unbound p) t = (p.value ≡ farewell s.session.state)

@@ -58,9 +58,9 @@ abbrev pub side_of : {L : Type 0} → (L → List (Result Polled LinkFault)) →
 side_of polls asked told queries w = side asked told queries w.events w.stand (polls w.wire.link)
 
 -- the steps of a turn, and nothing else, lead from one side to the other
-abbrev pub Turns : ℕ → Side Stand Event → Side Stand Event → List (Step Mark Event) → Type 0
-Turns turn a b ss = Turned Does tell_of find_of turn a b ss
+abbrev pub ChangesSide : ℕ → Side Stand Event → Side Stand Event → List (Step Mark Event) → Type 0
+ChangesSide turn a b ss = Turned Does tell_of find_of turn a b ss
 
 -- whatever led here, these steps lead on
-abbrev pub Goes : ℕ → Side Stand Event → Side Stand Event → List (Step Mark Event) → List (Step Mark Event) → Type 0
-Goes turn a b ss ss' = (start : Side Stand Event) → Turns turn start a ss → Turns turn start b ss'
+abbrev pub LeadsOn : ℕ → Side Stand Event → Side Stand Event → List (Step Mark Event) → List (Step Mark Event) → Type 0
+LeadsOn turn a b ss ss' = (start : Side Stand Event) → ChangesSide turn start a ss → ChangesSide turn start b ss'

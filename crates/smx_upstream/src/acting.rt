@@ -3,7 +3,7 @@ ghost use Rattle.std.specs.Prelude.{◌≡◌, ◌≢◌, ◌≤◌, [], false, 
 ghost use Rattle.smx_upstream.specs.Events.{those, got_out, taken_out};
 ghost use Rattle.smx_upstream.specs.Quiet.{finds_nothing, takes_nothing};
 ghost use Rattle.smx_upstream.specs.Ages.{next_turn, take_notes, has_shifted};
-ghost use Rattle.smx_upstream.specs.Working.{side_of, Goes};
+ghost use Rattle.smx_upstream.specs.Working.{side_of, LeadsOn};
 ghost use Rattle.smx_upstream.specs.Phases.{phase_of, when_looked, when_kept, when_decided, unless_spent, Before, LeadsTo, Opening, Ready, Written, Swept, Clear, Sated, Deciding, MayTake, HasTried};
 
 use crate::carry::{Outcome, carry};
@@ -85,7 +85,7 @@ impl<L: Link + Drop> UpstreamWorker<L> {
         ensures phase { (t : Before) (left : _) → t.now ≡ now → phase_of t log.old ≡ Written left
             → phase_of t log.new ≡ when_looked left result }
         ensures left { self.old.wire.unsent ≢ [] → self.new.wire.unsent ≢ [] }
-        ensures goes { (turn asked told queries : _) → Goes turn
+        ensures goes { (turn asked told queries : _) → LeadsOn turn
             (side_of L.polls asked told queries self.old)
             (side_of L.polls asked told queries self.new) log.old log.new }
         ensures same { self.new ≡ record self.old {
@@ -110,7 +110,7 @@ impl<L: Link + Drop> UpstreamWorker<L> {
     pub(crate) fn open(&mut self, log: &mut Log<Mark, Event>) -> u64
         ensures turn { result ≡ (next_turn self.old.stand.age).turns }
         ensures phase { (t : Before) → phase_of t log.old ≡ Opening → phase_of t log.new ≡ Ready }
-        ensures goes { (turn asked told queries : _) → Goes turn
+        ensures goes { (turn asked told queries : _) → LeadsOn turn
             (side_of L.polls asked told queries self.old)
             (side_of L.polls asked told queries self.new) log.old log.new }
         ensures same { self.new ≡ record self.old {
@@ -139,7 +139,7 @@ impl<L: Link + Drop> UpstreamWorker<L> {
         ensures phase { (t : Before) (left : _) → phase_of t log.old ≡ Swept left
             → LeadsTo result (λ _. when_kept left) (phase_of t log.new) }
         ensures err { OnErr result (result ≡ Err Fault.Spent) }
-        ensures goes { (turn asked told queries : _) → Goes turn
+        ensures goes { (turn asked told queries : _) → LeadsOn turn
             (side_of L.polls asked told queries self.old)
             (side_of L.polls asked told queries self.new) log.old log.new }
         ensures same { self.new ≡ record self.old {
@@ -169,7 +169,7 @@ impl<L: Link + Drop> UpstreamWorker<L> {
         ensures phase { (t : Before) → phase_of t log.old ≡ Clear
             → LeadsTo result (λ _. Sated) (phase_of t log.new) }
         ensures err { OnErr result (result ≡ Err Fault.Spent) }
-        ensures goes { (turn asked told queries : _) → Goes turn
+        ensures goes { (turn asked told queries : _) → LeadsOn turn
             (side_of L.polls asked told queries self.old)
             (side_of L.polls asked told queries self.new) log.old log.new }
         ensures same { self.new ≡ record self.old {
@@ -206,7 +206,7 @@ impl<L: Link + Drop> UpstreamWorker<L> {
         ensures phase { (t : Before) → phase_of t log.old ≡ MayTake
             → LeadsTo result (λ _. HasTried) (phase_of t log.new) }
         ensures err { OnErr result (result ≡ Err Fault.Spent) }
-        ensures goes { (turn asked told queries : _) → Goes turn
+        ensures goes { (turn asked told queries : _) → LeadsOn turn
             (side_of L.polls asked told queries self.old)
             (side_of L.polls asked told queries self.new) log.old log.new }
         ensures same { self.new ≡ record self.old {
@@ -262,7 +262,7 @@ impl<L: Link + Drop> UpstreamWorker<L> {
             → phase_of t log.new
             ≡ unless_spent (is_some self.new.held) (when_decided ended result) }
         ensures over { self.new.ending ≡ result }
-        ensures goes { (turn : _) → Goes turn
+        ensures goes { (turn : _) → LeadsOn turn
             (side_of L.polls (G.asked gate.old) (G.told gate.old)
             (D.queries directory.old) self.old)
             (side_of L.polls (G.asked gate.new) (G.told gate.new)

@@ -1,6 +1,6 @@
 //! How many turns a worker made, how much its lane has noted since its last shift, and how long it waits for answers.
 ghost use Rattle.std.specs.Prelude.{◌≡◌};
-ghost use Rattle.smx_upstream.specs.Ages.{new_age, next_turn, noted_more, after_shift, shift_due};
+ghost use Rattle.smx_upstream.specs.Ages.{new_age, next_turn, noted_more, age_after_shift, shift_due};
 
 /// So often a lane is turned over in any case.
 const TURNS: u64 = 1_000;
@@ -56,7 +56,7 @@ impl Age {
 
     // The lane was asked to shift: whether it did.
     pub(crate) fn after_shift(self, shifted: bool) -> Age
-        ensures { result ≡ after_shift shifted self }
+        ensures { result ≡ age_after_shift shifted self }
     {
         if shifted {
             return Age {

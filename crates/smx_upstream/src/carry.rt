@@ -5,7 +5,7 @@ ghost use Rattle.smx_pdu.specs.Answers.{refusal};
 ghost use Rattle.smx_pdu.specs.Reading.{destination_at};
 ghost use Rattle.smx_turns.specs.declared.directory.Query.TheVariants.{Found};
 ghost use Rattle.smx_upstream.specs.Events.{those, act_out, fate_out, fate_finds, fate_tells, kept_by, read_of};
-ghost use Rattle.smx_upstream.specs.Ages.{answer_notes, fate_notes, fate_shifts};
+ghost use Rattle.smx_upstream.specs.Ages.{answered_notes, fate_notes, fate_shifts};
 ghost use Rattle.smx_upstream.specs.Ending.{fate_ends, is_last};
 ghost use Rattle.smx_upstream.specs.Standing.{Becomes, Reads};
 
@@ -56,7 +56,7 @@ fn settled(fate: Fate, answer: Option<Pdu>, over: bool) -> Outcome
 
 // How many notes an answer of the lane tells.
 fn answer_notes(answered: &Answered) -> usize
-    ensures { result ≡ answer_notes answered.now }
+    ensures { result ≡ answered_notes answered.now }
 {
     match answered {
         Answered::Queued { .. } | Answered::Late => 1,

@@ -4,7 +4,7 @@ ghost use Rattle.smx_upstream.specs.Ages.{expiry_notes};
 ghost use Rattle.smx_upstream.specs.Events.{expiry_tells};
 ghost use Rattle.smx_upstream.specs.Phases.{phase_of, Before, LeadsTo, Watched, Swept};
 ghost use Rattle.smx_upstream.specs.Quiet.{expires_nothing};
-ghost use Rattle.smx_upstream.specs.Working.{side_of, Goes};
+ghost use Rattle.smx_upstream.specs.Working.{side_of, LeadsOn};
 
 use crate::event::Event;
 use crate::mark::Mark;
@@ -64,7 +64,7 @@ impl<L: Link + Drop> UpstreamWorker<L> {
         ensures phase { (t : Before) (left : _) → phase_of t log.old ≡ Watched left
             → LeadsTo result (λ _. Swept left) (phase_of t log.new) }
         ensures err { OnErr result (result ≡ Err Fault.Spent) }
-        ensures goes { (turn queries : _) → Goes turn
+        ensures goes { (turn queries : _) → LeadsOn turn
             (side_of L.polls (G.asked gate.old) (G.told gate.old) queries self.old)
             (side_of L.polls (G.asked gate.new)
             (G.told gate.new) queries self.new) log.old log.new }

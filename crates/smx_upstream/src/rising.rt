@@ -1,7 +1,7 @@
 //! The lane comes up once its link is bound.
 ghost use Rattle.std.specs.Prelude.{◌≡◌, slice_get, Some};
 ghost use Rattle.smx_upstream.specs.Ages.{rise_notes, rise_shifts};
-ghost use Rattle.smx_upstream.specs.Rising.{Rises, is_full, said_last, stays_down};
+ghost use Rattle.smx_upstream.specs.Rising.{Rises, is_history_full, said_last, stays_down};
 
 use crate::acting::has_shifted;
 use crate::event::Rise;
@@ -11,7 +11,7 @@ use std::sync::Wait;
 
 // Whether the lane's history has no room.
 fn is_full(said: &Result<(), UpFault>) -> bool
-    ensures { result ≡ is_full said.now }
+    ensures { result ≡ is_history_full said.now }
 {
     matches!(said, Err(UpFault::Refused(UpRefusal::HistoryFull)))
 }

@@ -5,14 +5,14 @@ ghost use Rattle.smx_frame.specs.Stream.{HasNone};
 ghost use Rattle.smx_session.specs.Moments.{is_bound};
 ghost use Rattle.smx_shared.specs.Taps.{known_of};
 ghost use Rattle.smx_turns.specs.Rounds.{EndsSo};
-ghost use Rattle.smx_turns.specs.Runs.{Runs, Ran};
+ghost use Rattle.smx_turns.specs.Runs.{Runs, RunsOn};
 ghost use Rattle.smx_upstream.specs.Ages.{next_turn};
 ghost use Rattle.smx_upstream.specs.Quiet.{are_all_quiet};
 ghost use Rattle.smx_upstream.specs.Standing.{Does};
 ghost use Rattle.smx_upstream.specs.Timing.{TurnsAt, timing};
-ghost use Rattle.smx_upstream.specs.Working.{before_turn, side_of, Turns};
+ghost use Rattle.smx_upstream.specs.Working.{before_turn, side_of, ChangesSide};
 ghost use Rattle.smx_upstream.specs.Losing.{Loses};
-ghost use Rattle.smx_upstream.specs.Phases.{phase_of, is_settled, link_faults, Before, Waits, IsTurn, IsOver};
+ghost use Rattle.smx_upstream.specs.Phases.{phase_of, is_all_decided, link_faults, Before, Waits, IsTurn, IsOver};
 
 use crate::losing::{Lost, lose};
 use crate::worker::UpstreamWorker;
@@ -54,7 +54,7 @@ impl<L: Link + Drop> UpstreamWorker<L> {
             ≡ Some self.new.stand.tap.front.lock }
 
         // The turn's steps, and nothing else, lead from what was to what is, in the table's order.
-        ensures turned { Turns self.new.stand.age.turns
+        ensures turned { ChangesSide self.new.stand.age.turns
             (side_of L.polls (G.asked gate.old) (G.told gate.old)
             (D.queries directory.old) self.old)
             (side_of L.polls (G.asked gate.new) (G.told gate.new)
@@ -66,7 +66,7 @@ impl<L: Link + Drop> UpstreamWorker<L> {
         ensures waits { OnOk result (Waits (phase_of (before_turn now self.old) self.new.steps)
             self.new.wire.unsent self.new.wire.rest) }
         ensures whole { OnOk result
-            (is_settled (phase_of (before_turn now self.old) self.new.steps) ≡ true
+            (is_all_decided (phase_of (before_turn now self.old) self.new.steps) ≡ true
             → HasNone 65536 self.new.wire.rest) }
         ensures offered { IsPrefix (L.offered self.old.wire.link ++ self.old.wire.unsent)
             (L.offered self.new.wire.link) }
@@ -137,7 +137,8 @@ pub fn run_upstream<L: Link + Drop, R: Wait, G: Gate, D: Directory, C: FnMut() -
     ensures ends { EndsSo turns result worker.old.ends worker.new.ends }
     ensures left { result ≡ RunEnd.Left
         → (t : Before) × IsOver (phase_of t worker.new.steps) }
-    ensures ran { Ran Does worker.old.stand worker.old.events worker.new.stand worker.new.events }
+    ensures ran { RunsOn Does worker.old.stand worker.old.events
+        worker.new.stand worker.new.events }
 
     // Each turn is one in the table's order, at the moment that one call of the clock gave.
     ensures clocked { (moments : List ℕ) × (last : C)

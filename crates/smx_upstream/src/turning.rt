@@ -4,9 +4,9 @@ ghost use mathlib.Core.List.{IsPrefix};
 ghost use Rattle.smx_frame.specs.Stream.{HasNone};
 ghost use Rattle.smx_session.specs.Moments.{is_bound};
 ghost use Rattle.smx_upstream.specs.Ages.{next_turn};
-ghost use Rattle.smx_upstream.specs.Working.{before_turn, side_of, Goes};
+ghost use Rattle.smx_upstream.specs.Working.{before_turn, side_of, LeadsOn};
 ghost use Rattle.smx_upstream.specs.Quiet.{are_all_quiet};
-ghost use Rattle.smx_upstream.specs.Phases.{phase_of, when_next, when_progress, is_settled, end_of, quiet_end, link_faults, Before, Waits, LeadsTo, IsPart, IsTurn, Opening, Ready, Sated, MayRead, Deciding, Settled};
+ghost use Rattle.smx_upstream.specs.Phases.{phase_of, when_next, when_progress, is_all_decided, end_of, quiet_end, link_faults, Before, Waits, LeadsTo, IsPart, IsTurn, Opening, Ready, Sated, MayRead, Deciding, Settled};
 
 use crate::event::Event;
 use crate::mark::Mark;
@@ -91,7 +91,7 @@ impl<L: Link + Drop> UpstreamWorker<L> {
             → HasNone 65536 self.new.wire.rest × (self.new.ending ≡ false) }
         ensures over { result ≡ Ok Next.Over → self.new.ending ≡ true }
         ensures faults { link_faults result ≡ 0 }
-        ensures goes { (turn : _) → Goes turn
+        ensures goes { (turn : _) → LeadsOn turn
             (side_of L.polls (G.asked gate.old) (G.told gate.old)
             (D.queries directory.old) self.old)
             (side_of L.polls (G.asked gate.new) (G.told gate.new)
@@ -141,7 +141,7 @@ impl<L: Link + Drop> UpstreamWorker<L> {
             → (ended ≡ false) × (65536 ≤ length self.new.wire.unsent) }
         ensures over { result ≡ Ok Progress.Over → self.new.ending ≡ true }
         ensures faults { link_faults result ≡ 0 }
-        ensures goes { (turn : _) → Goes turn
+        ensures goes { (turn : _) → LeadsOn turn
             (side_of L.polls (G.asked gate.old) (G.told gate.old)
             (D.queries directory.old) self.old)
             (side_of L.polls (G.asked gate.new) (G.told gate.new)
@@ -188,7 +188,7 @@ impl<L: Link + Drop> UpstreamWorker<L> {
             (L.offered self.new.wire.link) }
         ensures failures { L.failures self.new.wire.link
             ≡ L.failures self.old.wire.link + link_faults result }
-        ensures goes { (turn queries : _) → Goes turn
+        ensures goes { (turn queries : _) → LeadsOn turn
             (side_of L.polls (G.asked gate.old) (G.told gate.old) queries self.old)
             (side_of L.polls (G.asked gate.new)
             (G.told gate.new) queries self.new) log.old log.new }
@@ -241,7 +241,7 @@ impl<L: Link + Drop> UpstreamWorker<L> {
         ensures offers { IsPrefix (L.offered self.old.wire.link) (L.offered self.new.wire.link) }
         ensures failures { L.failures self.new.wire.link
             ≡ L.failures self.old.wire.link + link_faults result }
-        ensures goes { (turn : _) → Goes turn
+        ensures goes { (turn : _) → LeadsOn turn
             (side_of L.polls (G.asked gate.old) (G.told gate.old)
             (D.queries directory.old) self.old)
             (side_of L.polls (G.asked gate.new) (G.told gate.new)
@@ -292,7 +292,7 @@ impl<L: Link + Drop> UpstreamWorker<L> {
         ensures offers { IsPrefix (L.offered self.old.wire.link) (L.offered self.new.wire.link) }
         ensures failures { L.failures self.new.wire.link
             ≡ L.failures self.old.wire.link + link_faults result }
-        ensures goes { Goes turn
+        ensures goes { LeadsOn turn
             (side_of L.polls (G.asked gate.old) (G.told gate.old)
             (D.queries directory.old) self.old)
             (side_of L.polls (G.asked gate.new) (G.told gate.new)
@@ -333,7 +333,7 @@ impl<L: Link + Drop> UpstreamWorker<L> {
         ensures waits { (t : Before) → phase_of t log.old ≡ Settled
             → OnOk result (Waits (phase_of t log.new) self.new.wire.unsent self.new.wire.rest) }
         ensures faults { link_faults result ≡ 0 }
-        ensures goes { (queries : _) → Goes turn
+        ensures goes { (queries : _) → LeadsOn turn
             (side_of L.polls (G.asked gate.old) (G.told gate.old) queries self.old)
             (side_of L.polls (G.asked gate.new)
             (G.told gate.new) queries self.new) log.old log.new }
@@ -376,14 +376,14 @@ impl<L: Link + Drop> UpstreamWorker<L> {
             result (phase_of (before_turn now self.old) log.new) }
         ensures waits { OnOk result (Waits (phase_of (before_turn now self.old) log.new)
             self.new.wire.unsent self.new.wire.rest) }
-        ensures whole { OnOk result (is_settled (phase_of (before_turn now self.old) log.new) ≡ true
-            → HasNone 65536 self.new.wire.rest) }
+        ensures whole { OnOk result (is_all_decided (phase_of (before_turn now self.old) log.new)
+            ≡ true → HasNone 65536 self.new.wire.rest) }
         ensures held { OnOk result (self.new.held ≡ None) }
         ensures offered { IsPrefix (L.offered self.old.wire.link ++ self.old.wire.unsent)
             (L.offered self.new.wire.link) }
         ensures failures { L.failures self.new.wire.link
             ≡ L.failures self.old.wire.link + link_faults result }
-        ensures goes { Goes self.new.stand.age.turns
+        ensures goes { LeadsOn self.new.stand.age.turns
             (side_of L.polls (G.asked gate.old) (G.told gate.old)
             (D.queries directory.old) self.old)
             (side_of L.polls (G.asked gate.new) (G.told gate.new)

@@ -5,7 +5,7 @@ ghost use Rattle.smx_turns.specs.Steps.{brings_none};
 ghost use Rattle.smx_turns.specs.declared.step.Step.TheVariants.{Did};
 ghost use Rattle.smx_upstream.specs.declared.event.Event.TheVariants.{Broke};
 ghost use Rattle.smx_upstream.specs.Events.{out_of};
-ghost use Rattle.smx_upstream.specs.Working.{side_of, Goes};
+ghost use Rattle.smx_upstream.specs.Working.{side_of, LeadsOn};
 ghost use Rattle.smx_upstream.specs.Phases.{phase_of, some_wait, after_offer, unless_left, when_front, is_end, Before, LeadsTo, link_faults, Ready, Closing, MayRead, Deciding};
 
 use crate::event::Event;
@@ -78,7 +78,7 @@ impl<L: Link + Drop> UpstreamWorker<L> {
         ensures failures { L.failures self.new.wire.link
             ≡ L.failures self.old.wire.link + link_faults result }
         ensures err { OnErr result (result ≡ Err Fault.Link) }
-        ensures goes { (turn asked told queries : _) → Goes turn
+        ensures goes { (turn asked told queries : _) → LeadsOn turn
             (side_of L.polls asked told queries self.old)
             (side_of L.polls asked told queries self.new) log.old log.new }
         ensures same { self.new ≡ record self.old {
@@ -133,7 +133,7 @@ impl<L: Link + Drop> UpstreamWorker<L> {
         ensures failures { L.failures self.new.wire.link
             ≡ L.failures self.old.wire.link + link_faults result }
         ensures err { OnErr result (result ≡ Err Fault.Link) }
-        ensures goes { (turn asked told queries : _) → Goes turn
+        ensures goes { (turn asked told queries : _) → LeadsOn turn
             (side_of L.polls asked told queries self.old)
             (side_of L.polls asked told queries self.new) log.old log.new }
         ensures same { self.new ≡ record self.old {
@@ -171,7 +171,7 @@ impl<L: Link + Drop> UpstreamWorker<L> {
             → (self.new.held ≡ None) × (self.new.ending ≡ true) }
         ensures err { OnErr result
             ((result ≡ Err Fault.NoMemory) × (self.new ≡ self.old) × (log.new ≡ log.old)) }
-        ensures goes { (turn asked told queries : _) → Goes turn
+        ensures goes { (turn asked told queries : _) → LeadsOn turn
             (side_of L.polls asked told queries self.old)
             (side_of L.polls asked told queries self.new) log.old log.new }
         ensures same { self.new ≡ record self.old {

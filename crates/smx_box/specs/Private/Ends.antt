@@ -4,7 +4,7 @@ use Rattle.crossbeam_queue.specs.Passes.{Pass, view}
 use Rattle.smx_box.specs.declared.letter.Letter.{Letter}
 use Rattle.smx_box.specs.declared.letter.Known.{Known}
 use Rattle.smx_box.specs.Letters.{of, is_open, Numbered}
-use Rattle.smx_box.specs.Boxes.{most_items, puts, gets, Front, Sending, Receiving, PutServes, FullServes}
+use Rattle.smx_box.specs.Boxes.{most_items, puts, gets, PassFront, Sending, Receiving, PutServes, FullServes}
 
 -- counts a sender that is no longer open
 abbrev pub one_if_shut : Bool → ℕ
@@ -18,21 +18,21 @@ shut_below (suc n) opened = one_if_shut (opened n) + shut_below n opened
 
 module _ {T : Type 0} where
   -- a pass of a queue with so many places
-  abbrev pub front_of : ℕ → Pass (Letter T) (Known T) → Front T
+  abbrev pub front_of : ℕ → Pass (Letter T) (Known T) → PassFront T
   front_of places p = record { queue = record { table = p.table_id; places = places }; known = view p }
 
   -- the letter is the next of the sender that has the pass
-  pub record IsNextLetter (f : Front T) (m : Letter T) : Type 0 where
+  pub record IsNextLetter (f : PassFront T) (m : Letter T) : Type 0 where
     pub pass : f.known.number ≡ m.sender + 1
     pub number : m.number ≡ length (puts f.known.mine) + 1
     pub opened : is_open (puts f.known.mine) ≡ true
 
   -- a pass of the sender p that made no note yet
-  abbrev pub IsFreshPass : Front T → ℕ → Type 0
+  abbrev pub IsFreshPass : PassFront T → ℕ → Type 0
   IsFreshPass f p = (f.known.number ≡ p + 1) × (f.known.mine ≡ [])
 
   -- what a sender keeps of its pass
-  pub record IsSender (f : Front T) (p count : ℕ) : Type 0 where
+  pub record IsSender (f : PassFront T) (p count : ℕ) : Type 0 where
     pub pass : f.known.number ≡ p + 1
     pub counted : length (puts f.known.mine) ≡ count
     pub limit : count ≤ most_items
@@ -40,18 +40,18 @@ module _ {T : Type 0} where
     pub opened : is_open (puts f.known.mine) ≡ true
 
   -- what a receiver keeps of its pass
-  pub record IsReceiver (f : Front T) (senders shut : ℕ) : Type 0 where
+  pub record IsReceiver (f : PassFront T) (senders shut : ℕ) : Type 0 where
     pub pass : f.known.number ≡ 0
     pub all : f.known.senders ≡ senders
     pub numbered : (p : ℕ) → Numbered 0 (of p (gets f.known.mine))
     pub counted : shut ≡ shut_below senders (λ p. is_open (of p (gets f.known.mine)))
 
-  abbrev pub sending : ℕ → Front T → Sending T
+  abbrev pub sending : ℕ → PassFront T → Sending T
   sending sender f = record { sender = sender; put = puts f.known.mine; front = f }
 
-  abbrev pub receiving : Front T → Receiving T
+  abbrev pub receiving : PassFront T → Receiving T
   receiving f = record { senders = f.known.senders; got = gets f.known.mine; front = f }
 
-  abbrev pub PostServes : Sending T → Front T → Letter T → Result (Unit {0}) (Letter T) → Type 0
+  abbrev pub PostServes : Sending T → PassFront T → Letter T → Result (Unit {0}) (Letter T) → Type 0
   PostServes s g m (Ok _) = PutServes s g m
   PostServes s g m (Err back) = (back ≡ m) × FullServes s g

@@ -10,7 +10,7 @@ use Rattle.smx_box.specs.Boxes.{notes_of, BoxHistory}
 
 module _ {T : Type 0} where
   -- Each pass has its place for its number. What it has seen is a beginning of the history, its own notes are all under its number, and the receiver's knows how many passes there are
-  pub record Fits (h : List (Note T)) (passes place : ℕ) (v : Known T) : Type 0 where
+  pub record FitsHistory (h : List (Note T)) (passes place : ℕ) (v : Known T) : Type 0 where
     pub number : v.number ≡ place
     pub saw : IsPrefix v.seen h
     pub own : notes_of v.number h ≡ v.mine
@@ -20,7 +20,7 @@ module _ {T : Type 0} where
   abbrev pub Kept : List (Letter T) → List (Known T) → Type 0
   Kept items views = (h : List (Note T)) × BoxHistory h items
       × ((k : ℕ) → length views ≤ k → notes_of k h ≡ [])
-      × ((place : ℕ) (v : Known T) → get_elem? views place ≡ some v → Fits h (length views) place v)
+      × ((place : ℕ) (v : Known T) → get_elem? views place ≡ some v → FitsHistory h (length views) place v)
 
   -- the receiver's pass, before any sender is made
   abbrev pub first_known : Known T

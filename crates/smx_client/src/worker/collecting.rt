@@ -3,7 +3,7 @@ ghost use Rattle.std.specs.Prelude.{◌≡◌, ◌≢◌, ◌≤◌, ◌<◌, �
 ghost use Rattle.smx_shared.specs.Views.{locks_of};
 ghost use Rattle.smx_turns.specs.declared.directory.Query.{Query};
 ghost use Rattle.smx_client.specs.Scenes.{scene_of, Moves};
-ghost use Rattle.smx_client.specs.Table.{Before, Phase, phase_of, Written, MayCollect, IsOffered, IsCollected, IsPart};
+ghost use Rattle.smx_client.specs.Table.{Before, Phase, phase_of, Written, MayCollect, IsOffered, IsCollectedFrom, IsPart};
 ghost use Rattle.smx_client.specs.Turns.{Leads, is_some_left};
 
 use super::ClientWorker;
@@ -110,7 +110,7 @@ impl<'d, L: Link + Drop> ClientWorker<'d, L> {
         requires room { 65536 ≤ self.old.wire.room }
         ensures moves { Moves self.old log.old self.new log.new }
         ensures phase { (t : Before) → phase_of t log.old ≡ MayCollect lane
-            → IsCollected lane result (phase_of t log.new) }
+            → IsCollectedFrom lane result (phase_of t log.new) }
         ensures locks { locks_of self.new.port.fronts ≡ locks_of self.old.port.fronts }
         ensures origin { self.new.origin ≡ self.old.origin }
         ensures held { self.new.held ≡ self.old.held }

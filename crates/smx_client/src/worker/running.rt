@@ -3,7 +3,7 @@ ghost use Rattle.std.specs.Prelude.{◌≡◌, ◌≢◌, ◌+◌, ◌-◌, ◌^
 ghost use Rattle.smx_frame.specs.Stream.{HasNone};
 ghost use Rattle.smx_shared.specs.Views.{locks_of};
 ghost use Rattle.smx_turns.specs.Rounds.{EndsSo};
-ghost use Rattle.smx_turns.specs.Runs.{Runs, Ran};
+ghost use Rattle.smx_turns.specs.Runs.{Runs, RunsOn};
 ghost use Rattle.smx_turns.specs.Steps.{asks, polls, events, are_quiet};
 ghost use Rattle.smx_turns.specs.declared.end.Fault.{Fault};
 ghost use Rattle.smx_client.specs.Events.{is_quiet_event, tells};
@@ -11,7 +11,7 @@ ghost use Rattle.smx_client.specs.Marks.{is_quiet_mark};
 ghost use Rattle.smx_client.specs.Parts.{Does};
 ghost use Rattle.smx_client.specs.Scenes.{scene_of, parts_of, before, Moves};
 ghost use Rattle.smx_client.specs.Stages.{has_ended};
-ghost use Rattle.smx_client.specs.Table.{Before, Phase, phase_of, Opening, Closing, begins, IsAt, EndsIn, IsTurn, Stands, last_end};
+ghost use Rattle.smx_client.specs.Table.{Before, Phase, phase_of, Opening, Closing, when_written, IsAt, EndsIn, IsTurn, Stands, last_end};
 ghost use Rattle.smx_client.specs.Turns.{Leads, Changes, faults};
 
 use super::ClientWorker;
@@ -92,7 +92,7 @@ impl<'d, L: Link + Drop> ClientWorker<'d, L> {
             (scene_of (G.asked gate.new) (G.told gate.new) (D.queries directory.new) self.new)
             log.new }
         ensures phase { (t : Before) → t ≡ before self.old
-            → phase_of t log.old ≡ begins t self.old.stage
+            → phase_of t log.old ≡ when_written t self.old.stage
             → IsTurn result (are_quiet is_quiet_mark is_quiet_event log.new) (phase_of t log.new)
             × OnOk result (Stands (phase_of t log.new) self.new.wire.unsent self.new.wire.rest
             self.new.held self.new.parked self.new.settled self.new.stage) }
@@ -231,7 +231,7 @@ pub fn run_client<'d, L: Link + Drop, R: Wait, G: Gate, D: Directory>(
     requires locks { locks_of worker.old.port.fronts ≡ at.now }
     requires goes_on { worker.old.stage ≢ Stage.Closed → worker.old.wire.failed ≡ None }
     ensures ends { EndsSo turns result worker.old.ends worker.new.ends }
-    ensures ran { Ran Does (parts_of worker.old) worker.old.events (parts_of worker.new)
+    ensures ran { RunsOn Does (parts_of worker.old) worker.old.events (parts_of worker.new)
         worker.new.events }
     ensures goes_on { ((fault : Fault) → result ≢ RunEnd.Fault fault)
         → worker.new.stage ≢ Stage.Closed → worker.new.wire.failed ≡ None }

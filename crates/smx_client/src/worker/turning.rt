@@ -6,7 +6,7 @@ ghost use Rattle.smx_turns.specs.declared.gate.Question.{Question};
 ghost use Rattle.smx_turns.specs.declared.gate.Party.{Party};
 ghost use Rattle.smx_turns.specs.declared.directory.Query.{Query};
 ghost use Rattle.smx_client.specs.Scenes.{scene_of, is_there, before};
-ghost use Rattle.smx_client.specs.Table.{Before, Phase, phase_of, Written, Clear, Deciding, when_drained, IsFront, IsPart, ComesTo, after_bind, begins, is_end};
+ghost use Rattle.smx_client.specs.Table.{Before, Phase, phase_of, Written, Clear, Deciding, when_drained, IsFront, IsPart, ComesTo, after_bind, when_written, is_end};
 ghost use Rattle.smx_client.specs.Turns.{Leads};
 
 use super::ClientWorker;
@@ -318,7 +318,8 @@ impl<'d, L: Link + Drop> ClientWorker<'d, L> {
             (scene_of (G.asked gate.new) (G.told gate.new) (D.queries directory.new) self.new)
             log.new }
         ensures phase { (t : Before) → t ≡ before self.old
-            → phase_of t log.old ≡ begins t self.old.stage → ComesTo result (phase_of t log.new) }
+            → phase_of t log.old ≡ when_written t self.old.stage
+            → ComesTo result (phase_of t log.new) }
         ensures goes_on { OnOk result (result ≢ Ok Progress.Closed → self.new.wire.failed ≡ None) }
         ensures stage { self.new.stage ≢ Stage.Closed }
         ensures settled { result ≡ Ok Progress.Settled

@@ -7,7 +7,7 @@ use Rattle.smx_mailbox.specs.Mailbox.{Mailbox}
 abbrev pub mailbox_of : Inside → Mailbox
 mailbox_of a = record { waiting = a.waiting.items; window = a.window }
 
-pub record HasPlaces (a : Inside) : Type 0 where
+pub record HasMessagePlaces (a : Inside) : Type 0 where
   pub size : IsSize a.window.places
   pub ring : a.waiting.capacity ≡ a.window.places
   pub waiting : length a.waiting.items ≤ a.window.places

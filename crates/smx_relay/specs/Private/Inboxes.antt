@@ -9,10 +9,10 @@ abbrev pub made_or_empty : ℕ → ℕ → Option Mailbox → Mailbox
 made_or_empty places last None = mailbox_after places last
 made_or_empty places last (Some mailbox) = mailbox
 
-abbrev pub mailbox_of : Inside → Mailbox
-mailbox_of a = made_or_empty a.places a.last a.mailbox
+abbrev pub mailbox_in : Inside → Mailbox
+mailbox_in a = made_or_empty a.places a.last a.mailbox
 
 -- the places never change, and the last number is a sequence number or 0
 pub record KeepsSize (a : Inside) : Type 0 where
-  pub places : (mailbox_of a).window.places ≡ a.places
+  pub places : (mailbox_in a).window.places ≡ a.places
   pub last : a.last ≤ greatest

@@ -12,8 +12,8 @@ use Rattle.smx_routes.specs.Routing.{route, is_route}
 abbrev pub has_holder : ByPrefix → List ℕ → ℕ → Bool
 has_holder a prefix client = option_map_or (λ clients. contains nat_cmp clients client) (get_by (λ k. slice_cmp nat_cmp prefix k.items) a.clients) false
 
-abbrev pub HasNone : ByPrefix → Type 0
-HasNone a = (p : List ℕ) (c : ℕ) → has_holder a p c ≡ false
+abbrev pub HasNoHolder : ByPrefix → Type 0
+HasNoHolder a = (p : List ℕ) (c : ℕ) → has_holder a p c ≡ false
 
 abbrev pub HasSame : ByPrefix → ByPrefix → Type 0
 HasSame old new = (p : List ℕ) (c : ℕ) → has_holder new p c ≡ has_holder old p c

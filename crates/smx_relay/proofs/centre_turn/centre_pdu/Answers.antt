@@ -3,7 +3,7 @@ use Rattle.std.specs.Vec.{with_item}
 use Rattle.std.proofs.Math.ListN.{length-set}
 use Rattle.std.proofs.lemmas.Result.{IfOk-weaker}
 use Rattle.smx_relay.specs.LaneLinks.{with_centre}
-use Rattle.smx_relay.specs.Private.Agrees.{Turned}
+use Rattle.smx_relay.specs.Private.States.{Turned}
 use Rattle.smx_relay.proofs.Turning.{turned_nothing}
 use Rattle.smx_relay.proofs.Links.{centred, centre_at, left_is, centre_untouched, centre_pdu_left, centre_pdu_some}
 use Rattle.smx_relay.proofs.centre_turn.centre_pdu.Goals as goal

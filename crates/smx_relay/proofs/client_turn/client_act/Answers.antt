@@ -5,7 +5,7 @@ use Rattle.smx_relay.specs.Texts.{pdu_line, to_client}
 use Rattle.smx_relay.specs.Relay.{Relay}
 use Rattle.smx_relay.specs.Messages.{leave_turn}
 use Rattle.smx_relay.specs.ClientTurn.{followed_by}
-use Rattle.smx_relay.specs.Private.Agrees.{Turned}
+use Rattle.smx_relay.specs.Private.States.{Turned}
 use Rattle.smx_relay.proofs.Turning.{turned_then}
 use Rattle.smx_relay.proofs.client_turn.client_act.Goals as goal
 

@@ -3,7 +3,7 @@ use Rattle.std.specs.Vec.{with_item}
 use Rattle.std.proofs.lemmas.Result.{IfOk-weaker}
 use Rattle.smx_relay.specs.Relay.{with_link}
 use Rattle.smx_relay.specs.ClientTurn.{decides}
-use Rattle.smx_relay.specs.Private.Agrees.{Turned}
+use Rattle.smx_relay.specs.Private.States.{Turned}
 use Rattle.smx_relay.proofs.Links.{client_pdu_some, known_linked, link_is, linked, still_linked}
 use Rattle.smx_relay.proofs.client_turn.client_pdu.Goals as goal
 

@@ -1,5 +1,5 @@
 use Rattle.std.proofs.Common.{◌≡◌, length}
-use Rattle.smx_relay.specs.Private.Agrees.{AreReached}
+use Rattle.smx_relay.specs.Private.States.{AreReached}
 use Rattle.smx_relay.proofs.Entering.{CollectingAll}
 use Rattle.smx_relay.proofs.clients.collect_all.Given as goal
 

@@ -1,7 +1,7 @@
 use Rattle.std.proofs.Common.{◌≡◌, ◌%◌, length, slice_get, drop}
 use Rattle.std.specs.List.{find}
 use Rattle.smx_history.specs.Ring.{ring}
-use Rattle.smx_relay.specs.Private.Agrees.{accepts_in}
+use Rattle.smx_relay.specs.Private.States.{accepts_in}
 use Rattle.smx_relay.proofs.requests.accept_in_ring.Given as goal
 
 abbrev pub invariant-loop-k : goal.invariant-loop-k

@@ -3,10 +3,10 @@ use Rattle.smx_history.specs.declared.reply.UpRefusal.TheVariants as refusal
 use Rattle.smx_shared.specs.declared.fault.UpFault.{UpFault}
 use Rattle.smx_shared.specs.declared.fault.UpFault.TheVariants as ups
 use Rattle.smx_shared.specs.Serving.{ComesUp}
-use Rattle.smx_upstream.specs.Rising.{is_full}
+use Rattle.smx_upstream.specs.Rising.{is_history_full}
 use Rattle.smx_upstream.proofs.rising.raise.Goals as goal
 
-full_is : (r : Result (Unit {0}) UpFault) → is_full r ≡ true → r ≡ Err (ups.Refused refusal.HistoryFull)
+full_is : (r : Result (Unit {0}) UpFault) → is_history_full r ≡ true → r ≡ Err (ups.Refused refusal.HistoryFull)
 full_is (Ok done) is = absurd (true≢false (sym is))
 full_is (Err ups.Spent) is = absurd (true≢false (sym is))
 full_is (Err (ups.Refused refusal.AlreadyUp)) is = absurd (true≢false (sym is))

@@ -1,6 +1,6 @@
 use Rattle.std.proofs.Common.{◌≡◌, ◌++◌, ℕ, List, [], None, Some, slice_get}
 use denote.Param.Always.{always_mut}
-use Rattle.smx_turns.specs.Runs.{Runs, Ran}
+use Rattle.smx_turns.specs.Runs.{Runs, RunsOn}
 use Rattle.smx_turns.specs.Rounds.{worked_turns}
 use Rattle.smx_upstream.specs.Standing.{Does}
 use Rattle.smx_upstream.specs.Timing.{TurnsAt, timing}
@@ -14,5 +14,5 @@ invariant-loop-turn g l = record {
   first : l.worker.first ≡ l.fn.worker.first;
   ends : l.worker.ends ≡ l.fn.worker.ends ++ worked_turns l._turn [];
   clocked : (moments : List ℕ) × Runs (TurnsAt (λ a now b. goal.C-step g a now b)) (timing l.initial.clock l.fn.worker) moments (timing l.clock l.worker);
-  ran : Ran Does l.fn.worker.stand l.fn.worker.events l.worker.stand l.worker.events;
+  ran : RunsOn Does l.fn.worker.stand l.fn.worker.events l.worker.stand l.worker.events;
 }

@@ -2,7 +2,7 @@ use Rattle.std.proofs.Common.{◌≡◌, ◌<◌, ◌++◌, ℕ, length, refl, s
 use Rattle.smx_turns.proofs.Chains.{chain_push}
 use Rattle.smx_client.specs.declared.leaver.Leaving.TheVariants.{Item}
 use Rattle.smx_client.specs.Replies.{put_in}
-use Rattle.smx_client.specs.Leaving.{Leaves, Gives, when, item_refused}
+use Rattle.smx_client.specs.Leaving.{LeavesRest, GivesItem, when, item_refused}
 use Rattle.smx_client.proofs.Leavings.{gets_push, gives_is, answered_push}
 use Rattle.smx_client.proofs.leaver.Leaver.refuse_item.Goals as goal
 
@@ -11,13 +11,13 @@ invariant_of-self g c =
     let s = c.args.self.now in
     let e = c.get-got.ensures in
     record {
-      left_is = chain_push Leaves _ _ _ _ _ (Item c.of-found.result c.refuse_got-put.result) c.and-self.ensures (
+      left_is = chain_push LeavesRest _ _ _ _ _ (Item c.of-found.result c.refuse_got-put.result) c.and-self.ensures (
         (
           c.requires.none,
           c.requires.rows,
           c.requires.none,
           refl,
-          subst (λ x. Gives s.inbox x c.get-got.new.self) (sym c.of-found.ensures) (gives_is s.inbox c.get-got.new.self c.get-got.result e.served e.got e.never_spent),
+          subst (λ x. GivesItem s.inbox x c.get-got.new.self) (sym c.of-found.ensures) (gives_is s.inbox c.get-got.new.self c.get-got.result e.served e.got e.never_spent),
           subst (λ x. (k : ℕ) → k < length s.senders.items → put_in c.refuse_got-put.new.senders.items k ≡ put_in s.senders.items k ++ when c.refuse_got-put.result (item_refused k x)) (sym c.of-found.ensures) c.refuse_got-put.ensures.put,
         ),
         c.refuse_got-put.ensures.count,

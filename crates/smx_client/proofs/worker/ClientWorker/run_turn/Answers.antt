@@ -1,5 +1,5 @@
 use Rattle.std.proofs.Common.{◌∙◌, ap, sym, Ok, true}
-use Rattle.smx_client.specs.Table.{Before, Opening, begins}
+use Rattle.smx_client.specs.Table.{Before, Opening, when_written}
 use Rattle.smx_client.proofs.Cells as cell
 use Rattle.smx_client.proofs.worker.ClientWorker.run_turn.Goals as goal
 
@@ -20,4 +20,4 @@ pub returns-in_default-clause-phase : goal.returns-in_default-clause-phase
 returns-in_default-clause-phase g c = λ t is was.
     let o = c.in-Ok.ensures in
     c.rest_part.ensures.phase t (cell.before_same t _ _ _ _ _ _ _ _ is o.port o.stage o.settled o.parked)
-    (cell.begun t _ _ c.if-left.false (o.phase t Opening was) ∙ ap (begins t) (ap (λ (x : Before). x.stage) is ∙ sym o.stage))
+    (cell.begun t _ _ c.if-left.false (o.phase t Opening was) ∙ ap (when_written t) (ap (λ (x : Before). x.stage) is ∙ sym o.stage))

@@ -1,6 +1,6 @@
 use Rattle.std.proofs.Common.{◌≡◌, ◌≢◌, ◌++◌, [], None}
 use Rattle.smx_shared.specs.Views.{locks_of}
-use Rattle.smx_turns.specs.Runs.{Ran}
+use Rattle.smx_turns.specs.Runs.{RunsOn}
 use Rattle.smx_client.specs.declared.mark.Stage.TheVariants.{Closed}
 use Rattle.smx_client.specs.Parts.{Does}
 use Rattle.smx_turns.specs.Rounds.{worked_turns}
@@ -13,5 +13,5 @@ invariant-loop-turn g l = record {
   origin : l.worker.origin ≡ l.fn.worker.origin;
   goes_on : l.worker.stage ≢ Closed → l.worker.wire.failed ≡ None;
   ends : l.worker.ends ≡ l.fn.worker.ends ++ worked_turns l._turn [];
-  ran : Ran Does (parts_of l.fn.worker) l.fn.worker.events (parts_of l.worker) l.worker.events;
+  ran : RunsOn Does (parts_of l.fn.worker) l.fn.worker.events (parts_of l.worker) l.worker.events;
 }

@@ -3,7 +3,7 @@ use Rattle.std.proofs.lemmas.List.{append-nil}
 use Rattle.smx_turns.specs.declared.step.Step.TheVariants.{Did}
 use Rattle.smx_upstream.specs.declared.event.Event.TheVariants.{Young, Shifted}
 use Rattle.smx_upstream.specs.Standing.{Shifts}
-use Rattle.smx_upstream.specs.Ages.{after_shift, has_shifted}
+use Rattle.smx_upstream.specs.Ages.{age_after_shift, has_shifted}
 use Rattle.smx_upstream.specs.Phases.{Swept, when_kept, unless_spent}
 use Rattle.smx_upstream.specs.Spent.{is_spent_shift}
 use Rattle.smx_upstream.proofs.Eventful.{did, goes_did, stands_same, goes_on}
@@ -42,7 +42,7 @@ invariant_of-self-2 g c =
       sym c.shift_due.ensures ∙ c.in-Some.is,
       subst (Shifts c.self.inside.tap.front c.turn_over-entries.new.self.front c.in-Some.least) (sym c.of.ensures) (as_shifts _ _ _ _ c.turn_over-entries.ensures.served),
       c.turn_over-entries.ensures.same.0,
-      stands_same refl refl refl refl (c.after_shift-age.ensures ∙ ap (λ b. after_shift b c.self.inside.age) (c.has_shifted.ensures ∙ ap has_shifted (sym c.of.ensures))),
+      stands_same refl refl refl refl (c.after_shift-age.ensures ∙ ap (λ b. age_after_shift b c.self.inside.age) (c.has_shifted.ensures ∙ ap has_shifted (sym c.of.ensures))),
     ) c.self.invariant.goes_on (goes_on c.self.inside.ending)
 
 pub returns-clause-goes : goal.returns-clause-goes
@@ -51,7 +51,7 @@ returns-clause-goes g c = rw (← c.self.view_is)
       sym c.shift_due.ensures ∙ c.in-Some.is,
       subst (Shifts c.self.inside.tap.front c.turn_over-entries.new.self.front c.in-Some.least) (sym c.of.ensures) (as_shifts _ _ _ _ c.turn_over-entries.ensures.served),
       c.turn_over-entries.ensures.same.0,
-      stands_same refl refl refl refl (c.after_shift-age.ensures ∙ ap (λ b. after_shift b c.self.inside.age) (c.has_shifted.ensures ∙ ap has_shifted (sym c.of.ensures))),
+      stands_same refl refl refl refl (c.after_shift-age.ensures ∙ ap (λ b. age_after_shift b c.self.inside.age) (c.has_shifted.ensures ∙ ap has_shifted (sym c.of.ensures))),
     ) refl)
 
 pub returns-clause-phase : goal.returns-clause-phase

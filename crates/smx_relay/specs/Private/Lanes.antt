@@ -23,22 +23,22 @@ abbrev pub last_of : List (Option ℕ) → ℕ → Option ℕ
 last_of clients c = get_or clients c None
 
 -- the one caller has the number 0, and no accept is above the client's last ordinal
-pub record IsOwn (clients : List (Option ℕ)) (e : Entry) : Type 0 where
+pub record IsOwnEntry (clients : List (Option ℕ)) (e : Entry) : Type 0 where
   pub by : e.by ≡ 0
   pub known : is_accept e.kind ≡ true → e.ordinal ≤ unwrap_or (last_of clients e.client) 0
 
-abbrev pub AreOwn : List (Option ℕ) → List Note → Type 0
-AreOwn clients h = AllByRecursion (IsOwn clients) (entries_of h)
+abbrev pub AreOwnEntries : List (Option ℕ) → List Note → Type 0
+AreOwnEntries clients h = AllByRecursion (IsOwnEntry clients) (entries_of h)
 
 -- the lane is what the history leaves, under these limits
-pub record OnLane (limits : Limits) (clients : List (Option ℕ)) (h : List Note) (lane : Content) : Type 0 where
+pub record IsContentAfter (limits : Limits) (clients : List (Option ℕ)) (h : List Note) (lane : Content) : Type 0 where
   pub agrees : AgreesWith h lane
   pub limits_are : lane.limits ≡ limits
-  pub own : AreOwn clients h
+  pub own : AreOwnEntries clients h
 
 -- so it is, and it has this link
 pub record IsLane (limits : Limits) (clients : List (Option ℕ)) (l : RelayLane) (lane : LinkedLane) : Type 0 where
-  pub on : OnLane limits clients l.history lane.lane
+  pub on : IsContentAfter limits clients l.history lane.lane
   pub link_is : lane.link ≡ l.link
 
 -- a turn on a lane printed the text, and took the lane to what the longer history leaves

@@ -11,7 +11,7 @@ use Rattle.smx_relay.specs.declared.state.State.{State}
 use Rattle.smx_relay.specs.declared.state.LinkedLane.{LinkedLane}
 use Rattle.smx_relay.specs.declared.state.LinkedClient.{LinkedClient}
 use Rattle.smx_relay.specs.Relay.{Relay, RelayLane, enter_lane, lane_after, leave_lane}
-use Rattle.smx_relay.specs.Private.OnLane.{IsLane, lasts}
+use Rattle.smx_relay.specs.Private.Lanes.{IsLane, lasts}
 use Rattle.smx_relay.specs.Private.Lending.{IsKnown}
 
 -- the accounts, the places of a mailbox and the routes are these, and each route is a client's
@@ -25,7 +25,7 @@ pub record HasRoutes (state : State) (clients : List (Option LinkedClient)) (acc
 abbrev pub AreOn : Limits → List (Option ℕ) → List RelayLane → List LinkedLane → Type 0
 AreOn limits clients ls lanes = AllZip (IsLane limits clients) ls lanes
 
-pub record Agrees (state : State) (s : Relay) : Type 0 where
+pub record StandsFor (state : State) (s : Relay) : Type 0 where
   pub limits : state.limits ≡ s.limits
   pub count : state.count ≡ s.count
   pub started : state.started ≡ s.started
@@ -37,12 +37,12 @@ pub record Agrees (state : State) (s : Relay) : Type 0 where
 
 -- the state stands for some histories
 abbrev pub IsReached : State → Type 0
-IsReached state = (s : Relay) × Agrees state s
+IsReached state = (s : Relay) × StandsFor state s
 
 -- a turn printed the text and left the state
 pub record Turned (x : List ℕ × Relay) (state : State) (written : List ℕ) : Type 0 where
   pub text : written ≡ x.0
-  pub left : Agrees state x.1
+  pub left : StandsFor state x.1
 
 -- a turn printed and left this, or was a bad line
 abbrev pub Prints : Option (List ℕ × Relay) → State → Option (Vec ℕ) → Type 0
@@ -60,18 +60,18 @@ accepts_in c None = false
 accepts_in c (Some l) = is_none (accept_refusal l.lane c)
 
 -- each row of the client has a smaller ordinal, and is the one caller's
-abbrev pub MayAccept : ℕ → ℕ → LinkedLane → Type 0
-MayAccept c n l = AllByRecursion (λ m. m.client ≡ c → (m.last < n) × (m.by ≡ 0)) l.lane.members
+abbrev pub MayAcceptNext : ℕ → ℕ → LinkedLane → Type 0
+MayAcceptNext c n l = AllByRecursion (λ m. m.client ≡ c → (m.last < n) × (m.by ≡ 0)) l.lane.members
 
 -- the client left each lane
-abbrev pub HasLeft : ℕ → List LinkedLane → List LinkedLane → Type 0
-HasLeft c old new = (limits : Limits) (clients : List (Option ℕ)) (ls : List RelayLane) → AreOn limits clients ls old → AreOn limits clients (map (lane_after (leave_lane c)) ls) new
+abbrev pub HasLeftLanes : ℕ → List LinkedLane → List LinkedLane → Type 0
+HasLeftLanes c old new = (limits : Limits) (clients : List (Option ℕ)) (ls : List RelayLane) → AreOn limits clients ls old → AreOn limits clients (map (lane_after (leave_lane c)) ls) new
 
 -- the client was admitted on each lane, or on those before the first that refuses it
-abbrev pub Enters : Limits → List (Option ℕ) → List RelayLane → ℕ → Option ℕ → List LinkedLane → Type 0
-Enters limits clients ls c None lanes =
+abbrev pub EntersLanes : Limits → List (Option ℕ) → List RelayLane → ℕ → Option ℕ → List LinkedLane → Type 0
+EntersLanes limits clients ls c None lanes =
     (position (λ l. is_some (admit_refusal (content_after limits l.history) c)) ls ≡ None) × AreOn limits clients (map (lane_after (enter_lane c)) ls) lanes
-Enters limits clients ls c (Some i) lanes =
+EntersLanes limits clients ls c (Some i) lanes =
     (position (λ l. is_some (admit_refusal (content_after limits l.history) c)) ls ≡ Some i)
     × AreOn limits clients (map (lane_after (enter_lane c)) (take i ls) ++ drop i ls) lanes
 
