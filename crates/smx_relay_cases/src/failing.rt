@@ -8,6 +8,9 @@ use std::alloc::Global;
 use std::io;
 use std::io::{ErrorKind, Read, Write};
 
+/// The octets of an output for which memory is taken first.
+const ROOM: usize = 4_096;
+
 // A reader that gives one octet at a time, and fails after so many reads.
 #[derive(Drop)]
 struct Broken<'a> {
@@ -86,8 +89,8 @@ fn work_over<W: Write>(alloc: Global, work: Work<'_>, writer: &mut W) -> RunEnd 
     }
 }
 
-/// How runs of the script end over readers that fail at once, after one read, after two, .., where
-/// that is another end than before, and what they print.
+/// What runs of the script print over readers that fail at once, after one read, after two, .., and
+/// how they end, where that is another end than before.
 pub fn tell_readers(alloc: Global, text: &str, out: &mut Vec<u8>) -> io::Result<()> {
     let script = script_of(alloc, text)?;
     let mut last = None;
@@ -103,7 +106,7 @@ pub fn tell_readers(alloc: Global, text: &str, out: &mut Vec<u8>) -> io::Result<
 }
 
 // What is left of a work by a writer that grew weary.
-#[derive(Clone, Copy, PartialEq, Eq)]
+#[derive(Clone, Copy)]
 struct Left {
     end: RunEnd,
     is_front: bool,
@@ -132,7 +135,7 @@ fn tell_weary(
 ) -> io::Result<()> {
     let mut last = None;
     for writes in 0..=whole.len() {
-        let held = Vec::new(alloc);
+        let held = Vec::with_capacity(alloc, whole.len())?;
         let left = left_by(
             alloc,
             work,
@@ -164,7 +167,7 @@ fn tell_weary(
 // The whole output, and what is left of it by writers that take one octet or a whole text at a time,
 // and then fail or take nothing.
 fn tell_writers(alloc: Global, work: Work<'_>, out: &mut Vec<u8>) -> io::Result<()> {
-    let mut whole = Vec::new(alloc);
+    let mut whole = Vec::with_capacity(alloc, ROOM)?;
     let _ = work_over(alloc, work, &mut whole);
     out.extend_from_slice(&whole)?;
     for takes in [1, 1_000] {

@@ -16,6 +16,9 @@ use std::alloc::Global;
 use std::io;
 use std::io::Write;
 
+/// The octets of the output for which memory is taken first, so that no run lacks it for what it prints.
+const ROOM: usize = 131_072;
+
 // What came of a case.
 fn tell_case(alloc: Global, kind: &str, text: &str, out: &mut Vec<u8>) -> io::Result<()> {
     match kind {
@@ -57,7 +60,7 @@ fn tell(alloc: Global, cases: &str, out: &mut Vec<u8>) -> io::Result<()> {
 
 fn main(rt: HostRuntime) -> io::Result<()> {
     let cases = io::read_to_string(rt.alloc(), rt.reader())?;
-    let mut out = Vec::new(rt.alloc());
+    let mut out = Vec::with_capacity(rt.alloc(), ROOM)?;
     let told = tell(rt.alloc(), &cases, &mut out);
     io::writer(&rt).write_all(&out)?;
     told

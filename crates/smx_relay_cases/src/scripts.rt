@@ -9,6 +9,9 @@ use std::io::Write;
 /// The octets of the longest PDU that is cut.
 const LONGEST: usize = 34;
 
+/// The octets of an output for which memory is taken first.
+const ROOM: usize = 4_096;
+
 // How often a line stands there, and the line: `times COUNT LINE` stands for so many.
 fn counted(line: &str) -> Option<(usize, &str)> {
     let (count, line) = line.strip_prefix("times ")?.split_once(" ")?;
@@ -28,10 +31,11 @@ fn push_lines(script: &mut String, count: usize, line: &str) -> Result<(), Alloc
     Ok(())
 }
 
-// The octets that a text can't show, in place of what stands for them.
+// The octets that a text doesn't show well, in place of what stands for them.
 fn shown_octets(alloc: Global, text: &str) -> Result<String, AllocError> {
     let text = text.replace(alloc, "\\r", "\r")?;
     let text = text.replace(alloc, "\\0", "\0")?;
+    let text = text.replace(alloc, "\\x20", " ")?;
     text.replace(alloc, "\\x7f", "\x7f")
 }
 
@@ -94,7 +98,7 @@ pub fn tell_cuts(alloc: Global, text: &str, out: &mut Vec<u8>) -> io::Result<()>
     for octets in 1..=LONGEST {
         let script = cut_script(alloc, text, octets)?;
         let mut reader = script.as_bytes();
-        let mut printed = Vec::new(alloc);
+        let mut printed = Vec::with_capacity(alloc, ROOM)?;
         let end = run(alloc, &mut reader, &mut printed);
         if printed != last || end != RunEnd::Clean {
             writeln!(out, "cut behind {octets}: {end}")?;
@@ -103,14 +107,6 @@ pub fn tell_cuts(alloc: Global, text: &str, out: &mut Vec<u8>) -> io::Result<()>
         last = printed;
     }
     Ok(())
-}
-
-// The client of octets, and the octets.
-fn octets_in(command: &Command) -> Option<(u64, &[u8])> {
-    match command {
-        Command::Run(Action::In { client, octets }) => Some((*client, octets.as_slice())),
-        _ => None,
-    }
 }
 
 // Whether the line says something to a run, and whether it is known what it speaks of.
@@ -123,8 +119,8 @@ fn tell_line(alloc: Global, line: &[u8], out: &mut Vec<u8>) -> io::Result<()> {
     };
     let text = str::from_utf8(line).unwrap_or("no text");
     write!(out, "{text:?}: {word}")?;
-    if let Some((client, octets)) = command.as_ref().and_then(octets_in) {
-        write!(out, ", client {client}, octets {octets:?}")?;
+    if let Some(Command::Run(Action::In { client, octets })) = &command {
+        write!(out, ", client {client}, octets {:?}", octets.as_slice())?;
     }
     writeln!(out)
 }
