@@ -124,8 +124,8 @@ fn left_by(alloc: Global, work: Work<'_>, whole: &[u8], mut writer: Weary) -> Le
     }
 }
 
-// What is left after no write, after one, after two, .. up to the whole output, where that is more
-// than one octet for the write. A writer takes so many octets at a time.
+// What is left after no write, after one, after two, .. up to the whole output, where that isn't what
+// was left before and one octet more. A writer takes so many octets at a time.
 fn tell_weary(
     alloc: Global,
     work: Work<'_>,
