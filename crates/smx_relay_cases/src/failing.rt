@@ -168,8 +168,11 @@ fn tell_weary(
 // and then fail or take nothing.
 fn tell_writers(alloc: Global, work: Work<'_>, out: &mut Vec<u8>) -> io::Result<()> {
     let mut whole = Vec::with_capacity(alloc, ROOM)?;
-    let _ = work_over(alloc, work, &mut whole);
+    let end = work_over(alloc, work, &mut whole);
     out.extend_from_slice(&whole)?;
+    if end != RunEnd::Clean {
+        return writeln!(out, "{end}");
+    }
     for takes in [1, 1_000] {
         for fails in [true, false] {
             let then = if fails { "fails" } else { "takes nothing" };

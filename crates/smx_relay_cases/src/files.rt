@@ -52,7 +52,7 @@ fn length_of(alloc: Global, line: &str) -> Result<usize, FileFault> {
         return Err(FileFault::NoMemory);
     }
     let (count, digits) = numbered(line);
-    let octets = hex::decode(alloc, digits).map_err(|_| FileFault::Failed)?;
+    let octets = hex::decode(alloc, digits).map_err(|_| FileFault::NoMemory)?;
     let file = file_of(alloc, count, &octets).map_err(|_| FileFault::NoMemory)?;
     let mut reader = file.as_slice();
     Ok(read_text(alloc, &mut reader)?.len())
