@@ -1,15 +1,15 @@
-//! Prints what the two sessions do with PDUs in each of their states: the cells of their tables.
+//! What the two sessions do with PDUs in each of their states: the cells of their tables.
 //!
-//! Each line of standard input names a session, `client` or `centre`, and a PDU without a body from
-//! there, by its command_id, command_status and sequence_number in hexadecimal. The line is printed
-//! again, and then a cell for each state: the act, and behind `>` the new state where it is another.
-//! A PDU that is sent is printed by its three numbers and the length of its body.
-#![tactic(auto)]
+//! Each line of a case names a session, `client` or `centre`, and a PDU without a body from there, by
+//! its command_id, command_status and sequence_number in hexadecimal. The line is printed again, and
+//! then a cell for each state: the act, and behind `>` the new state where it is another. A PDU that
+//! is sent is printed by its three numbers and the length of its body.
 
-use anyhow::bail;
 use smx_pdu::Pdu;
 use smx_session::{Act, ClientSession, ClientState, Kind, UpAct, UpstreamSession, UpstreamState};
 use std::alloc::{AllocError, Global};
+use std::io;
+use std::io::Write;
 use std::str::SplitWhitespace;
 
 const CLIENT_STATES: [ClientState; 5] = [
@@ -178,13 +178,13 @@ fn cells(alloc: Global, line: &str) -> Result<Option<String>, AllocError> {
     }
 }
 
-fn main(rt: HostRuntime) -> anyhow::Result<()> {
-    for line in rt.lines(rt.alloc()) {
-        let line = line?;
-        let Some(cells) = cells(rt.alloc(), &line)? else {
-            bail!("a line is client or centre, and three numbers in hexadecimal");
-        };
-        println!(rt; "{line}:{cells}")?;
+/// The cells of each line.
+pub fn tell_cells(alloc: Global, text: &str, out: &mut Vec<u8>) -> io::Result<()> {
+    for line in text.lines() {
+        match cells(alloc, line)? {
+            Some(cells) => writeln!(out, "{line}:{cells}")?,
+            None => writeln!(out, "{line}: no session and three numbers in hexadecimal")?,
+        }
     }
     Ok(())
 }
