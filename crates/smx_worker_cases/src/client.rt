@@ -2,7 +2,7 @@
 
 ghost use Rattle.std.specs.Prelude.{◌≡◌, slice_get, Some, All};
 
-use crate::tests::stand::{
+use crate::client::stand::{
     Boxes, Line, Seat, answer_largest, desk, has_answers, last_line, make_boxes, next_answer,
     plain_seat, put_messages, seat_of,
 };

@@ -1,6 +1,0 @@
-//! Doors, ports and taps against answers worked out by hand. It has tests alone, in a crate of their
-//! own, so that the exchange isn't proved twice.
-#![tactic(auto)]
-
-#[cfg(test)]
-mod tests;

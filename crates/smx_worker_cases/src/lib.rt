@@ -1,0 +1,10 @@
+//! Shared lanes, and the workers over links in memory, against answers and octets worked out by hand.
+//! It has tests alone, in a crate of their own, so that no lane or worker is proved twice.
+#![tactic(auto)]
+
+#[cfg(test)]
+mod client;
+#[cfg(test)]
+mod shared;
+#[cfg(test)]
+mod upstream;
