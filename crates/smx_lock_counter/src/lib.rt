@@ -8,8 +8,6 @@
 
 mod adder;
 mod counter;
-#[cfg(test)]
-mod tests;
 
 pub use adder::Adder;
 pub use counter::{Added, Counter, Deed};

@@ -13,8 +13,6 @@ mod callers;
 mod law;
 mod machine;
 mod table;
-#[cfg(test)]
-mod tests;
 
 pub use callers::{Caller, Event, Illegal};
 pub use law::exclusion_law;

@@ -1,0 +1,10 @@
+//! A lane: its replies, the words of its refusals, the numbers that it gives, requests that are too old,
+//! the loss of its link, and the check of finished histories.
+
+mod calls;
+mod expiry;
+mod fixture;
+mod legal;
+mod links;
+mod numbers;
+mod refusals;

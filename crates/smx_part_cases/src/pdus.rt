@@ -1,0 +1,9 @@
+//! PDUs against octets of the standard, and what reads, decides and answers them.
+
+mod bodies;
+mod centre;
+mod clients;
+mod codec;
+mod frames;
+mod spelling;
+mod upstreams;

@@ -1,0 +1,126 @@
+use crate::pdus::spelling::copy;
+use smx_pdu::{Bind, BodyFault, read_bind, read_destination, write_bind};
+use std::alloc::Global;
+use std::process::Abort;
+use std::test::*;
+
+// system_id `a`, password `p`, version 0x34, and empty texts else.
+const BIND: [u8; 9] = [0x61, 0, 0x70, 0, 0, 0x34, 0, 0, 0];
+
+// A message to the address `1`.
+const MESSAGE: [u8; 18] = [0, 0, 0, 0, 0, 0, 0x31, 0, 0, 0, 0, 0, 0, 0, 0, 0, 0, 0];
+
+// Octets after the last field are left unread.
+#[test]
+fn a_bind_is_read(rt: HostRuntime) {
+    let body = [0x61, 0, 0x70, 0, 0, 0x34, 0, 0, 0, 0xFF, 0];
+    let bind = read_bind(&body).expect(&rt, "a bind");
+    assert!(rt; bind.system_id == b"a".as_slice() && bind.password == b"p".as_slice());
+    assert!(rt; bind.system_type.is_empty() && bind.address_range.is_empty());
+    assert!(rt; (bind.interface_version, bind.addr_ton, bind.addr_npi) == (0x34, 0, 0));
+}
+
+const WHOLE: Bind<'static> = Bind {
+    system_id: b"proxy",
+    password: b"pw",
+    system_type: b"",
+    interface_version: 0x34,
+    addr_ton: 1,
+    addr_npi: 2,
+    address_range: b"49",
+};
+
+#[test]
+fn a_bind_is_written(rt: HostRuntime) {
+    let bind = WHOLE;
+    assert!(rt; bind.fits());
+    let mut out = copy(&rt, rt.alloc(), &[7]);
+    write_bind(&bind, &mut out).expect(&rt, "out of memory");
+    assert!(rt; out.as_slice() == b"\x07proxy\0pw\0\0\x34\x01\x0249\0".as_slice());
+}
+
+#[test]
+fn a_bind_may_not_fit(rt: HostRuntime) {
+    let mut bind = WHOLE;
+    for (password, fits) in [
+        (b"12345678".as_slice(), true),
+        (b"123456789".as_slice(), false),
+        (b"p\0w".as_slice(), false),
+    ] {
+        bind.password = password;
+        assert!(rt; bind.fits() == fits);
+    }
+}
+
+// Whether a text of so many octets is read there, once it and the fields behind it have ended.
+fn is_read(rt: &impl Abort, alloc: Global, body: &[u8]) -> bool {
+    let mut ended = copy(rt, alloc, body);
+    ended.extend_from_slice(&[0; 9]).expect(rt, "out of memory");
+    read_bind(&ended).is_ok()
+}
+
+// Whether a text behind these octets has so many octets at most, its end included.
+fn has_limit(rt: &impl Abort, alloc: Global, before: &[u8], limit: usize) -> bool {
+    let mut body = copy(rt, alloc, before);
+    for _ in 1..limit {
+        body.push(0x61).expect(rt, "out of memory");
+        if read_bind(&body).err() != Some(BodyFault::Truncated) {
+            return false;
+        }
+    }
+    let is_read = is_read(rt, alloc, &body);
+    body.push(0x61).expect(rt, "out of memory");
+    is_read && read_bind(&body).err() == Some(BodyFault::FieldTooLong)
+}
+
+// Each text of a bind, behind the shortest fields before it, at its greatest length.
+#[test]
+fn limits_of_a_bind(rt: HostRuntime) {
+    let texts = [
+        (b"".as_slice(), 16),
+        (b"\0".as_slice(), 9),
+        (b"\0\0".as_slice(), 13),
+        (b"\0\0\0\x34\0\0".as_slice(), 41),
+    ];
+    for (before, limit) in texts {
+        assert!(rt; has_limit(&rt, rt.alloc(), before, limit));
+    }
+}
+
+// A bind that ends before its end lacks the first field that isn't there.
+#[test]
+fn parts_of_a_bind(rt: HostRuntime) {
+    for len in 0..BIND.len() {
+        assert!(rt; read_bind(&BIND[..len]).err() == Some(BodyFault::Truncated));
+    }
+    // The system_id is at fault before the password is.
+    let body = [0x61; 40];
+    assert!(rt; read_bind(&body[..15]).err() == Some(BodyFault::Truncated));
+    assert!(rt; read_bind(&body[..16]).err() == Some(BodyFault::FieldTooLong));
+}
+
+#[test]
+fn destinations(rt: HostRuntime) {
+    assert!(rt; read_destination(&MESSAGE) == Ok(b"1".as_slice()));
+    assert!(rt; read_destination(&MESSAGE[..8]) == Ok(b"1".as_slice()));
+    assert!(rt; read_destination(b"\0\0\0\0\0\x004915\0") == Ok(b"4915".as_slice()));
+}
+
+#[test]
+fn no_destinations(rt: HostRuntime) {
+    assert!(rt; read_destination(&MESSAGE[..7]) == Err(BodyFault::Truncated));
+    // A service_type of six octets has no room for its end.
+    assert!(rt; read_destination(b"abcdef\0\0\0") == Err(BodyFault::FieldTooLong));
+    let mut body = [0x31; 71];
+    body[..6].fill(0);
+    assert!(rt; read_destination(&body) == Err(BodyFault::FieldTooLong));
+}
+
+#[test]
+fn body_faults_in_words(rt: HostRuntime) {
+    let words = format!(in rt.alloc(); "{}; {}", BodyFault::Truncated, BodyFault::FieldTooLong);
+    assert_eq!(rt;
+        words.expect(&rt, "out of memory").as_str(),
+        "the body ends within a field; a text has no end within its greatest length"
+    );
+}

@@ -1,0 +1,148 @@
+use crate::pdus::spelling::comes_as;
+use smx_centre::{Centre, Mode};
+use smx_pdu::Pdu;
+use std::alloc::Global;
+use std::process::Abort;
+use std::test::*;
+
+// A PDU's command, status, number and body.
+type Fields = (u32, u32, u32, &'static [u8]);
+
+fn has_fields(pdu: &Pdu, wanted: &Fields) -> bool {
+    (pdu.command, pdu.status, pdu.number) == (wanted.0, wanted.1, wanted.2)
+        && pdu.body.as_slice() == wanted.3
+}
+
+fn have_fields(pdus: &[Pdu], wanted: &[Fields]) -> bool {
+    for (pdu, wanted) in pdus.iter().zip(wanted) {
+        if !has_fields(pdu, wanted) {
+            return false;
+        }
+    }
+    pdus.len() == wanted.len()
+}
+
+// Whether the centre answers the request so.
+fn answers(
+    rt: &impl Abort,
+    alloc: Global,
+    centre: &mut Centre,
+    command: u32,
+    number: u32,
+    wanted: &[Fields],
+) -> bool {
+    let request = Pdu::header_only(alloc, command, 0, number);
+    let answers = centre.on_pdu(&request).expect(rt, "out of memory");
+    have_fields(&answers, wanted)
+}
+
+// The answers to submit_sm 1, data_sm 2 and query_sm 3, which a centre doesn't know.
+fn has_mode(
+    rt: &impl Abort,
+    alloc: Global,
+    mode: Mode,
+    first: &[Fields],
+    second: &[Fields],
+    third: &[Fields],
+) -> bool {
+    let mut centre = Centre::new(alloc, mode);
+    answers(rt, alloc, &mut centre, 4, 1, first)
+        && answers(rt, alloc, &mut centre, 0x103, 2, second)
+        && answers(rt, alloc, &mut centre, 3, 3, third)
+}
+
+const SUBMIT: Fields = (0x8000_0004, 0, 1, b"1\0");
+
+const DATA: Fields = (0x8000_0103, 0, 2, b"2\0");
+
+const QUERY: Fields = (0x8000_0003, 8, 3, b"");
+
+const SUBMIT_COPY: Fields = (0x8000_0004, 0, 0x7000_0000, b"1\0");
+
+const DATA_COPY: Fields = (0x8000_0103, 0, 0x7000_0000, b"2\0");
+
+const QUERY_COPY: Fields = (0x8000_0003, 8, 0x7000_0000, b"");
+
+#[test]
+fn modes(rt: HostRuntime) {
+    let alloc = rt.alloc();
+    assert!(rt; has_mode(&rt, alloc, Mode::Plain, &[SUBMIT], &[DATA], &[QUERY]));
+    assert!(rt; has_mode(&rt, alloc, Mode::Reversed, &[], &[DATA, SUBMIT], &[]));
+    assert!(rt;
+        has_mode(
+            &rt,
+            alloc,
+            Mode::Twice,
+            &[SUBMIT; 2],
+            &[DATA; 2],
+            &[QUERY; 2]
+        )
+    );
+    assert!(rt;
+        has_mode(
+            &rt,
+            alloc,
+            Mode::Stranger,
+            &[SUBMIT, SUBMIT_COPY],
+            &[DATA, DATA_COPY],
+            &[QUERY, QUERY_COPY]
+        )
+    );
+    assert!(rt; has_mode(&rt, alloc, Mode::Silent, &[], &[], &[]));
+}
+
+// Whether the centre answers submit_sm so, asked again where memory was refused.
+fn answers_at_last(alloc: Global, centre: &mut Centre, number: u32, wanted: &[Fields]) -> bool {
+    let request = Pdu::header_only(alloc, 4, 0, number);
+    for _ in 0..2 {
+        if let Ok(answers) = centre.on_pdu(&request) {
+            return have_fields(&answers, wanted);
+        }
+    }
+    false
+}
+
+// Want of memory counts no message and sends none: tools/refuse-memory refuses each allocation in
+// turn, one in a run.
+#[test]
+fn refused_memory(rt: HostRuntime) {
+    let mut centre = Centre::new(rt.alloc(), Mode::Reversed);
+    let both: [Fields; 2] = [(0x8000_0004, 0, 2, b"2\0"), SUBMIT];
+    assert!(rt; answers_at_last(rt.alloc(), &mut centre, 1, &[]));
+    assert!(rt; answers_at_last(rt.alloc(), &mut centre, 2, &both));
+}
+
+// The other PDUs are answered alike in each mode.
+#[test]
+fn other_pdus(rt: HostRuntime) {
+    let table: [(u32, &[Fields]); 10] = [
+        (1, &[(0x8000_0001, 0, 7, b"centre\0")]),
+        (2, &[(0x8000_0002, 0, 7, b"centre\0")]),
+        (9, &[(0x8000_0009, 0, 7, b"centre\0")]),
+        (0x15, &[(0x8000_0015, 0, 7, b"")]),
+        (6, &[(0x8000_0006, 0, 7, b"")]),
+        (5, &[(0x8000_0000, 3, 7, b"")]),
+        (0xB, &[(0x8000_0000, 3, 7, b"")]),
+        (0xAA, &[(0x8000_0000, 3, 7, b"")]),
+        (0x8000_0000, &[]),
+        (0x8000_0005, &[]),
+    ];
+    for (command, wanted) in table {
+        let mut centre = Centre::new(rt.alloc(), Mode::Silent);
+        assert!(rt; answers(&rt, rt.alloc(), &mut centre, command, 7, wanted));
+    }
+}
+
+// deliver_sm to `4915`, twice: its octets.
+#[test]
+fn deliveries(rt: HostRuntime) {
+    let mut centre = Centre::new(rt.alloc(), Mode::Plain);
+    for number in [1, 2] {
+        let wanted = [
+            0, 0, 0, 0x25, 0, 0, 0, 5, 0, 0, 0, 0, 0, 0, 0, number, 0, 0, 0, 0, 0, 0, 0x34, 0x39,
+            0x31, 0x35, 0, 0, 0, 0, 0, 0, 0, 0, 0, 0, 0,
+        ];
+        let message = centre.deliver(b"4915").expect(&rt, "out of memory");
+        assert!(rt; comes_as(&rt, rt.alloc(), message, &wanted));
+    }
+}
