@@ -4,7 +4,8 @@ ghost use Rattle.smx_shared.specs.Views.{locks_of};
 
 use super::*;
 use crate::hall::last_tap;
-use smx_shared::Port;
+use smx_pdu::command::SUBMIT_SM;
+use smx_shared::{Offer, Port};
 use std::test::*;
 
 // Compares each two of a door, a port and a tap.
@@ -37,15 +38,22 @@ fn compared<R: Wait + Abort>(
     ensures { locks_of door.new.fronts ≡ at.now }
 {
     let mut tap = tap;
-    let mut client = enter(rt, at, door).expect(rt, "no client");
-    let submitted = client.submit(rt, 7, Body::empty(alloc)) == Ok(0);
+    let Ok(mut port) = door.enter(at, rt) else {
+        panic!(rt; "no client")
+    };
+    let offer = Offer {
+        own: 7,
+        command: SUBMIT_SM,
+        body: Body::empty(alloc),
+    };
+    let submitted = port.submit(at, rt, offer).is_ok();
     let first = tap.lane() == 0;
     if first {
-        compare_all(at, door, &mut client.port, &mut tap);
+        compare_all(at, door, &mut port, &mut tap);
     }
     let taken = tap.take(at, rt, 0).is_ok();
     enter(rt, at, door).expect(rt, "no second client");
-    [submitted, first, taken, client.leave(rt) == Ok(())]
+    [submitted, first, taken, port.leave(at, rt).is_ok()]
 }
 
 // Tokens that were compared go on as before.

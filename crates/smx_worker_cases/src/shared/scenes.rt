@@ -28,10 +28,10 @@ fn has_calls(lane: &Lane, calls: &[Call], ordinal: u64) -> bool {
 
 // How many of the lanes have their calls: lane k those with ordinal k + 1.
 fn count_with_calls(lanes: &[Lane], calls: &[Call]) -> usize {
-    let mut count = 0;
+    let mut count: usize = 0;
     for lane in 0..lanes.len() {
         if has_calls(&lanes[lane], calls, lane as u64 + 1) {
-            count += 1;
+            count = count.saturating_add(1);
         }
     }
     count
