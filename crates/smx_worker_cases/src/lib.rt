@@ -5,6 +5,8 @@
 #[cfg(test)]
 mod client;
 #[cfg(test)]
+mod hall;
+#[cfg(test)]
 mod shared;
 #[cfg(test)]
 mod upstream;

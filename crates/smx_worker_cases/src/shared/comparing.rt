@@ -1,8 +1,12 @@
 //! Tokens that are compared.
-ghost use Rattle.std.specs.Prelude.{◌≡◌, ◌<◌, length, slice_get, Some, All};
+ghost use Rattle.std.specs.Prelude.{◌≡◌, ◌<◌, length, slice_get, Some};
 ghost use Rattle.smx_shared.specs.Views.{locks_of};
 
 use super::*;
+use crate::hall::last_tap;
+use smx_pdu::command::SUBMIT_SM;
+use smx_shared::{Offer, Port};
+use std::test::*;
 
 // Compares each two of a door, a port and a tap.
 fn compare_all(at: &Exchange, door: &mut Door, port: &mut Port, tap: &mut Tap)
@@ -26,38 +30,44 @@ fn compared<R: Wait + Abort>(
     alloc: Global,
     at: &Exchange,
     door: &mut Door,
-    taps: Vec<Tap>,
-) -> Option<bool>
+    tap: Tap,
+) -> [bool; 4]
     requires lanes { 0 < length at.now }
     requires door { locks_of door.old.fronts ≡ at.now }
-    requires taps { All (λ t. slice_get at.now t.lane ≡ Some t.front.lock) taps.items }
+    requires tap { slice_get at.now tap.lane ≡ Some tap.front.lock }
     ensures { locks_of door.new.fronts ≡ at.now }
 {
-    let mut taps = taps;
-    let mut tap = taps.pop()?;
-    let entered = door.enter(at, rt).map_err(|(fault, _)| fault);
-    let mut port = entered.expect(rt, "no client");
-    let submitted = port.submit(at, rt, offer(alloc, 7)).is_ok();
-    if tap.lane() != 0 {
-        return None;
+    let mut tap = tap;
+    let Ok(mut port) = door.enter(at, rt) else {
+        panic!(rt; "no client")
+    };
+    let offer = Offer {
+        own: 7,
+        command: SUBMIT_SM,
+        body: Body::empty(alloc),
+    };
+    let submitted = port.submit(at, rt, offer).is_ok();
+    let first = tap.lane() == 0;
+    if first {
+        compare_all(at, door, &mut port, &mut tap);
     }
-    compare_all(at, door, &mut port, &mut tap);
     let taken = tap.take(at, rt, 0).is_ok();
-    enter(rt, alloc, at, door).expect(rt, "no second client");
-    let left = port.leave(at, rt).is_ok();
-    Some(submitted && taken && left)
+    enter(rt, at, door).expect(rt, "no second client");
+    [submitted, first, taken, port.leave(at, rt).is_ok()]
 }
 
 // Tokens that were compared go on as before.
 #[test]
 fn tokens_are_compared(rt: HostRuntime) {
-    let (exchange, mut door, taps) = match Exchange::new(&rt, rt.alloc(), ROOMY, 1) {
-        Ok(made) => made,
-        Err(unmade) => panic!(rt; "no exchange: {:?}", unmade.fault),
-    };
-    let well = compared(&rt, rt.alloc(), &exchange, &mut door, taps);
-    assert!(rt; well == Some(true));
-    let lanes = exchange.finish(door).ok().expect(&rt, "the lane is out");
+    let Hall {
+        exchange,
+        mut door,
+        mut taps,
+    } = Hall::roomy(&rt, rt.alloc(), 1);
+    let tap = last_tap(&exchange, &mut taps).expect(&rt, "there is one lane");
+    let went_on = compared(&rt, rt.alloc(), &exchange, &mut door, tap);
+    let lanes = lanes_of(&rt, exchange, door);
+    assert_eq!(rt; went_on, [true; 4]);
     let kinds = [
         Kind::Admit,
         Kind::Accept,
@@ -65,5 +75,5 @@ fn tokens_are_compared(rt: HostRuntime) {
         Kind::Admit,
         Kind::Retire,
     ];
-    assert!(rt; all_are_of(&lanes, &kinds));
+    assert!(rt; lanes.len() == 1 && is_of(&lanes[0], &kinds));
 }
