@@ -9,8 +9,8 @@ use Rattle.smx_box.specs.declared.letter.Known.{Known}
 use Rattle.smx_box.specs.declared.letter.Note.{Note}
 use Rattle.smx_box.specs.declared.letter.Deed.TheVariants.{Putting, Getting}
 use Rattle.smx_box.specs.Letters.{is_item, letter, of, is_open, Numbered, AllShut}
-use Rattle.smx_box.specs.Boxes.{most_items, note, notes_of, puts, gets, Stood, Posts, Takes, Finds, BoxHistory, PassFront, PutServes, FullServes, TakeServes, Receiving, Hands, GetServes}
-use Rattle.smx_box.specs.Private.Ends.{front_of, IsNextLetter, IsFreshPass, IsSender, IsReceiver, shut_below, sending, receiving, PostServes}
+use Rattle.smx_box.specs.Boxes.{most_items, deed_note, pass_notes, puts, gets, Stood, Posts, TakesLetter, FindsLetters, BoxHistory, PassFront, PutServes, FullPutServes, OldestServes, Receiving, Hands, GetServes}
+use Rattle.smx_box.specs.Private.Ends.{pass_front, IsNextLetter, IsFreshPass, IsSender, IsReceiver, shut_below, sending, receiving, PostServes}
 use Rattle.smx_box.specs.declared.receiver.Got.TheVariants.{Item, Shut}
 use Rattle.smx_box.proofs.LetterLists.{of-append, of_yes, of_no, open_snoc, shut_snoc, Numbered_snoc, next_got, numbered_got}
 use Rattle.smx_box.proofs.BoxHistories.{puts-append, gets-append, own_puts, own_gets}
@@ -23,40 +23,40 @@ not_nil (m ∷ xs) x ys e = cc
 module _ {T : Type 0} where
   -- what the history that a pass finds says of its own letters
   own_list : (v : Known T) (found : List (Note T)) (items : List (Letter T)) (p : ℕ) → Stood v found items → v.number ≡ p + 1 → of p (puts found) ≡ puts v.mine
-  own_list v found items p s pass = own_puts found p s.history.own ∙ ap (λ k. puts (notes_of k found)) (sym pass) ∙ ap puts s.own
+  own_list v found items p s pass = own_puts found p s.history.own ∙ ap (λ k. puts (pass_notes k found)) (sym pass) ∙ ap puts s.own
 
   own_gots : (v : Known T) (found : List (Note T)) (items : List (Letter T)) → Stood v found items → v.number ≡ 0 → gets found ≡ gets v.mine
-  own_gots v found items s pass = own_gets found s.history.own ∙ ap (λ k. gets (notes_of k found)) (sym pass) ∙ ap gets s.own
+  own_gots v found items s pass = own_gets found s.history.own ∙ ap (λ k. gets (pass_notes k found)) (sym pass) ∙ ap gets s.own
 
   -- what a step of the queue tells of an end
   pub put_serves : (f g : PassFront T) (m : Letter T) → g.queue ≡ f.queue → f.known.number ≡ m.sender + 1 → Posts f.known m g.known → PutServes (sending m.sender f) g m
   put_serves f g m same pass s = (same, s.0, s.1, s.2, own_list f.known s.0 s.1 m.sender s.2.finds pass)
 
-  pub full_serves : (f g : PassFront T) (p : ℕ) → g ≡ f → f.known.number ≡ p + 1 → Held {T = Letter T} f.queue.places (Finds f.known) → FullServes (sending p f) g
+  pub full_serves : (f g : PassFront T) (p : ℕ) → g ≡ f → f.known.number ≡ p + 1 → Held {T = Letter T} f.queue.places (FindsLetters f.known) → FullPutServes (sending p f) g
   full_serves f g p same pass s = (same, s.2.0, s.0, s.2.1, own_list f.known s.2.0 s.0 p s.2.1 pass, s.1)
 
-  pub got_serves : (f g : PassFront T) (m : Letter T) → g.queue ≡ f.queue → f.known.number ≡ 0 → Takes f.known m g.known → TakeServes (receiving f) g (Some m)
+  pub got_serves : (f g : PassFront T) (m : Letter T) → g.queue ≡ f.queue → f.known.number ≡ 0 → TakesLetter f.known m g.known → OldestServes (receiving f) g (Some m)
   got_serves f g m same pass s = (same, s.0, s.1, s.2, own_gots f.known s.0 (m ∷ s.1) s.2.finds pass)
 
-  pub empty_serves : (f g : PassFront T) → g ≡ f → f.known.number ≡ 0 → Held {T = Letter T} 0 (Finds f.known) → TakeServes (receiving f) g None
+  pub empty_serves : (f g : PassFront T) → g ≡ f → f.known.number ≡ 0 → Held {T = Letter T} 0 (FindsLetters f.known) → OldestServes (receiving f) g None
   empty_serves f g same pass s = let none = nil_from_length s.0 s.1 in let stands = subst (Stood f.known s.2.0) none s.2.1 in (same, s.2.0, stands, own_gots f.known s.2.0 [] stands pass)
 
-  same_front : (places : ℕ) (p q : Pass (Letter T) (Known T)) → IsSamePass p q → view q ≡ view p → front_of places q ≡ front_of places p
+  same_front : (places : ℕ) (p q : Pass (Letter T) (Known T)) → IsSamePass p q → view q ≡ view p → pass_front places q ≡ pass_front places p
   same_front places p q same e = let t = same.0 in cc
 
   -- what a push tells
   pub posted : (places : ℕ) (p q : Pass (Letter T) (Known T)) (m : Letter T) (r : Result (Unit {0}) (Letter T)) → (view p).number ≡ m.sender + 1 → IsSamePass p q
-      → MatchResult r (λ _. Posts (view p) m (view q)) (λ x. (x ≡ m) × (view q ≡ view p) × Held {T = Letter T} places (Finds (view p)))
-      → PostServes (sending m.sender (front_of places p)) (front_of places q) m r
-  posted places p q m (Ok _) number same told = put_serves (front_of places p) (front_of places q) m (let t = same.0 in cc) number told
-  posted places p q m (Err back) number same told = (told.0, full_serves (front_of places p) (front_of places q) m.sender (same_front places p q same told.1) number told.2)
+      → MatchResult r (λ _. Posts (view p) m (view q)) (λ x. (x ≡ m) × (view q ≡ view p) × Held {T = Letter T} places (FindsLetters (view p)))
+      → PostServes (sending m.sender (pass_front places p)) (pass_front places q) m r
+  posted places p q m (Ok _) number same told = put_serves (pass_front places p) (pass_front places q) m (let t = same.0 in cc) number told
+  posted places p q m (Err back) number same told = (told.0, full_serves (pass_front places p) (pass_front places q) m.sender (same_front places p q same told.1) number told.2)
 
   -- what a pop tells
   pub popped : (places : ℕ) (p q : Pass (Letter T) (Known T)) (r : Option (Letter T)) → (view p).number ≡ 0 → IsSamePass p q
-      → MatchOption r ((view q ≡ view p) × Held {T = Letter T} 0 (Finds (view p))) (λ x. Takes (view p) x (view q))
-      → TakeServes (receiving (front_of places p)) (front_of places q) r
-  popped places p q (Some m) number same told = got_serves (front_of places p) (front_of places q) m (let t = same.0 in cc) number told
-  popped places p q None number same told = empty_serves (front_of places p) (front_of places q) (same_front places p q same told.0) number told.1
+      → MatchOption r ((view q ≡ view p) × Held {T = Letter T} 0 (FindsLetters (view p))) (λ x. TakesLetter (view p) x (view q))
+      → OldestServes (receiving (pass_front places p)) (pass_front places q) r
+  popped places p q (Some m) number same told = got_serves (pass_front places p) (pass_front places q) m (let t = same.0 in cc) number told
+  popped places p q None number same told = empty_serves (pass_front places p) (pass_front places q) (same_front places p q same told.0) number told.1
 
   -- a sender
   pub first_sender : (f : PassFront T) (p : ℕ) → IsFreshPass f p → IsSender f p 0
@@ -72,7 +72,7 @@ module _ {T : Type 0} where
   next_of f p count x is = record { pass = is.pass; number = ap (λ n. n + 1) (sym is.counted); opened = is.opened }
 
   pub put_more : (f g : PassFront T) (m : Letter T) → PutServes (sending m.sender f) g m → puts g.known.mine ≡ puts f.known.mine ++ m ∷ []
-  put_more f g m s = ap puts s.3.mine ∙ puts-append f.known.mine (note f.known.number (Putting m) ∷ [])
+  put_more f g m s = ap puts s.3.mine ∙ puts-append f.known.mine (deed_note f.known.number (Putting m) ∷ [])
 
   pub sender_put : (f g : PassFront T) (p count n : ℕ) (x : T) → PutServes (sending p f) g (letter p n (Some x)) → n ≡ count + 1 → count < most_items → IsSender f p count → IsSender g p n
   sender_put f g p count n x s e lt is = let m : Letter T = letter p n (Some x) in let more = put_more f g m s in record {
@@ -98,11 +98,11 @@ module _ {T : Type 0} where
       (sym (of-append p (gets h) (m ∷ items) ∙ ap (λ l. of p (gets h) ++ l) (of-append p (m ∷ []) items ∙ ap (λ l. l ++ of p items) (of_yes p m is)))
       ∙ (b.delivers p).0 ∙ none)
 
-  pub taken : (f g : PassFront T) (m : Letter T) → f.known.number ≡ 0 → TakeServes (receiving f) g (Some m) → Taken f g m
+  pub taken : (f g : PassFront T) (m : Letter T) → f.known.number ≡ 0 → OldestServes (receiving f) g (Some m) → Taken f g m
   taken f g m first s = let step = s.3 in let found = s.1 in let items = s.2 in
-      let more : gets g.known.mine ≡ gets f.known.mine ++ m ∷ [] = ap gets step.mine ∙ gets-append f.known.mine (note f.known.number (Getting m) ∷ []) in
+      let more : gets g.known.mine ≡ gets f.known.mine ++ m ∷ [] = ap gets step.mine ∙ gets-append f.known.mine (deed_note f.known.number (Getting m) ∷ []) in
       let got = s.4 in
-      let seen : gets g.known.seen ≡ gets g.known.mine = ap gets step.seen ∙ gets-append found (note f.known.number (Getting m) ∷ []) ∙ ap (λ l. l ++ m ∷ []) got ∙ sym more in
+      let seen : gets g.known.seen ≡ gets g.known.mine = ap gets step.seen ∙ gets-append found (deed_note f.known.number (Getting m) ∷ []) ∙ ap (λ l. l ++ m ∷ []) got ∙ sym more in
       let next = next_got _ (gets found) items m step.finds.history.delivers in record {
         number = step.number;
         senders = step.senders;
@@ -173,9 +173,9 @@ module _ {T : Type 0} where
   hands_mark f g r m is t e = subst (λ (z : Receiving T). Hands z.got (gets g.known.mine) (Shut m.sender)) is
       (t.more ∙ ap (λ l. gets f.known.mine ++ l ∷ []) (mark_is m (length (of m.sender (gets f.known.mine)) + 1) t.next e), t.opened)
 
-  pub mark_serves : (f g : PassFront T) (r : Receiving T) (m : Letter T) → receiving f ≡ r → Taken f g m → m.content ≡ None → TakeServes (receiving f) g (Some m) → GetServes r g (Shut m.sender)
+  pub mark_serves : (f g : PassFront T) (r : Receiving T) (m : Letter T) → receiving f ≡ r → Taken f g m → m.content ≡ None → OldestServes (receiving f) g (Some m) → GetServes r g (Shut m.sender)
   mark_serves f g r m is t e s = subst (λ (z : Receiving T). GetServes z g (Shut m.sender)) is
-      (subst (λ l. TakeServes (receiving f) g (Some l)) (mark_is m (length (of m.sender (gets f.known.mine)) + 1) t.next e) s)
+      (subst (λ l. OldestServes (receiving f) g (Some l)) (mark_is m (length (of m.sender (gets f.known.mine)) + 1) t.next e) s)
 
   pub ended_all : (f : PassFront T) (r : Receiving T) (senders shut : ℕ) → receiving f ≡ r → IsReceiver f senders shut → shut ≡ senders → AllShut r.senders r.got
   ended_all f r senders shut is keeps e = subst (λ (z : Receiving T). AllShut z.senders z.got) is

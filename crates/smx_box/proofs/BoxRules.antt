@@ -11,8 +11,8 @@ use Rattle.smx_box.specs.declared.letter.Deed.{Deed}
 use Rattle.smx_box.specs.declared.letter.Deed.TheVariants.{Putting, Getting}
 use Rattle.smx_box.specs.declared.letter.Known.{Known}
 use Rattle.smx_box.specs.Letters.{is_open}
-use Rattle.smx_box.specs.Boxes.{note, puts, BoxHistory, Stood, Posts, Takes, Finds}
-use Rattle.smx_box.specs.Private.Rule.{FitsHistory, Kept, first_known, host, guest}
+use Rattle.smx_box.specs.Boxes.{deed_note, puts, BoxHistory, Stood, Posts, TakesLetter, FindsLetters}
+use Rattle.smx_box.specs.Private.Rule.{FitsHistory, IsLeftBy, first_known, receiver_known, sender_known}
 use Rattle.smx_box.proofs.BoxHistories.{own_puts, history_put, history_got, notes_here, notes_else}
 
 module _ {T : Type 0} where
@@ -35,7 +35,7 @@ module _ {T : Type 0} where
   all_set F views place w mine others j u e = ⊎_elim (λ (x : (j ≡ place) × (w ≡ u)). subst (λ (y : ℕ × Known T). F y.0 y.1) (λ i. (sym x.0 i, x.1 i)) mine)
       (λ (x : (j ≢ place) × (get_elem? views j ≡ some u)). others j u x.0 x.1) (at_set views place j w u e)
 
-  pub begins : Kept {T = T} [] (first_known ∷ [])
+  pub begins : IsLeftBy {T = T} [] (first_known ∷ [])
   begins = (
     [],
     record { delivers = (λ p. (refl, tt)); own = tt },
@@ -45,7 +45,7 @@ module _ {T : Type 0} where
   )
 
   -- what a pass finds
-  stood : (items : List (Letter T)) (views : List (Known T)) (place : ℕ) (v : Known T) (k : Kept items views) → get_elem? views place ≡ some v → Stood v k.0 items
+  stood : (items : List (Letter T)) (views : List (Known T)) (place : ℕ) (v : Known T) (k : IsLeftBy items views) → get_elem? views place ≡ some v → Stood v k.0 items
   stood items views place v k at = let mine = k.3 place v at in record {
     begins = mine.saw;
     own = mine.own;
@@ -53,38 +53,38 @@ module _ {T : Type 0} where
     no_others = λ first p le. own_puts k.0 p k.1.own ∙ ap puts (k.2 (p + 1) (let c = mine.counts first in omega arith));
   }
 
-  pub learns : (place : ℕ) (v : Known T) → Learns Kept place v (Finds v)
+  pub learns : (place : ℕ) (v : Known T) → Learns IsLeftBy place v (FindsLetters v)
   learns place v items views k at = (k.0, stood items views place v k at)
 
   -- the view of a pass after its note
   abbrev after : Known T → List (Note T) → Deed T → Known T
-  after v h d = record v { seen = h ++ note v.number d ∷ []; mine = v.mine ++ note v.number d ∷ [] }
+  after v h d = record v { seen = h ++ deed_note v.number d ∷ []; mine = v.mine ++ deed_note v.number d ∷ [] }
 
   -- one pass more has a note
-  one_more : (items new : List (Letter T)) (views : List (Known T)) (place : ℕ) (v : Known T) (d : Deed T) (k : Kept items views) → get_elem? views place ≡ some v → BoxHistory (k.0 ++ note v.number d ∷ []) new
-      → Kept new (set views place (after v k.0 d))
+  one_more : (items new : List (Letter T)) (views : List (Known T)) (place : ℕ) (v : Known T) (d : Deed T) (k : IsLeftBy items views) → get_elem? views place ≡ some v → BoxHistory (k.0 ++ deed_note v.number d ∷ []) new
+      → IsLeftBy new (set views place (after v k.0 d))
   one_more items new views place v d k at history =
       let h = k.0 in
       let mine = k.3 place v at in
       let w = after v h d in
       let long : length (set views place w) ≡ length views = length-set views place w in
       let here : place < length views = within views place v at in (
-        h ++ note v.number d ∷ [],
+        h ++ deed_note v.number d ∷ [],
         history,
         (λ j le. notes_else j h v.number d (λ e. let n = mine.number in absurd (omega arith)) ∙ k.2 j (omega arith)),
-        subst (λ n. All (FitsHistory (h ++ note v.number d ∷ []) n) (set views place w)) (sym long)
-            (all_set (FitsHistory (h ++ note v.number d ∷ []) (length views)) views place w
-            record { number = mine.number; saw = ([], append-nil _); own = notes_here h v.number d ∙ ap (λ l. l ++ note v.number d ∷ []) mine.own; counts = mine.counts }
+        subst (λ n. All (FitsHistory (h ++ deed_note v.number d ∷ []) n) (set views place w)) (sym long)
+            (all_set (FitsHistory (h ++ deed_note v.number d ∷ []) (length views)) views place w
+            record { number = mine.number; saw = ([], append-nil _); own = notes_here h v.number d ∙ ap (λ l. l ++ deed_note v.number d ∷ []) mine.own; counts = mine.counts }
             (λ j u other e. let his = k.3 j u e in record {
               number = his.number;
-              saw = (his.saw.0 ++ note v.number d ∷ [], sym (append_assoc u.seen his.saw.0 (note v.number d ∷ [])) ∙ ap (λ l. l ++ note v.number d ∷ []) his.saw.1);
+              saw = (his.saw.0 ++ deed_note v.number d ∷ [], sym (append_assoc u.seen his.saw.0 (deed_note v.number d ∷ [])) ∙ ap (λ l. l ++ deed_note v.number d ∷ []) his.saw.1);
               own = notes_else u.number h v.number d (λ e. other (sym his.number ∙ sym e ∙ mine.number)) ∙ his.own;
               counts = his.counts;
             })),
       )
 
   -- a sender's letter joins
-  pub joins : (n place : ℕ) (v : Known T) (x : Letter T) → v.number ≡ x.sender + 1 → x.number ≡ length (puts v.mine) + 1 → is_open (puts v.mine) ≡ true → Pushes Kept n place v x (Posts v x)
+  pub joins : (n place : ℕ) (v : Known T) (x : Letter T) → v.number ≡ x.sender + 1 → x.number ≡ length (puts v.mine) + 1 → is_open (puts v.mine) ≡ true → Pushes IsLeftBy n place v x (Posts v x)
   joins n place v x pass number opened items views room k at =
       let h = k.0 in
       let own = (k.3 place v at).own in
@@ -95,7 +95,7 @@ module _ {T : Type 0} where
       )
 
   -- the receiver takes the oldest
-  pub leaves : (place : ℕ) (v : Known T) → v.number ≡ 0 → Pops Kept place v (Takes v)
+  pub leaves : (place : ℕ) (v : Known T) → v.number ≡ 0 → Pops IsLeftBy place v (TakesLetter v)
   leaves place v first x items views k at =
       let h = k.0 in
       let history = history_got h items v.number x k.1 first in (
@@ -105,32 +105,32 @@ module _ {T : Type 0} where
       )
 
   -- the receiver's pass makes a sender's
-  pub forks : (place : ℕ) (v : Known T) → v.number ≡ 0 → Forks Kept place v (host v) (guest v)
+  pub forks : (place : ℕ) (v : Known T) → v.number ≡ 0 → Forks IsLeftBy place v (receiver_known v) (sender_known v)
   forks place v first items views k at =
       let h = k.0 in
       let mine = k.3 place v at in
       let count = mine.counts first in
-      let vs : List (Known T) = set views place (host v) in
-      let long : length vs ≡ length views = length-set views place (host v) in
-      let longer : length (vs ++ guest v ∷ []) ≡ length views + 1 = length-append vs (guest v ∷ []) ∙ ap (λ n. n + 1) long in
-      let here : All (FitsHistory h (length views + 1)) vs = all_set (FitsHistory h (length views + 1)) views place (host v)
+      let vs : List (Known T) = set views place (receiver_known v) in
+      let long : length vs ≡ length views = length-set views place (receiver_known v) in
+      let longer : length (vs ++ sender_known v ∷ []) ≡ length views + 1 = length-append vs (sender_known v ∷ []) ∙ ap (λ n. n + 1) long in
+      let here : All (FitsHistory h (length views + 1)) vs = all_set (FitsHistory h (length views + 1)) views place (receiver_known v)
       record { number = mine.number; saw = mine.saw; own = mine.own; counts = λ _. ap (λ n. n + 1) count }
       (λ j u other e. let his = k.3 j u e in
       record { number = his.number; saw = his.saw; own = his.own; counts = λ z. absurd (other (sym his.number ∙ z ∙ sym first ∙ mine.number)) }) in (
         h,
         k.1,
         (λ j le. k.2 j (omega arith)),
-        subst (λ n. All (FitsHistory h n) (vs ++ guest v ∷ [])) (sym longer)
+        subst (λ n. All (FitsHistory h n) (vs ++ sender_known v ∷ [])) (sym longer)
             (λ j u e. ⊎_elim (λ x. here j u x)
-            (λ (is : guest v ≡ u).
+            (λ (is : sender_known v ≡ u).
             let new : u.number ≡ length views = ap (λ (y : Known T). y.number) (sym is) ∙ count in
             let his : get_elem? vs j ≡ some u → ⊥ = λ x. (let o = (here j u x).number in let b = within vs j u x in omega (arith, new, o, b, long)) in
-            let last : j ≡ length vs = at_end vs (guest v) u j his e in
+            let last : j ≡ length vs = at_end vs (sender_known v) u j his e in
             subst (λ (y : Known T). FitsHistory h (length views + 1) j y) is record {
               number = omega (arith, count, last, long);
               saw = mine.saw;
               own = k.2 (v.senders + 1) (omega (arith, count));
               counts = λ z. absurd (omega (arith, z));
             })
-            (at_snoc vs (guest v) u j e)),
+            (at_snoc vs (sender_known v) u j e)),
       )

@@ -21,30 +21,30 @@ abbrev pub most_items : ℕ
 most_items = 9007199254740991
 
 module _ {T : Type 0} where
-  abbrev pub note : ℕ → Deed T → Note T
-  note k d = record { by = k; deed = d }
+  abbrev pub deed_note : ℕ → Deed T → Note T
+  deed_note k d = record { by = k; deed = d }
 
   -- the notes of one pass, in their order
-  abbrev pub notes_of : ℕ → List (Note T) → List (Note T)
-  notes_of number h = filter (λ n. n.by == number) h
+  abbrev pub pass_notes : ℕ → List (Note T) → List (Note T)
+  pass_notes number h = filter (λ n. n.by == number) h
 
-  abbrev pub put_by : Deed T → List (Letter T)
-  put_by (Putting m) = m ∷ []
-  put_by (Getting m) = []
+  abbrev pub letters_put : Deed T → List (Letter T)
+  letters_put (Putting m) = m ∷ []
+  letters_put (Getting m) = []
 
-  abbrev pub got_by : Deed T → List (Letter T)
-  got_by (Putting m) = []
-  got_by (Getting m) = m ∷ []
+  abbrev pub letters_got : Deed T → List (Letter T)
+  letters_got (Putting m) = []
+  letters_got (Getting m) = m ∷ []
 
   -- all letters that were put
   abbrev pub puts : List (Note T) → List (Letter T)
   puts [] = []
-  puts (n ∷ h) = put_by n.deed ++ puts h
+  puts (n ∷ h) = letters_put n.deed ++ puts h
 
   -- all letters that were got
   abbrev pub gets : List (Note T) → List (Letter T)
   gets [] = []
-  gets (n ∷ h) = got_by n.deed ++ gets h
+  gets (n ∷ h) = letters_got n.deed ++ gets h
 
   -- the receiver has the pass 0 and the sender p the pass p + 1, and nobody else does anything
   abbrev pub IsOwnDeed : ℕ → Deed T → Type 0
@@ -64,7 +64,7 @@ module _ {T : Type 0} where
   -- has just the pass's own notes under its number, and for the receiver it has no letter of a sender that was not made
   pub record Stood (v : Known T) (found : List (Note T)) (items : List (Letter T)) : Type 0 where
     pub begins : IsPrefix v.seen found
-    pub own : notes_of v.number found ≡ v.mine
+    pub own : pass_notes v.number found ≡ v.mine
     pub history : BoxHistory found items
     pub no_others : v.number ≡ 0 → (p : ℕ) → v.senders ≤ p → of p (puts found) ≡ []
 
@@ -79,15 +79,15 @@ module _ {T : Type 0} where
 
   -- one step put the letter last
   abbrev pub Posts : Known T → Letter T → Known T → Type 0
-  Posts v m w = (found : List (Note T)) × (items : List (Letter T)) × OneStep v w found (note v.number (Putting m) ∷ []) items (items ++ m ∷ [])
+  Posts v m w = (found : List (Note T)) × (items : List (Letter T)) × OneStep v w found (deed_note v.number (Putting m) ∷ []) items (items ++ m ∷ [])
 
   -- one step took the letter, which was the oldest
-  abbrev pub Takes : Known T → Letter T → Known T → Type 0
-  Takes v m w = (found : List (Note T)) × (items : List (Letter T)) × OneStep v w found (note v.number (Getting m) ∷ []) (m ∷ items) items
+  abbrev pub TakesLetter : Known T → Letter T → Known T → Type 0
+  TakesLetter v m w = (found : List (Note T)) × (items : List (Letter T)) × OneStep v w found (deed_note v.number (Getting m) ∷ []) (m ∷ items) items
 
   -- one step found the box with these letters
-  abbrev pub Finds : Known T → List (Letter T) → Type 0
-  Finds v items = (found : List (Note T)) × Stood v found items
+  abbrev pub FindsLetters : Known T → List (Letter T) → Type 0
+  FindsLetters v items = (found : List (Note T)) × Stood v found items
 
 -- which queue it is, and how many letters it holds at most
 pub record QueueId : Type 0 where
@@ -115,22 +115,22 @@ module _ {T : Type 0} where
   -- one step put the letter; what the history says of this sender is what it put
   abbrev pub PutServes : Sending T → PassFront T → Letter T → Type 0
   PutServes s g m = (g.queue ≡ s.front.queue) × (found : List (Note T)) × (items : List (Letter T))
-      × OneStep s.front.known g.known found (note s.front.known.number (Putting m) ∷ []) items (items ++ m ∷ [])
+      × OneStep s.front.known g.known found (deed_note s.front.known.number (Putting m) ∷ []) items (items ++ m ∷ [])
       × (of s.sender (puts found) ≡ s.put)
 
   -- one step found every place with a letter; nothing changed
-  abbrev pub FullServes : Sending T → PassFront T → Type 0
-  FullServes s g = (g ≡ s.front) × (found : List (Note T)) × (items : List (Letter T))
+  abbrev pub FullPutServes : Sending T → PassFront T → Type 0
+  FullPutServes s g = (g ≡ s.front) × (found : List (Note T)) × (items : List (Letter T))
       × Stood s.front.known found items
       × (of s.sender (puts found) ≡ s.put)
       × (length items ≡ s.front.queue.places)
 
   -- one step got the oldest letter, or found none, and then nothing changed; what the history says was got is what the receiver got
-  abbrev pub TakeServes : Receiving T → PassFront T → Option (Letter T) → Type 0
-  TakeServes r g (Some m) = (g.queue ≡ r.front.queue) × (found : List (Note T)) × (items : List (Letter T))
-      × OneStep r.front.known g.known found (note r.front.known.number (Getting m) ∷ []) (m ∷ items) items
+  abbrev pub OldestServes : Receiving T → PassFront T → Option (Letter T) → Type 0
+  OldestServes r g (Some m) = (g.queue ≡ r.front.queue) × (found : List (Note T)) × (items : List (Letter T))
+      × OneStep r.front.known g.known found (deed_note r.front.known.number (Getting m) ∷ []) (m ∷ items) items
       × (gets found ≡ r.got)
-  TakeServes r g None = (g ≡ r.front) × (found : List (Note T)) × Stood r.front.known found [] × (gets found ≡ r.got)
+  OldestServes r g None = (g ≡ r.front) × (found : List (Note T)) × Stood r.front.known found [] × (gets found ≡ r.got)
 
   -- what a get hands out is the sender's next letter, which no closing mark came before
   abbrev pub Hands : List (Letter T) → List (Letter T) → Got T → Type 0
@@ -140,9 +140,9 @@ module _ {T : Type 0} where
 
   -- one step served a get
   abbrev pub GetServes : Receiving T → PassFront T → Got T → Type 0
-  GetServes r g (Item p n x) = TakeServes r g (Some (letter p n (Some x)))
-  GetServes r g (Shut p) = TakeServes r g (Some (letter p (length (of p r.got) + 1) None))
-  GetServes r g Empty = TakeServes r g None
+  GetServes r g (Item p n x) = OldestServes r g (Some (letter p n (Some x)))
+  GetServes r g (Shut p) = OldestServes r g (Some (letter p (length (of p r.got) + 1) None))
+  GetServes r g Empty = OldestServes r g None
 
   -- each sender stands at its index, the first at n, on the queue q, and put nothing
   abbrev pub StandFrom : ℕ → QueueId → List (Sending T) → Type 0
@@ -150,7 +150,7 @@ module _ {T : Type 0} where
   StandFrom n q (s ∷ ss) = ((s.sender ≡ n) × (s.put ≡ []) × (s.front.queue ≡ q)) × StandFrom (n + 1) q ss
 
   -- a new box of these sizes: nothing was put or got, and each sender stands at its index
-  pub record Opens (senders places : ℕ) (r : Receiving T) (all : List (Sending T)) : Type 0 where
+  pub record OpensBox (senders places : ℕ) (r : Receiving T) (all : List (Sending T)) : Type 0 where
     pub within : AreSizes senders places
     pub places_are : r.front.queue.places ≡ places
     pub senders_are : r.senders ≡ senders

@@ -2,9 +2,9 @@
 ghost use Rattle.std.specs.Prelude.{◌≡◌, ◌<◌, ◌≤◌, ◌↔◌, [], length, vec_len, vec_capacity, IsTrue, IfOk, IfErr};
 ghost use Rattle.std.specs.Arc.{arc_value};
 ghost use Rattle.crossbeam_queue.specs.Passes.{view, IsPassOf, ruled_capacity};
-ghost use Rattle.smx_box.specs.Boxes.{AreSizes, Opens, StandFrom, IsBoxFault};
+ghost use Rattle.smx_box.specs.Boxes.{AreSizes, OpensBox, StandFrom, IsBoxFault};
 ghost use Rattle.smx_box.specs.Private.Rule.{first_known};
-ghost use Rattle.smx_box.specs.Private.Ends.{front_of};
+ghost use Rattle.smx_box.specs.Private.Ends.{pass_front};
 
 use crate::end::End;
 use crate::fault::BoxFault;
@@ -68,7 +68,7 @@ fn pass_all<T: Drop>(
     ensures known { IfOk result (λ _. view pass.new ≡ record first_known { senders = senders }) }
     ensures count { IfOk result (λ all. length all.items ≡ senders) }
     ensures each { IfOk result (λ all. StandFrom 0
-        (front_of (ruled_capacity (arc_value queue.now)) pass.old).queue all.items) }
+        (pass_front (ruled_capacity (arc_value queue.now)) pass.old).queue all.items) }
 {
     let mut all = room;
     for sender in 0..senders {
@@ -88,7 +88,7 @@ impl Boxed {
         senders: usize,
         places: usize,
     ) -> Result<(Receiver<T>, Vec<Sender<T>>), BoxFault>
-        ensures ok { IfOk result (λ r. Opens senders places r.0 r.1.items) }
+        ensures ok { IfOk result (λ r. OpensBox senders places r.0 r.1.items) }
         ensures err { IfErr result (IsBoxFault senders places) }
     {
         if !are_sizes(senders, places) {

@@ -2,8 +2,8 @@
 ghost use Rattle.std.specs.Prelude.{◌≡◌};
 ghost use Rattle.std.specs.Arc.{arc_value};
 ghost use Rattle.crossbeam_queue.specs.Passes.{IsPassOf, ruled_capacity};
-ghost use Rattle.smx_box.specs.Boxes.{TakeServes};
-ghost use Rattle.smx_box.specs.Private.Ends.{IsNextLetter, front_of, sending, receiving, PostServes};
+ghost use Rattle.smx_box.specs.Boxes.{OldestServes};
+ghost use Rattle.smx_box.specs.Private.Ends.{IsNextLetter, pass_front, sending, receiving, PostServes};
 
 use crate::letter::{Known, Letter};
 use crate::rule::{Put, Queue, Taken};
@@ -23,11 +23,11 @@ impl<T: Drop> Model for End<T> {
     ghost use Rattle.std.specs.Arc.{arc_value};
     ghost use Rattle.crossbeam_queue.specs.Passes.{IsPassOf, ruled_capacity};
     ghost use Rattle.smx_box.specs.Boxes.{PassFront};
-    ghost use Rattle.smx_box.specs.Private.Ends.{front_of};
+    ghost use Rattle.smx_box.specs.Private.Ends.{pass_front};
 
     ghost Value = { PassFront T };
 
-    ghost view = { λ e. front_of (ruled_capacity (arc_value e.queue)) e.pass };
+    ghost view = { λ e. pass_front (ruled_capacity (arc_value e.queue)) e.pass };
 
     ghost invariant = { λ e. IsPassOf (arc_value e.queue) e.pass };
 }
@@ -35,7 +35,7 @@ impl<T: Drop> Model for End<T> {
 impl<T: Drop> End<T> {
     pub(crate) fn new(queue: Arc<Queue<T>, Global>, pass: Pass<Letter<T>, Known<T>>) -> End<T>
         requires { IsPassOf (arc_value queue) pass }
-        ensures { result ≡ front_of (ruled_capacity (arc_value queue)) pass }
+        ensures { result ≡ pass_front (ruled_capacity (arc_value queue)) pass }
     {
         End { queue, pass }
     }
@@ -51,7 +51,7 @@ impl<T: Drop> End<T> {
     // Takes the oldest letter.
     pub(crate) fn take<R: Wait>(&mut self, rt: &R) -> Option<Letter<T>>
         requires { self.old.known.number ≡ 0 }
-        ensures { TakeServes (receiving self.old) self.new result }
+        ensures { OldestServes (receiving self.old) self.new result }
     {
         self.queue.pop_as::<Taken, R>(rt, &mut self.pass)
     }

@@ -10,9 +10,9 @@ use std::alloc::Global;
 pub(crate) struct Delivery;
 
 impl<T> Protocol<Letter<T>, Known<T>> for Delivery {
-    ghost use Rattle.smx_box.specs.Private.Rule.{Kept, first_known};
+    ghost use Rattle.smx_box.specs.Private.Rule.{IsLeftBy, first_known};
 
-    ghost holds = { Kept };
+    ghost holds = { IsLeftBy };
 
     ghost first = { first_known };
 }
@@ -21,11 +21,11 @@ impl<T> Protocol<Letter<T>, Known<T>> for Delivery {
 pub(crate) struct Made;
 
 impl<T> Split<Known<T>> for Made {
-    ghost use Rattle.smx_box.specs.Private.Rule.{host, guest};
+    ghost use Rattle.smx_box.specs.Private.Rule.{receiver_known, sender_known};
 
-    ghost left = { host };
+    ghost left = { receiver_known };
 
-    ghost right = { guest };
+    ghost right = { sender_known };
 }
 
 // A sender's letter joins.
@@ -38,24 +38,24 @@ impl<T> Outcome<Letter<T>, Known<T>> for Put {
 }
 
 impl<T> Lesson<Letter<T>, Known<T>> for Put {
-    ghost use Rattle.smx_box.specs.Boxes.{Finds};
+    ghost use Rattle.smx_box.specs.Boxes.{FindsLetters};
 
-    ghost fact = { Finds };
+    ghost fact = { FindsLetters };
 }
 
 // The receiver takes the oldest letter.
 pub(crate) struct Taken;
 
 impl<T> Outcome<Letter<T>, Known<T>> for Taken {
-    ghost use Rattle.smx_box.specs.Boxes.{Takes};
+    ghost use Rattle.smx_box.specs.Boxes.{TakesLetter};
 
-    ghost then = { Takes };
+    ghost then = { TakesLetter };
 }
 
 impl<T> Lesson<Letter<T>, Known<T>> for Taken {
-    ghost use Rattle.smx_box.specs.Boxes.{Finds};
+    ghost use Rattle.smx_box.specs.Boxes.{FindsLetters};
 
-    ghost fact = { Finds };
+    ghost fact = { FindsLetters };
 }
 
 pub(crate) type Queue<T> = RuledArrayQueue<Letter<T>, Known<T>, Delivery, Global>;

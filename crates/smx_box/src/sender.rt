@@ -1,7 +1,7 @@
 //! The end of a box at which items are put.
 ghost use Rattle.std.specs.Prelude.{◌≡◌, ◌<◌, ◌+◌, ◌++◌, [], ◌∷◌, true, length, Some, None, IfOk, OnOk, IfErr, IsSome};
 ghost use Rattle.smx_box.specs.Letters.{letter, is_open, Numbered};
-ghost use Rattle.smx_box.specs.Boxes.{PassFront, most_items, PutServes, FullServes};
+ghost use Rattle.smx_box.specs.Boxes.{PassFront, most_items, PutServes, FullPutServes};
 ghost use Rattle.smx_box.specs.Private.Ends.{IsFreshPass};
 
 use crate::end::End;
@@ -74,7 +74,7 @@ impl<T: Drop> Sender<T> {
         ensures served { IfOk result (λ n. PutServes self.old self.new.front
             (letter self.old.sender n (Some content))) }
         ensures full { IfErr result (λ e. e.1 ≡ PutFault.Full
-            → FullServes self.old self.new.front) }
+            → FullPutServes self.old self.new.front) }
 
         // Or none did, exactly where the sender has put all its items.
         ensures spent { IfErr result (λ e. e.1 ≡ PutFault.Spent
@@ -107,7 +107,7 @@ impl<T: Drop> Sender<T> {
         ensures ok { OnOk result ((g : PassFront T)
             × PutServes self g (letter self.sender (length self.put + 1) None)) }
         ensures err { IfErr result (λ e. (e.0 ≡ self) × (e.1 ≡ PutFault.Full)) }
-        ensures full { IfErr result (λ e. FullServes self e.0.front) }
+        ensures full { IfErr result (λ e. FullPutServes self e.0.front) }
     {
         let Sender {
             mut end,

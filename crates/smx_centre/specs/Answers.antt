@@ -67,13 +67,13 @@ response_kept Stranger held r = held
 response_kept Silent held r = held
 
 -- the answers to a PDU
-abbrev pub answers : Class → Centring → Pdu → List Pdu
-answers Bind c p = response p ESME_ROK (codes "centre" ++ 0 ∷ []) ∷ []
-answers Session c p = response p ESME_ROK [] ∷ []
-answers Message c p = responses_sent c.mode c.held (forwarded_response (Some (next c.messages)) p)
-answers Forwarded c p = responses_sent c.mode c.held (forwarded_response None p)
-answers OtherRequest c p = unknown p.number ∷ []
-answers Response c p = []
+abbrev pub responses_to : Class → Centring → Pdu → List Pdu
+responses_to Bind c p = response p ESME_ROK (codes "centre" ++ 0 ∷ []) ∷ []
+responses_to Session c p = response p ESME_ROK [] ∷ []
+responses_to Message c p = responses_sent c.mode c.held (forwarded_response (Some (next c.messages)) p)
+responses_to Forwarded c p = responses_sent c.mode c.held (forwarded_response None p)
+responses_to OtherRequest c p = unknown p.number ∷ []
+responses_to Response c p = []
 
 -- and what the centre keeps after it
 abbrev pub centring_after : Class → Centring → Pdu → Centring

@@ -56,7 +56,7 @@ fn next(number: u32) -> u32
 
 impl Centre {
     ghost use Rattle.std.specs.Prelude.{Contains, IfOk, OnOk, OnErr, IsOk, length, ℕ};
-    ghost use Rattle.smx_centre.specs.Answers.{class_of, answers, centring_after, delivery, responses_sent, response_kept, forwarded_response};
+    ghost use Rattle.smx_centre.specs.Answers.{class_of, responses_to, centring_after, delivery, responses_sent, response_kept, forwarded_response};
 
     /// A centre that has given no number. It takes no memory.
     pub fn new(alloc: Global, mode: Mode) -> Centre
@@ -124,7 +124,7 @@ impl Centre {
     /// the centre is unchanged.
     pub fn on_pdu(&mut self, pdu: &Pdu) -> Result<Vec<Pdu>, AllocError>
         ensures ok { IfOk result (λ pdus. pdus.items
-            ≡ answers (class_of pdu.now.command) self.old pdu.now) }
+            ≡ responses_to (class_of pdu.now.command) self.old pdu.now) }
         ensures after { OnOk result (self.new
             ≡ centring_after (class_of pdu.now.command) self.old pdu.now) }
         ensures err { OnErr result (self.new ≡ self.old) }

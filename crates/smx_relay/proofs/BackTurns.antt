@@ -12,7 +12,7 @@ use Rattle.smx_relay.specs.declared.state.LinkedLane.{LinkedLane}
 use Rattle.smx_relay.specs.Relay.{Relay, going_on, has_lane, lane_at}
 use Rattle.smx_relay.specs.ClientTurn.{each_pdu, followed_by}
 use Rattle.smx_relay.specs.CentreTurn.{BackTurn, OnUp, centre_end, centre_pdu}
-use Rattle.smx_relay.specs.Private.States.{StandsFor, MayPrint, Turned}
+use Rattle.smx_relay.specs.Private.States.{StandsFor, MayPrint, TurnLeaves}
 use Rattle.smx_relay.proofs.Turning.{turned_then}
 use Rattle.smx_relay.proofs.Links.{IsCentre, centred}
 
@@ -28,15 +28,15 @@ back_down s i octets state text at down a e = (Some (down_line i, s), rw (at, do
 abbrev pub decided : Relay → ℕ → CentreLink → List Pdu → Stream → List ℕ × Relay
 decided s i k ps stream = followed_by (each_pdu (centre_pdu i) (with_centre s i (record k { stream = stream })) ps) (centre_end i (has_failed stream))
 
-back_given_up : (s : Relay) (i : ℕ) (octets : List ℕ) (k : CentreLink) (ps : List Pdu) (stream : Stream) (mid new : State) (text : List ℕ) → Receives k.stream octets ps stream → Turned (decided s i k ps stream) mid text → ((t : Relay) → StandsFor mid t → GaveUp new t i)
-    → (x : List ℕ × Relay) × OnUp s i octets k (Some x) × Turned x new text
+back_given_up : (s : Relay) (i : ℕ) (octets : List ℕ) (k : CentreLink) (ps : List Pdu) (stream : Stream) (mid new : State) (text : List ℕ) → Receives k.stream octets ps stream → TurnLeaves (decided s i k ps stream) mid text → ((t : Relay) → StandsFor mid t → GaveUp new t i)
+    → (x : List ℕ × Relay) × OnUp s i octets k (Some x) × TurnLeaves x new text
 back_given_up s i octets k ps stream mid new text received turned gives =
     let y = decided s i k ps stream in
     let gave = gives y.1 turned.left in
     ((y.0, going_on y.1 i (give_up_lane gave.0)), (ps, stream, received, (gave.0, gave.1, refl)), record { text = turned.text; left = gave.2 })
 
 pub back_up : (s : Relay) (i : ℕ) (octets : List ℕ) (k : CentreLink) (ps : List Pdu) (stream : Stream) (mid new : State) (text : Vec ℕ) → has_lane s i ≡ true → is_up_at s i ≡ true → k ≡ (lane_at s i).link → Receives k.stream octets ps stream
-    → Turned (decided s i k ps stream) mid text.items → ((t : Relay) → StandsFor mid t → GaveUp new t i) → MayPrint (BackTurn s i octets) new (Some text)
+    → TurnLeaves (decided s i k ps stream) mid text.items → ((t : Relay) → StandsFor mid t → GaveUp new t i) → MayPrint (BackTurn s i octets) new (Some text)
 unfolding BackTurn
 back_up s i octets k ps stream mid new text at up link received turned gives =
     let x = back_given_up s i octets k ps stream mid new text.items received turned gives in
@@ -49,8 +49,8 @@ streamed_up old mid s i k after a is same =
     subst (λ (l : CentreLink). StandsFor mid (with_centre s i l)) whole (centred old mid s i k after a is)
 
 -- each PDU's turn, and then the end's
-pub back_turns : (s : Relay) (i : ℕ) (ps : List Pdu) (b failed : Bool) (mid last new : State) (text more all : List ℕ) → StandsFor mid s → ((t : Relay) → StandsFor mid t → Turned (each_pdu (centre_pdu i) t ps) last text) → ((t : Relay) → StandsFor last t → Turned (centre_end i b t) new more) → b ≡ failed → all ≡ text ++ more
-    → Turned (followed_by (each_pdu (centre_pdu i) s ps) (centre_end i failed)) new all
+pub back_turns : (s : Relay) (i : ℕ) (ps : List Pdu) (b failed : Bool) (mid last new : State) (text more all : List ℕ) → StandsFor mid s → ((t : Relay) → StandsFor mid t → TurnLeaves (each_pdu (centre_pdu i) t ps) last text) → ((t : Relay) → StandsFor last t → TurnLeaves (centre_end i b t) new more) → b ≡ failed → all ≡ text ++ more
+    → TurnLeaves (followed_by (each_pdu (centre_pdu i) s ps) (centre_end i failed)) new all
 back_turns s i ps b failed mid last new text more all a turns ends is e =
-    subst (λ (t : List ℕ). Turned (followed_by (each_pdu (centre_pdu i) s ps) (centre_end i failed)) new t) (sym e)
-    (subst (λ (f : Bool). Turned (followed_by (each_pdu (centre_pdu i) s ps) (centre_end i f)) new (text ++ more)) is (turned_then (each_pdu (centre_pdu i) s ps) (centre_end i b) last new text more (turns s a) ends))
+    subst (λ (t : List ℕ). TurnLeaves (followed_by (each_pdu (centre_pdu i) s ps) (centre_end i failed)) new t) (sym e)
+    (subst (λ (f : Bool). TurnLeaves (followed_by (each_pdu (centre_pdu i) s ps) (centre_end i f)) new (text ++ more)) is (turned_then (each_pdu (centre_pdu i) s ps) (centre_end i b) last new text more (turns s a) ends))

@@ -15,7 +15,7 @@ use Rattle.smx_relay.specs.Texts.{text_line}
 use Rattle.smx_relay.specs.declared.state.LinkedLane.{LinkedLane}
 use Rattle.smx_relay.specs.Relay.{Relay, RelayLane, client_of, enter_lane, enter_and_leave_lane, client_turn, lane_after, new_client, new_lane}
 use Rattle.smx_relay.specs.Private.Lanes.{IsLane, last_in, lasts}
-use Rattle.smx_relay.specs.Private.States.{StandsFor, HasRoutes, Turned, AreOn, EntersLanes, HaveEntered}
+use Rattle.smx_relay.specs.Private.States.{StandsFor, HasRoutes, TurnLeaves, AreOn, EntersLanes, HaveEntered}
 use Rattle.smx_relay.specs.Private.Lending.{IsKnown}
 use Rattle.smx_relay.proofs.Lanes.{zip-weaker}
 use Rattle.smx_relay.proofs.Entering.{refuses}
@@ -47,7 +47,7 @@ abbrev fresh : ClientLink → LinkedClient
 fresh link = record { last = 0; link = link }
 
 pub entered_all : (old new : State) (s : Relay) (kind : Option Kind) (c : ℕ) (link : ClientLink) (text : List ℕ) → StandsFor old s → c ≡ length old.clients.list.items → EntersLanes s.limits (lasts s.clients) s.lanes c None new.lanes.items → KeepsSettings old new → new.clients.list.items ≡ old.clients.list.items ++ Some (fresh link) ∷ [] → link ≡ new_link old.places kind
-    → text ≡ text_line (codes "client " ++ decimal c) → Turned (client_turn s kind) new text
+    → text ≡ text_line (codes "client " ++ decimal c) → TurnLeaves (client_turn s kind) new text
 entered_all old new s kind c link text a is enters keeps clients made e =
     let c_is : c ≡ length s.clients = is ∙ ap length a.clients in
     let here : EntersLanes s.limits (lasts s.clients) s.lanes (length s.clients) None new.lanes.items = subst (λ n. EntersLanes s.limits (lasts s.clients) s.lanes n None new.lanes.items) c_is enters in
@@ -79,7 +79,7 @@ none_parted c i ls e = ap (λ xs. map (lane_after (enter_and_leave_lane c)) (tak
 
 pub entered_none : (old : State) (mid : List LinkedLane) (new : State) (s : Relay) (kind : Option Kind) (c i : ℕ) (text : List ℕ) → StandsFor old s → c ≡ length old.clients.list.items → EntersLanes s.limits (lasts s.clients) s.lanes c (Some i) mid
     → ((limits : Limits) (clients : List (Option ℕ)) (some : List RelayLane) (others : List RelayLane) → length some ≡ i → AreOn limits clients (map (lane_after (enter_lane c)) some ++ others) mid → AreOn limits clients (map (lane_after (enter_and_leave_lane c)) some ++ others) new.lanes.items)
-    → KeepsSettings old new → new.clients.list.items ≡ old.clients.list.items ++ None ∷ [] → text ≡ text_line (codes "refused") → Turned (client_turn s kind) new text
+    → KeepsSettings old new → new.clients.list.items ≡ old.clients.list.items ++ None ∷ [] → text ≡ text_line (codes "refused") → TurnLeaves (client_turn s kind) new text
 entered_none old mid new s kind c i text a is enters leaves keeps clients e =
     let c_is : c ≡ length s.clients = is ∙ ap length a.clients in
     let within = place_within s.limits c i s.lanes enters.0 in

@@ -11,7 +11,7 @@ use Rattle.smx_relay.specs.ClientTurn.{followed_by}
 use Rattle.smx_relay.specs.Messages.{send_turn}
 use Rattle.smx_relay.specs.Turns.{collect_turn, or_none}
 use Rattle.smx_relay.specs.Private.Lanes.{lasts}
-use Rattle.smx_relay.specs.Private.States.{StandsFor, AreOn, Prints, Turned}
+use Rattle.smx_relay.specs.Private.States.{StandsFor, AreOn, Prints, TurnLeaves}
 use Rattle.smx_relay.proofs.Keeping.{KeepsSettings, kept_routes}
 use Rattle.smx_relay.proofs.ClientTurns.{client_same}
 
@@ -29,17 +29,17 @@ collect_left old new s c a on keeps clients = record {
 
 -- the client collected its responses
 pub lanes_collected : (old new : State) (s : Relay) (c : ℕ) (text : List ℕ) → StandsFor old s → text ≡ flat_map (λ (l : RelayLane). collect_text c l.history) s.lanes → AreOn s.limits (lasts s.clients) (map (lane_after (collect_lane c)) s.lanes) new.lanes.items → KeepsSettings old new → new.clients.list.items ≡ old.clients.list.items
-    → Turned (collect_lanes c s) new text
+    → TurnLeaves (collect_lanes c s) new text
 lanes_collected old new s c text a e on keeps clients = record { text = e; left = collect_left old new s c a on keeps clients }
 
 or_none-some : (c : ℕ) (text : List ℕ) → text ≢ [] → or_none c text ≡ text
 or_none-some c [] some = absurd (some refl)
 or_none-some c (x ∷ xs) some = refl
 
-pub collected_some : (s : Relay) (c : ℕ) (k : LinkedClient) (new : State) (text : Vec ℕ) → client_of s.clients c ≡ Some k → Turned (followed_by (collect_lanes c s) (send_turn c)) new text.items → text.items ≢ [] → Prints (collect_turn s c (client_of s.clients c)) new (Some text)
+pub collected_some : (s : Relay) (c : ℕ) (k : LinkedClient) (new : State) (text : Vec ℕ) → client_of s.clients c ≡ Some k → TurnLeaves (followed_by (collect_lanes c s) (send_turn c)) new text.items → text.items ≢ [] → Prints (collect_turn s c (client_of s.clients c)) new (Some text)
 collected_some s c k new text known turned some = rw known (record { text = sym (or_none-some c text.items some) ∙ ap (or_none c) turned.text; left = turned.left })
 
-pub collected_none : (s : Relay) (c : ℕ) (k : LinkedClient) (new : State) (none : List ℕ) (text : Vec ℕ) → client_of s.clients c ≡ Some k → Turned (followed_by (collect_lanes c s) (send_turn c)) new none → none ≡ [] → text.items ≡ text_line (codes "none " ++ decimal c)
+pub collected_none : (s : Relay) (c : ℕ) (k : LinkedClient) (new : State) (none : List ℕ) (text : Vec ℕ) → client_of s.clients c ≡ Some k → TurnLeaves (followed_by (collect_lanes c s) (send_turn c)) new none → none ≡ [] → text.items ≡ text_line (codes "none " ++ decimal c)
     → Prints (collect_turn s c (client_of s.clients c)) new (Some text)
 collected_none s c k new none text known turned empty e = rw known (record { text = e ∙ ap (or_none c) (sym empty ∙ turned.text); left = turned.left })
 

@@ -21,7 +21,7 @@ use Rattle.smx_history.proofs.Pending.{found_at}
 use Rattle.smx_history.proofs.Reading.{entries_of-push}
 use Rattle.smx_history.proofs.Spacing.{spaced_free}
 use Rattle.smx_history.proofs.TakeAgrees.{any-map}
-use Rattle.smx_relay.specs.Turns.{IsFree}
+use Rattle.smx_relay.specs.Turns.{IsFreeNumber}
 
 -- of more numbers than a list has one isn't in it
 first_free : (n : ℕ) (ks : List ℕ) → length ks < n → (u : ℕ) × (0 < u) × (u ≤ n) × (list_any (λ k. k == u) ks ≡ false)
@@ -36,7 +36,7 @@ first_free (suc n) ks few = elim (cases_Bool (list_any (λ k. k == suc n) ks)) [
 ]
 
 -- after each history some number is free
-pub some_free : (h : List Note) → (u : ℕ) × IsFree h u
+pub some_free : (h : List Note) → (u : ℕ) × IsFreeNumber h u
 some_free h =
     elim (cases_lt (length (window_after h)) 1024) [
       | inl room ↦
@@ -52,7 +52,7 @@ some_free h =
     ]
 
 -- the number of a take that the history may have was free
-pub taken_free : (h : List Note) (new : Content) (by c n u t : ℕ) → IsLegal new.limits (marks_of h) → AgreesWith (h ++ note by (Take c n u t) ∷ []) new → IsFree h u
+pub taken_free : (h : List Note) (new : Content) (by c n u t : ℕ) → IsLegal new.limits (marks_of h) → AgreesWith (h ++ note by (Take c n u t) ∷ []) new → IsFreeNumber h u
 taken_free h new by c n u t before a room =
     let es = entries_of h in
     let us = unanswered_takes es in

@@ -9,7 +9,7 @@ use Rattle.smx_relay.specs.Texts.{closed_line}
 use Rattle.smx_relay.specs.Links.{ClientLink, Receives, has_failed}
 use Rattle.smx_relay.specs.Relay.{Relay, client_of, with_link}
 use Rattle.smx_relay.specs.ClientTurn.{InTurn, OnClient, OnStream, client_end, client_pdu, each_pdu, followed_by}
-use Rattle.smx_relay.specs.Private.States.{StandsFor, MayPrint, Turned}
+use Rattle.smx_relay.specs.Private.States.{StandsFor, MayPrint, TurnLeaves}
 use Rattle.smx_relay.proofs.Turning.{turned_then}
 use Rattle.smx_relay.proofs.Links.{IsLinked, linked}
 
@@ -22,7 +22,7 @@ unfolding InTurn
 in_closed s c octets k state text known failed a e = (Some (closed_line c, s), rw (known, failed) refl, record { text = e; left = a })
 
 pub in_open : (s : Relay) (c : ℕ) (octets : List ℕ) (k : LinkedClient) (ps : List Pdu) (stream : Stream) (state : State) (text : Vec ℕ) → client_of s.clients c ≡ Some k → has_failed k.link.stream ≡ false → Receives k.link.stream octets ps stream
-    → Turned (followed_by (each_pdu (client_pdu c) (with_link s c (record k.link { stream = stream })) ps) (client_end c (has_failed stream))) state text.items → MayPrint (InTurn s c octets) state (Some text)
+    → TurnLeaves (followed_by (each_pdu (client_pdu c) (with_link s c (record k.link { stream = stream })) ps) (client_end c (has_failed stream))) state text.items → MayPrint (InTurn s c octets) state (Some text)
 unfolding InTurn
 in_open s c octets k ps stream state text known sound received turned =
     let y = followed_by (each_pdu (client_pdu c) (with_link s c (record k.link { stream = stream })) ps) (client_end c (has_failed stream)) in
@@ -36,8 +36,8 @@ streamed old mid s c k after a is same =
     subst (λ (l : ClientLink). StandsFor mid (with_link s c l)) whole (linked old mid s c k after a is)
 
 -- each PDU's turn, and then the end's
-pub in_turns : (s : Relay) (c : ℕ) (ps : List Pdu) (b failed : Bool) (mid last new : State) (text more all : List ℕ) → StandsFor mid s → ((t : Relay) → StandsFor mid t → Turned (each_pdu (client_pdu c) t ps) last text) → ((t : Relay) → StandsFor last t → Turned (client_end c b t) new more) → b ≡ failed → all ≡ text ++ more
-    → Turned (followed_by (each_pdu (client_pdu c) s ps) (client_end c failed)) new all
+pub in_turns : (s : Relay) (c : ℕ) (ps : List Pdu) (b failed : Bool) (mid last new : State) (text more all : List ℕ) → StandsFor mid s → ((t : Relay) → StandsFor mid t → TurnLeaves (each_pdu (client_pdu c) t ps) last text) → ((t : Relay) → StandsFor last t → TurnLeaves (client_end c b t) new more) → b ≡ failed → all ≡ text ++ more
+    → TurnLeaves (followed_by (each_pdu (client_pdu c) s ps) (client_end c failed)) new all
 in_turns s c ps b failed mid last new text more all a turns ends is e =
-    subst (λ (t : List ℕ). Turned (followed_by (each_pdu (client_pdu c) s ps) (client_end c failed)) new t) (sym e)
-    (subst (λ (f : Bool). Turned (followed_by (each_pdu (client_pdu c) s ps) (client_end c f)) new (text ++ more)) is (turned_then (each_pdu (client_pdu c) s ps) (client_end c b) last new text more (turns s a) ends))
+    subst (λ (t : List ℕ). TurnLeaves (followed_by (each_pdu (client_pdu c) s ps) (client_end c failed)) new t) (sym e)
+    (subst (λ (f : Bool). TurnLeaves (followed_by (each_pdu (client_pdu c) s ps) (client_end c f)) new (text ++ more)) is (turned_then (each_pdu (client_pdu c) s ps) (client_end c b) last new text more (turns s a) ends))

@@ -22,7 +22,7 @@ use Rattle.smx_relay.specs.Relay.{Relay, client_at, client_of, in_turn_at, lane_
 use Rattle.smx_relay.specs.Messages.{answer_turn, answer_with, leave_turn}
 use Rattle.smx_relay.specs.ClientTurn.{client_act, client_pdu, decides, each_pdu, forward, offer_at}
 use Rattle.smx_relay.specs.Private.Lanes.{last_in, last_of, lasts}
-use Rattle.smx_relay.specs.Private.States.{StandsFor, HasRoutes, Turned}
+use Rattle.smx_relay.specs.Private.States.{StandsFor, HasRoutes, TurnLeaves}
 use Rattle.smx_relay.specs.Private.Lending.{IsKnown}
 
 -- a client that there is
@@ -146,7 +146,7 @@ each_pdu_known c [] s d known = known
 each_pdu_known c (p ∷ ps) s d known = each_pdu_known c ps (client_pdu c p s).1 d (pdu_known c p s d known)
 
 -- so does a turn of the state
-pub still_known : (c : ℕ) (ps : List Pdu) (mid new : State) (s : Relay) (text : List ℕ) (d : ℕ) → StandsFor mid s → Turned (each_pdu (client_pdu c) s ps) new text → IsKnown mid.clients.list.items d → IsKnown new.clients.list.items d
+pub still_known : (c : ℕ) (ps : List Pdu) (mid new : State) (s : Relay) (text : List ℕ) (d : ℕ) → StandsFor mid s → TurnLeaves (each_pdu (client_pdu c) s ps) new text → IsKnown mid.clients.list.items d → IsKnown new.clients.list.items d
 still_known c ps mid new s text d a turned known =
     let before : IsKnown s.clients d = subst (λ (cs : List (Option LinkedClient)). IsKnown cs d) a.clients known in
     subst (λ (cs : List (Option LinkedClient)). IsKnown cs d) (sym turned.left.clients) (each_pdu_known c ps s d before)

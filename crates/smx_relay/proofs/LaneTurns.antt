@@ -21,7 +21,7 @@ use Rattle.smx_history.proofs.WindowOrder.{place_same}
 use Rattle.smx_history.proofs.Rows.{absent, found_present}
 use Rattle.smx_relay.specs.Texts.{text_line, pdu_line, up_lane, upstream_of, down_line}
 use Rattle.smx_relay.specs.Relay.{moment_on, take_with, take_on, back_on}
-use Rattle.smx_relay.specs.Turns.{IsFree}
+use Rattle.smx_relay.specs.Turns.{IsFreeNumber}
 use Rattle.smx_relay.specs.Private.Lanes.{TurnsLane}
 use Rattle.smx_relay.proofs.FreeNumbers.{some_free, taken_free}
 
@@ -58,7 +58,7 @@ first_of_queue (x ∷ xs) r e = let same : x ≡ r = cc in (xs, ap (λ y. y ∷ 
 
 pub took : (h : List Note) (old new : Content) (at moment u : ℕ) (r : Request) (text : List ℕ) → AgreesWith h old → take_refusal old ≡ None → slice_get old.queue 0 ≡ Some r
     → ((g : List Note) → AgreesWith g old → AgreesWith (g ++ note 0 (event.Take r.client r.ordinal u (moment_at old moment)) ∷ []) new) → new.limits ≡ old.limits
-    → text ≡ pdu_line (up_lane at) (upstream_of r u) → (n : ℕ) × IsFree h n × TurnsLane (take_on old.limits moment n at h) old new text
+    → text ≡ pdu_line (up_lane at) (upstream_of r u) → (n : ℕ) × IsFreeNumber h n × TurnsLane (take_on old.limits moment n at h) old new text
 unfolding take_on
 took h old new at moment u r text a taken front goes limits e =
     let now : moment_at old moment ≡ moment_on moment h = ap (max moment) a.after.latest in
@@ -71,7 +71,7 @@ took h old new at moment u r text a taken front goes limits e =
     (u, free, rw (up, queue, room) (record { text = e; agrees = longer; limits_are = limits }))
 
 pub took_none : (h : List Note) (old new : Content) (at moment : ℕ) (text : List ℕ) → AgreesWith h old → old.up ≡ true → take_refusal old ≡ Some QueueEmpty → new ≡ old
-    → text ≡ text_line (codes "take " ++ (decimal at ++ codes " empty")) → (n : ℕ) × IsFree h n × TurnsLane (take_on old.limits moment n at h) old new text
+    → text ≡ text_line (codes "take " ++ (decimal at ++ codes " empty")) → (n : ℕ) × IsFreeNumber h n × TurnsLane (take_on old.limits moment n at h) old new text
 unfolding take_on
 took_none h old new at moment text a up refused same e =
     let free = some_free h in
@@ -84,7 +84,7 @@ take_with_full moment u at h [] some = absurd (some refl)
 take_with_full moment u at h (r ∷ rs) some = refl
 
 pub took_full : (h : List Note) (old new : Content) (at moment : ℕ) (text : List ℕ) → AgreesWith h old → old.up ≡ true → take_refusal old ≡ Some WindowFull → new ≡ old
-    → text ≡ text_line (codes "take " ++ (decimal at ++ codes " full")) → (n : ℕ) × IsFree h n × TurnsLane (take_on old.limits moment n at h) old new text
+    → text ≡ text_line (codes "take " ++ (decimal at ++ codes " full")) → (n : ℕ) × IsFreeNumber h n × TurnsLane (take_on old.limits moment n at h) old new text
 unfolding take_on
 took_full h old new at moment text a up refused same e =
     let free = some_free h in
@@ -94,7 +94,7 @@ took_full h old new at moment text a up refused same e =
     let up' : is_up (entries_of h) ≡ true = sym a.after.up ∙ up in
     (free.0, free.1, rw (up', none, take_with_full moment free.0 at h (queue_after h) some) (record { text = e; agrees = rw same a; limits_are = ap (λ (v : Content). v.limits) same }))
 
-pub took_down : (h : List Note) (v : Content) (at moment : ℕ) (text : List ℕ) → AgreesWith h v → v.up ≡ false → text ≡ down_line at → (n : ℕ) × IsFree h n × TurnsLane (take_on v.limits moment n at h) v v text
+pub took_down : (h : List Note) (v : Content) (at moment : ℕ) (text : List ℕ) → AgreesWith h v → v.up ≡ false → text ≡ down_line at → (n : ℕ) × IsFreeNumber h n × TurnsLane (take_on v.limits moment n at h) v v text
 unfolding take_on
 took_down h v at moment text a down e =
     let free = some_free h in

@@ -18,7 +18,7 @@ use Rattle.smx_relay.specs.Relay.{Relay, RelayLane, client_at, client_of, leave_
 use Rattle.smx_relay.specs.ClientTurn.{hang_up, client_act, client_pdu, client_pdu_on, client_end, decides}
 use Rattle.smx_relay.specs.LaneLinks.{with_centre, lower_lane}
 use Rattle.smx_relay.specs.CentreTurn.{centre_act, centre_pdu, centre_end, link_pdu, act_of, session_after}
-use Rattle.smx_relay.specs.Private.States.{StandsFor, AreOn, HasLeftLanes, IsReached, AreReached, Turned}
+use Rattle.smx_relay.specs.Private.States.{StandsFor, AreOn, HasLeftLanes, IsReached, AreReached, TurnLeaves}
 use Rattle.smx_relay.specs.Private.Lending.{IsKnown}
 use Rattle.smx_relay.specs.Private.Lanes.{IsLane, lasts}
 use Rattle.smx_relay.proofs.Lanes.{link_goes, written_back, zip-set}
@@ -104,12 +104,12 @@ left_by_all old new s c a leaves keeps clients routes = record {
 }
 
 -- a client was hung up
-pub client_ended : (new : State) (s : Relay) (c : ℕ) (k after : ClientLink) (answer : Pdu) (text : List ℕ) → (client_at s c).link ≡ k → after ≡ record k { session = Ended } → answer ≡ nack_of_undecoded → Turned (hang_up c answer (with_link s c after)) new text → Turned (client_end c true s) new text
+pub client_ended : (new : State) (s : Relay) (c : ℕ) (k after : ClientLink) (answer : Pdu) (text : List ℕ) → (client_at s c).link ≡ k → after ≡ record k { session = Ended } → answer ≡ nack_of_undecoded → TurnLeaves (hang_up c answer (with_link s c after)) new text → TurnLeaves (client_end c true s) new text
 unfolding client_end
 client_ended new s c k after answer text at link said turned =
-    let named : Turned (hang_up c nack_of_undecoded (with_link s c after)) new text = subst (λ (p : Pdu). Turned (hang_up c p (with_link s c after)) new text) said turned in
-    let ended : Turned (hang_up c nack_of_undecoded (with_link s c (record k { session = Ended }))) new text = subst (λ (l : ClientLink). Turned (hang_up c nack_of_undecoded (with_link s c l)) new text) link named in
-    subst (λ (l : ClientLink). Turned (hang_up c nack_of_undecoded (with_link s c (record l { session = Ended }))) new text) (sym at) ended
+    let named : TurnLeaves (hang_up c nack_of_undecoded (with_link s c after)) new text = subst (λ (p : Pdu). TurnLeaves (hang_up c p (with_link s c after)) new text) said turned in
+    let ended : TurnLeaves (hang_up c nack_of_undecoded (with_link s c (record k { session = Ended }))) new text = subst (λ (l : ClientLink). TurnLeaves (hang_up c nack_of_undecoded (with_link s c l)) new text) link named in
+    subst (λ (l : ClientLink). TurnLeaves (hang_up c nack_of_undecoded (with_link s c (record l { session = Ended }))) new text) (sym at) ended
 
 pub lanes_reached : (old : State) → IsReached old → AreReached old.lanes.items
 lanes_reached old reached = (reached.0.limits, lasts reached.0.clients, reached.0.lanes, reached.1.lanes)
@@ -180,7 +180,7 @@ centre_end_left s i true gone = rw gone refl
 centre_end_left s i false gone = refl
 
 -- a bad length came
-pub centre_ended : (state : State) (s : Relay) (i : ℕ) (answer : Pdu) (text : List ℕ) → has_left (lane_at s i).link ≡ false → answer ≡ nack_of_undecoded → text ≡ pdu_line (up_lane i) answer ++ down_line i → StandsFor state (going_on s i lower_lane) → Turned (centre_end i true s) state text
+pub centre_ended : (state : State) (s : Relay) (i : ℕ) (answer : Pdu) (text : List ℕ) → has_left (lane_at s i).link ≡ false → answer ≡ nack_of_undecoded → text ≡ pdu_line (up_lane i) answer ++ down_line i → StandsFor state (going_on s i lower_lane) → TurnLeaves (centre_end i true s) state text
 unfolding centre_end
 centre_ended state s i answer text here said e a =
-    rw here (subst (λ (p : Pdu). Turned (pdu_line (up_lane i) p ++ down_line i, going_on s i lower_lane) state text) said (record { text = e; left = a }))
+    rw here (subst (λ (p : Pdu). TurnLeaves (pdu_line (up_lane i) p ++ down_line i, going_on s i lower_lane) state text) said (record { text = e; left = a }))

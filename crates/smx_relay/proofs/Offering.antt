@@ -20,7 +20,7 @@ use Rattle.smx_relay.specs.Relay.{Relay, client_at, client_of, going_on, history
 use Rattle.smx_relay.specs.ClientTurn.{forward, offer_at}
 use Rattle.smx_relay.proofs.Offers.{request_named}
 use Rattle.smx_relay.specs.Private.Lanes.{IsContentAfter, IsLane, last_in, last_of, lasts}
-use Rattle.smx_relay.specs.Private.States.{StandsFor, Turned, MayAcceptNext, accepts_in}
+use Rattle.smx_relay.specs.Private.States.{StandsFor, TurnLeaves, MayAcceptNext, accepts_in}
 use Rattle.smx_relay.proofs.Lanes.{zip-length, zip-set, zip-weaker, find-agree, reordered_on}
 use Rattle.smx_history.specs.Ring.{ring}
 use Rattle.smx_history.proofs.Ring.{ring_within}
@@ -88,7 +88,7 @@ pub record IsAccepted (old new : State) (last at : ℕ) (r : Request) (x : Linke
   pub keeps : KeepsSettings old new
 
 pub offered_some : (old new : State) (s : Relay) (last at : ℕ) (r : Request) (x : LinkedClient) (k : LinkedLane) (after : Content) (text : List ℕ) → StandsFor old s → r.ordinal ≡ last + 1 → IsAccepted old new last at r x k after
-    → text ≡ text_line (codes "accepted " ++ (decimal r.client ++ (codes " " ++ decimal at))) → Turned (in_turn_at s r (lane_for s r.client last)) new text
+    → text ≡ text_line (codes "accepted " ++ (decimal r.client ++ (codes " " ++ decimal at))) → TurnLeaves (in_turn_at s r (lane_for s r.client last)) new text
 offered_some old new s last at r x k after text a next is e =
     let c = r.client in
     let found : lane_for s c last ≡ Some at = lane_same old s c last a ∙ is.found in
@@ -129,7 +129,7 @@ offered_some old new s last at r x k after text a next is e =
 
 pub offered_none : (old new : State) (s : Relay) (last : ℕ) (r : Request) (p : Pdu) (text : List ℕ) → StandsFor old s → find (λ i. accepts_in r.client (slice_get old.lanes.items i)) (ring (last % length old.lanes.items) (length old.lanes.items)) ≡ None
     → new.lanes.items ≡ old.lanes.items → new.clients.list.items ≡ old.clients.list.items → KeepsSettings old new
-    → p ≡ refusal_of r → text ≡ pdu_line (to_client r.client) p → Turned (in_turn_at s r (lane_for s r.client last)) new text
+    → p ≡ refusal_of r → text ≡ pdu_line (to_client r.client) p → TurnLeaves (in_turn_at s r (lane_for s r.client last)) new text
 offered_none old new s last r p text a none lanes clients keeps is e =
     let found : lane_for s r.client last ≡ None = lane_same old s r.client last a ∙ none in
     rw found (record {
@@ -147,16 +147,16 @@ offered_none old new s last r p text a none lanes clients keeps is e =
     })
 
 -- a PDU that is passed on
-pub forwarded : (s : Relay) (c last : ℕ) (p : Pdu) (r : Request) (state : State) (text : List ℕ) → (client_at s c).last ≡ last → request_of c (last + 1) p ≡ Some r → Turned (in_turn_at s r (lane_for s r.client last)) state text → Turned (forward c p s) state text
+pub forwarded : (s : Relay) (c last : ℕ) (p : Pdu) (r : Request) (state : State) (text : List ℕ) → (client_at s c).last ≡ last → request_of c (last + 1) p ≡ Some r → TurnLeaves (in_turn_at s r (lane_for s r.client last)) state text → TurnLeaves (forward c p s) state text
 unfolding forward
 forwarded s c last p r state text is_last is turned =
     let named = request_named c (last + 1) p r is in
-    let here : Turned (offer_at s c last (request_of c (last + 1) p)) state text = rw is (subst (λ d. Turned (in_turn_at s r (lane_for s d last)) state text) named.0 turned) in
-    subst (λ n. Turned (offer_at s c n (request_of c (n + 1) p)) state text) (sym is_last) here
+    let here : TurnLeaves (offer_at s c last (request_of c (last + 1) p)) state text = rw is (subst (λ d. TurnLeaves (in_turn_at s r (lane_for s d last)) state text) named.0 turned) in
+    subst (λ n. TurnLeaves (offer_at s c n (request_of c (n + 1) p)) state text) (sym is_last) here
 
 -- one that isn't
-pub dropped : (s : Relay) (c last : ℕ) (p : Pdu) (state : State) (text : List ℕ) → (client_at s c).last ≡ last → request_of c (last + 1) p ≡ None → StandsFor state s → text ≡ [] → Turned (forward c p s) state text
+pub dropped : (s : Relay) (c last : ℕ) (p : Pdu) (state : State) (text : List ℕ) → (client_at s c).last ≡ last → request_of c (last + 1) p ≡ None → StandsFor state s → text ≡ [] → TurnLeaves (forward c p s) state text
 unfolding forward
 dropped s c last p state text is_last none a e =
-    let here : Turned (offer_at s c last (request_of c (last + 1) p)) state text = rw none (record { text = e; left = a }) in
-    subst (λ n. Turned (offer_at s c n (request_of c (n + 1) p)) state text) (sym is_last) here
+    let here : TurnLeaves (offer_at s c last (request_of c (last + 1) p)) state text = rw none (record { text = e; left = a }) in
+    subst (λ n. TurnLeaves (offer_at s c n (request_of c (n + 1) p)) state text) (sym is_last) here

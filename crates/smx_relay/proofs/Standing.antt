@@ -13,7 +13,7 @@ use Rattle.smx_relay.specs.Texts.{bad_line}
 use Rattle.smx_relay.specs.Relay.{Relay, new_relay}
 use Rattle.smx_relay.specs.Turns.{Lines}
 use Rattle.smx_relay.specs.Runs.{Runs, Relays}
-use Rattle.smx_relay.specs.Private.States.{StandsFor, Turned, MayPrint}
+use Rattle.smx_relay.specs.Private.States.{StandsFor, TurnLeaves, MayPrint}
 use Rattle.smx_relay.specs.Ends.{BeginsRelay, BreaksOff}
 use Rattle.smx_relay.proofs.Running.{SoFar, so_far_start, so_far_more, so_far_end, so_far_bad, so_far_front, so_far_part, runs_on}
 
@@ -25,7 +25,7 @@ Stands before now state i lines = (s : Relay) × StandsFor state s × (written :
 abbrev pub Turns : State → List ℕ → State → Option (Vec ℕ) → Type 0
 Turns old line new text = (s : Relay) → StandsFor old s → MayPrint (Lines s line) new text
 
-prints_some : (May : Option (List ℕ × Relay) → Type 0) (state : State) (text : Vec ℕ) → MayPrint May state (Some text) → (x : List ℕ × Relay) × May (Some x) × Turned x state text.items
+prints_some : (May : Option (List ℕ × Relay) → Type 0) (state : State) (text : Vec ℕ) → MayPrint May state (Some text) → (x : List ℕ × Relay) × May (Some x) × TurnLeaves x state text.items
 prints_some May state text (None, may, p) = absurd p
 prints_some May state text (Some x, may, p) = (x, may, p)
 

@@ -11,10 +11,10 @@ use Rattle.smx_history.specs.Contents.{AgreesWith, Content}
 use Rattle.smx_relay.specs.declared.state.State.{State}
 use Rattle.smx_relay.specs.declared.state.LinkedLane.{LinkedLane}
 use Rattle.smx_relay.specs.Relay.{Relay, going_on, has_lane, history_of, lane_after, lane_at, lane_turn, new_lane, known_lane_turn, take_on, back_on, history_on, turn_on}
-use Rattle.smx_relay.specs.Turns.{AreExpiredOn, ExpireTurn, IsFree, TakeTurn}
+use Rattle.smx_relay.specs.Turns.{AreExpiredOn, ExpireTurn, IsFreeNumber, TakeTurn}
 use Rattle.smx_relay.specs.Expiring.{expire_on, expired_after}
 use Rattle.smx_relay.specs.Private.Lanes.{IsLane, AreOwnEntries, TurnsLane, lasts}
-use Rattle.smx_relay.specs.Private.States.{StandsFor, MayPrint, Prints, Turned}
+use Rattle.smx_relay.specs.Private.States.{StandsFor, MayPrint, Prints, TurnLeaves}
 use Rattle.smx_relay.proofs.Lanes.{zip-length, zip-at, zip-set, lane_goes}
 use Rattle.smx_relay.proofs.OwnNotes.{own_take, own_back, own_expired, own_turn}
 use Rattle.smx_relay.proofs.Expiring.{ExpiresLane}
@@ -64,7 +64,7 @@ goes_on old new s i f k after a is agrees limits own =
       routes = kept_routes old new s.clients s.accounts s.places s.routes is.keeps a.routes;
     }
 
-turn_goes : (old new : State) (s : Relay) (i : ℕ) (f : List Note → List ℕ × List Note) (k : LinkedLane) (after : Content) (text : List ℕ) → StandsFor old s → GoesOnAt old new i k after → TurnsLane (f (history_of s i)) k.lane after text → AreOwnEntries (lasts s.clients) (f (history_of s i)).1 → Turned (lane_turn s i f) new text
+turn_goes : (old new : State) (s : Relay) (i : ℕ) (f : List Note → List ℕ × List Note) (k : LinkedLane) (after : Content) (text : List ℕ) → StandsFor old s → GoesOnAt old new i k after → TurnsLane (f (history_of s i)) k.lane after text → AreOwnEntries (lasts s.clients) (f (history_of s i)).1 → TurnLeaves (lane_turn s i f) new text
 turn_goes old new s i f k after text a is turns own =
     record { text = turns.text; left = goes_on old new s i (λ h. (f h).1) k after a is turns.agrees turns.limits_are own }
 
@@ -73,7 +73,7 @@ lane_turned old new s i f k after text a is turns own = rw (a_lane_at old s i a 
 
 -- a request is taken
 abbrev pub Takes : Relay → ℕ → State → Option (Vec ℕ) → Type 0
-Takes s i new text = (u : ℕ) × IsFree (history_of s i) u × Prints (known_lane_turn s i (take_on s.limits s.moment u i)) new text
+Takes s i new text = (u : ℕ) × IsFreeNumber (history_of s i) u × Prints (known_lane_turn s i (take_on s.limits s.moment u i)) new text
 
 pub take_turns : (s : Relay) (i : ℕ) (new : State) (text : Option (Vec ℕ)) → Takes s i new text → MayPrint (TakeTurn s i) new text
 take_turns s i new text takes = (known_lane_turn s i (take_on s.limits s.moment takes.0 i), (takes.0, takes.1, refl), takes.2)
@@ -85,7 +85,7 @@ takes_none old new s i a past =
 
 -- the lane gave some free number
 pub takes_some : (old new : State) (s : Relay) (i : ℕ) (k : LinkedLane) (after : Content) (text : Vec ℕ) → StandsFor old s → GoesOnAt old new i k after
-    → ((h : List Note) → AgreesWith h k.lane → (n : ℕ) × IsFree h n × TurnsLane (take_on k.lane.limits old.moment n i h) k.lane after text.items) → Takes s i new (Some text)
+    → ((h : List Note) → AgreesWith h k.lane → (n : ℕ) × IsFreeNumber h n × TurnsLane (take_on k.lane.limits old.moment n i h) k.lane after text.items) → Takes s i new (Some text)
 takes_some old new s i k after text a is goes =
     let h = history_of s i in
     let on = (lane_is old s i k a is.within is.here).on in
@@ -120,7 +120,7 @@ expires_on old new s i age k after text a is goes =
 
 -- a response's turn
 pub backs : {E : Type 0} (old new : State) (s : Relay) (i : ℕ) (p : Pdu) (k : LinkedLane) (after : Content) (result : Result (Vec ℕ) E) → StandsFor old s → GoesOnAt old new i k after
-    → ((h : List Note) → AgreesWith h k.lane → IfOk result (λ text. TurnsLane (back_on p h) k.lane after text.items)) → IfOk result (λ text. Turned (lane_turn s i (back_on p)) new text.items)
+    → ((h : List Note) → AgreesWith h k.lane → IfOk result (λ text. TurnsLane (back_on p h) k.lane after text.items)) → IfOk result (λ text. TurnLeaves (lane_turn s i (back_on p)) new text.items)
 backs old new s i p k after (Ok text) a is goes =
     let on = (lane_is old s i k a is.within is.here).on in
     turn_goes old new s i (back_on p) k after text.items a is (goes (history_of s i) on.agrees) (own_back (lasts s.clients) p (history_of s i) on.own)

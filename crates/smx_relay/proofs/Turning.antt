@@ -5,14 +5,14 @@ use Rattle.smx_pdu.specs.declared.pdu.Pdu.{Pdu}
 use Rattle.smx_relay.specs.declared.state.State.{State}
 use Rattle.smx_relay.specs.Relay.{Relay}
 use Rattle.smx_relay.specs.ClientTurn.{followed_by, each_pdu}
-use Rattle.smx_relay.specs.Private.States.{StandsFor, IsReached, Turned}
+use Rattle.smx_relay.specs.Private.States.{StandsFor, IsReached, TurnLeaves}
 
 -- a turn that prints nothing and leaves the state
-pub turned_nothing : (state : State) (s : Relay) (text : List ℕ) → StandsFor state s → text ≡ [] → Turned ([], s) state text
+pub turned_nothing : (state : State) (s : Relay) (text : List ℕ) → StandsFor state s → text ≡ [] → TurnLeaves ([], s) state text
 turned_nothing state s text a none = record { text = none; left = a }
 
 -- a turn behind others
-pub turned_then : (x : List ℕ × Relay) (turn : Relay → List ℕ × Relay) (mid new : State) (text more : List ℕ) → Turned x mid text → ((t : Relay) → StandsFor mid t → Turned (turn t) new more) → Turned (followed_by x turn) new (text ++ more)
+pub turned_then : (x : List ℕ × Relay) (turn : Relay → List ℕ × Relay) (mid new : State) (text more : List ℕ) → TurnLeaves x mid text → ((t : Relay) → StandsFor mid t → TurnLeaves (turn t) new more) → TurnLeaves (followed_by x turn) new (text ++ more)
 turned_then x turn mid new text more before behind =
     let next = behind x.1 before.left in
     record { text = ap (λ (t : List ℕ). t ++ more) before.text ∙ ap (λ (t : List ℕ). x.0 ++ t) next.text; left = next.left }
@@ -27,15 +27,15 @@ each_pdu-push turn s (q ∷ ps) p =
 
 -- the turns of these PDUs printed and left this
 abbrev pub Turning : (Pdu → Relay → List ℕ × Relay) → State → State → List Pdu → List ℕ → Type 0
-Turning turn old now ps text = (s : Relay) → StandsFor old s → Turned (each_pdu turn s ps) now text
+Turning turn old now ps text = (s : Relay) → StandsFor old s → TurnLeaves (each_pdu turn s ps) now text
 
 pub turning_start : (turn : Pdu → Relay → List ℕ × Relay) (state : State) (text : List ℕ) → text ≡ [] → Turning turn state state [] text
 turning_start turn state text none s a = turned_nothing state s text a none
 
-pub turning_more : (turn : Pdu → Relay → List ℕ × Relay) (old now new : State) (ps : List Pdu) (p : Pdu) (text more all : List ℕ) → Turning turn old now ps text → ((t : Relay) → StandsFor now t → Turned (turn p t) new more) → all ≡ text ++ more → Turning turn old new (ps ++ p ∷ []) all
+pub turning_more : (turn : Pdu → Relay → List ℕ × Relay) (old now new : State) (ps : List Pdu) (p : Pdu) (text more all : List ℕ) → Turning turn old now ps text → ((t : Relay) → StandsFor now t → TurnLeaves (turn p t) new more) → all ≡ text ++ more → Turning turn old new (ps ++ p ∷ []) all
 turning_more turn old now new ps p text more all so_far behind e s a =
-    subst (λ (x : List ℕ × Relay). Turned x new all) (sym (each_pdu-push turn s ps p))
-    (subst (λ (t : List ℕ). Turned (followed_by (each_pdu turn s ps) (turn p)) new t) (sym e) (turned_then (each_pdu turn s ps) (turn p) now new text more (so_far s a) behind))
+    subst (λ (x : List ℕ × Relay). TurnLeaves x new all) (sym (each_pdu-push turn s ps p))
+    (subst (λ (t : List ℕ). TurnLeaves (followed_by (each_pdu turn s ps) (turn p)) new t) (sym e) (turned_then (each_pdu turn s ps) (turn p) now new text more (so_far s a) behind))
 
 -- a state that was reached still is
 pub turning_reached : (turn : Pdu → Relay → List ℕ × Relay) (old now : State) (ps : List Pdu) (text : List ℕ) → IsReached old → Turning turn old now ps text → IsReached now

@@ -33,12 +33,12 @@ pub record MayBear (es : List Entry) (u : ℕ) : Type 0 where
   pub spaced : list_any (λ n. n == u) (recent (numbers es)) ≡ false
 
 -- the number is free, where the window has room: it has at most 1,024 places, so with room in it there is such a number
-abbrev pub IsFree : List Note → ℕ → Type 0
-IsFree h u = length (window_after h) < 1024 → MayBear (entries_of h) u
+abbrev pub IsFreeNumber : List Note → ℕ → Type 0
+IsFreeNumber h u = length (window_after h) < 1024 → MayBear (entries_of h) u
 
 -- a request that is taken gets some free number
 abbrev pub TakeTurn : Relay → ℕ → Option (List ℕ × Relay) → Type 0
-TakeTurn s i x = (u : ℕ) × IsFree (history_of s i) u × (x ≡ known_lane_turn s i (take_on s.limits s.moment u i))
+TakeTurn s i x = (u : ℕ) × IsFreeNumber (history_of s i) u × (x ≡ known_lane_turn s i (take_on s.limits s.moment u i))
 
 -- these are all the requests that fail on the lane, in any order
 abbrev pub AreExpiredOn : Relay → ℕ → ℕ → List Place → Type 0

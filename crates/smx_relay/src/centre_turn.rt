@@ -4,7 +4,7 @@ ghost use Rattle.smx_pdu.specs.Answers.{nack_of_undecoded};
 ghost use Rattle.smx_relay.specs.Relay.{Relay};
 ghost use Rattle.smx_relay.specs.ClientTurn.{each_pdu};
 ghost use Rattle.smx_relay.specs.CentreTurn.{BackTurn, centre_act, centre_end, centre_pdu, to_lane};
-ghost use Rattle.smx_relay.specs.Private.States.{StandsFor, IsReached, MayPrint, Turned};
+ghost use Rattle.smx_relay.specs.Private.States.{StandsFor, IsReached, MayPrint, TurnLeaves};
 
 use crate::lane_link::{give_up, lower};
 use crate::messages::message;
@@ -19,7 +19,7 @@ use std::alloc::{AllocError, Global};
 fn back(alloc: Global, state: &mut State, lane: u64, response: Pdu) -> Result<Vec<u8>, AllocError>
     requires { lane < length state.old.lanes.items }
     ensures turned { (s : Relay) → StandsFor state.old s → IfOk result (λ text.
-        Turned (to_lane lane response s) state.new text.items) }
+        TurnLeaves (to_lane lane response s) state.new text.items) }
     ensures lanes { length state.new.lanes.items ≡ length state.old.lanes.items }
 {
     back_on(alloc, &mut state.lanes[lane as usize].lane, response)
@@ -36,7 +36,7 @@ fn centre_act(
     requires there { lane < length state.old.lanes.items }
     requires reached { IsReached state.old }
     ensures turned { (s : Relay) → StandsFor state.old s → IfOk result (λ text.
-        Turned (centre_act lane pdu act s) state.new text.items) }
+        TurnLeaves (centre_act lane pdu act s) state.new text.items) }
     ensures lanes { length state.new.lanes.items ≡ length state.old.lanes.items }
 {
     match act {
@@ -65,7 +65,7 @@ fn centre_pdu(alloc: Global, state: &mut State, lane: u64, pdu: Pdu) -> Result<V
     requires there { lane < length state.old.lanes.items }
     requires reached { IsReached state.old }
     ensures turned { (s : Relay) → StandsFor state.old s → IfOk result (λ text.
-        Turned (centre_pdu lane pdu s) state.new text.items) }
+        TurnLeaves (centre_pdu lane pdu s) state.new text.items) }
     ensures lanes { length state.new.lanes.items ≡ length state.old.lanes.items }
 {
     let link = &mut state.lanes[lane as usize].link;
@@ -86,7 +86,7 @@ fn each_centre_pdu(
     requires there { lane < length state.old.lanes.items }
     requires reached { IsReached state.old }
     ensures turned { (s : Relay) → StandsFor state.old s → IfOk result (λ text.
-        Turned (each_pdu (centre_pdu lane) s pdus.items) state.new text.items) }
+        TurnLeaves (each_pdu (centre_pdu lane) s pdus.items) state.new text.items) }
     ensures lanes { length state.new.lanes.items ≡ length state.old.lanes.items }
 {
     let mut text = Vec::new(alloc);
@@ -105,7 +105,7 @@ fn centre_end(
 ) -> Result<Vec<u8>, AllocError>
     requires { lane < length state.old.lanes.items }
     ensures turned { (s : Relay) → StandsFor state.old s → IfOk result (λ text.
-        Turned (centre_end lane has_failed s) state.new text.items) }
+        TurnLeaves (centre_end lane has_failed s) state.new text.items) }
     ensures lanes { length state.new.lanes.items ≡ length state.old.lanes.items }
 {
     if !has_failed {

@@ -3,7 +3,7 @@ ghost use Rattle.std.specs.Prelude.{◌≡◌, IfOk};
 ghost use Rattle.smx_relay.specs.Relay.{Relay};
 ghost use Rattle.smx_relay.specs.ClientTurn.{InTurn, client_act, client_end, client_pdu, each_pdu};
 ghost use Rattle.smx_relay.specs.ClientTurn.{hang_up};
-ghost use Rattle.smx_relay.specs.Private.States.{StandsFor, IsReached, MayPrint, Turned};
+ghost use Rattle.smx_relay.specs.Private.States.{StandsFor, IsReached, MayPrint, TurnLeaves};
 ghost use Rattle.smx_relay.specs.Private.Lending.{IsKnown};
 
 use crate::clients::leave;
@@ -25,7 +25,7 @@ fn hang_up(
     requires reached { IsReached state.old }
     requires known { IsKnown state.old.clients.list.items client }
     ensures { (s : Relay) → StandsFor state.old s → IfOk result (λ text.
-        Turned (hang_up client answer.now s) state.new text.items) }
+        TurnLeaves (hang_up client answer.now s) state.new text.items) }
 {
     let mut text = hangup_lines(alloc, client, answer)?;
     text.extend_from_slice(&leave(alloc, state, client)?)?;
@@ -43,7 +43,7 @@ fn client_act(
     requires reached { IsReached state.old }
     requires known { IsKnown state.old.clients.list.items client }
     ensures { (s : Relay) → StandsFor state.old s → IfOk result (λ text.
-        Turned (client_act client pdu act s) state.new text.items) }
+        TurnLeaves (client_act client pdu act s) state.new text.items) }
 {
     match act {
         Act::Answer(answer) => to_line(alloc, client, &answer),
@@ -74,7 +74,7 @@ fn client_pdu(
     requires reached { IsReached state.old }
     requires known { IsKnown state.old.clients.list.items client }
     ensures { (s : Relay) → StandsFor state.old s → IfOk result (λ text.
-        Turned (client_pdu client pdu s) state.new text.items) }
+        TurnLeaves (client_pdu client pdu s) state.new text.items) }
 {
     let known = state.clients.known_mut(client);
     let act = known.link.decide(&pdu, &state.accounts)?;
@@ -91,7 +91,7 @@ fn each_client_pdu(
     requires reached { IsReached state.old }
     requires known { IsKnown state.old.clients.list.items client }
     ensures { (s : Relay) → StandsFor state.old s → IfOk result (λ text.
-        Turned (each_pdu (client_pdu client) s pdus.items) state.new text.items) }
+        TurnLeaves (each_pdu (client_pdu client) s pdus.items) state.new text.items) }
 {
     let mut text = Vec::new(alloc);
     for pdu in pdus {
@@ -110,7 +110,7 @@ fn client_end(
     requires reached { IsReached state.old }
     requires known { IsKnown state.old.clients.list.items client }
     ensures { (s : Relay) → StandsFor state.old s → IfOk result (λ text.
-        Turned (client_end client has_failed s) state.new text.items) }
+        TurnLeaves (client_end client has_failed s) state.new text.items) }
 {
     if !has_failed {
         return Ok(Vec::new(alloc));

@@ -8,7 +8,7 @@ ghost use Rattle.smx_relay.specs.Relay.{client_of, lane_after};
 ghost use Rattle.smx_relay.specs.Messages.{leave_turn};
 ghost use Rattle.smx_relay.specs.Turns.{collect_turn};
 ghost use Rattle.smx_relay.specs.Private.States.{StandsFor, AreOn, AreReached, EntersLanes, HasLeftLanes};
-ghost use Rattle.smx_relay.specs.Private.States.{HaveEntered, IsReached, Prints, Turned};
+ghost use Rattle.smx_relay.specs.Private.States.{HaveEntered, IsReached, Prints, TurnLeaves};
 ghost use Rattle.smx_relay.specs.Private.Lending.{IsKnown};
 
 use crate::link::ClientLink;
@@ -56,7 +56,7 @@ fn retire_before(lanes: &mut Vec<LinkedLane>, count: usize, client: u64)
 pub fn enter(alloc: Global, state: &mut State, kind: Option<Kind>) -> Result<Vec<u8>, AllocError>
     requires { IsReached state.old }
     ensures { (s : Relay) → StandsFor state.old s → IfOk result (λ text.
-        Turned (client_turn s kind) state.new text.items) }
+        TurnLeaves (client_turn s kind) state.new text.items) }
 {
     let client = state.clients.list.len() as u64;
     match admit_all(&mut state.lanes, client)? {
@@ -91,7 +91,7 @@ pub(crate) fn leave(alloc: Global, state: &mut State, client: u64) -> Result<Vec
     requires reached { IsReached state.old }
     requires known { IsKnown state.old.clients.list.items client }
     ensures { (s : Relay) → StandsFor state.old s → IfOk result (λ text.
-        Turned (leave_turn client s) state.new text.items) }
+        TurnLeaves (leave_turn client s) state.new text.items) }
 {
     leave_all(&mut state.lanes, client);
     state.routes.remove(client);

@@ -6,7 +6,7 @@ ghost use Rattle.smx_pdu.specs.Answers.{refusal};
 ghost use Rattle.smx_relay.specs.Relay.{Relay};
 ghost use Rattle.smx_relay.specs.Messages.{answer_turn, left_line, message_turn, put_to, send_turn};
 ghost use Rattle.smx_relay.specs.Turns.{RouteTurn};
-ghost use Rattle.smx_relay.specs.Private.States.{StandsFor, IsReached, MayPrint, Turned};
+ghost use Rattle.smx_relay.specs.Private.States.{StandsFor, IsReached, MayPrint, TurnLeaves};
 ghost use Rattle.smx_relay.specs.Private.Lending.{IsKnown};
 
 use crate::state::State;
@@ -62,7 +62,7 @@ fn put(
 ) -> Result<Vec<u8>, AllocError>
     requires { IsKnown state.old.clients.list.items client }
     ensures turned { (s : Relay) → StandsFor state.old s → IfOk result (λ text.
-        Turned (put_to s lane pdu (Some client)) state.new text.items) }
+        TurnLeaves (put_to s lane pdu (Some client)) state.new text.items) }
     ensures lanes { state.new.lanes ≡ state.old.lanes }
 {
     let message = Message {
@@ -84,7 +84,7 @@ pub(crate) fn message(
 ) -> Result<Vec<u8>, AllocError>
     requires { IsReached state.old }
     ensures turned { (s : Relay) → StandsFor state.old s → IfOk result (λ text.
-        Turned (message_turn lane pdu s) state.new text.items) }
+        TurnLeaves (message_turn lane pdu s) state.new text.items) }
     ensures lanes { state.new.lanes ≡ state.old.lanes }
 {
     let routed = match read_destination(pdu.body.as_slice()) {
@@ -107,7 +107,7 @@ pub(crate) fn answer(
 ) -> Result<Vec<u8>, AllocError>
     requires { IsKnown state.old.clients.list.items client }
     ensures { (s : Relay) → StandsFor state.old s → IfOk result (λ text.
-        Turned (answer_turn client pdu s) state.new text.items) }
+        TurnLeaves (answer_turn client pdu s) state.new text.items) }
 {
     match state
         .clients
@@ -161,7 +161,7 @@ fn sent_lines(alloc: Global, client: u64, pdus: &[Pdu]) -> Result<Vec<u8>, Alloc
 pub(crate) fn send(alloc: Global, state: &mut State, client: u64) -> Result<Vec<u8>, AllocError>
     requires { IsKnown state.old.clients.list.items client }
     ensures { (s : Relay) → StandsFor state.old s → IfOk result (λ text.
-        Turned (send_turn client s) state.new text.items) }
+        TurnLeaves (send_turn client s) state.new text.items) }
 {
     let pdus = state.clients.known_mut(client).link.send()?;
     sent_lines(alloc, client, &pdus)

@@ -3,7 +3,7 @@ ghost use Rattle.std.specs.Prelude.{◌≡◌, ℕ, List, IfOk};
 ghost use Rattle.smx_history.specs.declared.note.Note.{Note};
 ghost use Rattle.smx_history.specs.Contents.{AgreesWith};
 ghost use Rattle.smx_relay.specs.Relay.{take_on, back_on, history_on, turn_on};
-ghost use Rattle.smx_relay.specs.Turns.{IsFree};
+ghost use Rattle.smx_relay.specs.Turns.{IsFreeNumber};
 ghost use Rattle.smx_relay.specs.Private.Lanes.{TurnsLane};
 
 use crate::texts::{
@@ -21,7 +21,8 @@ pub const CALLER: u64 = 0;
 /// Takes the oldest request of a lane that is up, at this moment.
 #[tactic(auto, unfolding(crate::specs::Relay::take_on))]
 pub fn take_on(alloc: Global, lane: &mut Lane, at: u64, moment: u64) -> Result<Vec<u8>, AllocError>
-    ensures { (h : List Note) → AgreesWith h lane.old → IfOk result (λ text. (u : ℕ) × IsFree h u
+    ensures { (h : List Note) → AgreesWith h lane.old → IfOk result (λ text. (u : ℕ)
+        × IsFreeNumber h u
         × TurnsLane (take_on lane.old.limits moment u at h) lane.old lane.new text.items) }
 {
     if !lane.is_up() {

@@ -11,7 +11,7 @@ ghost use Rattle.smx_relay.specs.Texts.{refusal_of};
 ghost use Rattle.smx_relay.specs.Relay.{Relay, client_of, in_turn_at, lane_for, request_of};
 ghost use Rattle.smx_relay.specs.Relay.{with_request};
 ghost use Rattle.smx_relay.specs.ClientTurn.{forward};
-ghost use Rattle.smx_relay.specs.Private.States.{StandsFor, IsReached, MayAcceptNext, Turned};
+ghost use Rattle.smx_relay.specs.Private.States.{StandsFor, IsReached, MayAcceptNext, TurnLeaves};
 ghost use Rattle.smx_relay.specs.Private.Lending.{IsKnown};
 ghost use Rattle.smx_relay.specs.Private.States.{accepts_in};
 
@@ -81,7 +81,7 @@ fn offer(
         × (k.last ≡ last) }
     requires next { request.ordinal ≡ last + 1 }
     ensures { (s : Relay) → StandsFor state.old s → IfOk result (λ text.
-        Turned (in_turn_at s request (lane_for s request.client last)) state.new text.items) }
+        TurnLeaves (in_turn_at s request (lane_for s request.client last)) state.new text.items) }
 {
     let client = request.client;
     let ordinal = request.ordinal;
@@ -106,7 +106,7 @@ pub fn forward(
     requires reached { IsReached state.old }
     requires known { IsKnown state.old.clients.list.items client }
     ensures { (s : Relay) → StandsFor state.old s → IfOk result (λ text.
-        Turned (forward client pdu s) state.new text.items) }
+        TurnLeaves (forward client pdu s) state.new text.items) }
 {
     let Some(known) = state.clients.get(client) else {
         unreachable!()

@@ -12,7 +12,7 @@ use Rattle.smx_shared.specs.declared.fault.EnterFault.TheVariants.{Exhausted, Sp
 use Rattle.smx_shared.specs.Views.{DoorView, PortView, DepartedView, locks_of}
 use Rattle.smx_shared.specs.Serving.{SplitServes, SplitFails, AdmitServes}
 use Rattle.smx_shared.specs.Submits.{OnLane}
-use Rattle.smx_shared.specs.Leaving.{Left}
+use Rattle.smx_shared.specs.Leaving.{LeavesBelow}
 use Rattle.smx_shared.specs.Rounds.{Makes}
 
 -- what a door keeps
@@ -56,7 +56,7 @@ StopsAt lane c fault old new made barred = (mid : List (Front Note Limits)) × (
 
 -- the lanes that it entered were left again, save those that are spent, and the seats are handed back
 abbrev pub TurnsBack : ℕ → EnterFault → List (Front Note Limits) → List (Front Note Limits) → DepartedView → Type 0
-TurnsBack c fault old new d = (lane : ℕ) × (made : List (Front Note Limits)) × StopsAt lane c fault old new made d.barred × Left lane c made d.fronts
+TurnsBack c fault old new d = (lane : ℕ) × (made : List (Front Note Limits)) × StopsAt lane c fault old new made d.barred × LeavesBelow lane c made d.fronts
 
 -- no seat was made
 abbrev pub HasNoSeat : DepartedView → Type 0

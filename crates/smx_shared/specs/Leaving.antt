@@ -7,13 +7,13 @@ use Rattle.smx_shared.specs.Views.{PortView, DepartedView, locks_of}
 use Rattle.smx_shared.specs.Serving.{RetireServes}
 
 -- the lane's tickets are spent, or one hold retired the client
-abbrev pub Leaves : ℕ → Front Note Limits → Front Note Limits → Type 0
-Leaves c f g = IsSpent f g ⊎ RetireServes f g c
+abbrev pub LeavesOrIsSpent : ℕ → Front Note Limits → Front Note Limits → Type 0
+LeavesOrIsSpent c f g = IsSpent f g ⊎ RetireServes f g c
 
 -- each lane below `to` was left, and the others are as they were
-pub record Left (to c : ℕ) (old new : List (Front Note Limits)) : Type 0 where
+pub record LeavesBelow (to c : ℕ) (old new : List (Front Note Limits)) : Type 0 where
   pub count : length new ≡ length old
-  pub left : (k : ℕ) (f g : Front Note Limits) → k < to → slice_get old k ≡ Some f → slice_get new k ≡ Some g → Leaves c f g
+  pub left : (k : ℕ) (f g : Front Note Limits) → k < to → slice_get old k ≡ Some f → slice_get new k ≡ Some g → LeavesOrIsSpent c f g
   pub above : (k : ℕ) → to ≤ k → slice_get new k ≡ slice_get old k
   pub locks : locks_of new ≡ locks_of old
 
@@ -26,5 +26,5 @@ Retired false to c old new = (k : ℕ) × (f : Front Note Limits) × (g : Front 
 pub record HasLeft (all : Bool) (v : PortView) (d : DepartedView) : Type 0 where
   pub client : d.client ≡ v.client
   pub barred : d.barred ≡ None
-  pub left : Left (length v.fronts) v.client v.fronts d.fronts
+  pub left : LeavesBelow (length v.fronts) v.client v.fronts d.fronts
   pub retired : Retired all (length v.fronts) v.client v.fronts d.fronts

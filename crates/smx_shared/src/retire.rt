@@ -5,7 +5,7 @@ ghost use Rattle.smx_history.specs.declared.limits.Limits.{Limits};
 ghost use Rattle.smx_history.specs.declared.note.Note.{Note};
 ghost use Rattle.smx_shared.specs.Views.{locks_of};
 ghost use Rattle.smx_shared.specs.Ports.{IsMemberBy};
-ghost use Rattle.smx_shared.specs.Leaving.{Left, Retired};
+ghost use Rattle.smx_shared.specs.Leaving.{LeavesBelow, Retired};
 
 use crate::lane_call::Retiring;
 use crate::lane_seat::LaneSeat;
@@ -23,7 +23,7 @@ pub(crate) fn retire_all<R: Wait>(
     requires locks { locks_of seats.old.items ≡ locks.now }
     requires own { (k : ℕ) (f : Front Note Limits) → slice_get seats.old.items k ≡ Some f
         → IsMemberBy client f }
-    ensures left { Left (length seats.old.items) client seats.old.items seats.new.items }
+    ensures left { LeavesBelow (length seats.old.items) client seats.old.items seats.new.items }
     ensures all { Retired result (length seats.old.items) client seats.old.items seats.new.items }
 {
     let count = seats.len();

@@ -8,14 +8,14 @@ use Rattle.smx_box.specs.declared.sender.PutFault.{PutFault}
 use Rattle.smx_box.specs.declared.sender.PutFault.TheVariants.{Full, Spent}
 use Rattle.smx_box.specs.declared.letter.Letter.{Letter}
 use Rattle.smx_box.specs.Letters.{letter}
-use Rattle.smx_box.specs.Boxes.{most_items, Sending, PutServes, FullServes}
+use Rattle.smx_box.specs.Boxes.{most_items, Sending, PutServes, FullPutServes}
 use Rattle.smx_turns.specs.Puts.{AtIndex, PutAnswers, contents, contents_in, put_on}
 
 module _ {T : Type 0} where
   -- what the contract of a put says
   pub answers : (x y : Sending T) (item : T) (r : Result ℕ (T × PutFault)) → IfOk r (λ n. n ≡ length y.put) → IfOk r (λ n. y.put ≡ x.put ++ letter x.sender n (Some item) ∷ [])
       → IfErr r (λ e. (e.0 ≡ item) × (y.put ≡ x.put)) → IfOk r (λ n. PutServes x y.front (letter x.sender n (Some item)))
-      → IfErr r (λ e. e.1 ≡ Full → FullServes x y.front) → IfErr r (λ e. e.1 ≡ Spent → (y.front ≡ x.front) × (length x.put ≡ most_items)) → PutAnswers item r x y
+      → IfErr r (λ e. e.1 ≡ Full → FullPutServes x y.front) → IfErr r (λ e. e.1 ≡ Spent → (y.front ≡ x.front) × (length x.put ≡ most_items)) → PutAnswers item r x y
   answers x y item (Ok n) number ok err served full spent = record { number = number; put = ok; served = served }
   answers x y item (Err (back, Full)) number ok err served full spent = (err.0, record { put = err.1; served = full refl })
   answers x y item (Err (back, Spent)) number ok err served full spent = (err.0, record { put = err.1; spent = spent refl })

@@ -4,7 +4,7 @@ use Rattle.smx_box.specs.declared.sender.PutFault.{PutFault}
 use Rattle.smx_box.specs.declared.sender.PutFault.TheVariants.{Full, Spent}
 use Rattle.smx_box.specs.declared.letter.Letter.{Letter}
 use Rattle.smx_box.specs.Letters.{letter}
-use Rattle.smx_box.specs.Boxes.{most_items, Sending, PutServes, FullServes}
+use Rattle.smx_box.specs.Boxes.{most_items, Sending, PutServes, FullPutServes}
 
 module _ {T : Type 0} where
   -- of the senders just this one changed, so
@@ -20,7 +20,7 @@ module _ {T : Type 0} where
   -- one step found each place of the box taken
   pub record FindsFull (x y : Sending T) : Type 0 where
     pub put : y.put ≡ x.put
-    pub served : FullServes x y.front
+    pub served : FullPutServes x y.front
 
   -- the sender's numbers are spent
   pub record FindsSpent (x y : Sending T) : Type 0 where

@@ -45,7 +45,7 @@ use Rattle.smx_upstream.specs.declared.event.Rise.{Rise}
 use Rattle.smx_upstream.specs.declared.event.Rise.TheVariants as rise
 use Rattle.smx_upstream.specs.Rising.{Rises}
 use Rattle.smx_upstream.specs.Standing.{Stand, Does, Becomes, Shifts, item_for}
-use Rattle.smx_upstream.specs.Laws.{answer_known, fate_known, known_by, knowns, fate_put, put_by, puts_at, Kept}
+use Rattle.smx_upstream.specs.Laws.{answer_known, fate_known, known_by, knowns, fate_put, put_by, puts_at, KeepsTokens}
 
 nothing : {A : Type 0} (xs ys : List A) → ys ≡ xs → ys ≡ xs ++ []
 nothing xs ys e = e ∙ sym (append-nil xs)
@@ -229,7 +229,7 @@ put_step slot s t event.Broke d = nothing _ _ (ap (λ x. contents_in (slice_get 
 put_step slot s t (event.Unbound p) d = nothing _ _ (ap (λ x. contents_in (slice_get x.senders slot)) d.1)
 
 -- the whole chain
-pub runs_kept : (s t : Stand) (es : List Event) → Runs Does s es t → Kept s es t
+pub runs_kept : (s t : Stand) (es : List Event) → Runs Does s es t → KeepsTokens s es t
 unfolding Runs knowns puts_at
 runs_kept s t [] r = record {
   notes = nothing _ _ (ap (λ x. known_of x.tap.front.mine) r);
@@ -239,7 +239,7 @@ runs_kept s t [] r = record {
 }
 runs_kept s t (e ∷ es) r =
     let u = r.0 in
-    let k : Kept u es t = runs_kept u t es r.2 in
+    let k : KeepsTokens u es t = runs_kept u t es r.2 in
     record {
       notes = k.notes ∙ ap (λ l. l ++ knowns es) (note_step s u e r.1) ∙ append_assoc _ (known_by e) (knowns es);
       seen = longer _ _ _ (seen_step s u e r.1) k.seen;

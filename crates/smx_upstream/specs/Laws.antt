@@ -77,7 +77,7 @@ unfoldable pub puts_at : ℕ → ℕ → List Event → List (Option MoItem)
 puts_at slot lane es = flat_map (put_by slot lane) es
 
 -- what the events lead to, said of the tokens' own lists
-pub record Kept (s : Stand) (es : List Event) (t : Stand) : Type 0 where
+pub record KeepsTokens (s : Stand) (es : List Event) (t : Stand) : Type 0 where
   -- the tap's notes are those that it had, and then those of the takes and answers, in order
   pub notes : known_of t.tap.front.mine ≡ known_of s.tap.front.mine ++ knowns es
   -- the tap has seen all that it had seen

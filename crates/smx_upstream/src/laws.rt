@@ -5,7 +5,7 @@ ghost use Rattle.smx_turns.specs.Runs.{Runs};
 ghost use Rattle.smx_upstream.specs.Ending.{has_ended};
 ghost use Rattle.smx_upstream.specs.Events.{ins, outs, those};
 ghost use Rattle.smx_upstream.specs.Standing.{Does};
-ghost use Rattle.smx_upstream.specs.Laws.{Kept};
+ghost use Rattle.smx_upstream.specs.Laws.{KeepsTokens};
 
 use crate::worker::UpstreamWorker;
 use smx_link::Link;
@@ -24,7 +24,7 @@ pub fn law<L: Link + Drop>(worker: &UpstreamWorker<L>)
     ensures over { worker.now.ending ≡ has_ended worker.now.events }
 
     // The tap's notes and each sender's items, in order.
-    ensures kept { ∥ Kept worker.now.first worker.now.events worker.now.stand ∥₁ }
+    ensures kept { ∥ KeepsTokens worker.now.first worker.now.events worker.now.stand ∥₁ }
 {
     worker.wire.law();
 }

@@ -4,7 +4,7 @@ use Rattle.crossbeam_queue.specs.Passes.{Pass, view}
 use Rattle.smx_box.specs.declared.letter.Letter.{Letter}
 use Rattle.smx_box.specs.declared.letter.Known.{Known}
 use Rattle.smx_box.specs.Letters.{of, is_open, Numbered}
-use Rattle.smx_box.specs.Boxes.{most_items, puts, gets, PassFront, Sending, Receiving, PutServes, FullServes}
+use Rattle.smx_box.specs.Boxes.{most_items, puts, gets, PassFront, Sending, Receiving, PutServes, FullPutServes}
 
 -- counts a sender that is no longer open
 abbrev pub one_if_shut : Bool → ℕ
@@ -18,8 +18,8 @@ shut_below (suc n) opened = one_if_shut (opened n) + shut_below n opened
 
 module _ {T : Type 0} where
   -- a pass of a queue with so many places
-  abbrev pub front_of : ℕ → Pass (Letter T) (Known T) → PassFront T
-  front_of places p = record { queue = record { table = p.table_id; places = places }; known = view p }
+  abbrev pub pass_front : ℕ → Pass (Letter T) (Known T) → PassFront T
+  pass_front places p = record { queue = record { table = p.table_id; places = places }; known = view p }
 
   -- the letter is the next of the sender that has the pass
   pub record IsNextLetter (f : PassFront T) (m : Letter T) : Type 0 where
@@ -54,4 +54,4 @@ module _ {T : Type 0} where
 
   abbrev pub PostServes : Sending T → PassFront T → Letter T → Result (Unit {0}) (Letter T) → Type 0
   PostServes s g m (Ok _) = PutServes s g m
-  PostServes s g m (Err back) = (back ≡ m) × FullServes s g
+  PostServes s g m (Err back) = (back ≡ m) × FullPutServes s g

@@ -6,20 +6,20 @@ use lib.ListN.{get_elem?}
 use Rattle.smx_box.specs.declared.letter.Letter.{Letter}
 use Rattle.smx_box.specs.declared.letter.Note.{Note}
 use Rattle.smx_box.specs.declared.letter.Known.{Known}
-use Rattle.smx_box.specs.Boxes.{notes_of, BoxHistory}
+use Rattle.smx_box.specs.Boxes.{pass_notes, BoxHistory}
 
 module _ {T : Type 0} where
   -- Each pass has its place for its number. What it has seen is a beginning of the history, its own notes are all under its number, and the receiver's knows how many passes there are
   pub record FitsHistory (h : List (Note T)) (passes place : ℕ) (v : Known T) : Type 0 where
     pub number : v.number ≡ place
     pub saw : IsPrefix v.seen h
-    pub own : notes_of v.number h ≡ v.mine
+    pub own : pass_notes v.number h ≡ v.mine
     pub counts : v.number ≡ 0 → v.senders + 1 ≡ passes
 
   -- some history left these letters, nobody without a pass did anything, and each pass fits
-  abbrev pub Kept : List (Letter T) → List (Known T) → Type 0
-  Kept items views = (h : List (Note T)) × BoxHistory h items
-      × ((k : ℕ) → length views ≤ k → notes_of k h ≡ [])
+  abbrev pub IsLeftBy : List (Letter T) → List (Known T) → Type 0
+  IsLeftBy items views = (h : List (Note T)) × BoxHistory h items
+      × ((k : ℕ) → length views ≤ k → pass_notes k h ≡ [])
       × ((place : ℕ) (v : Known T) → get_elem? views place ≡ some v → FitsHistory h (length views) place v)
 
   -- the receiver's pass, before any sender is made
@@ -27,8 +27,8 @@ module _ {T : Type 0} where
   first_known = record { number = 0; senders = 0; seen = []; mine = [] }
 
   -- the receiver's pass with a sender more, and the pass of that sender
-  abbrev pub host : Known T → Known T
-  host v = record v { senders = v.senders + 1 }
+  abbrev pub receiver_known : Known T → Known T
+  receiver_known v = record v { senders = v.senders + 1 }
 
-  abbrev pub guest : Known T → Known T
-  guest v = record { number = v.senders + 1; senders = 0; seen = v.seen; mine = [] }
+  abbrev pub sender_known : Known T → Known T
+  sender_known v = record { number = v.senders + 1; senders = 0; seen = v.seen; mine = [] }

@@ -40,14 +40,14 @@ abbrev pub IsReached : State → Type 0
 IsReached state = (s : Relay) × StandsFor state s
 
 -- a turn printed the text and left the state
-pub record Turned (x : List ℕ × Relay) (state : State) (written : List ℕ) : Type 0 where
+pub record TurnLeaves (x : List ℕ × Relay) (state : State) (written : List ℕ) : Type 0 where
   pub text : written ≡ x.0
   pub left : StandsFor state x.1
 
 -- a turn printed and left this, or was a bad line
 abbrev pub Prints : Option (List ℕ × Relay) → State → Option (Vec ℕ) → Type 0
 Prints None state None = Unit {0}
-Prints (Some x) state (Some text) = Turned x state text.items
+Prints (Some x) state (Some text) = TurnLeaves x state text.items
 Prints None state (Some text) = ⊥
 Prints (Some x) state None = ⊥
 

@@ -3,7 +3,7 @@ use Rattle.std.specs.Vec.{with_item}
 use Rattle.std.proofs.Math.ListN.{length-set}
 use Rattle.std.proofs.lemmas.Result.{IfOk-weaker}
 use Rattle.smx_relay.specs.LaneLinks.{with_centre}
-use Rattle.smx_relay.specs.Private.States.{Turned}
+use Rattle.smx_relay.specs.Private.States.{TurnLeaves}
 use Rattle.smx_relay.proofs.Turning.{turned_nothing}
 use Rattle.smx_relay.proofs.Links.{centred, centre_at, left_is, centre_untouched, centre_pdu_left, centre_pdu_some}
 use Rattle.smx_relay.proofs.centre_turn.centre_pdu.Goals as goal
@@ -36,4 +36,4 @@ returns-clause-turned c = λ s a.
     let same = centre_pdu_some s c.args.lane c.args.pdu k.link after c.decide-act.result at here c.decide-act.ensures.act c.decide-act.ensures.link in
     let mid = record old { lanes = with_item old.lanes c.args.lane (record k { link = after }) } in
     let there = centred old mid s c.args.lane k after a (record { within = omega arith; here = c.index_mut.ensures.value; lanes = refl; clients = refl; keeps = record { limits = refl; count = refl; started = refl; accounts = refl; places = refl; routes = refl; moment = refl } }) in
-    IfOk-weaker c.centre_act.result _ _ (λ text t. subst (λ x. Turned x c.centre_act.new.state text.items) same t) (c.centre_act.ensures.turned (with_centre s c.args.lane after) there)
+    IfOk-weaker c.centre_act.result _ _ (λ text t. subst (λ x. TurnLeaves x c.centre_act.new.state text.items) same t) (c.centre_act.ensures.turned (with_centre s c.args.lane after) there)

@@ -5,7 +5,7 @@ use Rattle.smx_relay.specs.Texts.{pdu_line, to_client}
 use Rattle.smx_relay.specs.Relay.{Relay}
 use Rattle.smx_relay.specs.Messages.{leave_turn}
 use Rattle.smx_relay.specs.ClientTurn.{followed_by}
-use Rattle.smx_relay.specs.Private.States.{Turned}
+use Rattle.smx_relay.specs.Private.States.{TurnLeaves}
 use Rattle.smx_relay.proofs.Turning.{turned_then}
 use Rattle.smx_relay.proofs.client_turn.client_act.Goals as goal
 
@@ -36,4 +36,4 @@ returns-in_ok-extend_from_slice-in-Leave c = λ s a.
     let all = c.extend_from_slice.new.self.items in
     let sum : all ≡ text ++ more = search rules in
     let turned = turned_then turn (leave_turn client) c.args.state.now c.leave.new.state text more (record { text = c.in_ok-text-in-Leave.ensures; left = a }) c.in_ok-leave-in-Leave.ensures in
-    client_leaves client c.args.pdu c.args.act c.in-Leave.answer s c.leave.new.state all c.in-Leave.is (subst (λ (t : List ℕ). Turned (followed_by turn (leave_turn client)) c.leave.new.state t) (sym sum) turned)
+    client_leaves client c.args.pdu c.args.act c.in-Leave.answer s c.leave.new.state all c.in-Leave.is (subst (λ (t : List ℕ). TurnLeaves (followed_by turn (leave_turn client)) c.leave.new.state t) (sym sum) turned)

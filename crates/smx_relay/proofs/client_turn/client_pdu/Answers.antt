@@ -3,7 +3,7 @@ use Rattle.std.specs.Vec.{with_item}
 use Rattle.std.proofs.lemmas.Result.{IfOk-weaker}
 use Rattle.smx_relay.specs.Relay.{with_link}
 use Rattle.smx_relay.specs.ClientTurn.{decides}
-use Rattle.smx_relay.specs.Private.States.{Turned}
+use Rattle.smx_relay.specs.Private.States.{TurnLeaves}
 use Rattle.smx_relay.proofs.Links.{client_pdu_some, known_linked, link_is, linked, still_linked}
 use Rattle.smx_relay.proofs.client_turn.client_pdu.Goals as goal
 
@@ -29,4 +29,4 @@ returns c = λ s a.
     (c.in_ok-act.ensures.link ∙ ap (λ ls. record k.link { session = (decides ls k.link.session c.args.pdu).1 }) accounts) in
     let mid = record old { clients = record { list = with_item old.clients.list c.args.client (Some (record k { link = after })) } } in
     let here = linked old mid s c.args.client k after a (record { here = c.known_mut-known.ensures.value; clients = refl; lanes = refl; keeps = record { limits = refl; count = refl; started = refl; accounts = refl; places = refl; routes = refl; moment = refl } }) in
-    IfOk-weaker c.client_act.result _ _ (λ text t. subst (λ x. Turned x c.client_act.new.state text.items) same t) (c.client_act.ensures (with_link s c.args.client after) here)
+    IfOk-weaker c.client_act.result _ _ (λ text t. subst (λ x. TurnLeaves x c.client_act.new.state text.items) same t) (c.client_act.ensures (with_link s c.args.client after) here)

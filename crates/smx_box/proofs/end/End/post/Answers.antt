@@ -3,7 +3,7 @@ use Rattle.std.specs.Arc.{arc_value}
 use Rattle.crossbeam_queue.specs.Passes.{view, ruled_capacity}
 use Rattle.smx_box.specs.Letters.{is_open}
 use Rattle.smx_box.specs.Boxes.{puts}
-use Rattle.smx_box.specs.Private.Ends.{front_of, sending, PostServes}
+use Rattle.smx_box.specs.Private.Ends.{pass_front, sending, PostServes}
 use Rattle.smx_box.proofs.BoxRules.{joins, learns}
 use Rattle.smx_box.proofs.BoxEnds.{posted}
 use Rattle.smx_box.proofs.end.End.post.Goals as goal
@@ -24,5 +24,5 @@ returns g c =
     let p = c.self.inside.pass in
     let r = c.push_as.result in
     let told = posted (ruled_capacity c.deref.result.now) p c.push_as.new.pass c.args.letter r (ap (λ f. f.known.number) is ∙ c.requires.pass) c.push_as.ensures.queue c.push_as.ensures.rule in
-    subst (λ f. PostServes (sending c.args.letter.sender f) (front_of (ruled_capacity (arc_value c.self.inside.queue)) c.push_as.new.pass) c.args.letter r) is
-    (subst (λ q. PostServes (sending c.args.letter.sender (front_of (ruled_capacity q) p)) (front_of (ruled_capacity q) c.push_as.new.pass) c.args.letter r) c.deref.ensures told)
+    subst (λ f. PostServes (sending c.args.letter.sender f) (pass_front (ruled_capacity (arc_value c.self.inside.queue)) c.push_as.new.pass) c.args.letter r) is
+    (subst (λ q. PostServes (sending c.args.letter.sender (pass_front (ruled_capacity q) p)) (pass_front (ruled_capacity q) c.push_as.new.pass) c.args.letter r) c.deref.ensures told)
