@@ -60,9 +60,10 @@ fn measure<R: Threads + Wait + Sync + Clock + AllocGlobal>(
     lanes: usize,
 ) -> anyhow::Result<u64> {
     let alloc = rt.alloc();
-    let (exchange, door, taps) = Exchange::new(rt, alloc, LIMITS, lanes).map_err(
-        |unmade| unmade.fault,
-    )?;
+    let (exchange, door, taps) = match Exchange::new(rt, alloc, LIMITS, lanes) {
+        Ok(made) => made,
+        Err(unmade) => return Err(unmade.fault.into()),
+    };
     let at = Arc::new(alloc, exchange)?;
     let active = AtomicU64::new(ports);
     let upstreams = upstreams_of(alloc, &at, taps, &active)?;
@@ -118,7 +119,10 @@ impl Entrance {
         active: &'a AtomicU64,
     ) -> anyhow::Result<Client<'a>> {
         let at = Arc::try_clone(&self.at)?;
-        let port = self.door.enter(&self.at, rt).map_err(|refused| refused.0)?;
+        let port = match self.door.enter(&self.at, rt) {
+            Ok(port) => port,
+            Err((fault, _)) => return Err(fault.into()),
+        };
         Ok(Client {
             alloc: self.alloc,
             at,

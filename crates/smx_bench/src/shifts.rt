@@ -34,9 +34,10 @@ const SHIFT: usize = 12_500;
 /// Prints the requests in thousands a second, from the submit to the collected response: those of
 /// the first 25,000, and of all 10,000,000.
 pub(crate) fn run<R: Wait + Print + Clock + AllocGlobal>(rt: &R) -> anyhow::Result<()> {
-    let (exchange, door, taps) = Exchange::new(rt, rt.alloc(), LIMITS, 1).map_err(
-        |unmade| unmade.fault,
-    )?;
+    let (exchange, door, taps) = match Exchange::new(rt, rt.alloc(), LIMITS, 1) {
+        Ok(made) => made,
+        Err(unmade) => return Err(unmade.fault.into()),
+    };
     let mut pair = pair_of(rt, rt.alloc(), &exchange, door, taps)?;
     print_rates(rt, &mut pair)
 }
@@ -54,7 +55,10 @@ fn pair_of<'a, R: Wait>(
 {
     let (mut door, mut taps) = (door, taps);
     let tap = taps.pop().ok_or(Stopped::NoTap)?;
-    let port = door.enter(at, rt).map_err(|refused| refused.0)?;
+    let port = match door.enter(at, rt) {
+        Ok(port) => port,
+        Err((fault, _)) => return Err(fault.into()),
+    };
     Ok(Pair {
         alloc,
         at,

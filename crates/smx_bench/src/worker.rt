@@ -73,9 +73,10 @@ fn measure<R: Wait + Print + Clock>(
     desk: &Desk,
     clients: usize,
 ) -> anyhow::Result<()> {
-    let (exchange, mut door, taps) = Exchange::new(rt, alloc, LIMITS, 1).map_err(
-        |unmade| unmade.fault,
-    )?;
+    let (exchange, mut door, taps) = match Exchange::new(rt, alloc, LIMITS, 1) {
+        Ok(made) => made,
+        Err(unmade) => return Err(unmade.fault.into()),
+    };
     let drawer = drawer_of(&exchange, taps).ok_or(NotMade)?;
     measure_at(rt, alloc, desk, &mut door, drawer, clients)
 }
@@ -155,6 +156,8 @@ fn seat_at<'a, R: Wait>(rt: &R, at: &'a Exchange, door: &mut Door) -> Result<Sea
     requires { locks_of door.old.fronts ≡ at.now }
     ensures { locks_of door.new.fronts ≡ at.now }
 {
-    let port = door.enter(at, rt).map_err(|refused| refused.0)?;
-    Ok(Seat { at, port })
+    match door.enter(at, rt) {
+        Ok(port) => Ok(Seat { at, port }),
+        Err((fault, _)) => Err(fault),
+    }
 }

@@ -89,6 +89,7 @@ impl Entrance {
     }
 
     // Gives a connection a slot and enters its client; else closes it. The slot, where there is one.
+    // Without memory for the words of its address nothing is said.
     pub fn welcome<'d, R: Wait + Eprint>(
         &mut self,
         rt: &R,
@@ -98,9 +99,12 @@ impl Entrance {
         guests: &mut Guests<'d>,
         roll: &mut Roll,
         stream: TcpStream,
-        address: String,
+        address: SocketAddr,
         now: u64,
     ) -> Option<usize> {
+        let Ok(address) = format!(in self.alloc; "{address}") else {
+            return None;
+        };
         let Some((slot, ends)) = guests.slots.pick() else {
             let words = Words::Said("no slot is free");
             self.refuse(rt, now, address.as_str(), words);

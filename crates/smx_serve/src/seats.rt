@@ -72,8 +72,10 @@ impl Gateway {
         let Ok(at) = Arc::try_clone(&self.at) else {
             return Err(EnterFault::NoMemory);
         };
-        let port = self.door.enter(&self.at, rt).map_err(|(fault, _)| fault)?;
-        Ok(Entrant { at, port })
+        match self.door.enter(&self.at, rt) {
+            Ok(port) => Ok(Entrant { at, port }),
+            Err((fault, _)) => Err(fault),
+        }
     }
 }
 

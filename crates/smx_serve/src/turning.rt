@@ -172,9 +172,6 @@ impl<'d> Loop<'d> {
         let Some((stream, address)) = self.entrance.accept(rt) else {
             return false;
         };
-        let Ok(address) = format!(in self.entrance.alloc; "{address}") else {
-            return true;
-        };
         let lanes = self.lanes.len();
         let came = self.entrance.welcome(
             rt,
