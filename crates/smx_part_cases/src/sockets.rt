@@ -1,4 +1,6 @@
-use super::{MOST, Outgoing};
+//! What waits to be written to a socket.
+
+use smx_socket::{MOST, Outgoing};
 use std::test::Fail;
 
 // What went comes in the order in which it was taken, also where there is no room for all at once.
