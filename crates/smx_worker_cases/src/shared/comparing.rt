@@ -39,7 +39,7 @@ fn compared<R: Wait + Abort>(
 {
     let mut tap = tap;
     let Ok(mut port) = door.enter(at, rt) else {
-        panic!(rt; "no client")
+        panic!(rt; "out of memory")
     };
     let offer = Offer {
         own: 7,
