@@ -17,15 +17,15 @@ fn on_tables(
         let words = format!(in alloc; "{key} has {count} tables: write 1 to {most}")?;
         return Ok(Some(words));
     }
-    for (index, value) in values.iter().enumerate() {
-        if !value.is_table() {
+    match values.iter().position(|value| !value.is_table()) {
+        Some(index) => {
             let words = format!(in alloc;
                 "{key} has {count} items, of which item {index} is no table: write [[{key}]]"
             )?;
-            return Ok(Some(words));
+            Ok(Some(words))
         }
+        None => Ok(None),
     }
-    Ok(None)
 }
 
 /// Words on the list of tables at a key, unless it is as it may be.
@@ -54,13 +54,15 @@ pub(crate) fn on_table_list(
 
 // The first of the values before an index that is this text.
 fn first_of(values: &[Value], before: usize, text: &str) -> Option<usize> {
-    for (index, value) in values.iter().enumerate() {
+    let mut index = 0;
+    for value in values {
         if index >= before {
             return None;
         }
         if value.as_str() == Some(text) {
             return Some(index);
         }
+        index = index.saturating_add(1);
     }
     None
 }

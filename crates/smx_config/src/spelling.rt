@@ -61,7 +61,7 @@ fn on_table(
 ) -> Result<(), AllocError> {
     for (key, value) in table.iter() {
         let key = key.as_str();
-        if !names.iter().any(|name| *name == key) {
+        if !names.contains(&key) {
             all.push(on_key(alloc, place, key, value, names)?)?;
         }
     }
