@@ -4,7 +4,7 @@ ghost use Rattle.std.specs.Prelude.{Some};
 use crate::scripts::script_of;
 use smx_config::check;
 use smx_relay::{RunEnd, run};
-use std::alloc::Global;
+use std::alloc::{AllocError, Global};
 use std::io;
 use std::io::{ErrorKind, Read, Write};
 
@@ -124,42 +124,55 @@ fn left_by(alloc: Global, work: Work<'_>, whole: &[u8], mut writer: Weary) -> Le
     }
 }
 
+// A writer that takes so many octets at a time, and fails or takes nothing after so many writes.
+fn weary_of(
+    alloc: Global,
+    room: usize,
+    writes: usize,
+    takes: usize,
+    fails: bool,
+) -> Result<Weary, AllocError> {
+    let held = Vec::with_capacity(alloc, room)?;
+    Ok(Weary {
+        held,
+        writes,
+        takes,
+        fails,
+    })
+}
+
+fn tell_left(writes: usize, left: Left, out: &mut Vec<u8>) -> io::Result<()> {
+    let Left {
+        end,
+        is_front,
+        octets,
+    } = left;
+    let front = if is_front { "a front" } else { "no front" };
+    writeln!(out, "{writes} writes: {end}; {front}, octets {octets}")
+}
+
 // What is left after no write, after one, after two, .. up to the whole output, where that isn't what
 // was left before and one octet more. A writer takes so many octets at a time.
 fn tell_weary(
     alloc: Global,
     work: Work<'_>,
     whole: &[u8],
-    (takes, fails): (usize, bool),
+    takes: usize,
+    fails: bool,
     out: &mut Vec<u8>,
 ) -> io::Result<()> {
     let mut last = None;
     for writes in 0..=whole.len() {
-        let held = Vec::with_capacity(alloc, whole.len())?;
-        let left = left_by(
-            alloc,
-            work,
-            whole,
-            Weary {
-                held,
-                writes,
-                takes,
-                fails,
-            },
-        );
-        let more = left.octets.wrapping_sub(writes);
-        if last != Some((left.end, left.is_front, more)) {
-            let front = if left.is_front { "a front" } else { "no front" };
-            writeln!(
-                out,
-                "{writes} writes: {}; {front}, octets {}",
-                left.end, left.octets
-            )?;
+        let writer = weary_of(alloc, whole.len(), writes, takes, fails)?;
+        let left = left_by(alloc, work, whole, writer);
+        let found = (left.end, left.is_front, left.octets.wrapping_sub(writes));
+        if last != Some(found) {
+            tell_left(writes, left, out)?;
         }
-        last = Some((left.end, left.is_front, more));
         if left.end == RunEnd::Clean {
-            break;
+            return Ok(());
         }
+        last = Some(found);
     }
     Ok(())
 }
@@ -177,7 +190,7 @@ fn tell_writers(alloc: Global, work: Work<'_>, out: &mut Vec<u8>) -> io::Result<
         for fails in [true, false] {
             let then = if fails { "fails" } else { "takes nothing" };
             writeln!(out, "takes {takes}, then {then}")?;
-            tell_weary(alloc, work, &whole, (takes, fails), out)?;
+            tell_weary(alloc, work, &whole, takes, fails, out)?;
         }
     }
     Ok(())

@@ -52,11 +52,23 @@ pub fn script_of(alloc: Global, text: &str) -> Result<String, AllocError> {
 /// What a run of the script prints, and how it ends where a line isn't run.
 pub fn tell_run(alloc: Global, text: &str, out: &mut Vec<u8>) -> io::Result<()> {
     let script = script_of(alloc, text)?;
-    let mut reader = script.as_bytes();
-    match run(alloc, &mut reader, out) {
+    let end = run(alloc, &mut script.as_bytes(), out);
+    tell_end(end, out)
+}
+
+// How a run ends where a line isn't run.
+fn tell_end(end: RunEnd, out: &mut Vec<u8>) -> io::Result<()> {
+    match end {
         RunEnd::Clean => Ok(()),
         end => writeln!(out, "{end}"),
     }
+}
+
+// Adds a command and its digits.
+fn push_part(script: &mut String, command: &str, digits: &str) -> Result<(), AllocError> {
+    script.push_str(command)?;
+    script.push_str(" ")?;
+    push_lines(script, 1, digits)
 }
 
 // Adds the line, in two lines if its octets are more than these.
@@ -64,15 +76,10 @@ fn push_cut(script: &mut String, line: &str, octets: usize) -> Result<(), AllocE
     let Some((command, digits)) = line.rsplit_once(" ") else {
         return push_lines(script, 1, line);
     };
-    let place = octets.saturating_mul(2);
-    match (digits.get(..place), digits.get(place..)) {
-        (Some(front), Some(back)) if !back.is_empty() => {
-            for digits in [front, back] {
-                script.push_str(command)?;
-                script.push_str(" ")?;
-                push_lines(script, 1, digits)?;
-            }
-            Ok(())
+    match digits.split_at_checked(octets.saturating_mul(2)) {
+        Some((front, back)) if !back.is_empty() => {
+            push_part(script, command, front)?;
+            push_part(script, command, back)
         }
         _ => push_lines(script, 1, line),
     }
@@ -112,17 +119,25 @@ pub fn tell_cuts(alloc: Global, text: &str, out: &mut Vec<u8>) -> io::Result<()>
 // Whether the line says something to a run, and whether it is known what it speaks of.
 fn tell_line(alloc: Global, line: &[u8], out: &mut Vec<u8>) -> io::Result<()> {
     let command = read_command(alloc, line)?;
-    let word = match (&command, subject_of(alloc, line)) {
-        (Some(_), Ok(_)) => "good",
-        (None, Err(_)) => "bad",
+    let text = str::from_utf8(line).unwrap_or("no text");
+    let word = match (command.is_some(), subject_of(alloc, line).is_ok()) {
+        (true, true) => "good",
+        (false, false) => "bad",
         _ => "at odds",
     };
-    let text = str::from_utf8(line).unwrap_or("no text");
     write!(out, "{text:?}: {word}")?;
-    if let Some(Command::Run(Action::In { client, octets })) = &command {
-        write!(out, ", client {client}, octets {:?}", octets.as_slice())?;
-    }
+    tell_octets(command.as_ref(), out)?;
     writeln!(out)
+}
+
+// The octets of a command that has some of a client.
+fn tell_octets(command: Option<&Command>, out: &mut Vec<u8>) -> io::Result<()> {
+    match command {
+        Some(Command::Run(Action::In { client, octets })) => {
+            write!(out, ", client {client}, octets {:?}", octets.as_slice())
+        }
+        _ => Ok(()),
+    }
 }
 
 /// What the lines of the script say to any run.
