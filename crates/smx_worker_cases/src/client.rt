@@ -1,316 +1,317 @@
-//! What a client's link takes, and what becomes of its requests and messages.
+//! What a client's link takes, and what becomes of its requests and messages: steps as rows, each
+//! with what is to be found.
+ghost use Rattle.std.specs.Prelude.{◌≡◌, ◌≢◌, length, None, All, Some, slice_get, false};
+ghost use Rattle.smx_shared.specs.Views.{locks_of};
+ghost use Rattle.smx_client.specs.declared.mark.Stage.{Stage};
 
-ghost use Rattle.std.specs.Prelude.{◌≡◌, slice_get, Some, All};
-
-use crate::client::stand::{
-    Boxes, Line, Seat, answer_largest, desk, has_answers, last_line, make_boxes, next_answer,
-    plain_seat, put_messages, seat_of,
-};
-use smx_box::{Receiver, Sender};
-use smx_history::{Answered, Limits};
-use smx_memory::Script;
+use crate::hall::{Hall, Line, lanes_of, lines_of};
+use crate::stand::{Piece, World, link_to, name_want, script, took};
+use smx_box::{Boxed, Got, Receiver, Sender};
+use smx_client::{ClientWorker, Desk, run_client};
+use smx_history::Answered;
+use smx_lane::Lane;
+use smx_memory::{MemoryLink, Script};
 use smx_pdu::{Body, Pdu};
-use smx_session::ClientState;
-use smx_shared::{Exchange, Tap};
-use smx_turns::{Fault, MoItem, Party, RunEnd};
-use std::alloc::Global;
-use std::cmp::Ord;
+use smx_session::{Account, ClientState};
+use smx_shared::{Door, Exchange, Port, Tap};
+use smx_turns::{MoItem, Party, RunEnd};
+use std::alloc::{AllocError, Global};
 use std::process::Abort;
 use std::sync::Wait;
-use std::test::Fail;
 
 mod hostile;
-mod stand;
-
-const LIMITS: Limits = Limits {
-    queue: 10,
-    window: 10,
-    client: 10,
-    history: 1_000,
-};
+mod passing;
 
 // bind_transceiver of the system_id `a` with the password `p`, number 1.
 const BIND: &[u8] = b"\0\0\0\x19\0\0\0\x09\0\0\0\0\0\0\0\x01a\0p\0\0\x34\0\0\0";
 
 // Its answer: the system_id `smx`, and sc_interface_version 0x34.
-const BOUND: &[u8] = b"\0\0\0\x19\x80\0\0\x09\0\0\0\0\0\0\0\x01smx\0\x02\x10\0\x01\x34";
+const BOUND: [u8; 25] = *b"\0\0\0\x19\x80\0\0\x09\0\0\0\0\0\0\0\x01smx\0\x02\x10\0\x01\x34";
 
-// What a client's link took after its bind.
-fn taken_after_bind<R: Wait + Abort>(rt: &R, alloc: Global, seat: Seat) -> Vec<u8> {
-    let (closed, _) = seat.close(rt);
-    let octets = closed.link.peer().taken().get(25..);
-    let octets = octets.expect(rt, "the bind is answered");
-    Vec::from_slice(alloc, octets).expect(rt, "out of memory")
+// What is done, and what is found.
+#[derive(Clone, Copy)]
+enum Step<'s> {
+    // The worker is turned at most so often.
+    Runs(u64, RunEnd),
+    // How client 1 is bound, and how many octets wait for its link.
+    Stands(ClientState, usize),
+    // Whom the gate was told of last.
+    Told(Option<Party>),
+    // How many prefixes were entered, and clients removed.
+    Routes(u64, u64),
+    // A deliver_sm with the centre's number and no body is put into the client's box.
+    Sends(u32),
+    // The command, the status and the number of the next answer in the last lane's return box.
+    Gets(Option<(u32, u32, u32)>),
+    // The lane's request is answered with a body of these octets, and so many zeros behind them.
+    Responds(usize, &'s [u8], usize),
+    // The client is gone. Its link took just this, one part after another; whether a return box took
+    // an answer then.
+    Closes(&'s [&'s [u8]], bool),
 }
 
-// What the link took, and how many octets wait, after so many turns.
-fn taken_and_unsent<R: Wait + Abort>(
+// A client's worker with its exchange.
+#[derive(Drop)]
+struct Seat<'a, 'd> {
+    at: &'a Exchange,
+    worker: ClientWorker<'d, MemoryLink<Script>>,
+    // A fault ended a run.
+    faulty: bool,
+    ghost fits: { locks_of worker.port.fronts ≡ at.now },
+    ghost goes_on: { faulty ≡ false → worker.stage ≢ Stage.Closed → worker.wire.failed ≡ None },
+}
+
+impl Seat<'_, '_> {
+    fn run<R: Wait + Abort>(&mut self, rt: &R, world: &mut World, turns: u64) -> RunEnd {
+        if self.faulty {
+            return RunEnd::Left;
+        }
+        let World { gate, book } = world;
+        let end = run_client(&mut self.worker, self.at, rt, gate, book, turns);
+        self.faulty = matches!(end, RunEnd::Fault(_));
+        name_want(rt, end);
+        end
+    }
+
+    fn stands(&self, state: ClientState, unsent: usize) -> bool {
+        let worker = &self.worker;
+        (worker.client(), worker.state(), worker.unsent()) == (1, state, unsent)
+    }
+
+    fn closes<R: Wait>(self, rt: &R, world: &mut World, parts: &[&[u8]], answered: bool) -> bool {
+        let Seat { at, worker, .. } = self;
+        let closed = worker.close(at, rt, &mut world.book);
+        took(&closed.link, parts) && closed.answered == answered
+    }
+}
+
+// A client's worker until it is closed, what it is lent, the sender of its box, the other end of each
+// lane's return box, and the lanes.
+#[derive(Drop)]
+struct Stand<'a, 'd> {
+    seat: Option<Seat<'a, 'd>>,
+    world: World,
+    messages: Vec<Sender<MoItem>>,
+    answers: Vec<Receiver<Pdu>>,
+    lines: Vec<Line<'a>>,
+}
+
+impl Stand<'_, '_> {
+    fn holds<R: Wait + Abort>(&mut self, rt: &R, alloc: Global, step: Step) -> bool {
+        match step {
+            Step::Runs(turns, want) => match &mut self.seat {
+                Some(seat) => seat.run(rt, &mut self.world, turns) == want,
+                None => false,
+            },
+            Step::Stands(state, unsent) => match &self.seat {
+                Some(seat) => seat.stands(state, unsent),
+                None => false,
+            },
+            Step::Told(want) => self.world.gate.last == want,
+            Step::Routes(added, removed) => {
+                (self.world.book.added, self.world.book.removed) == (added, removed)
+            }
+            Step::Sends(number) => sends(rt, alloc, &mut self.messages, number),
+            Step::Gets(want) => gets(rt, &mut self.answers, want),
+            Step::Responds(lane, octets, zeros) => match self.lines.get_mut(lane) {
+                Some(line) => responds(rt, alloc, line, octets, zeros),
+                None => false,
+            },
+            Step::Closes(parts, answered) => match self.seat.take() {
+                Some(seat) => seat.closes(rt, &mut self.world, parts, answered),
+                None => false,
+            },
+        }
+    }
+}
+
+// A message from lane 0 for the first client.
+fn sends<R: Wait>(rt: &R, alloc: Global, messages: &mut Vec<Sender<MoItem>>, number: u32) -> bool {
+    let message = MoItem {
+        client: 1,
+        lane: 0,
+        number,
+        pdu: Pdu::header_only(alloc, 5, 0, number),
+    };
+    match messages.last_mut() {
+        Some(sender) => sender.put(rt, message).is_ok(),
+        None => false,
+    }
+}
+
+fn gets<R: Wait>(rt: &R, answers: &mut Vec<Receiver<Pdu>>, want: Option<(u32, u32, u32)>) -> bool {
+    let Some(receiver) = answers.last_mut() else {
+        return false;
+    };
+    match receiver.get(rt) {
+        Ok(Got::Item { content, .. }) => {
+            want == Some((content.command, content.status, content.number))
+        }
+        _ => want.is_none(),
+    }
+}
+
+// The answer is for client 1.
+fn responds<R: Wait + Abort>(
     rt: &R,
     alloc: Global,
-    seat: Seat,
-    turns: u64,
-) -> (Vec<u8>, usize) {
-    let mut seat = seat;
-    let end = seat.run(rt, turns);
-    let unsent = seat.worker.unsent();
-    let (closed, _) = seat.close(rt);
-    if let RunEnd::Fault(_) = end {
-        panic!(rt; "the link goes on")
-    }
-    let taken = Vec::from_slice(alloc, closed.link.peer().taken());
-    (taken.expect(rt, "out of memory"), unsent)
-}
-
-// The same of a client that binds over a link that takes one octet a write.
-fn after<R: Wait + Abort>(rt: &R, alloc: Global, turns: u64) -> (Vec<u8>, usize) {
-    let desk = desk(alloc).expect(rt, "out of memory");
-    let made = Exchange::new(rt, alloc, LIMITS, 1).ok();
-    let (exchange, mut door, _) = made.expect(rt, "out of memory");
-    let script = Script::new(alloc, 1).and(0, BIND);
-    let seat = plain_seat(rt, alloc, &exchange, &mut door, &desk, 1, script);
-    taken_and_unsent(rt, alloc, seat, turns)
-}
-
-#[test]
-fn octets_taken_and_waiting_are_the_answer(rt: HostRuntime) {
-    for turns in 1..=30 {
-        let (taken, unsent) = after(&rt, rt.alloc(), turns);
-        assert_eq!(rt;
-            taken.len() as u64,
-            (turns - 1).min(25),
-            "after {turns} turns"
-        );
-        assert_eq!(rt; taken.len().saturating_add(unsent), 25);
-        assert!(rt; BOUND.starts_with(&taken));
-    }
-}
-
-// submit_sm, number 7, with a body of one octet, which nobody reads; and its response with the
-// message_id `1`.
-const SUBMIT: &[u8] = b"\0\0\0\x11\0\0\0\x04\0\0\0\0\0\0\0\x07s";
-
-const SUBMITTED: &[u8] = b"\0\0\0\x12\x80\0\0\x04\0\0\0\0\0\0\0\x071\0";
-
-// The client's request is accepted, of which the lane is told, and its response collected.
-fn request_passes<R: Wait + Abort>(rt: &R, seat: &mut Seat, line: &mut Line, body: Body) -> bool {
-    let accepted = seat.run(rt, 100) == RunEnd::Idle;
-    let told = seat.world.gate.last == Some(Party::Lane(0));
-    let answered = line.answer(rt, body);
-    let queued = matches!(answered, Some(Answered::Queued { client: 1 }));
-    accepted && told && queued && seat.run(rt, 100) == RunEnd::Idle
-}
-
-// Client 1 is bound, and nothing waits for its link.
-fn is_at_rest(seat: &Seat) -> bool {
-    let worker = &seat.worker;
-    (worker.client(), worker.state(), worker.unsent()) == (1, ClientState::BoundTrx, 0)
-}
-
-// The link took the response; two routes were made and one client's taken back; no answer waits.
-fn leaves_with_a_response<R: Wait>(rt: &R, seat: Seat) -> bool {
-    let (closed, book) = seat.close(rt);
-    let taken = closed.link.peer().taken().get(25..) == Some(SUBMITTED);
-    taken && !closed.answered && (book.added, book.removed) == (2, 1)
-}
-
-#[test]
-fn response_bears_the_clients_number(rt: HostRuntime) -> Result<(), Fail> {
-    let desk = desk(rt.alloc())?;
-    let body = Body::short(Vec::from_slice(rt.alloc(), b"1\0")?);
-    let Ok((exchange, mut door, mut taps)) = Exchange::new(&rt, rt.alloc(), LIMITS, 1) else {
-        panic!(rt; "there is memory")
-    };
-    let Some(mut line) = last_line(&exchange, &mut taps) else {
-        panic!(rt; "there is one lane")
-    };
-    let script = Script::new(rt.alloc(), 4_096).and(0, BIND).and(25, SUBMIT);
-    let mut seat = plain_seat(&rt, rt.alloc(), &exchange, &mut door, &desk, 1, script);
-    assert!(rt; request_passes(&rt, &mut seat, &mut line, body));
-    assert!(rt; is_at_rest(&seat));
-    assert!(rt; leaves_with_a_response(&rt, seat));
-    Ok(())
-}
-
-// Two messages are sent, the first is answered, and a third is put into the box.
-fn messages_pass<R: Wait + Abort>(
-    rt: &R,
-    alloc: Global,
-    seat: &mut Seat,
-    sender: &mut Sender<MoItem>,
+    line: &mut Line,
+    octets: &[u8],
+    zeros: usize,
 ) -> bool {
-    seat.run(rt, 100) == RunEnd::Idle
-        && put_messages(rt, alloc, sender, &[3, 4])
-        && seat.run(rt, 100) == RunEnd::Idle
-        && seat.world.gate.last == Some(Party::Lane(0))
-        && put_messages(rt, alloc, sender, &[5])
-}
-
-// The link took the messages under the numbers 1 and 2, and an answer waits.
-fn leaves_with_answers<R: Wait>(rt: &R, seat: Seat) -> bool {
-    let sent: &[u8] = b"\0\0\0\x10\0\0\0\x05\0\0\0\0\0\0\0\x01\
-        \0\0\0\x10\0\0\0\x05\0\0\0\0\0\0\0\x02";
-    let (closed, _) = seat.close(rt);
-    closed.answered && closed.link.peer().taken().get(25..) == Some(sent)
-}
-
-// Two messages are sent under the numbers 1 and 2. The answer to 1 goes back under the centre's
-// number. Once the client is closed, the message that it didn't answer and the one in its box are
-// answered with 0x64.
-#[test]
-fn messages_are_answered(rt: HostRuntime) -> Result<(), Fail> {
-    let answer = b"\0\0\0\x10\x80\0\0\x05\0\0\0\0\0\0\0\x01";
-    let desk = desk(rt.alloc())?;
-    let Boxes {
-        inbox,
-        mut messages,
-        mut answers,
-        senders,
-    } = make_boxes(&rt, rt.alloc(), 1, 4);
-    let Some(mut sender) = messages.pop() else {
-        panic!(rt; "the box has a sender")
-    };
-    let Ok((exchange, mut door, _taps)) = Exchange::new(&rt, rt.alloc(), LIMITS, 1) else {
-        panic!(rt; "there is memory")
-    };
-    let (rt, alloc, script) = (&rt, rt.alloc(), Script::new(rt.alloc(), 4_096));
-    let script = script.and(0, BIND).and(57, answer);
-    let mut seat = seat_of(
-        rt, alloc, &exchange, &mut door, &desk, inbox, senders, script,
-    );
-    assert!(rt; messages_pass(rt, alloc, &mut seat, &mut sender));
-    assert!(rt; leaves_with_answers(rt, seat));
-    let (bears, gone) = (0x8000_0005, 0x64);
-    let wanted = [(bears, 0, 3), (bears, gone, 4), (bears, gone, 5)];
-    assert!(rt; has_answers(rt, &mut answers, &wanted));
-    Ok(())
-}
-
-// One answer is in the box and the other waits, and then has its place. The enquiry behind them is
-// answered in the same turn, which reads nothing.
-fn answers_pass<R: Wait + Abort>(
-    rt: &R,
-    alloc: Global,
-    seat: &mut Seat,
-    sender: &mut Sender<MoItem>,
-    answers: &mut Vec<Receiver<Pdu>>,
-) -> bool {
-    put_messages(rt, alloc, sender, &[3, 4])
-        && seat.run(rt, 100) == RunEnd::Turns
-        && has_answers(rt, answers, &[(0x8000_0005, 0, 4)])
-        && seat.run(rt, 1) == RunEnd::Turns
-        && seat.worker.unsent() == 16
-        && next_answer(rt, answers) == Some((0x8000_0000, 8, 3))
-}
-
-// The second answer waits while the return box, which has one place, has the first. Until the
-// enquiry that came with them is decided nothing is read: the link's fourth read would fail.
-#[test]
-fn answer_waits_for_its_box(rt: HostRuntime) -> Result<(), Fail> {
-    // The second is a generic_nack, which answers a message too.
-    let all = b"\0\0\0\x10\x80\0\0\x05\0\0\0\0\0\0\0\x02\
-        \0\0\0\x10\x80\0\0\0\0\0\0\x08\0\0\0\x01\
-        \0\0\0\x10\0\0\0\x15\0\0\0\0\0\0\0\x09";
-    let desk = desk(rt.alloc())?;
-    let Boxes {
-        inbox,
-        mut messages,
-        mut answers,
-        senders,
-    } = make_boxes(&rt, rt.alloc(), 1, 1);
-    let Some(mut sender) = messages.pop() else {
-        panic!(rt; "the box has a sender")
-    };
-    let Ok((exchange, mut door, _taps)) = Exchange::new(&rt, rt.alloc(), LIMITS, 1) else {
-        panic!(rt; "there is memory")
-    };
-    let (rt, alloc, script) = (&rt, rt.alloc(), Script::new(rt.alloc(), 4_096));
-    let mut script = script.and(0, BIND).and(57, all);
-    script.failing_read = 4;
-    let mut seat = seat_of(
-        rt, alloc, &exchange, &mut door, &desk, inbox, senders, script,
-    );
-    let passed = answers_pass(rt, alloc, &mut seat, &mut sender, &mut answers);
-    drop(seat);
-    assert!(rt; passed);
-    Ok(())
-}
-
-// What a client is answered that says this once it is bound, where that ends it.
-fn last_answer<R: Wait + Abort>(rt: &R, alloc: Global, octets: &[u8]) -> Vec<u8> {
-    let desk = desk(alloc).expect(rt, "out of memory");
-    let made = Exchange::new(rt, alloc, LIMITS, 1).ok();
-    let (exchange, mut door, _) = made.expect(rt, "out of memory");
-    let script = Script::new(alloc, 7).and(0, BIND).and(25, octets);
-    let mut seat = plain_seat(rt, alloc, &exchange, &mut door, &desk, 1, script);
-    assert_eq!(rt; seat.run(rt, 100), RunEnd::Left);
-    taken_after_bind(rt, alloc, seat)
-}
-
-#[test]
-fn unbind_and_bad_length_end_it(rt: HostRuntime) {
-    // unbind, number 8; a length of 15, with an enquiry behind that nobody answers.
-    let unbind: &[u8] = b"\0\0\0\x10\0\0\0\x06\0\0\0\0\0\0\0\x08";
-    let unbound: &[u8] = b"\0\0\0\x10\x80\0\0\x06\0\0\0\0\0\0\0\x08";
-    let short: &[u8] = b"\0\0\0\x0f\0\0\0\x15\0\0\0\0\0\0\0\x09\0\0\0\x10\0\0\0\x15";
-    let nack: &[u8] = b"\0\0\0\x10\x80\0\0\0\0\0\0\x02\0\0\0\0";
-    for (octets, answer) in [(unbind, unbound), (short, nack)] {
-        let taken = last_answer(&rt, rt.alloc(), octets);
-        assert_eq!(rt; taken.as_slice(), answer);
+    let mut all = Vec::from_slice(alloc, octets).expect(rt, "out of memory");
+    let resized = all.resize(octets.len().saturating_add(zeros), 0);
+    resized.expect(rt, "out of memory");
+    let body = Body::new(all).ok();
+    let body = body.expect(rt, "the body is short enough");
+    match line.take(rt, 0) {
+        Ok((_, number)) => {
+            let answered = line.answer(rt, number, body);
+            matches!(answered, Ok(Answered::Queued { client: 1 }))
+        }
+        Err(_) => false,
     }
 }
 
-#[test]
-fn link_that_fails(rt: HostRuntime) -> Result<(), Fail> {
-    let desk = desk(rt.alloc())?;
-    let Ok((exchange, mut door, _taps)) = Exchange::new(&rt, rt.alloc(), LIMITS, 1) else {
-        panic!(rt; "there is memory")
+// The account `a` with the password `p` and two prefixes.
+fn desk(alloc: Global) -> Result<Desk, AllocError> {
+    let account = Account {
+        system_id: Vec::from_slice(alloc, b"a")?,
+        password: Vec::from_slice(alloc, b"p")?,
     };
-    let mut script = Script::new(rt.alloc(), 4_096).and(0, BIND);
-    script.failing_read = 2;
-    let mut seat = plain_seat(&rt, rt.alloc(), &exchange, &mut door, &desk, 1, script);
-    let end = seat.run(&rt, 100);
-    drop(seat);
-    assert_eq!(rt; end, RunEnd::Fault(Fault::Link));
-    Ok(())
+    let mut own = Vec::new(alloc);
+    own.push(Vec::from_slice(alloc, b"49")?)?;
+    own.push(Vec::from_slice(alloc, b"491")?)?;
+    let mut accounts = Vec::new(alloc);
+    let mut prefixes = Vec::new(alloc);
+    accounts.push(account)?;
+    prefixes.push(own)?;
+    Ok(Desk { accounts, prefixes })
 }
 
-// The two requests are answered with 65,536 octets each: then a turn collects one, and the next none.
-fn two_turns<R: Wait + Abort>(
+// The return box of each lane, of so many places: their senders, and their other ends.
+fn return_boxes<R: Wait + Abort>(
     rt: &R,
     alloc: Global,
-    at: &Exchange,
-    taps: &mut Vec<Tap>,
-    seat: &mut Seat,
-) -> Option<[(RunEnd, usize); 2]>
-    requires { All (λ t. slice_get at.now t.lane ≡ Some t.front.lock) taps.old.items }
+    lanes: usize,
+    places: usize,
+) -> (Vec<Sender<Pdu>>, Vec<Receiver<Pdu>>) {
+    let mut answers = Vec::new(alloc);
+    let mut senders = Vec::new(alloc);
+    for _lane in 0..lanes {
+        let made = Boxed::new(rt, alloc, 1, places).ok();
+        let (receiver, mut own) = made.expect(rt, "out of memory");
+        let sender = own.pop().expect(rt, "a box has a sender");
+        answers.push(receiver).expect(rt, "out of memory");
+        senders.push(sender).expect(rt, "out of memory");
+    }
+    (senders, answers)
+}
+
+// There must be a sender for each lane.
+fn seat_of<'a, 'd>(
+    rt: &impl Abort,
+    alloc: Global,
+    at: &'a Exchange,
+    desk: &'d Desk,
+    port: Port,
+    inbox: Receiver<MoItem>,
+    senders: Vec<Sender<Pdu>>,
+    script: Script,
+) -> Seat<'a, 'd>
+    requires { locks_of port.fronts ≡ at.now }
 {
-    if seat.run(rt, 100) != RunEnd::Idle {
-        return None;
+    if senders.len() != port.lanes() {
+        panic!(rt; "each lane has a sender")
     }
-    answer_largest(rt, alloc, at, taps)?;
-    answer_largest(rt, alloc, at, taps)?;
-    let first = (seat.run(rt, 1), seat.worker.unsent());
-    let second = (seat.run(rt, 1), seat.worker.unsent());
-    Some([first, second])
+    let link = link_to(rt, script);
+    let worker = ClientWorker::new(alloc, port, desk, inbox, senders, 4, link).ok();
+    Seat {
+        at,
+        worker: worker.expect(rt, "out of memory"),
+        faulty: false,
+    }
 }
 
-// Of two responses of 65,536 octets, on two lanes, one is collected in a turn.
-#[test]
-fn turn_stops_where_many_octets_wait(rt: HostRuntime) -> Result<(), Fail> {
-    let desk = desk(rt.alloc())?;
-    let Ok((exchange, mut door, mut taps)) = Exchange::new(&rt, rt.alloc(), LIMITS, 2) else {
-        panic!(rt; "there is memory")
-    };
-    let script = Script::new(rt.alloc(), 100_000)
-        .and(0, BIND)
-        .and(25, SUBMIT)
-        .and(25, SUBMIT);
-    let mut seat = plain_seat(&rt, rt.alloc(), &exchange, &mut door, &desk, 2, script);
-    let turns = two_turns(&rt, rt.alloc(), &exchange, &mut taps, &mut seat);
-    drop(seat);
-    assert_eq!(rt;
-        turns,
-        Some([(RunEnd::Turns, 65_536), (RunEnd::Turns, 65_536)])
-    );
-    Ok(())
+// What a worker is made with: the other end of its link, how many lanes there are, and how many
+// places each return box has. A failed step names the case.
+#[derive(Drop)]
+struct Setting {
+    case: usize,
+    script: Script,
+    lanes: usize,
+    places: usize,
+}
+
+impl Setting {
+    fn new(case: usize, script: Script) -> Setting {
+        Setting {
+            case,
+            script,
+            lanes: 1,
+            places: 4,
+        }
+    }
+}
+
+// A client that enters, and its worker, whose box has four places.
+fn stand_at<'a, 'd, R: Wait + Abort>(
+    rt: &R,
+    alloc: Global,
+    at: &'a Exchange,
+    door: &mut Door,
+    taps: Vec<Tap>,
+    desk: &'d Desk,
+    setting: Setting,
+) -> Stand<'a, 'd>
+    requires door { locks_of door.old.fronts ≡ at.now }
+    requires taps { All (λ t. slice_get at.now t.lane ≡ Some t.front.lock) taps.items }
+    ensures { locks_of door.new.fronts ≡ at.now }
+{
+    let Setting {
+        script,
+        lanes,
+        places,
+        ..
+    } = setting;
+    let made = Boxed::new(rt, alloc, 1, 4).ok();
+    let (inbox, messages) = made.expect(rt, "out of memory");
+    let (senders, answers) = return_boxes(rt, alloc, lanes, places);
+    let port = door.enter(at, rt).ok().expect(rt, "out of memory");
+    Stand {
+        seat: Some(seat_of(rt, alloc, at, desk, port, inbox, senders, script)),
+        world: World::new(),
+        messages,
+        answers,
+        lines: lines_of(alloc, at, taps).expect(rt, "out of memory"),
+    }
+}
+
+fn play<R: Wait + Abort>(rt: &R, alloc: Global, stand: &mut Stand, case: usize, steps: &[Step]) {
+    for place in 0..steps.len() {
+        assert!(rt;
+            stand.holds(rt, alloc, steps[place]),
+            "case {case}, step {place}"
+        );
+    }
+}
+
+// The lanes after these steps.
+fn lanes_after<R: Wait + Abort>(
+    rt: &R,
+    alloc: Global,
+    setting: Setting,
+    steps: &[Step],
+) -> Vec<Lane> {
+    let Hall {
+        exchange,
+        mut door,
+        taps,
+    } = Hall::roomy(rt, alloc, setting.lanes);
+    let desk = desk(alloc).expect(rt, "out of memory");
+    let case = setting.case;
+    let mut stand = stand_at(rt, alloc, &exchange, &mut door, taps, &desk, setting);
+    play(rt, alloc, &mut stand, case, steps);
+    drop(stand);
+    lanes_of(rt, exchange, door)
 }

@@ -9,7 +9,7 @@ use smx_lock::Spent;
 use smx_pdu::command::{RESPONSE, SUBMIT_SM};
 use smx_pdu::{Body, Pdu};
 use smx_shared::{Door, EnterFault, Exchange, Offer, Port, Starts, SubmitFault, TakeFault, Tap};
-use std::alloc::Global;
+use std::alloc::{AllocError, Global};
 use std::process::Abort;
 use std::sync::Wait;
 
@@ -171,4 +171,34 @@ pub fn last_line<'a, R: Abort>(rt: &R, at: &'a Exchange, taps: Vec<Tap>) -> Line
     let mut taps = taps;
     let tap = last_tap(at, &mut taps).expect(rt, "there is a lane");
     Line { at, tap }
+}
+
+/// The lines of all lanes.
+pub fn lines_of<'a>(
+    alloc: Global,
+    at: &'a Exchange,
+    taps: Vec<Tap>,
+) -> Result<Vec<Line<'a>>, AllocError>
+    requires { All (λ t. slice_get at.now t.lane ≡ Some t.front.lock) taps.items }
+{
+    let mut lines = Vec::new(alloc);
+    for tap in taps {
+        lines.push(Line { at, tap })?;
+    }
+    Ok(lines)
+}
+
+/// Whether there is one lane, and its entries are of these kinds, in order.
+pub fn is_of(lanes: &[Lane], kinds: &[Kind]) -> bool {
+    let [lane] = lanes else {
+        return false;
+    };
+    let mut rest = kinds;
+    for entry in lane.entries() {
+        match rest.split_first() {
+            Some((kind, behind)) if entry.kind == *kind => rest = behind,
+            _ => return false,
+        }
+    }
+    rest.is_empty()
 }

@@ -9,4 +9,6 @@ mod hall;
 #[cfg(test)]
 mod shared;
 #[cfg(test)]
+mod stand;
+#[cfg(test)]
 mod upstream;

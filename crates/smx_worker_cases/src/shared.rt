@@ -1,18 +1,18 @@
 //! Doors, ports and taps: calls as rows, each with its answer.
-ghost use Rattle.std.specs.Prelude.{◌≡◌, slice_get, Some, All};
+ghost use Rattle.std.specs.Prelude.{◌≡◌};
 ghost use Rattle.smx_shared.specs.Views.{locks_of};
 ghost use Rattle.smx_shared.specs.Making.{AreStarts};
 
-use crate::hall::{Client, Hall, Line, enter, lanes_of};
+use crate::hall::{Client, Hall, Line, enter, is_of, lanes_of, lines_of};
 use smx_history::{Answered, Failed, Kind};
 use smx_lane::Lane;
 use smx_lock::{Spent, TryFault};
 use smx_pdu::{Body, Pdu};
 use smx_shared::{
     Door, DownFault, EnterFault, Exchange, ExpiryFault, FailFault, Starts, SubmitFault, TakeFault,
-    Tap, TryTakeFault, TurnFault, UpFault,
+    TryTakeFault, TurnFault, UpFault,
 };
-use std::alloc::{AllocError, Global};
+use std::alloc::Global;
 use std::process::Abort;
 use std::sync::Wait;
 
@@ -172,20 +172,6 @@ fn clients_of<'a, R: Wait + Abort>(
     clients
 }
 
-fn lines_of<'a>(
-    alloc: Global,
-    at: &'a Exchange,
-    taps: Vec<Tap>,
-) -> Result<Vec<Line<'a>>, AllocError>
-    requires { All (λ t. slice_get at.now t.lane ≡ Some t.front.lock) taps.items }
-{
-    let mut lines = Vec::new(alloc);
-    for tap in taps {
-        lines.push(Line { at, tap })?;
-    }
-    Ok(lines)
-}
-
 fn play<R: Wait + Abort>(rt: &R, alloc: Global, room: &mut Room, steps: &[Step]) {
     for place in 0..steps.len() {
         assert!(rt; room.holds(rt, alloc, steps[place]), "step {place}");
@@ -218,16 +204,4 @@ fn lanes_after<R: Wait + Abort>(
         assert_eq!(rt; enter(rt, &exchange, &mut door).err(), fault);
     }
     lanes_of(rt, exchange, door)
-}
-
-// Whether the lane's entries are of these kinds, in order.
-fn is_of(lane: &Lane, kinds: &[Kind]) -> bool {
-    let mut rest = kinds;
-    for entry in lane.entries() {
-        match rest.split_first() {
-            Some((kind, behind)) if entry.kind == *kind => rest = behind,
-            _ => return false,
-        }
-    }
-    rest.is_empty()
 }

@@ -1,36 +1,26 @@
-//! A worker over a link in memory whose other end follows a script.
-ghost use Rattle.std.specs.Prelude.{◌≡◌, slice_get, Some, None, All, IfSome, false};
+//! A worker over a link in memory whose other end follows a script: steps as rows, each with what is
+//! to be found.
+ghost use Rattle.std.specs.Prelude.{◌≡◌, slice_get, Some, None, false};
 ghost use Rattle.smx_shared.specs.Views.{locks_of};
+ghost use Rattle.smx_session.specs.declared.upstream_state.UpstreamState.{UpstreamState};
 
-use smx_box::{Boxed, Got, Receiver, Sender};
-use smx_history::Limits;
+use crate::hall::{Client, Hall, enter, lanes_of, last_tap};
+use crate::stand::{Piece, World, link_to, name_want, script, took};
+use smx_box::{Boxed, Got, Receiver};
+use smx_lane::Lane;
 use smx_memory::{MemoryLink, Script};
-use smx_pdu::command::SUBMIT_SM;
-use smx_pdu::{Bind, Body, Pdu, decode};
-use smx_routes::RouteFault;
+use smx_pdu::{Bind, Body, Pdu};
 use smx_session::{UpstreamSession, UpstreamState};
-use smx_shared::{Door, Exchange, Offer, Port, Tap};
-use smx_trace::Trace;
-use smx_turns::{Directory, Fault, Gate, MoItem, Party, Place, Point, Query, Question, RunEnd};
-use smx_upstream::{Parts, UpstreamWorker, run_upstream};
+use smx_shared::{Door, Exchange, SubmitFault, Tap};
+use smx_turns::{MoItem, RunEnd};
+use smx_upstream::{Closed, Parts, UpstreamWorker, run_upstream};
 use std::alloc::Global;
 use std::process::Abort;
 use std::sync::Wait;
-use std::test::*;
 
-mod expiring;
 mod hostile;
-mod losing;
 mod passing;
 mod rows;
-mod stopping;
-
-const ROOMY: Limits = Limits {
-    queue: 10,
-    window: 10,
-    client: 10,
-    history: 1_000,
-};
 
 // bind_transceiver of `proxy` with the password `pw`, and the centre's answer.
 const BIND: [u8; 30] = [
@@ -72,166 +62,113 @@ const MESSAGE: [u8; 37] = [
 
 const ANSWER: [u8; 17] = [0, 0, 0, 0x11, 0x80, 0, 0, 5, 0, 0, 0, 0, 0, 0, 0, 3, 0];
 
-// A gate that always says yes, and counts what it was asked and told.
+// The proxy's enquire_link, which it sends where the centre was silent (SMPP 3.4, section 4.11.1).
+const ENQUIRY: [u8; 16] = [
+    0, 0, 0, 0x10, 0, 0, 0, 0x15, 0, 0, 0, 0, 0x7F, 0xFF, 0xFF, 0xFE,
+];
+
+// What a client is told: its response, the second one, and ESME_RSUBMITFAIL without a body (SMPP 3.4,
+// section 5.1.3).
+const ANSWERED: Option<(u32, &[u8])> = Some((0, b"1\0"));
+
+const ANSWERED_SECOND: Option<(u32, &[u8])> = Some((0, b"2\0"));
+
+const FAILED: Option<(u32, &[u8])> = Some((0x45, b""));
+
+// What is done, and what is found.
+#[derive(Clone, Copy)]
+enum Step<'s> {
+    // The client submits the request to the address `1` under the number 7.
+    Submits(Result<usize, SubmitFault>),
+    // The status and the body of its next response.
+    Collects(Option<(u32, &'s [u8])>),
+    // The number and the body of the first message for client 1 from lane 0.
+    Gets(Option<(u32, &'s [u8])>),
+    // The worker is turned at this moment, at most so often.
+    Runs(u64, u64, RunEnd),
+    // It is to end, and says whether it was bound.
+    Stops(bool),
+    Stands(UpstreamState),
+    // How often the gate was asked, and told.
+    Asked(u64),
+    Told(u64),
+    // The worker is closed. Its link took just this, one part after another.
+    Closes(&'s [&'s [u8]]),
+    // The same, and one request failed. Another worker goes on over a link with these pieces.
+    GoesOn(&'s [&'s [u8]], &'s [Piece<'s>]),
+}
+
+// A worker with its exchange.
 #[derive(Drop)]
-struct Open {
-    questions: u64,
-    tidings: u64,
-    asked: Trace<Question>,
-    told: Trace<Party>,
-}
-
-impl Open {
-    fn new() -> Open {
-        Open {
-            questions: 0,
-            tidings: 0,
-            asked: Trace::new(),
-            told: Trace::new(),
-        }
-    }
-}
-
-impl Gate for Open {
-    ghost asked = { λ g. g.asked };
-
-    ghost told = { λ g. g.told };
-
-    fn at(&mut self, point: Point, turn: u64) -> bool {
-        let question = Question {
-            point,
-            turn,
-            answer: true,
-        };
-        self.asked = self.asked.and(&question);
-        self.questions = self.questions.saturating_add(1);
-        true
-    }
-
-    fn ready(&mut self, party: Party) {
-        self.told = self.told.and(&party);
-        self.tidings = self.tidings.saturating_add(1);
-    }
-}
-
-// Addresses that begin with `4` are client 1's in slot 0, those with `6` client 9's in a slot that
-// has no sender.
-#[derive(Drop)]
-struct Book {
-    queries: Trace<Query>,
-}
-
-impl Book {
-    fn new() -> Book {
-        Book {
-            queries: Trace::new(),
-        }
-    }
-}
-
-fn octets_of(octets: &[u8]) -> Trace<u8>
-    ensures { result ≡ octets.now }
-{
-    let mut all = Trace::new();
-    all.extend(octets);
-    all
-}
-
-impl Directory for Book {
-    ghost queries = { λ d. d.queries };
-
-    fn find<R: Wait>(&mut self, _rt: &R, address: &[u8]) -> Option<Place> {
-        let found = if address.starts_with(b"4") {
-            Some(Place { client: 1, slot: 0 })
-        } else if address.starts_with(b"6") {
-            Some(Place { client: 9, slot: 7 })
-        } else {
-            None
-        };
-        self.queries = self.queries.and(&Query::Found(octets_of(address), found));
-        found
-    }
-
-    fn add<R: Wait>(&mut self, _rt: &R, prefix: &[u8], client: u64) -> Result<(), RouteFault> {
-        let query = Query::Added(octets_of(prefix), client, Ok(()));
-        self.queries = self.queries.and(&query);
-        Ok(())
-    }
-
-    fn remove<R: Wait>(&mut self, _rt: &R, client: u64) {
-        self.queries = self.queries.and(&Query::Removed(client));
-    }
-}
-
-// A worker with all that a turn is lent.
-#[derive(Drop)]
-struct Line<'a> {
+struct Seat<'a> {
     at: &'a Exchange,
     worker: UpstreamWorker<MemoryLink<Script>>,
-    // What the worker's messages to the client come into.
-    inbox: Receiver<MoItem>,
-    gate: Open,
-    book: Book,
     // A fault ended a run.
     faulty: bool,
     ghost fits: { slice_get at.now worker.stand.tap.lane ≡ Some worker.stand.tap.front.lock },
     ghost goes_on: { faulty ≡ false → worker.held ≡ None },
 }
 
-impl Line<'_> {
-    // Turns the worker at this moment until it has nothing to do, at most so often.
-    fn run<R: Wait + Abort>(&mut self, rt: &R, now: u64, turns: u64) -> RunEnd {
+impl<'a> Seat<'a> {
+    fn new(
+        rt: &impl Abort,
+        alloc: Global,
+        at: &'a Exchange,
+        parts: Parts<MemoryLink<Script>>,
+        history: usize,
+    ) -> Seat<'a>
+        requires lock { slice_get at.now parts.tap.lane ≡ Some parts.tap.front.lock }
+        requires state { parts.session.state ≡ UpstreamState.Binding }
+    {
+        let worker = UpstreamWorker::new(alloc, parts, history, 60_000).ok();
+        Seat {
+            at,
+            worker: worker.expect(rt, "out of memory"),
+            faulty: false,
+        }
+    }
+
+    fn run<R: Wait + Abort>(&mut self, rt: &R, world: &mut World, now: u64, turns: u64) -> RunEnd {
         if self.faulty {
             return RunEnd::Left;
         }
-        let end = run_upstream(
-            &mut self.worker,
-            self.at,
-            rt,
-            &mut self.gate,
-            &mut self.book,
-            || now,
-            turns,
-        );
+        let World { gate, book } = world;
+        let end = run_upstream(&mut self.worker, self.at, rt, gate, book, || now, turns);
         self.faulty = matches!(end, RunEnd::Fault(_));
         name_want(rt, end);
         end
     }
 
-    // Closes the worker. Whether its link took just these octets, one part after another.
-    fn took<R: Wait>(self, rt: &R, parts: &[&[u8]]) -> bool {
-        let Line { at, worker, .. } = self;
-        let closed = worker.close(at, rt);
-        is_made_of(closed.link.peer().taken(), parts)
+    fn closes<R: Wait>(self, rt: &R, parts: &[&[u8]]) -> bool {
+        let Seat { at, worker, .. } = self;
+        took(&worker.close(at, rt).link, parts)
     }
-}
 
-// Names want of memory, which tools/refuse-memory brings about.
-fn name_want(rt: &impl Abort, end: RunEnd) {
-    if end == RunEnd::Fault(Fault::NoMemory) {
-        panic!(rt; "out of memory");
+    fn goes_on<R: Wait + Abort>(
+        self,
+        rt: &R,
+        alloc: Global,
+        taken: &[&[u8]],
+        pieces: &[Piece],
+    ) -> (bool, Seat<'a>) {
+        let Seat { at, worker, .. } = self;
+        let Closed {
+            link,
+            tap,
+            answers,
+            senders,
+            lost,
+        } = worker.close(at, rt);
+        let parts = Parts {
+            link: link_to(rt, script(alloc, 65_536, pieces)),
+            tap,
+            session: session(rt, alloc),
+            answers,
+            senders,
+        };
+        let well = took(&link, taken) && lost.failed == 1;
+        (well, Seat::new(rt, alloc, at, parts, 1_000))
     }
-}
-
-// A script with each of its pieces and room for what it is to take.
-fn roomy(rt: &impl Abort, script: Script) -> Script {
-    let mut script = script;
-    if !script.is_whole() {
-        panic!(rt; "out of memory");
-    }
-    script.make_room(80_000).expect(rt, "out of memory");
-    script
-}
-
-fn is_made_of(octets: &[u8], parts: &[&[u8]]) -> bool {
-    let mut rest = octets;
-    for part in parts {
-        match rest.strip_prefix(*part) {
-            Some(behind) => rest = behind,
-            None => return false,
-        }
-    }
-    rest.is_empty()
 }
 
 // The session of `proxy` with the password `pw` at the moment 0. It enquires after a second.
@@ -253,170 +190,186 @@ fn session(rt: &impl Abort, alloc: Global) -> UpstreamSession
     UpstreamSession::new(alloc, system_id, password, 1_000, 0)
 }
 
-fn first_tap(at: &Exchange, taps: Vec<Tap>) -> Option<Tap>
-    requires { All (λ t. slice_get at.now t.lane ≡ Some t.front.lock) taps.items }
-    ensures { IfSome result (λ t. slice_get at.now t.lane ≡ Some t.front.lock) }
-{
-    let mut taps = taps;
-    taps.pop()
-}
-
-// An exchange of one lane, with its door and its tap.
+// A client, a worker until it is closed, what it is lent, and what its messages come into.
 #[derive(Drop)]
-struct Hall {
-    exchange: Exchange,
-    door: Door,
-    tap: Tap,
-    ghost door_fits: { locks_of door.fronts ≡ exchange },
-    ghost tap_fits: { slice_get exchange tap.lane ≡ Some tap.front.lock },
-}
-
-impl Hall {
-    fn new<R: Wait + Abort>(rt: &R, alloc: Global) -> Hall {
-        let made = Exchange::new(rt, alloc, ROOMY, 1).ok();
-        let (exchange, door, taps) = made.expect(rt, "out of memory");
-        let tap = first_tap(&exchange, taps).expect(rt, "there is one lane");
-        Hall {
-            exchange,
-            door,
-            tap,
-        }
-    }
-}
-
-// The boxes of a worker, each of one place: its ends, and what its messages come into.
-#[derive(Drop)]
-struct Boxes {
-    answers: Receiver<Pdu>,
-    senders: Vec<Sender<MoItem>>,
+struct Stand<'a> {
+    client: Client<'a>,
+    seat: Option<Seat<'a>>,
+    world: World,
     inbox: Receiver<MoItem>,
 }
 
-impl Boxes {
-    fn new<R: Wait + Abort>(rt: &R, alloc: Global, answer: Option<Pdu>) -> Boxes {
-        let answers = return_box(rt, alloc, answer);
-        let made = Boxed::new(rt, alloc, 1, 1).ok();
-        let (inbox, senders) = made.expect(rt, "out of memory");
-        Boxes {
-            answers,
-            senders,
-            inbox,
+impl Stand<'_> {
+    fn holds<R: Wait + Abort>(&mut self, rt: &R, alloc: Global, step: Step) -> bool {
+        match step {
+            Step::Submits(want) => submit(rt, alloc, &mut self.client) == want,
+            Step::Collects(want) => collects(rt, &mut self.client, want),
+            Step::Gets(want) => gets(rt, &mut self.inbox, want),
+            Step::Runs(now, turns, want) => match &mut self.seat {
+                Some(seat) => seat.run(rt, &mut self.world, now, turns) == want,
+                None => false,
+            },
+            Step::Stops(want) => match &mut self.seat {
+                Some(seat) => seat.worker.stop().expect(rt, "out of memory") == want,
+                None => false,
+            },
+            Step::Stands(want) => match &self.seat {
+                Some(seat) => seat.worker.state() == want,
+                None => false,
+            },
+            Step::Asked(want) => self.world.gate.questions == want,
+            Step::Told(want) => self.world.gate.tidings == want,
+            Step::Closes(parts) => match self.seat.take() {
+                Some(seat) => seat.closes(rt, parts),
+                None => false,
+            },
+            Step::GoesOn(parts, pieces) => match self.seat.take() {
+                Some(seat) => {
+                    let (well, next) = seat.goes_on(rt, alloc, parts, pieces);
+                    self.seat = Some(next);
+                    well
+                }
+                None => false,
+            },
         }
     }
 }
 
-// A client's answer may be in the return box before the first turn.
+fn submit<R: Wait + Abort>(
+    rt: &R,
+    alloc: Global,
+    client: &mut Client,
+) -> Result<usize, SubmitFault> {
+    let octets = Vec::from_slice(alloc, &SUBMIT[16..]).expect(rt, "out of memory");
+    let body = Body::new(octets).ok();
+    client.submit(rt, 7, body.expect(rt, "the body is short enough"))
+}
+
+// It is submit_sm_resp with the client's own number.
+fn collects<R: Wait>(rt: &R, client: &mut Client, want: Option<(u32, &[u8])>) -> bool {
+    match (client.collect(rt, 0), want) {
+        (Ok(Some(pdu)), Some((status, body))) => {
+            (pdu.command, pdu.status, pdu.number) == (0x8000_0004, status, 7)
+                && pdu.body.as_slice() == body
+        }
+        (Ok(None), None) => true,
+        _ => false,
+    }
+}
+
+fn gets<R: Wait>(rt: &R, inbox: &mut Receiver<MoItem>, want: Option<(u32, &[u8])>) -> bool {
+    match (inbox.get(rt), want) {
+        (
+            Ok(
+                Got::Item {
+                    number: 1,
+                    content,
+                    ..
+                },
+            ),
+            Some((number, body)),
+        ) => {
+            (content.client, content.lane, content.number) == (1, 0, number)
+                && content.pdu.body.as_slice() == body
+        }
+        (Ok(Got::Empty), None) => true,
+        _ => false,
+    }
+}
+
+// What a worker is made with: the other end of its link, the answer that is in its return box before
+// the first turn, and how many entries its lane is said to keep. A failed step names the case.
+#[derive(Drop)]
+struct Setting {
+    case: usize,
+    script: Script,
+    answer: Option<Pdu>,
+    history: usize,
+}
+
+impl Setting {
+    fn new(case: usize, script: Script) -> Setting {
+        Setting {
+            case,
+            script,
+            answer: None,
+            history: 1_000,
+        }
+    }
+}
+
+// A return box of one place.
 fn return_box<R: Wait + Abort>(rt: &R, alloc: Global, answer: Option<Pdu>) -> Receiver<Pdu> {
     let made = Boxed::new(rt, alloc, 1, 1).ok();
-    let (answers, clients) = made.expect(rt, "out of memory");
+    let (answers, mut clients) = made.expect(rt, "out of memory");
     if let Some(answer) = answer {
-        put_last(rt, clients, answer);
+        let client = clients.last_mut().expect(rt, "the box has a sender");
+        assert!(rt; client.put(rt, answer).is_ok());
     }
     answers
 }
 
-fn put_last<R: Wait + Abort>(rt: &R, clients: Vec<Sender<Pdu>>, answer: Pdu) {
-    let mut clients = clients;
-    let client = clients.last_mut().expect(rt, "the box has a sender");
-    assert!(rt; client.put(rt, answer).is_ok());
-}
-
-fn line_at<'a>(
-    rt: &impl Abort,
-    alloc: Global,
-    at: &'a Exchange,
-    tap: Tap,
-    script: Script,
-    boxes: Boxes,
-    history: usize,
-) -> Line<'a>
-    requires { slice_get at.now tap.lane ≡ Some tap.front.lock }
-{
-    let Boxes {
-        answers,
-        senders,
-        inbox,
-    } = boxes;
-    let parts = Parts {
-        link: MemoryLink::new(roomy(rt, script)),
-        tap,
-        session: session(rt, alloc),
-        answers,
-        senders,
-    };
-    let worker = UpstreamWorker::new(alloc, parts, history, 60_000).ok();
-    Line {
-        at,
-        worker: worker.expect(rt, "out of memory"),
-        inbox,
-        gate: Open::new(),
-        book: Book::new(),
-        faulty: false,
-    }
-}
-
-// The same with no answer.
-fn plain_line<'a, R: Wait + Abort>(
+// A client that enters, and a worker. Each box has one place.
+fn stand_at<'a, R: Wait + Abort>(
     rt: &R,
     alloc: Global,
     at: &'a Exchange,
+    door: &mut Door,
     tap: Tap,
-    script: Script,
-) -> Line<'a>
-    requires { slice_get at.now tap.lane ≡ Some tap.front.lock }
-{
-    let boxes = Boxes::new(rt, alloc, None);
-    line_at(rt, alloc, at, tap, script, boxes, 1_000)
-}
-
-// A port with its exchange.
-#[derive(Drop)]
-struct Client<'a> {
-    at: &'a Exchange,
-    port: Port,
-    ghost fits: { locks_of port.fronts ≡ at.now },
-}
-
-impl Client<'_> {
-    // Submits the request to the address `1` under the number 7.
-    fn submit<R: Wait + Abort>(&mut self, rt: &R, alloc: Global) -> bool {
-        let offer = Offer {
-            own: 7,
-            command: SUBMIT_SM,
-            body: submit_body(rt, alloc),
-        };
-        self.port.submit(self.at, rt, offer).is_ok()
-    }
-
-    fn collect<R: Wait>(&mut self, rt: &R) -> Option<Pdu> {
-        if self.port.lanes() == 0 {
-            return None;
-        }
-        self.port.collect(self.at, rt, 0).ok()?
-    }
-}
-
-fn enter<'a, R: Wait + Abort>(rt: &R, at: &'a Exchange, door: &mut Door) -> Client<'a>
-    requires { locks_of door.old.fronts ≡ at.now }
+    setting: Setting,
+) -> Stand<'a>
+    requires door { locks_of door.old.fronts ≡ at.now }
+    requires tap { slice_get at.now tap.lane ≡ Some tap.front.lock }
     ensures { locks_of door.new.fronts ≡ at.now }
 {
-    let port = door.enter(at, rt).ok().expect(rt, "out of memory");
-    Client { at, port }
+    let Setting {
+        script,
+        answer,
+        history,
+        ..
+    } = setting;
+    let made = Boxed::new(rt, alloc, 1, 1).ok();
+    let (inbox, senders) = made.expect(rt, "out of memory");
+    let parts = Parts {
+        link: link_to(rt, script),
+        tap,
+        session: session(rt, alloc),
+        answers: return_box(rt, alloc, answer),
+        senders,
+    };
+    Stand {
+        client: enter(rt, at, door).expect(rt, "no client"),
+        seat: Some(Seat::new(rt, alloc, at, parts, history)),
+        world: World::new(),
+        inbox,
+    }
 }
 
-// The response has the client's own number.
-fn is_response(found: Option<Pdu>) -> bool {
-    found.is_some_and(|pdu| pdu.number == 7 && pdu.body.as_slice() == &RESPONSE[16..])
+fn play<R: Wait + Abort>(rt: &R, alloc: Global, stand: &mut Stand, case: usize, steps: &[Step]) {
+    for place in 0..steps.len() {
+        assert!(rt;
+            stand.holds(rt, alloc, steps[place]),
+            "case {case}, step {place}"
+        );
+    }
 }
 
-// The second response, with the client's own number.
-fn is_second(found: Option<Pdu>) -> bool {
-    found.is_some_and(|pdu| pdu.number == 7 && pdu.body.as_slice() == &SECOND_RESPONSE[16..])
-}
-
-fn submit_body(rt: &impl Abort, alloc: Global) -> Body {
-    let octets = Vec::from_slice(alloc, &SUBMIT[16..]).expect(rt, "out of memory");
-    Body::new(octets)
-        .ok()
-        .expect(rt, "the body is short enough")
+// The lane after these steps.
+fn lanes_after<R: Wait + Abort>(
+    rt: &R,
+    alloc: Global,
+    setting: Setting,
+    steps: &[Step],
+) -> Vec<Lane> {
+    let Hall {
+        exchange,
+        mut door,
+        mut taps,
+    } = Hall::roomy(rt, alloc, 1);
+    let tap = last_tap(&exchange, &mut taps).expect(rt, "there is one lane");
+    let case = setting.case;
+    let mut stand = stand_at(rt, alloc, &exchange, &mut door, tap, setting);
+    play(rt, alloc, &mut stand, case, steps);
+    drop(stand);
+    lanes_of(rt, exchange, door)
 }

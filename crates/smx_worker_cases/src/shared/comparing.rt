@@ -5,7 +5,7 @@ ghost use Rattle.smx_shared.specs.Views.{locks_of};
 use super::*;
 use crate::hall::last_tap;
 use smx_pdu::command::SUBMIT_SM;
-use smx_shared::{Offer, Port};
+use smx_shared::{Offer, Port, Tap};
 use std::test::*;
 
 // Compares each two of a door, a port and a tap.
@@ -24,36 +24,49 @@ fn compare_all(at: &Exchange, door: &mut Door, port: &mut Port, tap: &mut Tap)
     at.compare(port, door, 0);
 }
 
-// Tokens are compared, and go on.
+// A request is submitted, the tokens are compared, and it is taken.
+fn go_on<R: Wait>(
+    rt: &R,
+    at: &Exchange,
+    door: &mut Door,
+    port: &mut Port,
+    tap: &mut Tap,
+    offer: Offer,
+) -> bool
+    requires lanes { 0 < length at.now }
+    requires door { locks_of door.old.fronts ≡ at.now }
+    requires port { locks_of port.old.fronts ≡ at.now }
+    requires tap { (tap.old.lane ≡ 0) × (slice_get at.now tap.old.lane ≡ Some tap.old.front.lock) }
+    ensures door { locks_of door.new.fronts ≡ at.now }
+    ensures port { locks_of port.new.fronts ≡ at.now }
+{
+    let submitted = port.submit(at, rt, offer).is_ok();
+    compare_all(at, door, port, tap);
+    submitted && tap.take(at, rt, 0).is_ok()
+}
+
+// Between the tokens' calls a second client enters. The first leaves.
 fn compared<R: Wait + Abort>(
     rt: &R,
     alloc: Global,
     at: &Exchange,
     door: &mut Door,
-    tap: Tap,
-) -> [bool; 4]
+    tap: &mut Tap,
+) -> bool
     requires lanes { 0 < length at.now }
     requires door { locks_of door.old.fronts ≡ at.now }
-    requires tap { slice_get at.now tap.lane ≡ Some tap.front.lock }
+    requires tap { (tap.old.lane ≡ 0) × (slice_get at.now tap.old.lane ≡ Some tap.old.front.lock) }
     ensures { locks_of door.new.fronts ≡ at.now }
 {
-    let mut tap = tap;
-    let Ok(mut port) = door.enter(at, rt) else {
-        panic!(rt; "out of memory")
-    };
+    let mut port = door.enter(at, rt).ok().expect(rt, "out of memory");
     let offer = Offer {
         own: 7,
         command: SUBMIT_SM,
         body: Body::empty(alloc),
     };
-    let submitted = port.submit(at, rt, offer).is_ok();
-    let first = tap.lane() == 0;
-    if first {
-        compare_all(at, door, &mut port, &mut tap);
-    }
-    let taken = tap.take(at, rt, 0).is_ok();
+    let taken = go_on(rt, at, door, &mut port, tap, offer);
     enter(rt, at, door).expect(rt, "no second client");
-    [submitted, first, taken, port.leave(at, rt).is_ok()]
+    taken && port.leave(at, rt).is_ok()
 }
 
 // Tokens that were compared go on as before.
@@ -64,10 +77,10 @@ fn tokens_are_compared(rt: HostRuntime) {
         mut door,
         mut taps,
     } = Hall::roomy(&rt, rt.alloc(), 1);
-    let tap = last_tap(&exchange, &mut taps).expect(&rt, "there is one lane");
-    let went_on = compared(&rt, rt.alloc(), &exchange, &mut door, tap);
+    let mut tap = last_tap(&exchange, &mut taps).expect(&rt, "there is one lane");
+    assert!(rt; tap.lane() == 0);
+    assert!(rt; compared(&rt, rt.alloc(), &exchange, &mut door, &mut tap));
     let lanes = lanes_of(&rt, exchange, door);
-    assert_eq!(rt; went_on, [true; 4]);
     let kinds = [
         Kind::Admit,
         Kind::Accept,
@@ -75,5 +88,5 @@ fn tokens_are_compared(rt: HostRuntime) {
         Kind::Admit,
         Kind::Retire,
     ];
-    assert!(rt; lanes.len() == 1 && is_of(&lanes[0], &kinds));
+    assert!(rt; is_of(&lanes, &kinds));
 }

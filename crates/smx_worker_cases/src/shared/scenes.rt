@@ -58,7 +58,7 @@ fn tickets_end(rt: HostRuntime) {
     ];
     let spent = Some(EnterFault::Spent);
     let lanes = lanes_after(&rt, rt.alloc(), (1, 1), starts, &steps, spent);
-    assert!(rt; lanes.len() == 1 && is_of(&lanes[0], &[Kind::Admit, Kind::Accept]));
+    assert!(rt; is_of(&lanes, &[Kind::Admit, Kind::Accept]));
 }
 
 // The last client, and its last request. Ordinal 2^62 tries lane (2^62 - 1) % 2 first.
@@ -143,7 +143,7 @@ fn the_older_is_given_up(rt: HostRuntime) {
         Kind::Collect,
         Kind::Collect,
     ];
-    assert!(rt; lanes.len() == 1 && is_of(&lanes[0], &kinds));
+    assert!(rt; is_of(&lanes, &kinds));
 }
 
 // The second of two requests is queued as the link is lost: nothing is taken or accepted, and the
@@ -181,7 +181,7 @@ fn lane_comes_up_again(rt: HostRuntime) {
         Kind::Up,
         Kind::Take,
     ];
-    assert!(rt; lanes.len() == 1 && is_of(&lanes[0], &kinds));
+    assert!(rt; is_of(&lanes, &kinds));
 }
 
 // Three clients over four lanes. The first two clients' requests are taken, and the first one's is

@@ -1,124 +1,52 @@
 //! What passes between a client's tokens and the centre.
-ghost use Rattle.std.specs.Prelude.{◌≡◌, slice_get, Some};
-ghost use Rattle.smx_shared.specs.Views.{locks_of};
-
+use super::Step::{Asked, Closes, Collects, Gets, GoesOn, Runs, Stands, Stops, Submits, Told};
 use super::*;
+use crate::hall::is_of;
+use smx_history::Kind;
+use smx_pdu::decode;
+use smx_turns::Fault;
+use std::test::*;
 
-// The worker's runs write the bind, the client's answer and the request, and tell of the response
-// and the message.
-fn runs_through<R: Wait + Abort>(rt: &R, line: Line) -> bool {
-    let mut line = line;
-    let end = line.run(rt, 0, 1_000);
-    let stand = (end, line.worker.state(), line.gate.tidings);
-    let message = has_message(rt, &mut line.inbox);
-    let taken = line.took(rt, &[&BIND, &ANSWER, &SUBMIT]);
-    stand == (RunEnd::Idle, UpstreamState::Bound, 2) && message && taken
-}
-
-// The message is the box's first, for client 1 of lane 0 under the centre's number.
-fn has_message<R: Wait>(rt: &R, inbox: &mut Receiver<MoItem>) -> bool {
-    let Ok(
-        Got::Item {
-            number: 1,
-            content,
-            ..
-        },
-    ) = inbox.get(rt)
-    else {
-        return false;
-    };
-    let MoItem {
-        client,
-        lane,
-        number,
-        pdu,
-    } = content;
-    (client, lane, number) == (1, 0, 3) && pdu.body.as_slice() == &MESSAGE[16..]
-}
-
-// The centre gives its response to the bind, then a message, and then the response to the request.
-fn centre(alloc: Global) -> Script {
-    Script::new(alloc, 65_536)
-        .and(30, &BOUND)
-        .and(47, &MESSAGE)
-        .and(81, &RESPONSE)
-}
-
-// A client's answer is in the return box before the first turn.
-fn answered_line<'a, R: Wait + Abort>(
-    rt: &R,
-    alloc: Global,
-    at: &'a Exchange,
-    tap: Tap,
-    history: usize,
-) -> Line<'a>
-    requires { slice_get at.now tap.lane ≡ Some tap.front.lock }
-{
+// A request and its response, a message and a client's answer, which is in the return box before the
+// first turn. The centre gives its response to the bind, then a message, and then the response to the
+// request. The worker tells of the response and of the message.
+fn lanes_of_one_each<R: Wait + Abort>(rt: &R, alloc: Global, history: usize) -> Vec<Lane> {
+    let pieces: [Piece; 3] = [(30, &BOUND), (47, &MESSAGE), (81, &RESPONSE)];
     let answer = decode(alloc, &ANSWER).expect(rt, "a PDU");
-    let boxes = Boxes::new(rt, alloc, Some(answer));
-    line_at(rt, alloc, at, tap, centre(alloc), boxes, history)
+    let setting = Setting {
+        case: history,
+        script: script(alloc, 65_536, &pieces),
+        answer: Some(answer),
+        history,
+    };
+    let steps = [
+        Submits(Ok(0)),
+        Runs(0, 1_000, RunEnd::Idle),
+        Stands(UpstreamState::Bound),
+        Told(2),
+        Gets(Some((3, &MESSAGE[16..]))),
+        Closes(&[&BIND, &ANSWER, &SUBMIT]),
+        Collects(ANSWERED),
+    ];
+    lanes_after(rt, alloc, setting, &steps)
 }
 
-fn passes<R: Wait + Abort>(
-    rt: &R,
-    alloc: Global,
-    at: &Exchange,
-    tap: Tap,
-    client: &mut Client,
-    history: usize,
-) -> bool
-    requires { slice_get at.now tap.lane ≡ Some tap.front.lock }
-{
-    let line = answered_line(rt, alloc, at, tap, history);
-    let submitted = client.submit(rt, alloc);
-    let through = runs_through(rt, line);
-    let response = is_response(client.collect(rt));
-    submitted && through && response
-}
-
-// A client that enters for this.
-fn visited<R: Wait + Abort>(
-    rt: &R,
-    alloc: Global,
-    at: &Exchange,
-    door: &mut Door,
-    tap: Tap,
-    history: usize,
-) -> bool
-    requires door { locks_of door.old.fronts ≡ at.now }
-    requires tap { slice_get at.now tap.lane ≡ Some tap.front.lock }
-    ensures { locks_of door.new.fronts ≡ at.now }
-{
-    let mut client = enter(rt, at, door);
-    passes(rt, alloc, at, tap, &mut client, history)
-}
-
-pub(super) fn entries_of(rt: &impl Abort, exchange: Exchange, door: Door) -> usize
-    requires { locks_of door.fronts ≡ exchange }
-{
-    let lanes = exchange.finish(door).ok().expect(rt, "the lane is out");
-    let lane = lanes.first().expect(rt, "there is one lane");
-    lane.entries().len()
-}
-
-// How many entries the lane has at the end, where all passed.
-fn entries_left<R: Wait + Abort>(rt: &R, alloc: Global, history: usize) -> usize {
-    let Hall {
-        exchange,
-        mut door,
-        tap,
-    } = Hall::new(rt, alloc);
-    assert!(rt; visited(rt, alloc, &exchange, &mut door, tap, history));
-    entries_of(rt, exchange, door)
-}
-
-// A request and its response, a message and a client's answer: the lane's entries are an admit, an
-// accept, a take, an answer, the down of the worker's end, and a collect. A lane whose history is
-// said to have 8 entries is turned over at each note, which leaves the last two.
+// A lane whose history is said to have 8 entries is turned over at each note, which leaves the last
+// two: the down of the worker's end, and a collect.
 #[test]
 fn one_of_each(rt: HostRuntime) {
-    assert_eq!(rt; entries_left(&rt, rt.alloc(), 1_000), 6);
-    assert_eq!(rt; entries_left(&rt, rt.alloc(), 8), 2);
+    let kinds = [
+        Kind::Admit,
+        Kind::Accept,
+        Kind::Take,
+        Kind::Answer,
+        Kind::Down,
+        Kind::Collect,
+    ];
+    let all = lanes_of_one_each(&rt, rt.alloc(), 1_000);
+    assert!(rt; is_of(&all, &kinds));
+    let last = lanes_of_one_each(&rt, rt.alloc(), 8);
+    assert!(rt; is_of(&last, &kinds[4..]));
 }
 
 // An answer with the greatest body.
@@ -133,37 +61,112 @@ fn greatest(rt: &impl Abort, alloc: Global) -> Pdu {
     }
 }
 
-// How a run of so many turns ends, and how many questions the gate was asked by then.
-fn run_and_asked<R: Wait + Abort>(rt: &R, line: &mut Line, turns: u64) -> (RunEnd, u64) {
-    (line.run(rt, 0, turns), line.gate.questions)
-}
-
-// The first two are of one turn.
-fn three_runs<R: Wait + Abort>(rt: &R, line: &mut Line) -> [(RunEnd, u64); 3] {
-    let first = run_and_asked(rt, line, 1);
-    let second = run_and_asked(rt, line, 1);
-    [first, second, run_and_asked(rt, line, 1_000)]
-}
-
-// A worker whose return box has that answer.
-fn filled_line<'a, R: Wait + Abort>(rt: &R, alloc: Global, at: &'a Exchange, tap: Tap) -> Line<'a>
-    requires { slice_get at.now tap.lane ≡ Some tap.front.lock }
-{
-    let boxes = Boxes::new(rt, alloc, Some(greatest(rt, alloc)));
-    let script = Script::new(alloc, 65_536);
-    line_at(rt, alloc, at, tap, script, boxes, 1_000)
-}
-
-fn filled<R: Wait + Abort>(rt: &R, alloc: Global) -> [(RunEnd, u64); 3] {
-    let Hall { exchange, tap, .. } = Hall::new(rt, alloc);
-    let mut line = filled_line(rt, alloc, &exchange, tap);
-    three_runs(rt, &mut line)
-}
-
 // With 65,536 octets waiting a turn asks its gate nothing. The last turn is one in which nothing
 // came.
 #[test]
 fn waiting_octets_stop_a_turn(rt: HostRuntime) {
-    let wanted = [(RunEnd::Turns, 0), (RunEnd::Turns, 2), (RunEnd::Idle, 4)];
-    assert_eq!(rt; filled(&rt, rt.alloc()), wanted);
+    let setting = Setting {
+        case: 0,
+        script: script(rt.alloc(), 65_536, &[]),
+        answer: Some(greatest(&rt, rt.alloc())),
+        history: 1_000,
+    };
+    let steps = [
+        Runs(0, 1, RunEnd::Turns),
+        Asked(0),
+        Runs(0, 1, RunEnd::Turns),
+        Asked(2),
+        Runs(0, 1_000, RunEnd::Idle),
+        Asked(4),
+    ];
+    lanes_after(&rt, rt.alloc(), setting, &steps);
+}
+
+// The centre answers the first request once it has the second, and then the second. After 59,999 ms
+// the request still waits, after 60,000 its client is told that it failed, and the late response
+// reaches nobody.
+#[test]
+fn late_response_reaches_nobody(rt: HostRuntime) {
+    let pieces: [Piece; 3] = [(30, &BOUND), (114, &RESPONSE), (114, &SECOND_RESPONSE)];
+    let steps = [
+        Submits(Ok(0)),
+        Runs(0, 1_000, RunEnd::Idle),
+        Runs(59_999, 1_000, RunEnd::Idle),
+        Collects(None),
+        Told(0),
+        Runs(60_000, 1_000, RunEnd::Idle),
+        Told(1),
+        Collects(FAILED),
+        Submits(Ok(0)),
+        Runs(60_001, 1_000, RunEnd::Idle),
+        Collects(ANSWERED_SECOND),
+        Collects(None),
+        Closes(&[&BIND, &SUBMIT, &ENQUIRY, &SECOND]),
+    ];
+    let setting = Setting::new(0, script(rt.alloc(), 65_536, &pieces));
+    lanes_after(&rt, rt.alloc(), setting, &steps);
+}
+
+// Two requests are queued. The first is taken, and fails with the link at its second read; nothing is
+// accepted while the lane is down. The next worker takes the second, and nothing again.
+#[test]
+fn lane_goes_on_over_a_new_link(rt: HostRuntime) {
+    let mut failing = script(rt.alloc(), 65_536, &[(30, &BOUND)]);
+    failing.failing_read = 2;
+    let answering: [Piece; 2] = [(30, &BOUND), (64, &SECOND_RESPONSE)];
+    let steps = [
+        Submits(Ok(0)),
+        Submits(Ok(0)),
+        Runs(0, 1_000, RunEnd::Fault(Fault::Link)),
+        GoesOn(&[&BIND, &SUBMIT], &answering),
+        Collects(FAILED),
+        Submits(Err(SubmitFault::AllFull)),
+        Runs(0, 1_000, RunEnd::Idle),
+        Collects(ANSWERED_SECOND),
+        Closes(&[&BIND, &SECOND]),
+    ];
+    lanes_after(&rt, rt.alloc(), Setting::new(0, failing), &steps);
+}
+
+// The proxy's unbind, the centre's answer, and what tells it that its message is out of place.
+const UNBIND: [u8; 16] = [
+    0, 0, 0, 0x10, 0, 0, 0, 6, 0, 0, 0, 0, 0x7F, 0xFF, 0xFF, 0xFF,
+];
+
+const UNBOUND: [u8; 16] = [
+    0, 0, 0, 0x10, 0x80, 0, 0, 6, 0, 0, 0, 0, 0x7F, 0xFF, 0xFF, 0xFF,
+];
+
+const REFUSAL: [u8; 16] = [0, 0, 0, 0x10, 0x80, 0, 0, 5, 0, 0, 0, 4, 0, 0, 0, 3];
+
+// The centre gives its response to the bind, then that to the request and a message, and answers the
+// unbind. Before it is bound a stop says nothing. Once it is, the first says the unbind and the second
+// nothing more. The request that came before the stop has its response, the one that came after it
+// isn't taken. This over a link that takes all at once, and over one that takes an octet a write.
+#[test]
+fn stopped_in_order(rt: HostRuntime) {
+    let pieces: [Piece; 4] = [
+        (30, &BOUND),
+        (80, &RESPONSE),
+        (80, &MESSAGE),
+        (96, &UNBOUND),
+    ];
+    let steps = [
+        Stops(false),
+        Stands(UpstreamState::Binding),
+        Submits(Ok(0)),
+        Runs(0, 1_000, RunEnd::Idle),
+        Stops(true),
+        Stops(false),
+        Stands(UpstreamState::Unbinding),
+        Submits(Ok(0)),
+        Runs(0, 1_000, RunEnd::Left),
+        Closes(&[&BIND, &SUBMIT, &UNBIND, &REFUSAL]),
+        Collects(ANSWERED),
+        Collects(None),
+    ];
+    for most in [65_536, 1] {
+        let setting = Setting::new(most, script(rt.alloc(), most, &pieces));
+        lanes_after(&rt, rt.alloc(), setting, &steps);
+    }
 }

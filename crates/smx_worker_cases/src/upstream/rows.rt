@@ -1,11 +1,10 @@
 //! What a centre gives, and what comes of it.
+use super::Step::{Closes, Runs};
 use super::*;
+use smx_turns::Fault;
+use std::test::*;
 
-// The proxy's enquire_link, and a bind that is refused.
-const ENQUIRY: [u8; 16] = [
-    0, 0, 0, 0x10, 0, 0, 0, 0x15, 0, 0, 0, 0, 0x7F, 0xFF, 0xFF, 0xFE,
-];
-
+// A bind that is refused.
 const UNBOUND: [u8; 16] = [
     0, 0, 0, 0x10, 0x80, 0, 0, 9, 0, 0, 0, 0x0D, 0x7F, 0xFF, 0xFF, 0xFD,
 ];
@@ -18,83 +17,57 @@ const UNBIND: [u8; 16] = [0, 0, 0, 0x10, 0, 0, 0, 6, 0, 0, 0, 0, 0, 0, 0, 9];
 
 const UNBIND_ANSWER: [u8; 16] = [0, 0, 0, 0x10, 0x80, 0, 0, 6, 0, 0, 0, 0, 0, 0, 0, 9];
 
-// How the last of the runs at these moments ends.
-fn run_at<R: Wait + Abort>(rt: &R, line: &mut Line, moments: &[u64]) -> RunEnd {
-    let mut end = RunEnd::Idle;
-    for now in moments {
-        end = line.run(rt, *now, 1_000);
-    }
-    end
-}
-
-// The same, and whether the link took the bind and then just this.
-fn runs<R: Wait + Abort>(
-    rt: &R,
-    alloc: Global,
-    script: Script,
-    moments: &[u64],
-    takes: &[u8],
-) -> (RunEnd, bool) {
-    let Hall { exchange, tap, .. } = Hall::new(rt, alloc);
-    let mut line = plain_line(rt, alloc, &exchange, tap, script);
-    let end = run_at(rt, &mut line, moments);
-    (end, line.took(rt, &[&BIND, takes]))
-}
-
-// Whether the last run ends so, and the link took the bind and then just this.
-fn comes_to<R: Wait + Abort>(
-    rt: &R,
-    alloc: Global,
-    script: Script,
-    moments: &[u64],
-    takes: &[u8],
-    end: RunEnd,
-) -> bool {
-    runs(rt, alloc, script, moments, takes) == (end, true)
-}
-
-// The same over a link that takes all at once, and over one that takes an octet a write, where the
-// centre gives this once it has the bind.
-fn ends_so<R: Wait + Abort>(
-    rt: &R,
-    alloc: Global,
-    gives: &[u8],
-    then: &[u8],
-    moments: &[u64],
-    takes: &[u8],
-    end: RunEnd,
-) -> bool {
+// These steps over a link that takes all at once, and over one that takes an octet a write, where the
+// centre gives both once it has the bind.
+fn goes_so<R: Wait + Abort>(rt: &R, alloc: Global, gives: [&[u8]; 2], steps: &[Step]) {
+    let pieces: [Piece; 2] = [(BIND.len(), gives[0]), (BIND.len(), gives[1])];
     for most in [65_536, 1] {
-        let script = Script::new(alloc, most)
-            .and(BIND.len(), gives)
-            .and(BIND.len(), then);
-        if !comes_to(rt, alloc, script, moments, takes, end) {
-            return false;
-        }
+        let setting = Setting::new(most, script(alloc, most, &pieces));
+        lanes_after(rt, alloc, setting, steps);
     }
-    true
 }
 
 // After a second of silence the worker enquires, and after another one it ends.
 #[test]
 fn silence(rt: HostRuntime) {
-    let alloc = rt.alloc();
-    let moments = [0, 999, 1_000, 1_999, 2_000];
-    let left = RunEnd::Left;
-    let idle = RunEnd::Idle;
-    assert!(rt; ends_so(&rt, alloc, &BOUND, &[], &moments[..2], &[], idle));
-    assert!(rt; ends_so(&rt, alloc, &BOUND, &[], &moments[..4], &ENQUIRY, idle));
-    assert!(rt; ends_so(&rt, alloc, &BOUND, &[], &moments, &ENQUIRY, left));
+    let quiet = [
+        Runs(0, 1_000, RunEnd::Idle),
+        Runs(999, 1_000, RunEnd::Idle),
+        Closes(&[&BIND]),
+    ];
+    let enquires = [
+        Runs(0, 1_000, RunEnd::Idle),
+        Runs(999, 1_000, RunEnd::Idle),
+        Runs(1_000, 1_000, RunEnd::Idle),
+        Runs(1_999, 1_000, RunEnd::Idle),
+        Closes(&[&BIND, &ENQUIRY]),
+    ];
+    let ends = [
+        Runs(0, 1_000, RunEnd::Idle),
+        Runs(999, 1_000, RunEnd::Idle),
+        Runs(1_000, 1_000, RunEnd::Idle),
+        Runs(1_999, 1_000, RunEnd::Idle),
+        Runs(2_000, 1_000, RunEnd::Left),
+        Closes(&[&BIND, &ENQUIRY]),
+    ];
+    let given: [&[u8]; 2] = [&BOUND, &[]];
+    for steps in [&quiet[..], &enquires[..], &ends[..]] {
+        goes_so(&rt, rt.alloc(), given, steps);
+    }
 }
 
 // A refused bind, a bad length, an unbind.
 #[test]
 fn ends(rt: HostRuntime) {
-    let alloc = rt.alloc();
-    let left = RunEnd::Left;
-    assert!(rt; ends_so(&rt, alloc, &UNBOUND, &UNBIND, &[0], &[], left));
-    assert!(rt; ends_so(&rt, alloc, &BOUND, &[0, 0, 0, 0x0F], &[0], &NACK, left));
-    assert!(rt; ends_so(&rt, alloc, &BOUND, &UNBIND, &[0], &UNBIND_ANSWER, left));
+    let cases: [([&[u8]; 2], &[u8]); 3] = [
+        ([&UNBOUND, &UNBIND], &[]),
+        ([&BOUND, &[0, 0, 0, 0x0F]], &NACK),
+        ([&BOUND, &UNBIND], &UNBIND_ANSWER),
+    ];
+    for (gives, takes) in cases {
+        let steps = [Runs(0, 1_000, RunEnd::Left), Closes(&[&BIND, takes])];
+        goes_so(&rt, rt.alloc(), gives, &steps);
+    }
 }
 
 // deliver_sm with this number to an address of one octet.
@@ -134,20 +107,25 @@ fn refusals(rt: &impl Abort, alloc: Global) -> Vec<u8> {
 // body names no address.
 #[test]
 fn refused_messages(rt: HostRuntime) {
-    let alloc = rt.alloc();
-    let takes = refusals(&rt, alloc);
-    assert!(rt; comes_to(&rt, alloc, messages(alloc), &[0], &takes, RunEnd::Idle));
+    let takes = refusals(&rt, rt.alloc());
+    let steps = [
+        Runs(0, 1_000, RunEnd::Idle),
+        Closes(&[&BIND, takes.as_slice()]),
+    ];
+    let setting = Setting::new(0, messages(rt.alloc()));
+    lanes_after(&rt, rt.alloc(), setting, &steps);
 }
 
 // A link that ends, and one whose first read fails.
 #[test]
 fn lost_links(rt: HostRuntime) {
-    let alloc = rt.alloc();
-    let mut ending = Script::new(alloc, 65_536).and(0, &BOUND);
+    let mut ending = script(rt.alloc(), 65_536, &[(0, &BOUND)]);
     ending.ends = true;
-    assert!(rt; comes_to(&rt, alloc, ending, &[0], &[], RunEnd::Left));
-    let mut failing = Script::new(alloc, 65_536);
+    let left = [Runs(0, 1_000, RunEnd::Left), Closes(&[&BIND])];
+    lanes_after(&rt, rt.alloc(), Setting::new(0, ending), &left);
+    let mut failing = script(rt.alloc(), 65_536, &[]);
     failing.failing_read = 1;
     let fault = RunEnd::Fault(Fault::Link);
-    assert!(rt; comes_to(&rt, alloc, failing, &[0], &[], fault));
+    let failed = [Runs(0, 1_000, fault), Closes(&[&BIND])];
+    lanes_after(&rt, rt.alloc(), Setting::new(1, failing), &failed);
 }

@@ -1,5 +1,5 @@
 use Rattle.std.proofs.Common.{◌≡◌, slice_get, Some, All}
-use Rattle.smx_worker_cases.proofs.shared.lines_of.Given as goal
+use Rattle.smx_worker_cases.proofs.hall.lines_of.Given as goal
 
 abbrev pub invariant-loop-tap : goal.invariant-loop-tap
 invariant-loop-tap l = All (λ t. slice_get l.at t.lane ≡ Some t.front.lock) l.tap-iterator.rest.items

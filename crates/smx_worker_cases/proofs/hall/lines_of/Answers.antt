@@ -1,6 +1,6 @@
 use Rattle.std.proofs.Common.{◌≡◌, suc, List, ◌∷◌, All, slice_get, Some, subst, arith}
 use Rattle.smx_shared.specs.declared.tap.Tap.{Tap}
-use Rattle.smx_worker_cases.proofs.shared.lines_of.Goals as goal
+use Rattle.smx_worker_cases.proofs.hall.lines_of.Goals as goal
 
 first : {X : Type 0} (P : X → Type 0) (x : X) (xs all : List X) → all ≡ x ∷ xs → All P all → P x
 first P x xs all e h = (subst (All P) e h) 0 x (omega arith)

@@ -1,0 +1,151 @@
+//! What passes between a client and its lanes.
+use super::Step::{Closes, Gets, Responds, Routes, Runs, Sends, Stands, Told};
+use super::*;
+use smx_turns::Fault;
+use std::cmp::Ord;
+use std::test::*;
+
+// A client that binds, over a link that takes one octet a write: the first turn reads, and each one
+// after it writes an octet.
+#[test]
+fn octets_taken_and_waiting_are_the_answer(rt: HostRuntime) {
+    for turns in 1..=30usize {
+        let taken = (turns - 1).min(25);
+        let end = if turns <= 26 {
+            RunEnd::Turns
+        } else {
+            RunEnd::Idle
+        };
+        let steps = [
+            Runs(turns as u64, end),
+            Stands(ClientState::BoundTrx, 25 - taken),
+            Closes(&[&BOUND[..taken]], false),
+        ];
+        let setting = Setting::new(turns, script(rt.alloc(), 1, &[(0, BIND)]));
+        lanes_after(&rt, rt.alloc(), setting, &steps);
+    }
+}
+
+// submit_sm, number 7, with a body of one octet, which nobody reads; and its response with the
+// message_id `1`.
+const SUBMIT: &[u8] = b"\0\0\0\x11\0\0\0\x04\0\0\0\0\0\0\0\x07s";
+
+const SUBMITTED: &[u8] = b"\0\0\0\x12\x80\0\0\x04\0\0\0\0\0\0\0\x071\0";
+
+// The client's request is accepted, of which the lane is told, and its response collected. Two routes
+// were made and one client's taken back.
+#[test]
+fn response_bears_the_clients_number(rt: HostRuntime) {
+    let pieces: [Piece; 2] = [(0, BIND), (25, SUBMIT)];
+    let steps = [
+        Runs(100, RunEnd::Idle),
+        Told(Some(Party::Lane(0))),
+        Responds(0, b"1\0", 0),
+        Runs(100, RunEnd::Idle),
+        Stands(ClientState::BoundTrx, 0),
+        Closes(&[&BOUND, SUBMITTED], false),
+        Routes(2, 1),
+    ];
+    let setting = Setting::new(0, script(rt.alloc(), 4_096, &pieces));
+    lanes_after(&rt, rt.alloc(), setting, &steps);
+}
+
+// Two messages are sent under the numbers 1 and 2. The answer to 1 goes back under the centre's
+// number. Once the client is closed, the message that it didn't answer and the one in its box are
+// answered with 0x64.
+#[test]
+fn messages_are_answered(rt: HostRuntime) {
+    let answer = b"\0\0\0\x10\x80\0\0\x05\0\0\0\0\0\0\0\x01";
+    let sent: &[u8] = b"\0\0\0\x10\0\0\0\x05\0\0\0\0\0\0\0\x01\
+        \0\0\0\x10\0\0\0\x05\0\0\0\0\0\0\0\x02";
+    let pieces: [Piece; 2] = [(0, BIND), (57, answer)];
+    let steps = [
+        Runs(100, RunEnd::Idle),
+        Sends(3),
+        Sends(4),
+        Runs(100, RunEnd::Idle),
+        Told(Some(Party::Lane(0))),
+        Sends(5),
+        Closes(&[&BOUND, sent], true),
+        Gets(Some((0x8000_0005, 0, 3))),
+        Gets(Some((0x8000_0005, 0x64, 4))),
+        Gets(Some((0x8000_0005, 0x64, 5))),
+        Gets(None),
+    ];
+    let setting = Setting::new(0, script(rt.alloc(), 4_096, &pieces));
+    lanes_after(&rt, rt.alloc(), setting, &steps);
+}
+
+// The second answer waits while the return box, which has one place, has the first, and then has its
+// place. Until the enquiry that came with them is decided nothing is read: the link's fourth read
+// would fail. The enquiry is answered in the turn that puts the answer, which reads nothing.
+#[test]
+fn answer_waits_for_its_box(rt: HostRuntime) {
+    // The second is a generic_nack, which answers a message too.
+    let all = b"\0\0\0\x10\x80\0\0\x05\0\0\0\0\0\0\0\x02\
+        \0\0\0\x10\x80\0\0\0\0\0\0\x08\0\0\0\x01\
+        \0\0\0\x10\0\0\0\x15\0\0\0\0\0\0\0\x09";
+    let mut script = script(rt.alloc(), 4_096, &[(0, BIND), (57, all)]);
+    script.failing_read = 4;
+    let setting = Setting {
+        case: 0,
+        script,
+        lanes: 1,
+        places: 1,
+    };
+    let steps = [
+        Sends(3),
+        Sends(4),
+        Runs(100, RunEnd::Turns),
+        Gets(Some((0x8000_0005, 0, 4))),
+        Gets(None),
+        Runs(1, RunEnd::Turns),
+        Stands(ClientState::BoundTrx, 16),
+        Gets(Some((0x8000_0000, 8, 3))),
+    ];
+    lanes_after(&rt, rt.alloc(), setting, &steps);
+}
+
+#[test]
+fn unbind_and_bad_length_end_it(rt: HostRuntime) {
+    // unbind, number 8; a length of 15, with an enquiry behind that nobody answers.
+    let unbind: &[u8] = b"\0\0\0\x10\0\0\0\x06\0\0\0\0\0\0\0\x08";
+    let unbound: &[u8] = b"\0\0\0\x10\x80\0\0\x06\0\0\0\0\0\0\0\x08";
+    let short: &[u8] = b"\0\0\0\x0f\0\0\0\x15\0\0\0\0\0\0\0\x09\0\0\0\x10\0\0\0\x15";
+    let nack: &[u8] = b"\0\0\0\x10\x80\0\0\0\0\0\0\x02\0\0\0\0";
+    for (octets, answer) in [(unbind, unbound), (short, nack)] {
+        let steps = [Runs(100, RunEnd::Left), Closes(&[&BOUND, answer], false)];
+        let script = script(rt.alloc(), 7, &[(0, BIND), (25, octets)]);
+        lanes_after(&rt, rt.alloc(), Setting::new(octets.len(), script), &steps);
+    }
+}
+
+#[test]
+fn link_that_fails(rt: HostRuntime) {
+    let mut script = script(rt.alloc(), 4_096, &[(0, BIND)]);
+    script.failing_read = 2;
+    let steps = [Runs(100, RunEnd::Fault(Fault::Link))];
+    lanes_after(&rt, rt.alloc(), Setting::new(0, script), &steps);
+}
+
+// Of two responses of 65,536 octets, on two lanes, a turn collects one, and the next none.
+#[test]
+fn turn_stops_where_many_octets_wait(rt: HostRuntime) {
+    let pieces: [Piece; 3] = [(0, BIND), (25, SUBMIT), (25, SUBMIT)];
+    let setting = Setting {
+        case: 0,
+        script: script(rt.alloc(), 100_000, &pieces),
+        lanes: 2,
+        places: 1,
+    };
+    let steps = [
+        Runs(100, RunEnd::Idle),
+        Responds(1, b"", 65_520),
+        Responds(0, b"", 65_520),
+        Runs(1, RunEnd::Turns),
+        Stands(ClientState::BoundTrx, 65_536),
+        Runs(1, RunEnd::Turns),
+        Stands(ClientState::BoundTrx, 65_536),
+    ];
+    lanes_after(&rt, rt.alloc(), setting, &steps);
+}
