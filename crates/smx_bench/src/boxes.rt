@@ -1,12 +1,11 @@
 //! Boxes: senders in threads of their own, and one receiver.
 
-use crate::figures::{Hundredths, nanos_since};
+use crate::figures::{Hundredths, Work, nanos_of_works};
 use smx_box::{Boxed, Got, PutFault, Receiver, Sender};
 use std::rt::Clock;
 use std::sync::Wait;
 use std::thread;
-use std::thread::{Threads, join};
-use std::time::Instant;
+use std::thread::Threads;
 
 // How many items all senders put together, but for what the division leaves.
 const ITEMS: u64 = 256_000;
@@ -18,43 +17,50 @@ pub(crate) fn run<R: Threads + Wait + Sync + Print + Clock + AllocGlobal>(
 ) -> anyhow::Result<()> {
     for places in [16, 256] {
         for senders in [1, 2, 16, 256] {
-            print_one(rt, senders, places)?;
+            let (took, got) = nanos_of_items(rt, senders, places)?;
+            println!(rt;
+                "{places} places, {senders} senders: {} million items a second",
+                Hundredths::quotient(u128::from(got) * 1000, u128::from(took))
+            )?;
         }
     }
     Ok(())
 }
 
-fn print_one<R: Threads + Wait + Sync + Print + Clock + AllocGlobal>(
+// The nanoseconds that all items take, and how many came.
+fn nanos_of_items<R: Threads + Wait + Sync + Clock + AllocGlobal>(
     rt: &R,
     senders: usize,
     places: usize,
-) -> anyhow::Result<()> {
-    let times = ITEMS / (senders as u64).max(1);
+) -> anyhow::Result<(u64, u64)> {
+    let items = ITEMS / (senders as u64).max(1);
     let (receiver, all) = Boxed::new(rt, rt.alloc(), senders, places)?;
-    let (took, got) = nanos_of_items(rt, receiver, all, times)?;
-    println!(rt;
-        "{places} places, {senders} senders: {} million items a second",
-        Hundredths::quotient(u128::from(got) * 1000, u128::from(took))
-    )?;
-    Ok(())
+    let mut ends = Vec::new(rt.alloc());
+    ends.push(End::Receiver(receiver))?;
+    for sender in all {
+        ends.push(End::Sender(sender, items))?;
+    }
+    nanos_of_works(rt, ends)
 }
 
-// The nanoseconds that all items take, and how many came. Each sender puts so many.
-fn nanos_of_items<R: Threads + Wait + Sync + Clock>(
-    rt: &R,
-    receiver: Receiver<u64>,
-    all: Vec<Sender<u64>>,
-    times: u64,
-) -> anyhow::Result<(u64, u64)> {
-    let start = Instant::now(rt)?;
-    let (got, put) = join(
-        rt,
-        || get_all(rt, receiver),
-        || thread::map_vec(rt, all, &|sender: Sender<u64>| put_all(rt, sender, times)),
-    );
-    let took = nanos_since(rt, start)?;
-    put?;
-    Ok((took, got))
+/// An end of the box: the receiver, or a sender and how many items it puts.
+#[derive(Drop)]
+enum End {
+    Receiver(Receiver<u64>),
+    Sender(Sender<u64>, u64),
+}
+
+impl Work for End {
+    // Counts the items that came.
+    fn run<R: Wait>(self, rt: &R) -> u64 {
+        match self {
+            End::Receiver(receiver) => get_all(rt, receiver),
+            End::Sender(sender, items) => {
+                put_all(rt, sender, items);
+                0
+            }
+        }
+    }
 }
 
 // Gets until every sender's mark came, and answers how many items came.
@@ -72,28 +78,17 @@ fn get_all<R: Wait>(rt: &R, from: Receiver<u64>) -> u64 {
     count
 }
 
-// Puts so many items, and shuts.
-fn put_all<R: Wait>(rt: &R, from: Sender<u64>, times: u64) {
+// Puts so many items, and shuts; again where the box was full.
+fn put_all<R: Wait>(rt: &R, from: Sender<u64>, items: u64) {
     let mut sender = from;
-    for item in 0..times {
-        put(rt, &mut sender, item);
-    }
-    shut(rt, sender);
-}
-
-// Puts an item, again where the box was full.
-fn put<R: Wait>(rt: &R, sender: &mut Sender<u64>, item: u64) {
-    for _ in rt.forever() {
-        match sender.put(rt, item) {
-            Err((_, PutFault::Full)) => thread::yield_now(),
-            Ok(_) | Err(_) => return,
+    for item in 0..items {
+        for _ in rt.forever() {
+            match sender.put(rt, item) {
+                Err((_, PutFault::Full)) => thread::yield_now(),
+                Ok(_) | Err(_) => break,
+            }
         }
     }
-}
-
-// Shuts the sender, again where the box was full.
-fn shut<R: Wait>(rt: &R, from: Sender<u64>) {
-    let mut sender = from;
     for _ in rt.forever() {
         match sender.shut(rt) {
             Err((back, PutFault::Full)) => sender = back,

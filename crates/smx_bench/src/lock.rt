@@ -1,14 +1,12 @@
 //! The ticket lock beside the toolchain's `Mutex`, each round a counter.
-ghost use Rattle.std.specs.Prelude.{◌≡◌, IfOk};
+ghost use Rattle.std.specs.Prelude.{◌≡◌};
 
-use crate::figures::{Hundredths, nanos_since};
-use smx_lock::{LockSeat, Spent, TicketLock};
-use smx_lock_counter::{Adder, Counter, Deed};
+use crate::figures::{Hundredths, Work, nanos_of_works};
+use smx_lock::{LockSeat, SeatInPlace, TicketLock};
+use smx_lock_counter::{Adder, Counter};
 use std::rt::Clock;
 use std::sync::{Mutex, Wait};
-use std::thread;
 use std::thread::Threads;
-use std::time::Instant;
 
 const ALONE: u64 = 2_000_000;
 
@@ -19,72 +17,28 @@ const TOGETHER: u64 = 400_000;
 pub(crate) fn run<R: Threads + Wait + Sync + Print + Clock + AllocGlobal>(
     rt: &R,
 ) -> anyhow::Result<()> {
-    print_alone(rt)?;
-    for threads in [2, 4, 8] {
-        print_together(rt, threads)?;
-    }
-    Ok(())
-}
-
-fn print_alone<R: Wait + Print + Clock + AllocGlobal>(rt: &R) -> anyhow::Result<()> {
-    let ticket = alone_under_ticket_lock(rt)?;
-    let mutex = alone_under_mutex(rt)?;
+    let ticket = nanos_under_ticket_lock(rt, 1, ALONE)?;
+    let mutex = nanos_under_mutex(rt, 1, ALONE)?;
     println!(rt;
         "uncontended acquire and release: ticket lock {} ns, std Mutex {} ns",
         Hundredths::quotient(u128::from(ticket), u128::from(ALONE)),
         Hundredths::quotient(u128::from(mutex), u128::from(ALONE))
     )?;
+    for threads in [2, 4, 8] {
+        let ticket = nanos_under_ticket_lock(rt, threads, TOGETHER)?;
+        let mutex = nanos_under_mutex(rt, threads, TOGETHER)?;
+        println!(rt;
+            "{threads} threads, million holds a second: ticket lock {}, std Mutex {} ({} to 1)",
+            Hundredths::quotient(u128::from(TOGETHER) * 1000, u128::from(ticket)),
+            Hundredths::quotient(u128::from(TOGETHER) * 1000, u128::from(mutex)),
+            Hundredths::quotient(u128::from(ticket), u128::from(mutex))
+        )?;
+    }
     Ok(())
 }
 
-fn print_together<R: Threads + Wait + Sync + Print + Clock + AllocGlobal>(
-    rt: &R,
-    threads: u64,
-) -> anyhow::Result<()> {
-    let times = TOGETHER / threads.max(1);
-    let ticket = together_under_ticket_lock(rt, threads, times)?;
-    let mutex = together_under_mutex(rt, threads, times)?;
-    println!(rt;
-        "{threads} threads, million holds a second: ticket lock {}, std Mutex {} ({} to 1)",
-        millions_a_second(TOGETHER, ticket),
-        millions_a_second(TOGETHER, mutex),
-        Hundredths::quotient(u128::from(ticket), u128::from(mutex))
-    )?;
-    Ok(())
-}
-
-fn millions_a_second(calls: u64, nanos: u64) -> Hundredths {
-    Hundredths::quotient(u128::from(calls) * 1000, u128::from(nanos))
-}
-
-// Each of these measures, and answers in nanoseconds.
-fn alone_under_ticket_lock<R: Wait + Clock + AllocGlobal>(rt: &R) -> anyhow::Result<u64> {
-    let (lock, seat) = match TicketLock::new(rt.alloc(), Counter::new(ALONE)) {
-        Ok(made) => made,
-        Err((_, refused)) => return Err(refused.into()),
-    };
-    let start = Instant::now(rt)?;
-    add_many(rt, &lock, Adder::new(seat), ALONE)?;
-    Ok(nanos_since(rt, start)?)
-}
-
-fn alone_under_mutex<R: Wait + Clock>(rt: &R) -> anyhow::Result<u64> {
-    let mutex = Mutex::new(Counter::new(ALONE));
-    let start = Instant::now(rt)?;
-    add_many_under_mutex(rt, &mutex, ALONE);
-    Ok(nanos_since(rt, start)?)
-}
-
-/// What one thread does: it adds 1 so often.
-#[derive(Drop)]
-struct Work<'a> {
-    lock: &'a TicketLock<Counter>,
-    adder: Adder,
-    times: u64,
-    ghost fits: { adder.lock ≡ lock.now },
-}
-
-fn together_under_ticket_lock<R: Threads + Wait + Sync + Clock + AllocGlobal>(
+// The nanoseconds in which so many threads add 1 to a counter so often, over all of them.
+fn nanos_under_ticket_lock<R: Threads + Wait + Sync + Clock + AllocGlobal>(
     rt: &R,
     threads: u64,
     times: u64,
@@ -93,58 +47,13 @@ fn together_under_ticket_lock<R: Threads + Wait + Sync + Clock + AllocGlobal>(
         Ok(made) => made,
         Err((_, refused)) => return Err(refused.into()),
     };
-    let (works, seat) = works_on(rt, &lock, seat, threads, times)?;
-    let took = nanos_of_works(rt, works)?;
-    let counter = lock.finish(seat)?;
-    ensure_times(counter.count / threads.max(1) == times, counter.count)?;
-    Ok(took)
+    let works = works_on(rt, &lock, seat, threads, times / threads.max(1))?;
+    let (nanos, added) = nanos_of_works(rt, works)?;
+    anyhow::ensure!(added == times, "{added} additions");
+    Ok(nanos)
 }
 
-fn ensure_times(well: bool, count: u64) -> anyhow::Result<()> {
-    anyhow::ensure!(well, "{count} additions");
-    Ok(())
-}
-
-// The nanoseconds that the works take, each in a thread of its own.
-fn nanos_of_works<R: Threads + Wait + Sync + Clock>(
-    rt: &R,
-    works: Vec<Work>,
-) -> anyhow::Result<u64> {
-    let start = Instant::now(rt)?;
-    thread::map_vec(
-        rt,
-        works,
-        &|work: Work| { add_many(rt, work.lock, work.adder, work.times) },
-    )?;
-    Ok(nanos_since(rt, start)?)
-}
-
-// The work of so many threads, and a seat that takes no part.
-fn works_on<'a, R: Wait + AllocGlobal>(
-    rt: &R,
-    lock: &'a TicketLock<Counter>,
-    first: LockSeat<Counter>,
-    threads: u64,
-    times: u64,
-) -> anyhow::Result<(Vec<Work<'a>>, LockSeat<Counter>)>
-    requires { first.lock ≡ lock.now }
-    ensures { IfOk result (λ r. r.1.lock ≡ lock.now) }
-{
-    let mut seat = first;
-    let mut works = Vec::new(rt.alloc());
-    for _ in 0..threads {
-        let (host, guest) = twin(rt, lock, seat)?;
-        seat = host;
-        works.push(Work {
-            lock,
-            adder: Adder::new(guest),
-            times,
-        })?;
-    }
-    Ok((works, seat))
-}
-
-fn together_under_mutex<R: Threads + Wait + Sync + Clock + AllocGlobal>(
+fn nanos_under_mutex<R: Threads + Wait + Sync + Clock + AllocGlobal>(
     rt: &R,
     threads: u64,
     times: u64,
@@ -152,57 +61,76 @@ fn together_under_mutex<R: Threads + Wait + Sync + Clock + AllocGlobal>(
     let mutex = Mutex::new(Counter::new(u64::MAX));
     let mut works = Vec::new(rt.alloc());
     for _ in 0..threads {
-        works.push(times)?;
+        works.push(UnderMutex {
+            mutex: &mutex,
+            times: times / threads.max(1),
+        })?;
     }
-    let start = Instant::now(rt)?;
-    thread::map_vec(
-        rt,
-        works,
-        &|times: u64| add_many_under_mutex(rt, &mutex, times),
-    )?;
-    Ok(nanos_since(rt, start)?)
+    let (nanos, _) = nanos_of_works(rt, works)?;
+    Ok(nanos)
 }
 
-// Two seats for one.
-fn twin<R: Wait>(
-    rt: &R,
-    lock: &TicketLock<Counter>,
-    seat: LockSeat<Counter>,
-) -> Result<(LockSeat<Counter>, LockSeat<Counter>), Spent>
-    requires { seat.lock ≡ lock.now }
-    ensures host { IfOk result (λ s. s.0.lock ≡ lock.now) }
-    ensures guest { IfOk result (λ s. s.1.lock ≡ lock.now) }
-{
-    match lock.acquire(rt, seat) {
-        Ok(mut held) => {
-            let made = lock.split(&mut held);
-            let host = lock.release_told(held, &Deed::Nothing);
-            match made {
-                Ok(guest) => Ok((host, guest)),
-                Err(spent) => Err(spent),
-            }
-        }
-        Err((_, spent)) => Err(spent),
-    }
-}
-
-fn add_many<R: Wait>(
-    rt: &R,
-    lock: &TicketLock<Counter>,
+/// What one thread does: it adds 1 so often.
+#[derive(Drop)]
+struct UnderTicketLock<'a> {
+    lock: &'a TicketLock<Counter>,
     adder: Adder,
     times: u64,
-) -> Result<(), Spent>
-    requires { adder.lock ≡ lock.now }
-{
-    let mut adder = adder;
-    for _ in 0..times {
-        adder.add(rt, lock, 1)?;
-    }
-    Ok(())
+    ghost fits: { adder.lock ≡ lock.now },
 }
 
-fn add_many_under_mutex<R: Wait>(rt: &R, mutex: &Mutex<Counter>, times: u64) {
-    for _ in 0..times {
-        mutex.lock(rt).add(1);
+impl Work for UnderTicketLock<'_> {
+    // Counts the additions.
+    fn run<R: Wait>(self, rt: &R) -> u64 {
+        let UnderTicketLock {
+            lock,
+            mut adder,
+            times,
+            ..
+        } = self;
+        for added in 0..times {
+            if adder.add(rt, lock, 1).is_err() {
+                return added;
+            }
+        }
+        times
     }
+}
+
+/// The same under the other lock.
+#[derive(Drop)]
+struct UnderMutex<'a> {
+    mutex: &'a Mutex<Counter>,
+    times: u64,
+}
+
+impl Work for UnderMutex<'_> {
+    fn run<R: Wait>(self, rt: &R) -> u64 {
+        for _ in 0..self.times {
+            self.mutex.lock(rt).add(1);
+        }
+        self.times
+    }
+}
+
+// The work of so many threads. The first seat takes no part.
+fn works_on<'a, R: Wait + AllocGlobal>(
+    rt: &R,
+    lock: &'a TicketLock<Counter>,
+    first: LockSeat<Counter>,
+    threads: u64,
+    times: u64,
+) -> anyhow::Result<Vec<UnderTicketLock<'a>>>
+    requires { first.lock ≡ lock.now }
+{
+    let mut seat = SeatInPlace::new(first);
+    let mut works = Vec::new(rt.alloc());
+    for _ in 0..threads {
+        works.push(UnderTicketLock {
+            lock,
+            adder: Adder::new(seat.split(rt, lock)?.into_seat()),
+            times,
+        })?;
+    }
+    Ok(works)
 }

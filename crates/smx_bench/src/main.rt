@@ -7,6 +7,7 @@ mod figures;
 mod frame;
 mod lane;
 mod lock;
+mod seats;
 mod shared;
 mod shifts;
 mod worker;

@@ -1,25 +1,19 @@
 //! The worker towards the centre beside the exchange that its tap came from.
-ghost use Rattle.std.specs.Prelude.{◌≡◌, None, slice_get, Some, IfSome, false};
+ghost use Rattle.std.specs.Prelude.{◌≡◌, None, slice_get, Some, IfOk, false};
 ghost use Rattle.smx_session.specs.declared.upstream_state.UpstreamState.{UpstreamState};
 
+use crate::figures::Stopped;
+use crate::seats::Drawer;
 use crate::worker::hall::Worker;
 use smx_centre::{Centre, Mode};
 use smx_memory::{CentrePeer, FlagGate, MemoryLink, Nobody};
 use smx_session::UpstreamSession;
-use smx_shared::{Exchange, Tap};
+use smx_shared::Exchange;
 use smx_slots::LaneEnds;
 use smx_turns::RunEnd;
 use smx_upstream::{Parts, UpstreamWorker, run_upstream};
-use std::alloc::Global;
+use std::alloc::{AllocError, Global};
 use std::sync::Wait;
-
-/// A lane's tap.
-#[derive(Drop)]
-pub(crate) struct Drawer<'a> {
-    pub at: &'a Exchange,
-    pub tap: Tap,
-    ghost fits: { slice_get at.now tap.lane ≡ Some tap.front.lock },
-}
 
 /// The worker over a link to a loopback centre.
 #[derive(Drop)]
@@ -32,12 +26,13 @@ pub(crate) struct Carrier<'a> {
     ghost goes_on: { over ≡ false → worker.held ≡ None },
 }
 
-fn session(alloc: Global) -> Option<UpstreamSession>
-    ensures { IfSome result (λ s. s.state ≡ UpstreamState.Binding) }
+/// A session that isn't bound yet.
+pub(crate) fn session(alloc: Global) -> Result<UpstreamSession, AllocError>
+    ensures { IfOk result (λ s. s.state ≡ UpstreamState.Binding) }
 {
-    let system_id = Vec::from_slice(alloc, b"proxy").ok()?;
-    let password = Vec::from_slice(alloc, b"pw").ok()?;
-    Some(UpstreamSession::new(alloc, system_id, password, 30_000, 0))
+    let system_id = Vec::from_slice(alloc, b"proxy")?;
+    let password = Vec::from_slice(alloc, b"pw")?;
+    Ok(UpstreamSession::new(alloc, system_id, password, 30_000, 0))
 }
 
 impl<'a> Carrier<'a> {
@@ -45,23 +40,13 @@ impl<'a> Carrier<'a> {
     pub(crate) fn new(
         alloc: Global,
         drawer: Drawer<'a>,
-        ends: LaneEnds,
-        history: usize,
-    ) -> Option<Carrier<'a>> {
-        let session = session(alloc)?;
-        Carrier::with_session(alloc, drawer, session, ends, history)
-    }
-
-    fn with_session(
-        alloc: Global,
-        drawer: Drawer<'a>,
         session: UpstreamSession,
         ends: LaneEnds,
         history: usize,
-    ) -> Option<Carrier<'a>>
+    ) -> Result<Carrier<'a>, Stopped>
         requires { session.state ≡ UpstreamState.Binding }
     {
-        let Drawer { at, tap } = drawer;
+        let Drawer { at, tap, .. } = drawer;
         let LaneEnds { answers, senders } = ends;
         let centre = CentrePeer::new(alloc, Centre::new(alloc, Mode::Plain));
         let parts = Parts {
@@ -72,12 +57,12 @@ impl<'a> Carrier<'a> {
             senders,
         };
         match UpstreamWorker::new(alloc, parts, history, 60_000) {
-            Ok(worker) => Some(Carrier {
+            Ok(worker) => Ok(Carrier {
                 at,
                 worker,
                 over: false,
             }),
-            Err(_) => None,
+            Err(_) => Err(Stopped::NotMade),
         }
     }
 }

@@ -3,23 +3,17 @@ ghost use Rattle.std.specs.Prelude.{◌≡◌, ◌≢◌, None, false};
 ghost use Rattle.smx_shared.specs.Views.{locks_of};
 ghost use Rattle.smx_client.specs.declared.mark.Stage.TheVariants as stage;
 
+use crate::figures::Stopped;
+use crate::seats::Seat;
 use crate::worker::flood::Flood;
 use crate::worker::hall::Worker;
 use smx_client::{ClientWorker, Desk, run_client};
 use smx_memory::{FlagGate, MemoryLink, Nobody};
-use smx_shared::{Exchange, Port};
+use smx_shared::Exchange;
 use smx_slots::ClientEnds;
 use smx_turns::RunEnd;
 use std::alloc::Global;
 use std::sync::Wait;
-
-/// A client that has entered.
-#[derive(Drop)]
-pub(crate) struct Seat<'a> {
-    pub at: &'a Exchange,
-    pub port: Port,
-    ghost fits: { locks_of port.fronts ≡ at.now },
-}
 
 /// A client's worker.
 #[derive(Drop)]
@@ -40,20 +34,20 @@ impl<'a> Member<'a> {
         desk: &'a Desk,
         ends: ClientEnds,
         flood: Flood<'a>,
-    ) -> Option<Member<'a>> {
+    ) -> Result<Member<'a>, Stopped> {
         if ends.senders.len() != seat.port.lanes() {
-            return None;
+            return Err(Stopped::NotMade);
         }
-        let Seat { at, port } = seat;
+        let Seat { at, port, .. } = seat;
         let ClientEnds { inbox, senders } = ends;
         let link = MemoryLink::new(flood);
         match ClientWorker::new(alloc, port, desk, inbox, senders, 4, link) {
-            Ok(worker) => Some(Member {
+            Ok(worker) => Ok(Member {
                 at,
                 worker,
                 over: false,
             }),
-            Err(_) => None,
+            Err(_) => Err(Stopped::NotMade),
         }
     }
 }
