@@ -1,13 +1,15 @@
 //! Where clients connect.
 
+use crate::addresses::Addresses;
 use crate::guests::{Guest, Guests};
 use crate::notice::{Notice, Words};
-use crate::seats::{Entrant, Gateway, Member};
-use crate::teller::Teller;
+use crate::pace::Moment;
+use crate::queues::Queues;
+use crate::seats::{Gateway, Member};
 use mio::net::{TcpListener, TcpStream};
 use mio::{Registry, Token};
 use smx_client::Desk;
-use smx_slots::{ClientEnds, Roll};
+use smx_slots::ClientEnds;
 use smx_socket::{Socket, SocketLink};
 use std::alloc::Global;
 use std::io::ErrorKind;
@@ -18,15 +20,35 @@ use std::sync::Wait;
 /// The acceptor.
 #[derive(Drop)]
 pub(crate) struct Entrance {
-    pub alloc: Global,
     pub listener: TcpListener,
     pub gateway: Gateway,
-    // The places of each client's window of messages.
-    pub places: u32,
     // The system had no descriptor for a connection that waits.
     pub short: bool,
-    // What it says of clients.
-    pub teller: Teller,
+}
+
+// What came of waiting for a connection.
+#[derive(Drop)]
+enum Next {
+    Came(TcpStream, SocketAddr),
+    Nobody,
+    // The system has no descriptor for it.
+    Short,
+}
+
+// The next connection.
+fn next_of(listener: &TcpListener) -> Next {
+    for _ in 0..u64::MAX {
+        let error = match listener.accept() {
+            Ok((stream, address)) => return Next::Came(stream, address),
+            Err(error) => error.kind(),
+        };
+        match error {
+            ErrorKind::Interrupted | ErrorKind::ConnectionAborted => {}
+            ErrorKind::WouldBlock => return Next::Nobody,
+            _ => return Next::Short,
+        }
+    }
+    Next::Nobody
 }
 
 // A link over a socket, and the socket for the loop.
@@ -40,150 +62,173 @@ pub(crate) fn link_of(alloc: Global, socket: Socket) -> Option<(Rc<Socket>, Sock
     Some((socket, SocketLink::new(shared)))
 }
 
-// What a new client is put together from.
-#[derive(Drop)]
-struct Arrival {
-    slot: usize,
-    address: String,
-    entrant: Entrant,
-    ends: ClientEnds,
-    socket: Socket,
+// The same of a stream, which the loop knows by this token.
+pub(crate) fn wire(
+    alloc: Global,
+    registry: &Registry,
+    stream: TcpStream,
+    party: usize,
+) -> Option<(Rc<Socket>, SocketLink)> {
+    let _ = stream.set_nodelay(true);
+    match Socket::new(alloc, stream, registry, Token(party)) {
+        Some(socket) => link_of(alloc, socket),
+        None => None,
+    }
 }
 
 /// What is said of a connection that the loop can't watch, or that there is no memory for.
 const UNWATCHED: Words = Words::Said("it can't be watched");
 
-impl Entrance {
-    fn refuse<R: Eprint>(&self, rt: &R, now: u64, address: &str, words: Words) {
-        let notice = Notice::Refused(address, words);
-        self.teller.refused.say(rt, now, notice);
-    }
+// A client that was let in, its worker and its socket.
+#[derive(Drop)]
+struct Entered<'d> {
+    client: u64,
+    member: Member<'d>,
+    socket: Rc<Socket>,
+}
 
-    // The next connection, or none for now. A want of descriptors is said once.
-    pub fn accept<R: Eprint>(&mut self, rt: &R) -> Option<(TcpStream, SocketAddr)> {
-        for _ in 0..u64::MAX {
-            match self.listener.accept() {
-                Ok(found) => {
-                    self.short = false;
-                    return Some(found);
-                }
-                Err(error) if error.kind() == ErrorKind::WouldBlock => {
-                    self.short = false;
-                    return None;
-                }
-                Err(error) if error.kind() == ErrorKind::Interrupted => {}
-                Err(error) if error.kind() == ErrorKind::ConnectionAborted => {}
-                Err(_) => {
-                    if !self.short {
-                        let _ = eprintln!(rt;
-                            "{}",
-                            Notice::Plain("no connection can be accepted now")
-                        );
-                    }
-                    self.short = true;
-                    return None;
-                }
-            }
-        }
-        None
-    }
-
-    // Gives a connection a slot and enters its client; else closes it. The slot, where there is one.
-    // Without memory for the words of its address nothing is said.
-    pub fn welcome<'d, R: Wait + Eprint>(
+impl Gateway {
+    // Enters a client over this connection, with the ends of its slot, and makes its worker. Where
+    // that can't be the ends come back, and what is said.
+    fn admit<'d, R: Wait>(
         &mut self,
         rt: &R,
         registry: &Registry,
-        lanes: usize,
-        desk: &'d Desk,
-        guests: &mut Guests<'d>,
-        roll: &mut Roll,
+        moment: Moment<'d>,
         stream: TcpStream,
-        address: SocketAddr,
-        now: u64,
-    ) -> Option<usize> {
-        let Ok(address) = format!(in self.alloc; "{address}") else {
-            return None;
-        };
-        let Some((slot, ends)) = guests.slots.pick() else {
-            let words = Words::Said("no slot is free");
-            self.refuse(rt, now, address.as_str(), words);
-            return None;
-        };
-        let entrant = match self.gateway.enter(rt) {
+        party: usize,
+        ends: ClientEnds,
+    ) -> Result<Entered<'d>, (ClientEnds, Words)> {
+        let Moment {
+            alloc,
+            config,
+            desk,
+            ..
+        } = moment;
+        let entrant = match self.enter(rt) {
             Ok(entrant) => entrant,
-            Err(fault) => {
-                guests.slots.give_back(slot, ends);
-                self.refuse(rt, now, address.as_str(), Words::Unentered(fault));
-                return None;
-            }
+            Err(fault) => return Err((ends, Words::Unentered(fault))),
         };
-        let _ = stream.set_nodelay(true);
-        let token = Token(lanes.saturating_add(slot));
-        let Some(socket) = Socket::new(self.alloc, stream, registry, token) else {
+        let client = entrant.client();
+        let Some((socket, link)) = wire(alloc, registry, stream, party) else {
             entrant.leave(rt);
-            guests.slots.give_back(slot, ends);
-            self.refuse(rt, now, address.as_str(), UNWATCHED);
-            return None;
+            return Err((ends, UNWATCHED));
         };
-        let arrival = Arrival {
-            slot,
-            address,
-            entrant,
-            ends,
-            socket,
-        };
-        self.seat(rt, desk, guests, roll, arrival, now)
+        match Member::new(rt, alloc, entrant, desk, ends, config.places, link) {
+            Ok(member) => Ok(Entered {
+                client,
+                member,
+                socket,
+            }),
+            Err(ends) => Err((ends, UNWATCHED)),
+        }
+    }
+}
+
+fn refuse<R: Eprint>(rt: &R, moment: Moment<'_>, address: &str, words: Words) {
+    let Moment { teller, now, .. } = moment;
+    let notice = Notice::Refused(address, words);
+    teller.refused.say(rt, now, notice);
+}
+
+fn say_connected<R: Eprint>(rt: &R, moment: Moment<'_>, client: u64, address: &str) {
+    let Moment { teller, now, .. } = moment;
+    let notice = Notice::Client(client, address, "", Words::Said("connected"));
+    teller.came.say(rt, now, notice);
+}
+
+impl Entrance {
+    // The next connection, or none for now. A want of descriptors is said once.
+    fn accept<R: Eprint>(&mut self, rt: &R) -> Option<(TcpStream, SocketAddr)> {
+        let next = next_of(&self.listener);
+        let was_short = self.short;
+        self.short = matches!(next, Next::Short);
+        if self.short && !was_short {
+            let _ = eprintln!(rt; "{}", Notice::Plain("no connection can be accepted now"));
+        }
+        match next {
+            Next::Came(stream, address) => Some((stream, address)),
+            Next::Nobody | Next::Short => None,
+        }
     }
 
-    // Makes the worker of a client that has entered.
-    fn seat<'d, R: Wait + Eprint>(
+    // Gives a connection a slot and enters its client; else closes it.
+    fn welcome<'d, R: Wait + Eprint>(
         &mut self,
         rt: &R,
-        desk: &'d Desk,
+        registry: &Registry,
+        moment: Moment<'d>,
         guests: &mut Guests<'d>,
-        roll: &mut Roll,
-        arrival: Arrival,
-        now: u64,
-    ) -> Option<usize> {
-        let Arrival {
-            slot,
-            address,
-            entrant,
-            ends,
-            socket,
-        } = arrival;
-        let client = entrant.client();
-        let Some((socket, link)) = link_of(self.alloc, socket) else {
-            entrant.leave(rt);
-            guests.slots.give_back(slot, ends);
-            self.refuse(rt, now, address.as_str(), UNWATCHED);
-            return None;
+        queues: &mut Queues,
+        addresses: &mut Addresses,
+        stream: TcpStream,
+        address: String,
+    ) {
+        let Some((slot, ends)) = guests.slots.pick() else {
+            let words = Words::Said("no slot is free");
+            refuse(rt, moment, address.as_str(), words);
+            return;
         };
-        match Member::new(rt, self.alloc, entrant, desk, ends, self.places, link) {
-            Ok(member) => {
-                let _ = roll.add(client, slot);
-                let words = Words::Said("connected");
-                let notice = Notice::Client(client, address.as_str(), "", words);
-                self.teller.came.say(rt, now, notice);
-                guests.seat(
-                    slot,
-                    Guest {
-                        client,
-                        address,
-                        member,
-                        socket,
-                        desk,
-                        name: "",
-                    },
-                );
-                Some(slot)
+        let party = queues.party(slot);
+        match self
+            .gateway
+            .admit(rt, registry, moment, stream, party, ends)
+        {
+            Ok(entered) => {
+                say_connected(rt, moment, entered.client, address.as_str());
+                let _ = addresses.roll.add(entered.client, slot);
+                queues.ready.add(party);
+                guests.seat(slot, guest_of(entered, address, moment.desk));
             }
-            Err(ends) => {
+            Err((ends, words)) => {
                 guests.slots.give_back(slot, ends);
-                self.refuse(rt, now, address.as_str(), UNWATCHED);
-                None
+                refuse(rt, moment, address.as_str(), words);
             }
         }
+    }
+
+    // Lets those in who connect, where somebody does, or none could be accepted before; but near
+    // the end nobody. Nothing is said of one for the words of whose address there is no memory: it
+    // is closed.
+    pub fn let_in<'d, R: Wait + Eprint>(
+        &mut self,
+        rt: &R,
+        registry: &Registry,
+        moment: Moment<'d>,
+        guests: &mut Guests<'d>,
+        queues: &mut Queues,
+        addresses: &mut Addresses,
+        connects: bool,
+    ) {
+        if moment.stopping || !(connects || self.short) {
+            return;
+        }
+        for _ in 0..u64::MAX {
+            let Some((stream, address)) = self.accept(rt) else {
+                return;
+            };
+            if let Ok(address) = format!(in moment.alloc; "{address}") {
+                self.welcome(
+                    rt, registry, moment, guests, queues, addresses, stream, address,
+                );
+            }
+        }
+    }
+}
+
+// A client that isn't bound yet.
+fn guest_of<'d>(entered: Entered<'d>, address: String, desk: &'d Desk) -> Guest<'d> {
+    let Entered {
+        client,
+        member,
+        socket,
+    } = entered;
+    Guest {
+        client,
+        address,
+        member,
+        socket,
+        desk,
+        name: "",
     }
 }

@@ -1,14 +1,18 @@
 //! The clients that are served.
 
+use crate::addresses::Addresses;
 use crate::heard::bound_name;
+use crate::lane::TURNS;
 use crate::notice::{Notice, Words};
+use crate::pace::Moment;
+use crate::queues::Queues;
+use crate::seating::Seating;
 use crate::seats::Member;
-use crate::teller::Teller;
-use mio::event::Event;
 use smx_client::Desk;
-use smx_slots::{ClientEnds, Slots};
+use smx_session::ClientState;
+use smx_slots::{Bell, ClientEnds, Guide, Slots};
 use smx_socket::{Flushed, Socket};
-use smx_turns::{Directory, Gate, RunEnd};
+use smx_turns::RunEnd;
 use std::alloc::{AllocError, Global};
 use std::rc::Rc;
 use std::sync::Wait;
@@ -31,22 +35,59 @@ pub(crate) struct Guest<'d> {
 /// The end of what is written where the proxy hangs up: generic_nack of a bad length.
 pub(crate) const NACK: u64 = 0x0000_0002_0000_0000;
 
+// As what a client is bound, in words; None where it isn't.
+fn kind_of(state: ClientState) -> Option<&'static str> {
+    match state {
+        ClientState::BoundTx => Some("transmitter"),
+        ClientState::BoundRx => Some("receiver"),
+        ClientState::BoundTrx => Some("transceiver"),
+        ClientState::Opened | ClientState::Ended => None,
+    }
+}
+
 impl Guest<'_> {
-    // Turns the worker until it is idle, at most so often: how that ended, and whether octets moved.
-    pub fn turn<R: Wait + Eprint, G: Gate, D: Directory>(
+    // Turns the worker until it is idle, at most so often; who is told of something is ready then.
+    fn turn<R: Wait + Eprint>(
         &mut self,
         rt: &R,
-        gate: &mut G,
-        directory: &mut D,
-        turns: u64,
-    ) -> (RunEnd, bool) {
+        queues: &mut Queues,
+        addresses: &mut Addresses,
+        slot: usize,
+    ) -> (RunEnd, ClientState) {
         let before = self.socket.traffic();
-        let end = self.member.run(rt, gate, directory, turns);
-        (end, self.socket.traffic() != before)
+        let mut bell = Bell::new(queues.lanes, &mut queues.ready, &addresses.roll);
+        let mut guide = Guide::new(&mut addresses.routes, &addresses.roll);
+        let (end, state) = self.member.run(rt, &mut bell, &mut guide, TURNS);
+        let moved = self.socket.traffic() != before;
+        queues.was_turned(queues.party(slot), end, moved);
+        (end, state)
+    }
+
+    // Closes the worker; the lanes may have answers to its messages. Its socket and its ends are
+    // left.
+    fn close<R: Wait>(
+        self,
+        rt: &R,
+        queues: &mut Queues,
+        addresses: &mut Addresses,
+    ) -> (Rc<Socket>, ClientEnds) {
+        let Guest {
+            client,
+            member,
+            socket,
+            ..
+        } = self;
+        let mut guide = Guide::new(&mut addresses.routes, &addresses.roll);
+        let (ends, answered) = member.close(rt, &mut guide);
+        addresses.roll.remove(client);
+        if answered {
+            queues.add_lanes();
+        }
+        (socket, ends)
     }
 
     // Says why its client is gone.
-    pub fn say_gone<R: Eprint>(&self, rt: &R, teller: &Teller, now: u64, end: RunEnd) {
+    fn say_gone<R: Eprint>(&self, rt: &R, moment: Moment<'_>, end: RunEnd) {
         let words = match end {
             RunEnd::Fault(fault) => Words::Fault(fault),
             _ if self.socket.has_ended() => Words::Said("closed its connection"),
@@ -54,17 +95,24 @@ impl Guest<'_> {
             _ => Words::Said("left"),
         };
         let notice = Notice::Client(self.client, self.address.as_str(), self.name, words);
+        let Moment { teller, now, .. } = moment;
         teller.gone.say(rt, now, notice);
     }
 
     // Says as what its client is bound, and by which account, where it is and that wasn't said.
-    pub fn say_bound<R: Eprint>(&mut self, rt: &R, alloc: Global, teller: &Teller, now: u64) {
+    fn say_bound<R: Eprint>(&mut self, rt: &R, moment: Moment<'_>, state: ClientState) {
+        let Moment {
+            alloc,
+            teller,
+            now,
+            ..
+        } = moment;
+        let Some(kind) = kind_of(state) else {
+            return;
+        };
         if !self.name.is_empty() {
             return;
         }
-        let Some(kind) = self.member.kind() else {
-            return;
-        };
         self.name = match self.socket.head(alloc) {
             Some(octets) => {
                 bound_name(octets.as_slice(), self.desk.accounts.as_slice()).unwrap_or(UNNAMED)
@@ -87,18 +135,34 @@ struct Lingering {
     until: u64,
 }
 
-// Where the client of a free slot stands.
-const NOWHERE: usize = usize::MAX;
+// The socket that lingers at a slot, where one does.
+fn lingering_at(lingering: &[Option<Lingering>], slot: usize) -> Option<&Socket> {
+    match lingering.get(slot) {
+        Some(Some(lingering)) => Some(&lingering.socket),
+        _ => None,
+    }
+}
+
+// Lets a socket go of which all that waited is written, or waited too long. True where it goes now.
+fn is_let_go(place: &mut Option<Lingering>, now: u64) -> bool {
+    let waits = match place {
+        Some(lingering) => lingering.socket.flush() == Flushed::Part && now < lingering.until,
+        None => return false,
+    };
+    if !waits {
+        *place = None;
+    }
+    !waits
+}
 
 /// The clients that are served, each in its slot, and the sockets of those that are gone.
 #[derive(Drop)]
 pub(crate) struct Guests<'d> {
     pub slots: Slots,
-    // The clients in no order, and beside each its slot.
+    // The clients in no order, and where that of each slot stands.
     guests: Vec<Guest<'d>>,
-    seated: Vec<usize>,
-    // These are by slot: where its client stands among them.
-    places: Vec<usize>,
+    seating: Seating,
+    // By slot.
     lingering: Vec<Option<Lingering>>,
 }
 
@@ -107,8 +171,7 @@ impl<'d> Guests<'d> {
     pub fn new(alloc: Global, slots: Slots) -> Result<Guests<'d>, AllocError> {
         let count = slots.count();
         let guests = Vec::with_capacity(alloc, count)?;
-        let seated = Vec::with_capacity(alloc, count)?;
-        let places = vec![in alloc; NOWHERE; count]?;
+        let seating = Seating::new(alloc, count)?;
         let mut lingering = Vec::with_capacity(alloc, count)?;
         for _ in 0..count {
             lingering.push(None)?;
@@ -116,77 +179,107 @@ impl<'d> Guests<'d> {
         Ok(Guests {
             slots,
             guests,
-            seated,
-            places,
+            seating,
             lingering,
         })
     }
 
     // The client has the slot now. There is room for as many as there are slots.
     pub fn seat(&mut self, slot: usize, guest: Guest<'d>) {
-        let at = self.guests.len();
-        if at < self.guests.capacity() {
+        if self.guests.len() < self.guests.capacity() {
             self.guests.push_reserved(guest);
-            let _ = self.seated.push(slot);
-            if let Some(place) = self.places.get_mut(slot) {
-                *place = at;
-            }
+            self.seating.add(slot);
         } else {
             drop(guest);
         }
     }
 
-    // The client that has the slot.
-    pub fn guest(&mut self, slot: usize) -> Option<&mut Guest<'d>> {
-        let at = *self.places.get(slot)?;
-        self.guests.get_mut(at)
+    // Turns the worker of the slot's client: how that ended. Idle where there is no client.
+    fn turn_worker<R: Wait + Eprint>(
+        &mut self,
+        rt: &R,
+        moment: Moment<'_>,
+        queues: &mut Queues,
+        addresses: &mut Addresses,
+        slot: usize,
+    ) -> RunEnd {
+        let Some(guest) = self.guests.get_mut(self.seating.place(slot)) else {
+            return RunEnd::Idle;
+        };
+        let (end, state) = guest.turn(rt, queues, addresses, slot);
+        guest.say_bound(rt, moment, state);
+        end
     }
 
-    // The same, and it has the slot no more.
-    pub fn take(&mut self, slot: usize) -> Option<Guest<'d>> {
-        let at = *self.places.get(slot)?;
-        if at >= self.guests.len() || at >= self.seated.len() {
-            return None;
+    // The same, and lets the client go whose worker has ended. True where it has.
+    pub fn turn<R: Wait + Eprint>(
+        &mut self,
+        rt: &R,
+        moment: Moment<'_>,
+        queues: &mut Queues,
+        addresses: &mut Addresses,
+        slot: usize,
+    ) -> bool {
+        let end = self.turn_worker(rt, moment, queues, addresses, slot);
+        let is_gone = matches!(end, RunEnd::Left | RunEnd::Fault(_));
+        if is_gone {
+            self.let_go(rt, moment, queues, addresses, slot, end);
         }
-        if let Some(place) = self.places.get_mut(slot) {
-            *place = NOWHERE;
+        is_gone
+    }
+
+    // Lets the slot's client go, whose worker's last run ended so.
+    fn let_go<R: Wait + Eprint>(
+        &mut self,
+        rt: &R,
+        moment: Moment<'_>,
+        queues: &mut Queues,
+        addresses: &mut Addresses,
+        slot: usize,
+        end: RunEnd,
+    ) {
+        let Some(guest) = self.take(slot) else {
+            return;
+        };
+        guest.say_gone(rt, moment, end);
+        let (socket, ends) = guest.close(rt, queues, addresses);
+        self.part(slot, socket, ends, moment.now);
+    }
+
+    // Lets each client go.
+    pub fn dismiss<R: Wait + Eprint>(
+        &mut self,
+        rt: &R,
+        moment: Moment<'_>,
+        queues: &mut Queues,
+        addresses: &mut Addresses,
+    ) {
+        for slot in 0..queues.slots {
+            self.let_go(rt, moment, queues, addresses, slot, RunEnd::Left);
         }
-        let _ = self.seated.swap_remove(at);
-        let guest = self.guests.swap_remove(at);
-        // The last one stands there now.
-        if let Some(moved) = self.seated.get(at) {
-            if let Some(place) = self.places.get_mut(*moved) {
-                *place = at;
-            }
+    }
+
+    // The client that has the slot, which has it no more.
+    fn take(&mut self, slot: usize) -> Option<Guest<'d>> {
+        let at = self.seating.place(slot);
+        if at < self.guests.len() {
+            self.seating.remove(slot, at);
+            Some(self.guests.swap_remove(at))
+        } else {
+            None
         }
-        Some(guest)
     }
 
     // The socket of the slot's client, or of one that is gone.
     pub fn socket(&self, slot: usize) -> Option<&Socket> {
-        if let Some(at) = self.places.get(slot) {
-            if let Some(guest) = self.guests.get(*at) {
-                return Some(&guest.socket);
-            }
+        if let Some(guest) = self.guests.get(self.seating.place(slot)) {
+            return Some(&guest.socket);
         }
-        if let Some(Some(lingering)) = self.lingering.get(slot) {
-            return Some(&lingering.socket);
-        }
-        None
-    }
-
-    // Heeds what the system says of the slot's socket.
-    pub fn note(&mut self, slot: usize, event: &Event, now: u64) {
-        let Some(socket) = self.socket(slot) else {
-            return;
-        };
-        socket.note(event);
-        socket.flush();
-        self.settle(slot, now);
+        lingering_at(&self.lingering, slot)
     }
 
     // The slot's client is gone: the slot is free once its socket has taken what waits.
-    pub fn part(&mut self, slot: usize, socket: Rc<Socket>, ends: ClientEnds, now: u64) {
+    fn part(&mut self, slot: usize, socket: Rc<Socket>, ends: ClientEnds, now: u64) {
         if socket.flush() != Flushed::Part {
             self.slots.give_back(slot, ends);
             return;
@@ -200,23 +293,33 @@ impl<'d> Guests<'d> {
         }
     }
 
-    // Frees the slot where what waited is written, or waited too long.
+    // Frees the slot of a client that is gone where what waited is written, or waited too long.
     pub fn settle(&mut self, slot: usize, now: u64) {
-        let Some(place) = self.lingering.get_mut(slot) else {
-            return;
+        let is_free = match self.lingering.get_mut(slot) {
+            Some(place) => is_let_go(place, now),
+            None => false,
         };
-        let Some(lingering) = place.take() else {
-            return;
-        };
-        if lingering.socket.flush() == Flushed::Part && now < lingering.until {
-            *place = Some(lingering);
-            return;
+        if is_free {
+            self.slots.free(slot);
         }
-        self.slots.free(slot);
+    }
+
+    // The same of all slots.
+    pub fn settle_all(&mut self, now: u64) {
+        if self.is_lingering() {
+            for slot in 0..self.slots.count() {
+                self.settle(slot, now);
+            }
+        }
     }
 
     // Whether a socket of a client that is gone has octets left.
     pub fn is_lingering(&self) -> bool {
-        self.lingering.iter().any(|place| place.is_some())
+        for place in self.lingering.as_slice() {
+            if place.is_some() {
+                return true;
+            }
+        }
+        false
     }
 }

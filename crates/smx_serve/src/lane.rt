@@ -1,18 +1,21 @@
 //! One upstream: while there is a link its worker beside its socket, else what the next worker is
 //! made of.
 
+use crate::addresses::Addresses;
 use crate::guests::NACK;
 use crate::heard::bind_status;
 use crate::notice::Words;
+use crate::pace::Moment;
+use crate::queues::Queues;
 use crate::seats::{Carrier, Drawer};
 use crate::upstreams::{connect, session_of};
 use mio::Registry;
-use mio::event::Event;
-use smx_config::{Config, Upstream};
+use smx_config::Upstream;
 use smx_pdu::status::ESME_ROK;
-use smx_slots::LaneEnds;
+use smx_session::UpstreamState;
+use smx_slots::{Bell, Guide, LaneEnds};
 use smx_socket::Socket;
-use smx_turns::{Directory, Fault, Gate, RunEnd};
+use smx_turns::{Fault, RunEnd};
 use std::alloc::Global;
 use std::net::Net;
 use std::rc::Rc;
@@ -37,6 +40,9 @@ struct Linked {
     // When it began to connect, and whether its name has a further address.
     begun: u64,
     more: bool,
+    // Where its session stood after the last turn, and whether its worker has ended.
+    state: UpstreamState,
+    over: bool,
 }
 
 // What a worker is made of, beside its link.
@@ -50,11 +56,21 @@ struct Spare {
 #[derive(Clone, Copy)]
 pub(crate) struct Turned {
     pub end: RunEnd,
-    // Octets moved.
-    pub moved: bool,
     // It is bound since.
     pub newly_bound: bool,
 }
+
+/// How a link was lost: why, how many requests failed with it, and in how many milliseconds it is
+/// tried again.
+#[derive(Clone, Copy)]
+pub(crate) struct Loss {
+    pub words: Words,
+    pub failed: usize,
+    pub again: u64,
+}
+
+/// How often a worker is turned before the next one is.
+pub(crate) const TURNS: u64 = 16;
 
 /// What is said of an upstream to which no connection comes about.
 pub(crate) const UNREACHED: Words = Words::Said("can't be reached");
@@ -62,9 +78,10 @@ pub(crate) const UNREACHED: Words = Words::Said("can't be reached");
 impl Linked {
     // Whether an octet came from the centre.
     fn has_heard(&self, alloc: Global) -> bool {
-        self.socket
-            .head(alloc)
-            .is_some_and(|octets| !octets.is_empty())
+        match self.socket.head(alloc) {
+            Some(octets) => !octets.is_empty(),
+            None => false,
+        }
     }
 
     // Why it has ended, where it wasn't told to.
@@ -87,10 +104,44 @@ impl Linked {
         if self.socket.tail() == NACK {
             return Words::Said("ended, it sent a bad length");
         }
-        if self.carrier.is_bound() {
+        if self.state == UpstreamState::Bound {
             return Words::Said("ended, it answered no enquire_link");
         }
         Words::Said("ended, it unbound")
+    }
+}
+
+impl Linked {
+    // Whether another address of its name is tried at once, since this one could not be reached.
+    fn goes_on(&self, alloc: Global, end: RunEnd) -> bool {
+        self.more && end == RunEnd::Fault(Fault::Link) && !self.has_heard(alloc)
+    }
+
+    // Turns the worker until it is idle, at most so often; who is told of something is ready then.
+    fn turn<R: Wait>(
+        &mut self,
+        rt: &R,
+        queues: &mut Queues,
+        addresses: &mut Addresses,
+        lane: usize,
+        now: u64,
+    ) -> Turned {
+        let before = self.socket.traffic();
+        let was_bound = self.state == UpstreamState::Bound;
+        let mut bell = Bell::new(queues.lanes, &mut queues.ready, &addresses.roll);
+        let mut guide = Guide::new(&mut addresses.routes, &addresses.roll);
+        let (end, state) = self.carrier.run(rt, &mut bell, &mut guide, now, TURNS);
+        self.state = state;
+        self.over = matches!(end, RunEnd::Left | RunEnd::Fault(_));
+        let moved = self.socket.traffic() != before;
+        if moved {
+            queues.unstall();
+        }
+        queues.was_turned(lane, end, moved);
+        Turned {
+            end,
+            newly_bound: state == UpstreamState::Bound && !was_bound,
+        }
     }
 }
 
@@ -112,24 +163,11 @@ impl Lane {
         }
     }
 
-    // Heeds what the system says of the socket.
-    pub fn note(&self, event: &Event) {
-        if let Some(socket) = self.socket() {
-            socket.note(event);
-            socket.flush();
-        }
-    }
-
-    // Whether octets wait for its socket.
-    pub fn has_octets(&self) -> bool {
-        self.socket().is_some_and(|socket| socket.has_octets())
-    }
-
-    // Whether its worker is turned.
-    pub fn is_turning(&self) -> bool {
+    // Whether no octet waits for its socket, and, where it is to end, its worker has ended.
+    pub fn is_settled(&self, ends: bool) -> bool {
         match &self.link {
-            Some(linked) => !linked.carrier.is_over(),
-            None => false,
+            Some(linked) => !linked.socket.has_octets() && (linked.over || !ends),
+            None => true,
         }
     }
 
@@ -141,34 +179,18 @@ impl Lane {
         }
     }
 
-    // Turns the worker until it is idle, at most so often.
-    pub fn turn<R: Wait, G: Gate, D: Directory>(
+    // Turns the worker, where there is one that hasn't ended.
+    pub fn turn<R: Wait>(
         &mut self,
         rt: &R,
-        gate: &mut G,
-        directory: &mut D,
+        queues: &mut Queues,
+        addresses: &mut Addresses,
+        lane: usize,
         now: u64,
-        turns: u64,
     ) -> Option<Turned> {
-        let linked = self.link.as_mut()?;
-        if linked.carrier.is_over() {
-            return None;
-        }
-        let before = linked.socket.traffic();
-        let was_bound = linked.carrier.is_bound();
-        let end = linked.carrier.run(rt, gate, directory, now, turns);
-        Some(Turned {
-            end,
-            moved: linked.socket.traffic() != before,
-            newly_bound: linked.carrier.is_bound() && !was_bound,
-        })
-    }
-
-    // Why it has ended, where it wasn't told to.
-    pub fn farewell(&self, alloc: Global, end: RunEnd) -> Words {
-        match &self.link {
-            Some(linked) => linked.farewell(alloc, end),
-            None => UNREACHED,
+        match &mut self.link {
+            Some(linked) if !linked.over => { Some(linked.turn(rt, queues, addresses, lane, now)) },
+            _ => None,
         }
     }
 
@@ -176,28 +198,15 @@ impl Lane {
     pub fn is_late(&self, now: u64, silence: u64) -> bool {
         match &self.link {
             Some(linked) => {
-                linked.carrier.is_binding() && now >= linked.begun.saturating_add(silence)
+                let waits = linked.state == UpstreamState::Binding;
+                waits && now >= linked.begun.saturating_add(silence)
             }
             None => false,
         }
     }
 
-    // Whether another address of its name is tried at once, since this one could not be reached.
-    pub fn goes_on(&mut self, alloc: Global, end: RunEnd) -> bool {
-        let Some(linked) = &self.link else {
-            return false;
-        };
-        let goes_on = linked.more && end == RunEnd::Fault(Fault::Link) && !linked.has_heard(alloc);
-        self.behind = if goes_on {
-            self.behind.saturating_add(1)
-        } else {
-            0
-        };
-        goes_on
-    }
-
-    // Parts from its link: what was said last is written, and what was taken and not answered fails.
-    // How many requests failed.
+    // Parts from its link: what was said last is written, and what was taken and not answered
+    // fails. How many requests failed. It is tried again from this moment on.
     pub fn part<R: Wait>(&mut self, rt: &R, due: u64) -> usize {
         let Some(linked) = self.link.take() else {
             return 0;
@@ -214,33 +223,54 @@ impl Lane {
         failed
     }
 
-    // From which moment on it is tried again, where its link is lost now.
-    pub fn due_after(&self, now: u64, silence: u64) -> u64 {
-        match &self.link {
-            Some(linked) => now.max(linked.begun.saturating_add(silence)),
-            None => self.due,
+    // Parts from its link, whose worker has ended so. Nothing is to be said of it where another
+    // address of its name is tried at once.
+    pub fn lose<R: Wait>(&mut self, rt: &R, moment: Moment<'_>, end: RunEnd) -> Option<Loss> {
+        let Moment {
+            alloc,
+            config,
+            now,
+            ..
+        } = moment;
+        let (words, goes_on, begun) = match &self.link {
+            Some(linked) => {
+                let words = linked.farewell(alloc, end);
+                (words, linked.goes_on(alloc, end), linked.begun)
+            }
+            None => return None,
+        };
+        if goes_on {
+            self.behind = self.behind.saturating_add(1);
+            self.part(rt, now);
+            return None;
         }
+        self.behind = 0;
+        let due = now.max(begun.saturating_add(config.silence));
+        let failed = self.part(rt, due);
+        Some(Loss {
+            words,
+            failed,
+            again: due.saturating_sub(now),
+        })
     }
 
-    // Begins to connect, where there is no link and it is time; its bind is the first that its worker
-    // writes. False where that could not be begun, and is tried again after the silence.
+    // Begins to connect, where there is no link and it is time; its bind is the first that its
+    // worker writes. False where that could not be begun, and is tried again after the silence.
     pub fn connect<R: Net>(
         &mut self,
         rt: &R,
-        alloc: Global,
         registry: &Registry,
-        config: &Config,
+        moment: Moment<'_>,
         upstream: &Upstream,
-        now: u64,
     ) -> bool {
+        let Moment { config, now, .. } = moment;
         if now < self.due {
             return true;
         }
         let Some(spare) = self.spare.take() else {
             return true;
         };
-        let behind = self.behind;
-        match link_to(rt, alloc, registry, config, upstream, spare, behind, now) {
+        match link_to(rt, registry, moment, upstream, spare, self.behind) {
             Ok(linked) => {
                 self.link = Some(linked);
                 true
@@ -258,14 +288,18 @@ impl Lane {
 // A worker over a new connection, or what it would have been made of.
 fn link_to<R: Net>(
     rt: &R,
-    alloc: Global,
     registry: &Registry,
-    config: &Config,
+    moment: Moment<'_>,
     upstream: &Upstream,
     spare: Spare,
     behind: usize,
-    now: u64,
 ) -> Result<Linked, Spare> {
+    let Moment {
+        alloc,
+        config,
+        now,
+        ..
+    } = moment;
     let lane = spare.drawer.tap.lane();
     let Some(session) = session_of(alloc, upstream, config.silence, now) else {
         return Err(spare);
@@ -282,6 +316,8 @@ fn link_to<R: Net>(
             socket,
             begun: now,
             more,
+            state: UpstreamState::Binding,
+            over: false,
         }),
         Err((drawer, ends)) => Err(Spare { drawer, ends }),
     }

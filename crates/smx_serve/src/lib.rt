@@ -1,6 +1,7 @@
 //! The proxy over sockets: one thread turns the workers that have something to do.
 #![tactic(auto)]
 
+mod addresses;
 mod desk;
 mod entrance;
 mod guests;
@@ -8,12 +9,14 @@ mod heard;
 mod lane;
 mod linking;
 mod notice;
+mod pace;
+mod parties;
 mod queues;
 mod remote;
+mod seating;
 mod seats;
 mod serve;
 mod stop;
-mod tables;
 mod teller;
 mod turning;
 mod upstreams;

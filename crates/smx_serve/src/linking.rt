@@ -1,15 +1,18 @@
-//! How the loop keeps each upstream connected.
+//! How the loop turns each upstream's worker, and keeps each upstream connected.
 
-use crate::lane::{Lane, UNREACHED};
+use crate::addresses::Addresses;
+use crate::lane::{Lane, Loss, UNREACHED};
 use crate::notice::{Notice, Words};
-use crate::turning::Loop;
+use crate::pace::Moment;
+use crate::queues::Queues;
+use mio::Registry;
 use smx_config::Config;
 use smx_turns::RunEnd;
 use std::net::Net;
 use std::sync::Wait;
 
-/// Says something of a lane.
-pub(crate) fn say_of_lane<R: Eprint>(rt: &R, config: &Config, lane: usize, words: Words) {
+// Says something of a lane.
+fn say_of_lane<R: Eprint>(rt: &R, config: &Config, lane: usize, words: Words) {
     if let Some(upstream) = config.upstream.get(lane) {
         let address = upstream.address.as_str();
         let name = upstream.system_id.as_str();
@@ -17,84 +20,114 @@ pub(crate) fn say_of_lane<R: Eprint>(rt: &R, config: &Config, lane: usize, words
     }
 }
 
-// Says what became of a link, how many requests failed with it, and in how many milliseconds it is
-// tried again.
-fn say_lost<R: Eprint>(
-    rt: &R,
-    config: &Config,
-    lane: usize,
-    words: Words,
-    failed: usize,
-    again: u64,
-) {
+// Says what became of a link.
+fn say_lost<R: Eprint>(rt: &R, config: &Config, lane: usize, loss: Loss) {
     if let Some(upstream) = config.upstream.get(lane) {
         let address = upstream.address.as_str();
         let name = upstream.system_id.as_str();
+        let Loss {
+            words,
+            failed,
+            again,
+        } = loss;
         let notice = Notice::Lost(lane, address, name, words, failed, again);
         let _ = eprintln!(rt; "{notice}");
     }
 }
 
-// Whether a lane's bind waits too long for an answer.
-fn is_late(lanes: &[Lane], lane: usize, now: u64, silence: u64) -> bool {
-    match lanes.get(lane) {
-        Some(place) => place.is_late(now, silence),
-        None => false,
+/// Turns a lane's worker until it is idle, at most so often. One that has ended loses its link, and
+/// is tried again after the silence, or at once by another address of its name.
+pub(crate) fn turn_lane<R: Wait + Eprint>(
+    rt: &R,
+    moment: Moment<'_>,
+    queues: &mut Queues,
+    addresses: &mut Addresses,
+    lane: usize,
+    place: &mut Lane,
+) {
+    let config = moment.config;
+    let Some(turned) = place.turn(rt, queues, addresses, lane, moment.now) else {
+        return;
+    };
+    if turned.newly_bound {
+        say_of_lane(rt, config, lane, Words::Said("bound"));
+    }
+    match turned.end {
+        RunEnd::Idle | RunEnd::Turns => {}
+        RunEnd::Left | RunEnd::Fault(_) if moment.stopping => {
+            say_of_lane(rt, config, lane, Words::Said("unbound"));
+        }
+        end @ (RunEnd::Left | RunEnd::Fault(_)) => {
+            let loss = place.lose(rt, moment, end);
+            // Each client may have a response that tells of its request.
+            queues.add_slots();
+            if let Some(loss) = loss {
+                say_lost(rt, config, lane, loss);
+            }
+        }
     }
 }
 
-impl<'d> Loop<'d> {
-    // A lane parts from its link. Each client may have a response that tells of its request.
-    fn part_lane<R: Wait>(&mut self, rt: &R, lane: usize, due: u64) -> usize {
-        let Some(place) = self.lanes.get_mut(lane) else {
-            return 0;
-        };
-        let failed = place.part(rt, due);
-        let slots = self.guests.slots.count();
-        self.queues.add_from(self.lanes.len(), slots);
-        failed
+// Ends a lane whose bind isn't answered, and connects one that has no link, where it is time.
+fn tend<R: Wait + Net + Eprint>(
+    rt: &R,
+    registry: &Registry,
+    moment: Moment<'_>,
+    queues: &mut Queues,
+    lane: usize,
+    place: &mut Lane,
+) {
+    let Moment { config, now, .. } = moment;
+    if place.is_late(now, config.silence) {
+        let failed = place.part(rt, now);
+        queues.add_slots();
+        let words = Words::Said("answered no bind");
+        let again = 0;
+        say_lost(
+            rt,
+            config,
+            lane,
+            Loss {
+                words,
+                failed,
+                again,
+            },
+        );
     }
-
-    // A lane's worker has ended so: the lane is tried again after the silence, or at once by another
-    // address of its name.
-    pub fn lose_lane<R: Wait + Eprint>(&mut self, rt: &R, lane: usize, end: RunEnd) {
-        let alloc = self.entrance.alloc;
-        let now = self.now;
-        let config = self.config;
-        let Some(place) = self.lanes.get_mut(lane) else {
-            return;
-        };
-        let words = place.farewell(alloc, end);
-        if place.goes_on(alloc, end) {
-            self.part_lane(rt, lane, now);
-            return;
-        }
-        let due = place.due_after(now, config.silence);
-        let failed = self.part_lane(rt, lane, due);
-        say_lost(rt, config, lane, words, failed, due.saturating_sub(now));
+    let Some(upstream) = config.upstream.get(lane) else {
+        return;
+    };
+    if !place.connect(rt, registry, moment, upstream) {
+        let again = config.silence;
+        let words = UNREACHED;
+        let failed = 0;
+        say_lost(
+            rt,
+            config,
+            lane,
+            Loss {
+                words,
+                failed,
+                again,
+            },
+        );
     }
+}
 
-    // Ends a lane whose bind isn't answered, and connects one that has no link, where it is time.
-    pub fn tend<R: Wait + Net + Eprint>(&mut self, rt: &R, lane: usize) {
-        if self.stopping {
-            return;
+/// Tends each lane, but near the end, and turns each.
+pub(crate) fn tend_all<R: Wait + Net + Eprint>(
+    rt: &R,
+    registry: &Registry,
+    moment: Moment<'_>,
+    lanes: &mut [Lane],
+    queues: &mut Queues,
+) {
+    for lane in 0..lanes.len() {
+        if let Some(place) = lanes.get_mut(lane) {
+            if !moment.stopping {
+                tend(rt, registry, moment, queues, lane, place);
+            }
         }
-        let config = self.config;
-        if is_late(&self.lanes, lane, self.now, config.silence) {
-            let failed = self.part_lane(rt, lane, self.now);
-            say_lost(rt, config, lane, Words::Said("answered no bind"), failed, 0);
-        }
-        let Some(upstream) = config.upstream.get(lane) else {
-            return;
-        };
-        let registry = self.poll.registry();
-        let alloc = self.entrance.alloc;
-        let begun = match self.lanes.get_mut(lane) {
-            Some(place) => place.connect(rt, alloc, registry, config, upstream, self.now),
-            None => true,
-        };
-        if !begun {
-            say_lost(rt, config, lane, UNREACHED, 0, config.silence);
-        }
+        queues.ready.add(lane);
     }
 }

@@ -14,36 +14,47 @@ pub(crate) struct Queues {
     dirty: Ready,
     // Those that can't go on: their peer doesn't read, or a return box is full.
     stalled: Vec<usize>,
-}
-
-// The lanes, of so many parties.
-fn ready_lanes(alloc: Global, lanes: usize, parties: usize) -> Result<Ready, AllocError> {
-    let mut ready = Ready::new(alloc, parties)?;
-    for lane in 0..lanes {
-        ready.add(lane);
-    }
-    Ok(ready)
+    // How many of each there are.
+    pub lanes: usize,
+    pub slots: usize,
 }
 
 impl Queues {
-    /// Of so many parties the lanes are ready.
-    pub fn new(alloc: Global, lanes: usize, parties: usize) -> Result<Queues, AllocError> {
-        let ready = ready_lanes(alloc, lanes, parties)?;
+    /// Of so many lanes and slots the lanes are ready.
+    pub fn new(alloc: Global, lanes: usize, slots: usize) -> Result<Queues, AllocError> {
+        let parties = lanes.saturating_add(slots);
+        let ready = Ready::new(alloc, parties)?;
         let dirty = Ready::new(alloc, parties)?;
         let current = Vec::with_capacity(alloc, parties)?;
         let stalled = Vec::with_capacity(alloc, parties)?;
-        Ok(Queues {
+        let mut queues = Queues {
             ready,
             current,
             dirty,
             stalled,
-        })
+            lanes,
+            slots,
+        };
+        queues.add_lanes();
+        Ok(queues)
     }
 
-    /// So many parties from this one on are ready.
-    pub fn add_from(&mut self, first: usize, count: usize) {
-        for at in 0..count {
-            self.ready.add(first.saturating_add(at));
+    /// The party of a slot.
+    pub fn party(&self, slot: usize) -> usize {
+        self.lanes.saturating_add(slot)
+    }
+
+    /// Each lane is ready.
+    pub fn add_lanes(&mut self) {
+        for lane in 0..self.lanes {
+            self.ready.add(lane);
+        }
+    }
+
+    /// Each slot is ready.
+    pub fn add_slots(&mut self) {
+        for slot in 0..self.slots {
+            self.ready.add(self.lanes.saturating_add(slot));
         }
     }
 

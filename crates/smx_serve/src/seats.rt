@@ -130,32 +130,23 @@ impl<'d> Member<'d> {
         }
     }
 
-    // As what its client is bound, in words; None where it isn't.
-    pub fn kind(&self) -> Option<&'static str> {
-        match self.worker.state() {
-            ClientState::BoundTx => Some("transmitter"),
-            ClientState::BoundRx => Some("receiver"),
-            ClientState::BoundTrx => Some("transceiver"),
-            ClientState::Opened | ClientState::Ended => None,
-        }
-    }
-
-    // Turns it for as long as there is something to do, at most so often.
+    // Turns it for as long as there is something to do, at most so often: how that ended, and where
+    // its session stands.
     pub fn run<R: Wait, G: Gate, D: Directory>(
         &mut self,
         rt: &R,
         gate: &mut G,
         directory: &mut D,
         turns: u64,
-    ) -> RunEnd {
+    ) -> (RunEnd, ClientState) {
         if self.over {
-            return RunEnd::Left;
+            return (RunEnd::Left, ClientState::Ended);
         }
         let end = run_client(&mut self.worker, &self.at, rt, gate, directory, turns);
         if let RunEnd::Fault(_) = end {
             self.over = true;
         }
-        end
+        (end, self.worker.state())
     }
 
     // Lets the client go. The ends come back, and whether a lane has an answer to a message of it.
@@ -225,28 +216,14 @@ impl Carrier {
         (drawer, LaneEnds { answers, senders }, lost.failed)
     }
 
-    // Whether it has ended, or a turn of it failed.
-    pub fn is_over(&self) -> bool {
-        self.over
-    }
-
     // Ends its session in order. False where it wasn't bound, or there was no memory: then nothing is
     // to be waited for.
     pub fn stop(&mut self) -> bool {
         !self.over && self.worker.stop() == Ok(true)
     }
 
-    // Whether its bind isn't answered yet.
-    pub fn is_binding(&self) -> bool {
-        self.worker.state() == UpstreamState::Binding
-    }
-
-    // Whether its bind was answered well, and no unbind came or went since.
-    pub fn is_bound(&self) -> bool {
-        self.worker.state() == UpstreamState::Bound
-    }
-
-    // Turns it for as long as there is something to do, at most so often.
+    // Turns it for as long as there is something to do, at most so often: how that ended, and where
+    // its session stands.
     pub fn run<R: Wait, G: Gate, D: Directory>(
         &mut self,
         rt: &R,
@@ -254,15 +231,15 @@ impl Carrier {
         directory: &mut D,
         now: u64,
         turns: u64,
-    ) -> RunEnd {
+    ) -> (RunEnd, UpstreamState) {
         if self.over {
-            return RunEnd::Left;
+            return (RunEnd::Left, UpstreamState::Ended);
         }
         let at = &self.at;
         let end = run_upstream(&mut self.worker, at, rt, gate, directory, || now, turns);
         if let RunEnd::Left | RunEnd::Fault(_) = end {
             self.over = true;
         }
-        end
+        (end, self.worker.state())
     }
 }

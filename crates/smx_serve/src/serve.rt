@@ -1,21 +1,24 @@
 //! A proxy from its configuration on.
 
+use crate::addresses::Addresses;
 use crate::desk::desk_of;
 use crate::entrance::Entrance;
+use crate::guests::Guests;
 use crate::lane::Lane;
 use crate::notice::{Ended, Notice};
+use crate::pace::{Moment, Pace};
+use crate::parties::{LISTENER, WAKER};
+use crate::queues::Queues;
 use crate::remote::Remote;
 use crate::seats::{Drawer, Gateway};
-use crate::tables::Tables;
 use crate::teller::Teller;
-use crate::turning::{LISTENER, Loop, WAKER};
+use crate::turning::Loop;
 use crate::upstreams::drawers_of;
 use mio::net::TcpListener;
-use mio::{Interest, Poll, Token, Waker};
-use smx_client::Desk;
+use mio::{Events, Interest, Poll, Token, Waker};
 use smx_config::Config;
 use smx_shared::Exchange;
-use smx_slots::{ClientEnds, LaneEnds, ends_of};
+use smx_slots::{ClientEnds, LaneEnds, Slots, ends_of};
 use std::alloc::{AllocError, Global};
 use std::net::{Net, TcpStream};
 use std::rt::Clock;
@@ -102,26 +105,6 @@ fn boxes_of<R: Wait>(
     Ok(ends_of(rt, alloc, clients, config.upstream.len(), places)?)
 }
 
-// The lanes and the boxes, before anybody is connected.
-#[derive(Drop)]
-struct Wiring {
-    gateway: Gateway,
-    drawers: Vec<Drawer>,
-    ends: Vec<ClientEnds>,
-    lane_ends: Vec<LaneEnds>,
-}
-
-fn wiring_of<R: Wait>(rt: &R, alloc: Global, config: &Config) -> Result<Wiring, Ended> {
-    let (gateway, drawers) = gateway_of(rt, alloc, config)?;
-    let (ends, lane_ends) = boxes_of(rt, alloc, config)?;
-    Ok(Wiring {
-        gateway,
-        drawers,
-        ends,
-        lane_ends,
-    })
-}
-
 // Each lane beside its boxes, not connected yet.
 fn lanes_of(
     alloc: Global,
@@ -138,36 +121,77 @@ fn lanes_of(
     Ok(lanes)
 }
 
+// The door, the lanes and the clients, of whom nobody is connected.
+#[derive(Drop)]
+struct Wiring<'d> {
+    gateway: Gateway,
+    lanes: Vec<Lane>,
+    guests: Guests<'d>,
+}
+
+fn wiring_of<'d, R: Wait>(rt: &R, alloc: Global, config: &Config) -> Result<Wiring<'d>, Ended> {
+    let (gateway, drawers) = gateway_of(rt, alloc, config)?;
+    let (ends, lane_ends) = boxes_of(rt, alloc, config)?;
+    let lanes = lanes_of(alloc, drawers, lane_ends)?;
+    let guests = Guests::new(alloc, Slots::new(alloc, ends)?)?;
+    Ok(Wiring {
+        gateway,
+        lanes,
+        guests,
+    })
+}
+
+// What a loop over so many lanes and slots begins with.
+#[derive(Drop)]
+struct Tables {
+    events: Events,
+    queues: Queues,
+    addresses: Addresses,
+}
+
+fn tables_of(alloc: Global, lanes: usize, slots: usize) -> Result<Tables, AllocError> {
+    let events = Events::with_capacity(alloc, 512)?;
+    let queues = Queues::new(alloc, lanes, slots)?;
+    let addresses = Addresses::new(alloc, slots)?;
+    Ok(Tables {
+        events,
+        queues,
+        addresses,
+    })
+}
+
 // The loop, which listens and is not connected yet.
-fn loop_of<'d, R>(
-    rt: &R,
-    alloc: Global,
-    config: &'d Config,
-    desk: &'d Desk,
-    poll: Poll,
-) -> Result<Loop<'d>, Ended>
+fn loop_of<'d, R>(rt: &R, pace: Pace<'d>, poll: Poll) -> Result<Loop<'d>, Ended>
 where
     R: Wait + Net<Listener = std::net::TcpListener, Stream = TcpStream> + Eprint,
 {
-    let wiring = wiring_of(rt, alloc, config)?;
-    let listener = announce(rt, &poll, config)?;
+    let Moment { alloc, config, .. } = pace.moment;
     let Wiring {
         gateway,
-        drawers,
-        ends,
-        lane_ends,
-    } = wiring;
-    let lanes = lanes_of(alloc, drawers, lane_ends)?;
+        lanes,
+        guests,
+    } = wiring_of(rt, alloc, config)?;
+    let listener = announce(rt, &poll, config)?;
+    let Tables {
+        events,
+        queues,
+        addresses,
+    } = tables_of(alloc, lanes.len(), guests.slots.count())?;
     let entrance = Entrance {
-        alloc,
         listener,
         gateway,
-        places: config.places,
         short: false,
-        teller: Teller::new(),
     };
-    let tables = Tables::new(alloc, config, ends)?;
-    Ok(Loop::new(config, desk, poll, lanes, entrance, tables))
+    Ok(Loop {
+        pace,
+        poll,
+        events,
+        lanes,
+        guests,
+        entrance,
+        queues,
+        addresses,
+    })
 }
 
 impl Server {
@@ -203,30 +227,34 @@ impl Server {
         let Ok(desk) = desk_of(alloc, config) else {
             return Ended::NoMemory;
         };
-        match self.open(rt, alloc, config, &desk) {
+        let teller = Teller::new();
+        let moment = Moment {
+            alloc,
+            config,
+            desk: &desk,
+            teller: &teller,
+            now: 0,
+            stopping: false,
+        };
+        match self.open(rt, moment) {
             Ok(ended) => ended,
             Err(ended) => ended,
         }
     }
 
     // Makes the lanes and the boxes, listens, connects, and turns.
-    fn open<'d, R>(
-        self,
-        rt: &R,
-        alloc: Global,
-        config: &'d Config,
-        desk: &'d Desk,
-    ) -> Result<Ended, Ended>
+    fn open<R>(self, rt: &R, moment: Moment<'_>) -> Result<Ended, Ended>
     where
         R: Clock + Wait + Net<Listener = std::net::TcpListener, Stream = TcpStream> + Eprint,
     {
         let Server { poll, remote } = self;
+        let config = moment.config;
         let Ok(start) = Instant::now(rt) else {
             return Err(Ended::NoEvents);
         };
-        let mut turning = loop_of(rt, alloc, config, desk, poll)?;
+        let mut turning = loop_of(rt, Pace::new(moment, start), poll)?;
         let _ = eprintln!(rt; "{}", Notice::Door("listening on", config.listen.as_str()));
         remote.listen(port_of(&turning.entrance.listener));
-        Ok(turning.run(rt, &remote, start))
+        Ok(turning.run(rt, &remote))
     }
 }

@@ -1,89 +1,62 @@
 //! The end in order.
 
 use crate::notice::{Ended, Notice};
+use crate::parties::{are_idle, are_settled};
 use crate::turning::Loop;
-use smx_turns::RunEnd;
 use std::net::Net;
 use std::rt::Clock;
 use std::sync::Wait;
-use std::time::Instant;
 
 /// How long what waits may take to be written, and then the centre to answer the unbinds, in
 /// milliseconds each.
 const PATIENCE: u64 = 2_000;
 
 impl<'d> Loop<'d> {
-    // Whether an octet waits for a socket.
-    fn has_octets(&self) -> bool {
-        self.guests.is_lingering() || self.lanes.iter().any(|lane| lane.has_octets())
+    // Whether nobody is ready, nothing waits for a socket, and, where the lanes are to end, they
+    // have.
+    fn is_settled(&mut self, lanes_end: bool) -> bool {
+        are_idle(&self.lanes, &self.guests, &mut self.queues)
+            && are_settled(&self.lanes, &self.guests, lanes_end)
     }
 
-    // Whether a lane's worker hasn't ended.
-    fn has_lanes(&self) -> bool {
-        self.lanes.iter().any(|lane| lane.is_turning())
-    }
-
-    // Lets each client go.
-    fn dismiss<R: Wait + Eprint>(&mut self, rt: &R) {
-        for slot in 0..self.guests.slots.count() {
-            if let Some(guest) = self.guests.take(slot) {
-                self.let_go(rt, slot, guest, RunEnd::Left);
-            }
-        }
-    }
-
-    // Unbinds each lane that is bound. True where there is one.
-    fn unbind(&mut self) -> bool {
-        let mut any = false;
-        for lane in self.lanes.iter_mut() {
-            any |= lane.stop();
-        }
-        self.queues.add_from(0, self.lanes.len());
-        any
-    }
-
-    // Turns whoever is ready, writes and waits: until nobody is ready and nothing waits for a socket,
-    // and, where the lanes are to end, until they have; at most so long.
+    // Turns whoever is ready, writes and waits until all is settled, at most so long.
     fn settle<R: Wait + Clock + Net + Eprint>(
         &mut self,
         rt: &R,
-        start: Instant,
         lanes_end: bool,
     ) -> Result<(), Ended> {
-        let until = self.now.saturating_add(PATIENCE);
+        let until = self.pace.moment.now.saturating_add(PATIENCE);
         for _ in rt.forever() {
-            self.look(rt, start);
-            if self.now >= until {
+            if self.pace.moment.now >= until || self.is_settled(lanes_end) {
                 return Ok(());
             }
-            if !self.queues.ready.is_empty() {
-                self.pass(rt);
-                continue;
-            }
-            self.flush();
-            if !self.has_octets() && !(lanes_end && self.has_lanes()) {
-                return Ok(());
-            }
-            self.wait(rt, 10)?;
+            self.round(rt, 10)?;
         }
         unreachable!()
     }
 
-    // Lets the clients go, writes what waits, and unbinds.
-    fn end<R: Wait + Clock + Net + Eprint>(&mut self, rt: &R, start: Instant) -> Result<(), Ended> {
-        self.dismiss(rt);
-        self.settle(rt, start, false)?;
-        if self.unbind() {
-            self.settle(rt, start, true)?;
+    // Writes what waits, and unbinds each lane that is bound.
+    fn end<R: Wait + Clock + Net + Eprint>(&mut self, rt: &R) -> Result<(), Ended> {
+        self.settle(rt, false)?;
+        let mut any = false;
+        for lane in self.lanes.iter_mut() {
+            any |= lane.stop();
+        }
+        if any {
+            self.queues.add_lanes();
+            self.settle(rt, true)?;
         }
         Ok(())
     }
 
     /// Lets the clients go, writes what waits, unbinds upstream, and ends.
-    pub fn stop<R: Wait + Clock + Net + Eprint>(&mut self, rt: &R, start: Instant) -> Ended {
+    pub fn stop<R: Wait + Clock + Net + Eprint>(&mut self, rt: &R) -> Ended {
         let _ = eprintln!(rt; "{}", Notice::Plain("stopping"));
-        self.stopping = true;
-        match self.end(rt, start) {
+        self.pace.moment.stopping = true;
+        let moment = self.pace.moment;
+        self.guests
+            .dismiss(rt, moment, &mut self.queues, &mut self.addresses);
+        match self.end(rt) {
             Ok(()) => Ended::Stopped,
             Err(ended) => ended,
         }

@@ -4,9 +4,9 @@ ghost use Rattle.std.specs.Arc.{arc_value};
 ghost use Rattle.smx_pdu.specs.Fields.{IsText};
 ghost use Rattle.smx_session.specs.declared.upstream_state.UpstreamState.{UpstreamState};
 
-use crate::entrance::link_of;
+use crate::entrance::wire;
 use crate::seats::Drawer;
-use mio::{Registry, Token};
+use mio::Registry;
 use smx_config::Upstream;
 use smx_session::UpstreamSession;
 use smx_shared::{Exchange, Tap};
@@ -97,8 +97,6 @@ pub(crate) fn connect<R: Net>(
     let Ok(stream) = mio::net::TcpStream::connect(rt, address) else {
         return None;
     };
-    let _ = stream.set_nodelay(true);
-    let socket = Socket::new(alloc, stream, registry, Token(lane))?;
-    let (socket, link) = link_of(alloc, socket)?;
+    let (socket, link) = wire(alloc, registry, stream, lane)?;
     Some((socket, link, more))
 }

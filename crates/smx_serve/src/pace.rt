@@ -1,0 +1,66 @@
+//! The moments of the loop, and what is due at each.
+
+use crate::teller::Teller;
+use smx_client::Desk;
+use smx_config::Config;
+use std::alloc::Global;
+use std::rt::Clock;
+use std::time::Instant;
+
+/// After so many passes over those that are ready, events are asked for in any case.
+const PASSES: u64 = 16;
+
+/// How often each lane is turned in any case, in milliseconds.
+pub(crate) const TICK: u64 = 100;
+
+/// What holds at a moment: the settings, the milliseconds since the start, and whether the end is
+/// near; and by what lines are said.
+#[derive(Clone, Copy)]
+pub(crate) struct Moment<'d> {
+    pub alloc: Global,
+    pub config: &'d Config,
+    pub desk: &'d Desk,
+    pub teller: &'d Teller,
+    pub now: u64,
+    pub stopping: bool,
+}
+
+/// The moment, and what is counted from one to the next.
+#[derive(Clone, Copy)]
+pub(crate) struct Pace<'d> {
+    pub moment: Moment<'d>,
+    start: Instant,
+    // The moment of the last tick.
+    ticked: u64,
+    passes: u64,
+}
+
+impl<'d> Pace<'d> {
+    /// From this moment on, which is 0.
+    pub fn new(moment: Moment<'d>, start: Instant) -> Pace<'d> {
+        Pace {
+            moment,
+            start,
+            ticked: 0,
+            passes: 0,
+        }
+    }
+
+    /// Reads the clock: whether a tick is due.
+    pub fn look<R: Clock>(&mut self, rt: &R) -> bool {
+        if let Ok(passed) = self.start.elapsed(rt) {
+            self.moment.now = u64::try_from(passed.as_millis()).unwrap_or(u64::MAX);
+        }
+        if self.moment.now < self.ticked.saturating_add(TICK) {
+            return false;
+        }
+        self.ticked = self.moment.now;
+        true
+    }
+
+    /// A pass is over: whether events are asked for in any case.
+    pub fn has_passed(&mut self) -> bool {
+        self.passes = self.passes.wrapping_add(1);
+        self.passes % PASSES == 0
+    }
+}

@@ -1,0 +1,128 @@
+//! What is done for the parties: the lanes, then the slots of clients.
+
+use crate::addresses::Addresses;
+use crate::guests::Guests;
+use crate::lane::Lane;
+use crate::linking::turn_lane;
+use crate::pace::Moment;
+use crate::queues::Queues;
+use mio::Token;
+use mio::event::Event;
+use smx_socket::{Flushed, Socket};
+use std::sync::Wait;
+
+pub(crate) const LISTENER: usize = 1_000_000;
+
+pub(crate) const WAKER: usize = 1_000_001;
+
+// The socket of a party, where it has one.
+fn socket_of<'a>(lanes: &'a [Lane], guests: &'a Guests, party: usize) -> Option<&'a Socket> {
+    match lanes.get(party) {
+        Some(lane) => lane.socket(),
+        None => guests.socket(party.saturating_sub(lanes.len())),
+    }
+}
+
+/// Writes what waits. A worker whose socket failed is told by its next turn.
+pub(crate) fn flush<'a>(lanes: &'a [Lane], guests: &'a Guests, queues: &mut Queues) {
+    for at in 0..queues.begin_flush() {
+        let Some(party) = queues.next_to_flush(at) else {
+            break;
+        };
+        let failed = match socket_of(lanes, guests, party) {
+            Some(socket) => socket.flush() == Flushed::Failed,
+            None => false,
+        };
+        if failed {
+            queues.ready.add(party);
+        }
+    }
+    queues.end_pass();
+}
+
+/// Writes what waits where nobody is ready: whether nobody is ready still.
+pub(crate) fn are_idle<'a>(lanes: &'a [Lane], guests: &'a Guests, queues: &mut Queues) -> bool {
+    if !queues.ready.is_empty() {
+        return false;
+    }
+    flush(lanes, guests, queues);
+    queues.ready.is_empty()
+}
+
+// Turns a party's worker. True where a client is gone then.
+fn turn<R: Wait + Eprint>(
+    rt: &R,
+    moment: Moment<'_>,
+    lanes: &mut [Lane],
+    guests: &mut Guests,
+    queues: &mut Queues,
+    addresses: &mut Addresses,
+    party: usize,
+) -> bool {
+    let slot = party.saturating_sub(lanes.len());
+    match lanes.get_mut(party) {
+        Some(lane) => {
+            turn_lane(rt, moment, queues, addresses, party, lane);
+            false
+        }
+        None => guests.turn(rt, moment, queues, addresses, slot),
+    }
+}
+
+/// Turns each that is ready once. True where a client is gone then.
+pub(crate) fn pass<R: Wait + Eprint>(
+    rt: &R,
+    moment: Moment<'_>,
+    lanes: &mut [Lane],
+    guests: &mut Guests,
+    queues: &mut Queues,
+    addresses: &mut Addresses,
+) -> bool {
+    let mut is_gone = false;
+    for at in 0..queues.begin_pass() {
+        let Some(party) = queues.next_to_turn(at) else {
+            break;
+        };
+        is_gone |= turn(rt, moment, lanes, guests, queues, addresses, party);
+    }
+    queues.end_pass();
+    is_gone
+}
+
+// Heeds what the system says of a party's socket.
+fn note<'a>(lanes: &'a [Lane], guests: &'a Guests, event: &Event, party: usize) {
+    if let Some(socket) = socket_of(lanes, guests, party) {
+        socket.note(event);
+        socket.flush();
+    }
+}
+
+/// Heeds what the system says. True where it is that somebody connects.
+pub(crate) fn heed(
+    event: &Event,
+    now: u64,
+    lanes: &[Lane],
+    guests: &mut Guests,
+    queues: &mut Queues,
+) -> bool {
+    let Token(party) = event.token();
+    if party == LISTENER || party == WAKER {
+        return party == LISTENER;
+    }
+    note(lanes, guests, event, party);
+    if party >= lanes.len() {
+        guests.settle(party - lanes.len(), now);
+    }
+    queues.ready.add(party);
+    false
+}
+
+/// Whether no octet waits for a socket, and, where the lanes are to end, each worker of them has.
+pub(crate) fn are_settled(lanes: &[Lane], guests: &Guests, lanes_end: bool) -> bool {
+    for lane in lanes {
+        if !lane.is_settled(lanes_end) {
+            return false;
+        }
+    }
+    !guests.is_lingering()
+}
