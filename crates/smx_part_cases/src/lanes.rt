@@ -2,9 +2,7 @@
 //! the loss of its link, and the check of finished histories.
 
 mod calls;
-mod expiry;
 mod fixture;
 mod legal;
-mod links;
-mod numbers;
 mod refusals;
+mod scenarios;

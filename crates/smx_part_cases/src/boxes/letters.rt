@@ -1,5 +1,7 @@
+use self::Row::{Ended, Gets, GetsMark, GetsNothing, Puts, Shuts};
 use smx_box::{BoxFault, Boxed, Got, PutFault, Receiver, Sender};
 use std::alloc::Global;
+use std::process::Abort;
 use std::sync::Wait;
 use std::test::*;
 use std::thread;
@@ -8,70 +10,96 @@ use std::thread::join;
 // How many items each of two threads puts.
 const ITEMS: u64 = 1_000;
 
-// Whether the sender is refused, with its content, since the box is full.
-fn is_refused<R: Wait>(rt: &R, sender: &mut Sender<char>, content: char) -> bool {
-    sender.put(rt, content) == Err((content, PutFault::Full))
+// A call of a box of chars with what it answers.
+#[derive(Clone, Copy)]
+enum Row {
+    // By the sender, of which this is the item's number.
+    Puts(usize, char, Result<u64, (char, PutFault)>),
+    // An item by its sender and number.
+    Gets(usize, u64, char),
+    GetsMark(usize),
+    GetsNothing,
+    // The last sender is shut, or the box is full.
+    Shuts(bool),
+    Ended(bool),
 }
 
 fn gets<R: Wait>(rt: &R, receiver: &mut Receiver<char>, wanted: Got<char>) -> bool {
     receiver.get(rt) == Ok(wanted)
 }
 
-// Of two places each sender takes one, and the first to be free goes to sender 0.
-fn share<R: Wait>(
-    rt: &R,
-    receiver: &mut Receiver<char>,
-    zero: &mut Sender<char>,
-    one: &mut Sender<char>,
-) -> bool {
-    receiver.places() == 2
-        && zero.put(rt, 'a') == Ok(1)
-        && one.put(rt, 'b') == Ok(1)
-        && is_refused(rt, zero, 'c')
-        && gets(rt, receiver, item(0, 1, 'a'))
-        && zero.put(rt, 'c') == Ok(2)
-}
-
-// The sender of `b` is shut once that is out, and not before.
-fn is_shut_late<R: Wait>(rt: &R, receiver: &mut Receiver<char>, one: Sender<char>) -> bool {
-    let Err((one, PutFault::Full)) = one.shut(rt) else {
+// Whether the last sender is shut. Where the box is full it stays.
+fn is_shut<R: Wait>(rt: &R, senders: &mut Vec<Sender<char>>) -> bool {
+    let Some(last) = senders.pop() else {
         return false;
     };
-    let is_out = gets(rt, receiver, item(1, 1, 'b'));
-    is_out && one.shut(rt).is_ok()
+    match last.shut(rt) {
+        Ok(()) => true,
+        Err((back, _)) => {
+            senders.push_reserved(back);
+            false
+        }
+    }
 }
 
-fn ends<R: Wait>(rt: &R, receiver: &mut Receiver<char>, zero: Sender<char>) -> bool {
-    let are_out = gets(rt, receiver, item(0, 2, 'c'))
-        && gets(rt, receiver, Got::Shut { sender: 1 });
-    let is_open = !receiver.ended();
-    are_out && is_open && zero.shut(rt).is_ok()
+fn holds<R: Wait>(
+    rt: &R,
+    receiver: &mut Receiver<char>,
+    senders: &mut Vec<Sender<char>>,
+    row: Row,
+) -> bool {
+    match row {
+        Puts(sender, content, wanted) => match senders.get_mut(sender) {
+            Some(sender) => sender.put(rt, content) == wanted,
+            None => false,
+        },
+        Gets(sender, number, content) => {
+            let item = Got::Item {
+                sender,
+                number,
+                content,
+            };
+            gets(rt, receiver, item)
+        }
+        GetsMark(sender) => gets(rt, receiver, Got::Shut { sender }),
+        GetsNothing => gets(rt, receiver, Got::Empty),
+        Shuts(wanted) => is_shut(rt, senders) == wanted,
+        Ended(wanted) => receiver.ended() == wanted,
+    }
 }
 
-fn has_ended<R: Wait>(rt: &R, receiver: &mut Receiver<char>) -> bool {
-    gets(rt, receiver, Got::Shut { sender: 0 })
-        && receiver.ended()
-        && gets(rt, receiver, Got::Empty)
+// Of two places each sender takes one, and the first to be free goes to sender 0. The sender of `b`
+// is shut once that is out, and not before.
+const SHARED: [Row; 15] = [
+    Puts(0, 'a', Ok(1)),
+    Puts(1, 'b', Ok(1)),
+    Puts(0, 'c', Err(('c', PutFault::Full))),
+    Gets(0, 1, 'a'),
+    Puts(0, 'c', Ok(2)),
+    Shuts(false),
+    Gets(1, 1, 'b'),
+    Shuts(true),
+    Gets(0, 2, 'c'),
+    GetsMark(1),
+    Ended(false),
+    Shuts(true),
+    GetsMark(0),
+    Ended(true),
+    GetsNothing,
+];
+
+fn play<R: Wait + Abort>(rt: &R, receiver: &mut Receiver<char>, senders: &mut Vec<Sender<char>>) {
+    for at in 0..SHARED.len() {
+        assert!(rt; holds(rt, receiver, senders, SHARED[at]), "row {at}");
+    }
 }
 
 #[test]
 fn two_senders_share_two_places(rt: HostRuntime) {
     let made = Boxed::new(&rt, rt.alloc(), 2, 2);
     let (mut receiver, mut senders) = made.expect(&rt, "no box");
-    let mut one = senders.pop().expect(&rt, "no sender");
-    let mut zero = senders.pop().expect(&rt, "no sender");
-    assert!(rt; share(&rt, &mut receiver, &mut zero, &mut one));
-    assert!(rt; is_shut_late(&rt, &mut receiver, one));
-    assert!(rt; ends(&rt, &mut receiver, zero));
-    assert!(rt; has_ended(&rt, &mut receiver));
-}
-
-fn item<T>(sender: usize, number: u64, content: T) -> Got<T> {
-    Got::Item {
-        sender,
-        number,
-        content,
-    }
+    assert!(rt; receiver.places() == 2);
+    play(&rt, &mut receiver, &mut senders);
 }
 
 // How a box of these sizes is refused.
@@ -100,11 +128,11 @@ fn refused_memory(rt: HostRuntime) {
 // Puts this, again where the box was full, as the sender's item of that number.
 fn puts<R: Wait>(rt: &R, sender: &mut Sender<u64>, wanted: u64) -> bool {
     for _ in rt.forever() {
-        match sender.put(rt, wanted) {
-            Ok(number) => return number == wanted,
-            Err((_, PutFault::Full)) => thread::yield_now(),
-            Err(_) => return false,
+        let answer = sender.put(rt, wanted);
+        if answer != Err((wanted, PutFault::Full)) {
+            return answer == Ok(wanted);
         }
+        thread::yield_now();
     }
     false
 }

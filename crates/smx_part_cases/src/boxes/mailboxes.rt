@@ -1,3 +1,4 @@
+use self::Row::{Empties, Last, Puts, Sends, Settles};
 use smx_mailbox::{Mailbox, Message, Unanswered};
 use smx_pdu::Pdu;
 use smx_pdu::command::{DATA_SM, DELIVER_SM};
@@ -10,56 +11,117 @@ const DELIVER_SM_RESP: u32 = 0x8000_0005;
 
 const DATA_SM_RESP: u32 = 0x8000_0103;
 
-// A deliver_sm from the lane with the centre's number.
-fn deliver(alloc: Global, lane: usize, number: u32) -> Message {
-    Message {
-        lane,
-        pdu: Pdu::header_only(alloc, DELIVER_SM, 0, number),
+// A call of a mailbox with what comes of it.
+#[derive(Clone, Copy)]
+enum Row {
+    // A deliver_sm from the lane with the centre's number, and whether there is room for it.
+    Puts(usize, u32, bool),
+    // The numbers under which messages are sent.
+    Sends(&'static [u32]),
+    // A response by its number and command.
+    Settles(u32, u32, Option<(usize, u32)>),
+    // The lanes and the centre's numbers of messages without an answer.
+    Empties(&'static [(usize, u32)]),
+    Last(u32),
+}
+
+// What is handed back is what was to be put.
+fn is_put(alloc: Global, mailbox: &mut Mailbox, lane: usize, number: u32, room: bool) -> bool {
+    let pdu = Pdu::header_only(alloc, DELIVER_SM, 0, number);
+    match mailbox.put(Message { lane, pdu }) {
+        Ok(()) => room,
+        Err(back) => !room && (back.lane, back.pdu.number) == (lane, number),
     }
 }
 
-fn puts(alloc: Global, mailbox: &mut Mailbox, lane: usize, number: u32) -> bool {
-    mailbox.put(deliver(alloc, lane, number)).is_ok()
+fn have_numbers(pdus: &[Pdu], numbers: &[u32]) -> bool {
+    for (pdu, number) in pdus.iter().zip(numbers) {
+        if pdu.number != *number {
+            return false;
+        }
+    }
+    pdus.len() == numbers.len()
 }
 
-// How many messages are sent.
-fn sent(rt: &impl Abort, mailbox: &mut Mailbox) -> usize {
-    mailbox.send().expect(rt, "out of memory").len()
+fn are_unanswered(left: &[Unanswered], wanted: &[(usize, u32)]) -> bool {
+    for (message, wanted) in left.iter().zip(wanted) {
+        if (message.lane, message.number) != *wanted || message.command != DELIVER_SM {
+            return false;
+        }
+    }
+    left.len() == wanted.len()
 }
 
-// Whether one message is sent, under this number.
-fn sends_one(rt: &impl Abort, mailbox: &mut Mailbox, number: u32) -> bool {
-    let sent = mailbox.send().expect(rt, "out of memory");
-    match sent.as_slice() {
-        [message] => message.number == number,
-        _ => false,
+fn holds(rt: &impl Abort, alloc: Global, mailbox: &mut Mailbox, row: Row) -> bool {
+    match row {
+        Puts(lane, number, room) => is_put(alloc, mailbox, lane, number, room),
+        Sends(numbers) => {
+            let sent = mailbox.send().expect(rt, "out of memory");
+            have_numbers(&sent, numbers)
+        }
+        Settles(number, command, wanted) => mailbox.settle(number, command) == wanted,
+        Empties(wanted) => {
+            let left = mailbox.empty().expect(rt, "out of memory");
+            are_unanswered(&left, wanted)
+        }
+        Last(wanted) => mailbox.last() == wanted,
     }
 }
 
-// What a full mailbox hands back finds its place once the message before it is sent.
-fn is_put_late(rt: &impl Abort, alloc: Global, mailbox: &mut Mailbox) -> bool {
-    let Err(back) = mailbox.put(deliver(alloc, 3, 71)) else {
-        return false;
-    };
-    let is_back = (back.lane, back.pdu.number) == (3, 71);
-    let sent = sent(rt, mailbox);
-    let is_put = mailbox.put(back).is_ok();
-    is_back && sent == 1 && is_put
-}
+// What a full mailbox hands back finds its place once the message before it is sent. The window has
+// one place too.
+const ONE_PLACE: [Row; 8] = [
+    Puts(0, 70, true),
+    Puts(3, 71, false),
+    Sends(&[1]),
+    Puts(3, 71, true),
+    Sends(&[]),
+    Settles(1, DELIVER_SM_RESP, Some((0, 70))),
+    Sends(&[2]),
+    Last(2),
+];
 
-// The window has one place too.
-fn has_one_place(rt: &impl Abort, alloc: Global, mailbox: &mut Mailbox) -> bool {
-    puts(alloc, mailbox, 0, 70)
-        && is_put_late(rt, alloc, mailbox)
-        && sent(rt, mailbox) == 0
-        && mailbox.settle(1, DELIVER_SM_RESP) == Some((0, 70))
-        && sends_one(rt, mailbox, 2)
+// Three messages are sent, of which the second is answered, and two wait as the client leaves. It
+// goes on under the next number.
+const CLIENT_LEAVES: [Row; 11] = [
+    Puts(0, 10, true),
+    Puts(0, 11, true),
+    Puts(0, 12, true),
+    Sends(&[1, 2, 3]),
+    Puts(1, 4, true),
+    Puts(1, 5, true),
+    Settles(2, DELIVER_SM_RESP, Some((0, 11))),
+    Empties(&[(0, 10), (0, 12), (1, 4), (1, 5)]),
+    Empties(&[]),
+    Puts(2, 6, true),
+    Sends(&[4]),
+];
+
+// A mailbox that goes on where another ended.
+const GOES_ON: [Row; 4] = [Last(3), Puts(0, 10, true), Sends(&[4]), Last(4)];
+
+fn play(rt: &impl Abort, alloc: Global, mailbox: &mut Mailbox, rows: &[Row]) {
+    for at in 0..rows.len() {
+        assert!(rt;
+            holds(rt, alloc, mailbox, rows[at]),
+            "row {at} of {}",
+            rows.len()
+        );
+    }
 }
 
 #[test]
-fn one_place(rt: HostRuntime) {
-    let mut mailbox = Mailbox::new(rt.alloc(), 1).expect(&rt, "no mailbox");
-    assert!(rt; has_one_place(&rt, rt.alloc(), &mut mailbox));
+fn mailboxes_send_and_settle(rt: HostRuntime) {
+    let mailboxes: [(u32, u32, &[Row]); 3] = [
+        (1, 0, &ONE_PLACE),
+        (3, 0, &CLIENT_LEAVES),
+        (1, 3, &GOES_ON),
+    ];
+    for (places, last, rows) in mailboxes {
+        assert!(rt; last <= 0x7FFF_FFFF);
+        let mut mailbox = Mailbox::after(rt.alloc(), places, last).expect(&rt, "no mailbox");
+        play(&rt, rt.alloc(), &mut mailbox, rows);
+    }
 }
 
 fn is_sent(pdu: &Pdu, fields: (u32, u32, u32), body: &[u8]) -> bool {
@@ -88,90 +150,27 @@ fn sends_both(rt: &impl Abort, mailbox: &mut Mailbox) -> bool {
     }
 }
 
-fn settles_both(mailbox: &mut Mailbox) -> bool {
-    mailbox.settle(1, DELIVER_SM_RESP).is_none()
-        && mailbox.settle(4_000, DATA_SM_RESP).is_none()
-        && mailbox.settle(2, DELIVER_SM_RESP) == Some((0, 4_000))
-        && mailbox.settle(2, DELIVER_SM_RESP).is_none()
-        && mailbox.settle(1, DATA_SM_RESP) == Some((1, 4_000))
-}
-
-fn gives_numbers(rt: &impl Abort, alloc: Global, mailbox: &mut Mailbox) -> bool {
-    mailbox.put(data(rt, alloc)).is_ok()
-        && puts(alloc, mailbox, 0, 4_000)
-        && sends_both(rt, mailbox)
-        && settles_both(mailbox)
-}
+const BOTH_SETTLED: [Row; 5] = [
+    Settles(1, DELIVER_SM_RESP, None),
+    Settles(4_000, DATA_SM_RESP, None),
+    Settles(2, DELIVER_SM_RESP, Some((0, 4_000))),
+    Settles(2, DELIVER_SM_RESP, None),
+    Settles(1, DATA_SM_RESP, Some((1, 4_000))),
+];
 
 #[test]
 fn sent_under_numbers_of_their_own(rt: HostRuntime) {
     let mut mailbox = Mailbox::new(rt.alloc(), 3).expect(&rt, "no mailbox");
-    assert!(rt; gives_numbers(&rt, rt.alloc(), &mut mailbox));
-}
-
-// The message without an answer that `deliver` makes.
-const fn unanswered(lane: usize, number: u32) -> Unanswered {
-    Unanswered {
-        lane,
-        number,
-        command: DELIVER_SM,
-    }
-}
-
-// Three messages are sent, of which the second is answered, and two wait.
-fn is_busy(rt: &impl Abort, alloc: Global, mailbox: &mut Mailbox) -> bool {
-    let are_put = puts(alloc, mailbox, 0, 10)
-        && puts(alloc, mailbox, 0, 11)
-        && puts(alloc, mailbox, 0, 12);
-    are_put
-        && sent(rt, mailbox) == 3
-        && puts(alloc, mailbox, 1, 4)
-        && puts(alloc, mailbox, 1, 5)
-        && mailbox.settle(2, DELIVER_SM_RESP) == Some((0, 11))
-}
-
-fn empties(rt: &impl Abort, mailbox: &mut Mailbox, wanted: &[Unanswered]) -> bool {
-    let left = mailbox.empty().expect(rt, "out of memory");
-    left.as_slice() == wanted
-}
-
-// What is left of the busy mailbox, and then of one that goes on under the next number.
-fn leaves_four(rt: &impl Abort, alloc: Global, mailbox: &mut Mailbox) -> bool {
-    let left = [
-        unanswered(0, 10),
-        unanswered(0, 12),
-        unanswered(1, 4),
-        unanswered(1, 5),
-    ];
-    empties(rt, mailbox, &left)
-        && empties(rt, mailbox, &[])
-        && puts(alloc, mailbox, 2, 6)
-        && sends_one(rt, mailbox, 4)
-}
-
-#[test]
-fn emptied_when_the_client_leaves(rt: HostRuntime) {
-    let mut mailbox = Mailbox::new(rt.alloc(), 3).expect(&rt, "no mailbox");
-    assert!(rt; is_busy(&rt, rt.alloc(), &mut mailbox));
-    assert!(rt; leaves_four(&rt, rt.alloc(), &mut mailbox));
-}
-
-fn goes_on(rt: &impl Abort, alloc: Global, mailbox: &mut Mailbox) -> bool {
-    mailbox.last() == 3
-        && puts(alloc, mailbox, 0, 10)
-        && sends_one(rt, mailbox, 4)
-        && mailbox.last() == 4
-}
-
-#[test]
-fn numbers_go_on_in_a_new_mailbox(rt: HostRuntime) {
-    let mut mailbox = Mailbox::after(rt.alloc(), 1, 3).expect(&rt, "no mailbox");
-    assert!(rt; goes_on(&rt, rt.alloc(), &mut mailbox));
+    let data = data(&rt, rt.alloc());
+    assert!(rt; mailbox.put(data).is_ok());
+    play(&rt, rt.alloc(), &mut mailbox, &[Puts(0, 4_000, true)]);
+    assert!(rt; sends_both(&rt, &mut mailbox));
+    play(&rt, rt.alloc(), &mut mailbox, &BOTH_SETTLED);
 }
 
 // Of two messages that wait, both or none are sent; those that aren't are still there.
 fn keeps_what_stays(alloc: Global, mailbox: &mut Mailbox) -> bool {
-    let are_put = puts(alloc, mailbox, 0, 70) && puts(alloc, mailbox, 0, 71);
+    let are_put = is_put(alloc, mailbox, 0, 70, true) && is_put(alloc, mailbox, 0, 71, true);
     let are_sent = match mailbox.send() {
         Ok(pdus) => pdus.len() == 2,
         Err(AllocError) => false,

@@ -1,59 +1,82 @@
-use smx_routes::{Full, MoWindow, WindowFault};
+use self::Row::{Full, Gives, Last, Settles, Takes};
+use smx_routes::{MoWindow, WindowFault};
 use std::test::*;
 
 const DELIVER_SM: u32 = 0x0000_0005;
 
+const DELIVER_SM_RESP: u32 = 0x8000_0005;
+
+const DATA_SM: u32 = 0x0000_0103;
+
+// A call of a window with what it answers.
+#[derive(Clone, Copy)]
+enum Row {
+    // The lane, the centre's number and the command, and the number given: none where it is full.
+    Gives(usize, u32, u32, Option<u32>),
+    // A response by its number and command.
+    Settles(u32, u32, Option<(usize, u32)>),
+    Takes(Option<(usize, u32, u32)>),
+    Last(u32),
+    Full(bool),
+}
+
+fn holds(window: &mut MoWindow, row: Row) -> bool {
+    match row {
+        Gives(lane, number, command, wanted) => window.give(lane, number, command).ok() == wanted,
+        Settles(number, command, wanted) => window.settle(number, command) == wanted,
+        Takes(wanted) => window.take_first() == wanted,
+        Last(wanted) => window.last() == wanted,
+        Full(wanted) => window.is_full() == wanted,
+    }
+}
+
 // The only place is taken until its message is answered, by the response to its command or by
 // generic_nack.
-fn has_one_place(window: &mut MoWindow) -> bool {
-    window.places() == 1
-        && window.give(0, 3, DELIVER_SM) == Ok(1)
-        && window.is_full()
-        && window.give(0, 4, DELIVER_SM) == Err(Full)
-        && window.settle(1, 0x8000_0004).is_none()
-        && window.settle(2, 0x8000_0005).is_none()
-        && window.settle(1, 0x8000_0000) == Some((0, 3))
-        && window.settle(1, 0x8000_0000).is_none()
-}
+const ONE_PLACE: [Row; 11] = [
+    Gives(0, 3, DELIVER_SM, Some(1)),
+    Full(true),
+    Gives(0, 4, DELIVER_SM, None),
+    Settles(1, 0x8000_0004, None),
+    Settles(2, DELIVER_SM_RESP, None),
+    Settles(1, 0x8000_0000, Some((0, 3))),
+    Settles(1, 0x8000_0000, None),
+    Gives(7, 4, DELIVER_SM, Some(2)),
+    Settles(2, DELIVER_SM_RESP, Some((7, 4))),
+    Full(false),
+    Last(2),
+];
+
+// The greatest number is given, and then 1. The least number is taken first.
+const GOES_ROUND: [Row; 9] = [
+    Gives(1, 11, DELIVER_SM, Some(0x7FFF_FFFF)),
+    Last(0x7FFF_FFFF),
+    Gives(0, 10, DELIVER_SM, Some(1)),
+    Gives(2, 12, DATA_SM, Some(2)),
+    Last(2),
+    Takes(Some((0, 10, DELIVER_SM))),
+    Takes(Some((2, 12, DATA_SM))),
+    Takes(Some((1, 11, DELIVER_SM))),
+    Takes(None),
+];
+
+// A window that goes on where another ended.
+const GOES_ON: [Row; 2] = [Last(5), Gives(0, 10, DELIVER_SM, Some(6))];
 
 #[test]
-fn answers_settle_their_own_requests(rt: HostRuntime) {
-    let mut window = MoWindow::new(rt.alloc(), 1).expect(&rt, "no window");
-    assert!(rt; has_one_place(&mut window));
-    assert!(rt; window.give(7, 4, DELIVER_SM) == Ok(2));
-    assert!(rt; window.settle(2, 0x8000_0005) == Some((7, 4)));
-    assert!(rt; !window.is_full());
-}
-
-// The greatest number is given, and then 1.
-fn goes_round(window: &mut MoWindow) -> bool {
-    window.give(1, 11, DELIVER_SM) == Ok(0x7FFF_FFFF)
-        && window.last() == 0x7FFF_FFFF
-        && window.give(0, 10, DELIVER_SM) == Ok(1)
-        && window.give(2, 12, 0x0000_0103) == Ok(2)
-        && window.last() == 2
-}
-
-// The least number is taken first.
-fn takes_in_order(window: &mut MoWindow) -> bool {
-    window.take_first() == Some((0, 10, DELIVER_SM))
-        && window.take_first() == Some((2, 12, 0x0000_0103))
-        && window.take_first() == Some((1, 11, DELIVER_SM))
-        && window.take_first().is_none()
-}
-
-#[test]
-fn numbers_go_round(rt: HostRuntime) {
-    let mut window = MoWindow::after(rt.alloc(), 3, 0x7FFF_FFFE).expect(&rt, "no window");
-    assert!(rt; goes_round(&mut window));
-    assert!(rt; takes_in_order(&mut window));
-}
-
-#[test]
-fn numbers_go_on_in_a_new_window(rt: HostRuntime) {
-    let mut window = MoWindow::after(rt.alloc(), 2, 5).expect(&rt, "no window");
-    assert!(rt; window.last() == 5);
-    assert!(rt; window.give(0, 10, DELIVER_SM) == Ok(6));
+fn windows_give_and_settle(rt: HostRuntime) {
+    let windows: [(u32, u32, &[Row]); 3] = [
+        (1, 0, &ONE_PLACE),
+        (3, 0x7FFF_FFFE, &GOES_ROUND),
+        (2, 5, &GOES_ON),
+    ];
+    for (places, last, rows) in windows {
+        assert!(rt; last <= 0x7FFF_FFFF);
+        let mut window = MoWindow::after(rt.alloc(), places, last).expect(&rt, "no window");
+        assert!(rt; window.places() == places);
+        for at in 0..rows.len() {
+            assert!(rt; holds(&mut window, rows[at]), "{places} places, row {at}");
+        }
+    }
 }
 
 #[test]

@@ -1,8 +1,10 @@
-//! Calls on a lane as the tests make them.
-ghost use Rattle.std.specs.Prelude.{◌≡◌};
+//! Calls on a lane as rows, each with what comes of it.
 
-use smx_lane::{Answered, Entry, Kind, Lane, Limits, Refusal, Request};
-use smx_pdu::{Body, Pdu};
+use smx_lane::{
+    AdmitFault, Answered, Call, FailRefusal, Failed, Lane, Limits, Refusal, Reply, Request,
+    TakeRefusal, UpRefusal, run,
+};
+use smx_pdu::{Body, Pdu, is_forwarded};
 use std::alloc::Global;
 use std::process::Abort;
 use std::test::*;
@@ -14,21 +16,62 @@ pub(crate) const ROOMY: Limits = Limits {
     history: 1_000,
 };
 
-// A submit_sm that its client calls 7.
-pub(crate) fn submit(alloc: Global, client: u64, ordinal: u64) -> Request
-    ensures client { result.client ≡ client }
-    ensures ordinal { result.ordinal ≡ ordinal }
-{
+pub(crate) const SUBMIT_SM: u32 = 0x0000_0004;
+
+/// A call of caller 0. Each request is a submit_sm where no command is named, and its client calls it 7; each
+/// response is a submit_sm_resp.
+#[derive(Clone, Copy)]
+pub(crate) enum Step {
+    Admit(u64),
+    // Of a client, under an ordinal.
+    Accept(u64, u64),
+    // The same of client 1 and another command.
+    Pass(u64, u32),
+    // At a moment.
+    Take(u64),
+    // Under a number upstream.
+    Answer(u32),
+    Collect(u64),
+    Retire(u64),
+    TurnOver(usize),
+    Down,
+    Fail,
+    // At a moment, what was taken so long before.
+    Expire(u64, u64),
+    Up,
+}
+
+/// What a lane is asked for.
+#[derive(Clone, Copy)]
+pub(crate) enum Row {
+    // A call, and what comes of it: a word, and the number that goes with it or 0.
+    Is(Step, &'static str, u64),
+    // So many clients are admitted, from 1 on.
+    Clients(u64),
+    // Rounds of client 1, each accepted, taken, answered and collected: the first ordinal, the number of its
+    // request upstream, and how many. Each is taken at the moment one below its ordinal, and all in one place.
+    Rounds(u64, u32, u32),
+}
+
+/// A request that its client calls 7.
+pub(crate) fn request(
+    rt: &impl Abort,
+    alloc: Global,
+    client: u64,
+    ordinal: u64,
+    command: u32,
+) -> Request {
+    assert!(rt; is_forwarded(command));
     Request {
         client,
         ordinal,
         own: 7,
-        command: 0x0000_0004,
+        command,
         body: Body::empty(alloc),
     }
 }
 
-// The submit_sm_resp to what went upstream under the number.
+/// The submit_sm_resp to what went upstream under the number.
 pub(crate) fn submitted(alloc: Global, number: u32) -> Pdu {
     Pdu {
         command: 0x8000_0004,
@@ -38,109 +81,152 @@ pub(crate) fn submitted(alloc: Global, number: u32) -> Pdu {
     }
 }
 
-// Whether the lane accepts the client's request under the ordinal.
-pub(crate) fn accepts(lane: &mut Lane, alloc: Global, client: u64, ordinal: u64) -> bool {
-    lane.is_next(0, client, ordinal) && lane.accept(0, submit(alloc, client, ordinal)).is_ok()
-}
-
-// The number under which the lane's next request goes upstream.
-pub(crate) fn take_number(lane: &mut Lane) -> Option<u32> {
-    take_at(lane, 0)
-}
-
-// The same of a take at that moment.
-pub(crate) fn take_at(lane: &mut Lane, now: u64) -> Option<u32> {
-    lane.take(0, now).ok().map(|sent| sent.upstream)
-}
-
-// The client whose box gets the response to the number.
-pub(crate) fn answer_to(lane: &mut Lane, alloc: Global, number: u32) -> Option<u64> {
-    match lane.answer(0, submitted(alloc, number)) {
-        Answered::Queued { client } => Some(client),
-        _ => None,
+fn call_of(rt: &impl Abort, alloc: Global, step: Step) -> Call {
+    match step {
+        Step::Admit(client) => Call::Admit { by: 0, client },
+        Step::Accept(client, ordinal) => Call::Accept {
+            by: 0,
+            request: request(rt, alloc, client, ordinal, SUBMIT_SM),
+        },
+        Step::Pass(ordinal, command) => Call::Accept {
+            by: 0,
+            request: request(rt, alloc, 1, ordinal, command),
+        },
+        Step::Take(now) => Call::Take { by: 0, now },
+        Step::Answer(number) => Call::Answer {
+            by: 0,
+            response: submitted(alloc, number),
+        },
+        Step::Collect(client) => Call::Collect { by: 0, client },
+        Step::Retire(client) => Call::Retire { by: 0, client },
+        Step::TurnOver(least) => Call::TurnOver { by: 0, least },
+        Step::Down => Call::Down { by: 0 },
+        Step::Fail => Call::Fail { by: 0 },
+        Step::Expire(now, age) => Call::FailExpired { by: 0, now, age },
+        Step::Up => Call::Up { by: 0 },
     }
 }
 
-// Whether no request bears the number.
-pub(crate) fn is_unknown(lane: &mut Lane, alloc: Global, number: u32) -> bool {
-    matches!(
-        lane.answer(0, submitted(alloc, number)),
-        Answered::Unknown(_)
-    )
-}
-
-// The number of the response that waits for the client.
-pub(crate) fn collect_number(lane: &mut Lane, client: u64) -> Option<u32> {
-    if !lane.is_own(0, client) {
-        return None;
+/// A reply in a word, with its number: that upstream of what is taken, the client of what is queued for one, the
+/// status of what is collected, the length of a list.
+pub(crate) fn said(reply: &Reply) -> (&'static str, u64) {
+    match reply {
+        Reply::Admitted(Ok(())) => ("admitted", 0),
+        Reply::Admitted(Err(AdmitFault::Known)) => ("known", 0),
+        Reply::Admitted(Err(AdmitFault::HistoryFull)) => ("history full", 0),
+        Reply::Accepted(Ok(())) => ("accepted", 0),
+        Reply::Accepted(Err((_, Refusal::ClientFull))) => ("client full", 0),
+        Reply::Accepted(Err((_, Refusal::HistoryFull))) => ("history full", 0),
+        Reply::Accepted(Err((_, Refusal::Down))) => ("is down", 0),
+        Reply::Taken(Ok(sent)) => ("taken", u64::from(sent.upstream)),
+        Reply::Taken(Err(TakeRefusal::WindowFull)) => ("window full", 0),
+        Reply::Taken(Err(TakeRefusal::Down)) => ("is down", 0),
+        Reply::Answered(answered) => said_of(answered),
+        Reply::Collected(Some(pdu)) if pdu.number == 7 && pdu.body.is_empty() => {
+            (name_of(pdu.command), u64::from(pdu.status))
+        }
+        Reply::Collected(None) => ("nothing", 0),
+        Reply::Retired(Ok(())) => ("retired", 0),
+        Reply::Retired(Err(_)) => ("not admitted", 0),
+        Reply::TurnedOver(Ok(Some(list))) => ("turned over", list.len() as u64),
+        Reply::TurnedOver(Ok(None)) => ("too few", 0),
+        Reply::WentDown(Ok(())) => ("down", 0),
+        Reply::Failed(Err(FailRefusal::WindowEmpty)) => ("window empty", 0),
+        Reply::Failed(Ok(Failed::Late)) | Reply::Expired(Ok(Failed::Late)) => ("late", 0),
+        Reply::Failed(Ok(Failed::Queued { client })) => ("failed", *client),
+        Reply::Expired(Ok(Failed::Queued { client })) => ("given up", *client),
+        Reply::Expired(Err(_)) => ("kept", 0),
+        Reply::CameUp(Ok(())) => ("up", 0),
+        Reply::CameUp(Err(UpRefusal::WindowNotEmpty)) => ("window not empty", 0),
+        Reply::CameUp(Err(UpRefusal::HistoryFull)) => ("history full", 0),
+        Reply::Unkept => ("unkept", 0),
+        _ => ("another", 0),
     }
-    lane.collect(0, client).map(|pdu| pdu.number)
 }
 
-// The command, status and number of the response that waits for client 1, where it has no body.
-pub(crate) fn collected(lane: &mut Lane) -> Option<(u32, u32, u32)> {
-    if !lane.is_own(0, 1) {
-        return None;
+fn said_of(answered: &Answered) -> (&'static str, u64) {
+    match answered {
+        Answered::Queued { client } => ("queued", *client),
+        Answered::Late => ("late", 0),
+        Answered::Unknown(pdu) => ("unknown", u64::from(pdu.number)),
     }
-    let pdu = lane.collect(0, 1)?;
-    let is_empty = pdu.body.as_slice().is_empty();
-    is_empty.then_some((pdu.command, pdu.status, pdu.number))
 }
 
-// Whether the client is retired, which it is once.
-pub(crate) fn retires(lane: &mut Lane, client: u64) -> bool {
-    lane.is_own(0, client) && lane.retire(0, client).is_ok()
+fn name_of(response: u32) -> &'static str {
+    match response {
+        0x8000_0000 => "generic_nack",
+        0x8000_0004 => "submit_sm_resp",
+        0x8000_0021 => "submit_multi_resp",
+        0x8000_0103 => "data_sm_resp",
+        _ => "another",
+    }
 }
 
-// A lane under these limits.
-pub(crate) fn lane_of(rt: &impl Abort, alloc: Global, limits: Limits) -> Lane {
-    Lane::new(alloc, limits).expect(rt, "no lane")
-}
-
-// A lane under these limits, to which client 1 is admitted.
-pub(crate) fn lane_with_one(rt: &impl Abort, alloc: Global, limits: Limits) -> Lane {
-    let mut lane = lane_of(rt, alloc, limits);
-    lane.admit(0, 1).expect(rt, "not admitted");
-    lane
-}
-
-// The lane's refusal of the client's request under the ordinal, where it is the client's next.
-pub(crate) fn refusal_of(
-    lane: &mut Lane,
+fn is(
+    rt: &impl Abort,
     alloc: Global,
-    client: u64,
-    ordinal: u64,
-) -> Option<Refusal> {
-    if !lane.is_next(0, client, ordinal) {
-        return None;
-    }
-    match lane.accept(0, submit(alloc, client, ordinal)) {
-        Ok(()) => None,
-        Err((_, refusal)) => Some(refusal),
+    lane: &mut Lane,
+    name: &str,
+    step: Step,
+    wanted: (&str, u64),
+) {
+    let reply = run(lane, call_of(rt, alloc, step));
+    let found = said(&reply);
+    assert!(rt;
+        found == wanted,
+        "{name}: {wanted:?} is {found:?}, {reply:?}"
+    );
+}
+
+fn rounds(
+    rt: &impl Abort,
+    alloc: Global,
+    lane: &mut Lane,
+    name: &str,
+    first: (u64, u32),
+    count: u32,
+) {
+    for done in 0..count {
+        let ordinal = first.0.saturating_add(u64::from(done));
+        let number = first.1.saturating_add(done.saturating_mul(1_024));
+        let now = ordinal.saturating_sub(1);
+        for (step, wanted) in [
+            (Step::Accept(1, ordinal), ("accepted", 0)),
+            (Step::Take(now), ("taken", u64::from(number))),
+            (Step::Answer(number), ("queued", 1)),
+            (Step::Collect(1), ("submit_sm_resp", 0)),
+        ] {
+            is(rt, alloc, lane, name, step, wanted);
+        }
     }
 }
 
-// The length of the list that a turn over hands out: none where the lane has fewer entries.
-pub(crate) fn turned(rt: &impl Abort, lane: &mut Lane, least: usize) -> Option<usize> {
-    let list = lane.turn_over(0, least).expect(rt, "out of memory")?;
-    Some(list.len())
-}
-
-// Admits so many clients, one after another.
-pub(crate) fn admit_all(rt: &impl Abort, lane: &mut Lane, clients: u64) {
-    for client in 1..=clients {
-        lane.admit(0, client).expect(rt, "not admitted");
+/// Asserts what comes of each row.
+pub(crate) fn play(rt: &impl Abort, alloc: Global, lane: &mut Lane, name: &str, rows: &[Row]) {
+    for row in rows {
+        match *row {
+            Row::Is(step, word, number) => is(rt, alloc, lane, name, step, (word, number)),
+            Row::Clients(count) => {
+                for client in 1..=count {
+                    is(rt, alloc, lane, name, Step::Admit(client), ("admitted", 0));
+                }
+            }
+            Row::Rounds(ordinal, number, count) => {
+                rounds(rt, alloc, lane, name, (ordinal, number), count);
+            }
+        }
     }
 }
 
-// An entry of caller 0.
-pub(crate) fn entry(kind: Kind, client: u64, ordinal: u64, number: u32, command: u32) -> Entry {
-    Entry {
-        kind,
-        by: 0,
-        client,
-        ordinal,
-        number,
-        command,
-    }
+/// A lane under these limits behind the rows, of which it asserts what comes.
+pub(crate) fn played(
+    rt: &impl Abort,
+    alloc: Global,
+    name: &str,
+    limits: Limits,
+    rows: &[Row],
+) -> Lane {
+    let mut lane = Lane::new(alloc, limits).expect(rt, "no lane");
+    play(rt, alloc, &mut lane, name, rows);
+    lane
 }

@@ -1,23 +1,33 @@
 //! Histories that are legal, and changes that make them illegal.
 
-use crate::lanes::fixture::entry;
-use smx_history::Kind::{Accept, Admit, Answer, Collect, Late, Retire, Take};
-use smx_history::{Entry, Limits};
+use crate::lanes::fixture::Row::Is;
+use crate::lanes::fixture::{ROOMY, Row, SUBMIT_SM, Step, played};
+use smx_history::Kind::{Accept, Admit, Answer, Collect, Down, Fail, Late, Retire, Take, Up};
+use smx_history::{Entry, Kind, Limits};
 use smx_legal::{is_legal, is_legal_shifts};
 use std::alloc::Global;
 use std::process::Abort;
 use std::test::*;
 
-const SUBMIT_SM: u32 = 0x0000_0004;
-
 const SUBMIT_SM_RESP: u32 = 0x8000_0004;
 
-const LIMITS: Limits = Limits {
-    queue: 10,
-    window: 10,
-    client: 10,
-    history: 1_000,
-};
+const QUERY_SM: u32 = 0x0000_0003;
+
+const QUERY_SM_RESP: u32 = 0x8000_0003;
+
+const GENERIC_NACK: u32 = 0x8000_0000;
+
+// An entry of caller 0.
+fn entry(kind: Kind, client: u64, ordinal: u64, number: u32, command: u32) -> Entry {
+    Entry {
+        kind,
+        by: 0,
+        client,
+        ordinal,
+        number,
+        command,
+    }
+}
 
 // One client, two requests: the first answered in time and collected, the second answered late.
 fn session() -> [Entry; 9] {
@@ -34,21 +44,56 @@ fn session() -> [Entry; 9] {
     ]
 }
 
+// Two requests are taken and fail, the second after its client has retired.
+fn lost_link() -> [Entry; 11] {
+    [
+        entry(Admit, 1, 0, 0, 0),
+        entry(Accept, 1, 1, 7, SUBMIT_SM),
+        entry(Accept, 1, 2, 7, QUERY_SM),
+        entry(Take, 1, 1, 1, 0),
+        entry(Take, 1, 2, 2, 0),
+        entry(Down, 0, 0, 0, 0),
+        entry(Fail, 1, 1, 1, SUBMIT_SM_RESP),
+        entry(Collect, 1, 1, 0, 0),
+        entry(Retire, 1, 0, 0, 0),
+        entry(Fail, 1, 2, 2, GENERIC_NACK),
+        entry(Up, 0, 0, 0, 0),
+    ]
+}
+
 // The number of an open request is not given to another, and that of an answered one not within
-// 1,000,000 takes.
+// 1,000,000 takes. What is answered doesn't fail, nor the other way round. Nothing is taken while
+// the lane is down.
 #[test]
-fn a_number_does_not_serve_again_soon(rt: HostRuntime) {
+fn lists_are_told_apart(rt: HostRuntime) {
     let admit = entry(Admit, 1, 0, 0, 0);
-    let first = entry(Accept, 1, 1, 1, SUBMIT_SM);
-    let second = entry(Accept, 1, 2, 1, SUBMIT_SM);
+    let accept = entry(Accept, 1, 1, 7, SUBMIT_SM);
+    let second = entry(Accept, 1, 2, 7, SUBMIT_SM);
     let take = entry(Take, 1, 1, 1, 0);
     let again = entry(Take, 1, 2, 1, 0);
     let other = entry(Take, 1, 2, 1_025, 0);
     let answer = entry(Answer, 1, 1, 1, SUBMIT_SM_RESP);
-    assert!(rt; is_legal(&[admit, first, take, answer, second, other], LIMITS));
-    assert!(rt; !is_legal(&[admit, first, take, answer, second, again], LIMITS));
-    assert!(rt; is_legal(&[admit, first, second, take, other, answer], LIMITS));
-    assert!(rt; !is_legal(&[admit, first, second, take, again, answer], LIMITS));
+    let fail = entry(Fail, 1, 1, 1, SUBMIT_SM_RESP);
+    let down = entry(Down, 0, 0, 0, 0);
+    let up = entry(Up, 0, 0, 0, 0);
+    let lists: [(&[Entry], bool); 13] = [
+        (&[], true),
+        (&session(), true),
+        (&lost_link(), true),
+        (&[admit, accept, take, answer, second, other], true),
+        (&[admit, accept, take, answer, second, again], false),
+        (&[admit, accept, second, take, other, answer], true),
+        (&[admit, accept, second, take, again, answer], false),
+        (&[admit, accept, take, down, answer], true),
+        (&[admit, accept, take, down, fail], true),
+        (&[admit, accept, take, down, answer, fail], false),
+        (&[admit, accept, take, down, fail, answer], false),
+        (&[admit, accept, down, take], false),
+        (&[admit, accept, down, up, take], true),
+    ];
+    for (list, legal) in lists {
+        assert!(rt; is_legal(list, ROOMY) == legal, "{list:?}");
+    }
 }
 
 // Whether the session is found illegal once these entries are swapped.
@@ -58,7 +103,7 @@ fn is_found(a: usize, b: usize) -> bool {
         return false;
     }
     spoiled.swap(a, b);
-    !is_legal(&spoiled, LIMITS)
+    !is_legal(&spoiled, ROOMY)
 }
 
 #[test]
@@ -78,13 +123,12 @@ fn swapped_entries_are_found(rt: HostRuntime) {
     }
 }
 
-// Whether the session is found illegal with this entry in that place.
-fn is_wrong(at: usize, entry: Entry) -> bool {
-    let mut spoiled = session();
-    if let Some(place) = spoiled.get_mut(at) {
+// Whether the list is found illegal with this entry in that place.
+fn is_wrong(list: &mut [Entry], at: usize, entry: Entry) -> bool {
+    if let Some(place) = list.get_mut(at) {
         *place = entry;
     }
-    !is_legal(&spoiled, LIMITS)
+    !is_legal(list, ROOMY)
 }
 
 #[test]
@@ -102,21 +146,78 @@ fn wrong_entries_are_found(rt: HostRuntime) {
         (3, entry(Take, 1, 1, 0x7FFF_FFFD, 0)),
         (4, entry(Take, 1, 1, 2, 0)),
         (5, entry(Answer, 1, 1, 3, SUBMIT_SM_RESP)),
-        (5, entry(Answer, 1, 1, 1, 0x8000_0003)),
+        (5, entry(Answer, 1, 1, 1, QUERY_SM_RESP)),
         (6, entry(Collect, 1, 2, 0, 0)),
         (7, entry(Retire, 2, 0, 0, 0)),
         (8, entry(Answer, 1, 2, 2, SUBMIT_SM_RESP)),
         (8, entry(Accept, 1, 3, 7, SUBMIT_SM)),
     ];
     for (at, entry) in instead {
-        assert!(rt; is_wrong(at, entry), "{at}: {entry:?}");
+        let mut spoiled = session();
+        assert!(rt; is_wrong(&mut spoiled, at, entry), "{at}: {entry:?}");
     }
 }
 
 #[test]
+fn wrong_links_are_found(rt: HostRuntime) {
+    let instead = [
+        (5, entry(Up, 0, 0, 0, 0)),
+        (5, entry(Down, 1, 0, 0, 0)),
+        (5, entry(Down, 0, 0, 1, 0)),
+        (6, entry(Fail, 1, 1, 1, GENERIC_NACK)),
+        (6, entry(Fail, 1, 1, 2, SUBMIT_SM_RESP)),
+        (6, entry(Answer, 1, 1, 1, QUERY_SM_RESP)),
+        (8, entry(Accept, 1, 3, 7, SUBMIT_SM)),
+        (8, entry(Up, 0, 0, 0, 0)),
+        (9, entry(Fail, 1, 2, 2, QUERY_SM_RESP)),
+        (9, entry(Fail, 1, 1, 1, SUBMIT_SM_RESP)),
+        (9, entry(Collect, 1, 2, 0, 0)),
+        (10, entry(Down, 0, 0, 0, 0)),
+    ];
+    for (at, entry) in instead {
+        let mut spoiled = lost_link();
+        assert!(rt; is_wrong(&mut spoiled, at, entry), "{at}: {entry:?}");
+    }
+}
+
+// A request is taken and its link lost: it fails, the next is refused, and once the lane is up again
+// the next is accepted.
+const LOST_AND_FOUND: [Row; 10] = [
+    Is(Step::Admit(1), "admitted", 0),
+    Is(Step::Accept(1, 1), "accepted", 0),
+    Is(Step::Take(0), "taken", 1),
+    Is(Step::Down, "down", 0),
+    Is(Step::Fail, "failed", 1),
+    Is(Step::Fail, "window empty", 0),
+    Is(Step::Collect(1), "submit_sm_resp", 0x45),
+    Is(Step::Accept(1, 2), "is down", 0),
+    Is(Step::Up, "up", 0),
+    Is(Step::Accept(1, 2), "accepted", 0),
+];
+
+// What the lane has noted then.
+fn lost_and_found() -> [Entry; 8] {
+    [
+        entry(Admit, 1, 0, 0, 0),
+        entry(Accept, 1, 1, 7, SUBMIT_SM),
+        entry(Take, 1, 1, 1, 0),
+        entry(Down, 0, 0, 0, 0),
+        entry(Fail, 1, 1, 1, SUBMIT_SM_RESP),
+        entry(Collect, 1, 1, 0, 0),
+        entry(Up, 0, 0, 0, 0),
+        entry(Accept, 1, 2, 7, SUBMIT_SM),
+    ]
+}
+
+#[test]
+fn lost_lanes_come_up_again(rt: HostRuntime) {
+    let lane = played(&rt, rt.alloc(), "lost", ROOMY, &LOST_AND_FOUND);
+    assert!(rt; lane.entries() == lost_and_found().as_slice());
+    assert!(rt; is_legal(lane.entries(), ROOMY));
+}
+
+#[test]
 fn limits_are_kept(rt: HostRuntime) {
-    assert!(rt; is_legal(&[], LIMITS));
-    assert!(rt; is_legal(&session(), LIMITS));
     // Two requests wait in the queue, two are open in the window, and the one client has both. The
     // size is three entries, three to come of each of two requests, the client's retire and a down.
     for (queue, window, client, history, legal) in [
@@ -136,52 +237,38 @@ fn limits_are_kept(rt: HostRuntime) {
     }
 }
 
-// The list of one shift: the entries in order.
-fn list(rt: &impl Abort, alloc: Global, entries: &[Entry]) -> Vec<Entry> {
-    let mut list = Vec::with_capacity(alloc, entries.len()).expect(rt, "out of memory");
-    for entry in entries {
-        list.push(*entry).expect(rt, "out of memory");
-    }
-    list
-}
-
-// Whether the two shifts are legal together.
-fn are_legal(
-    rt: &impl Abort,
-    alloc: Global,
-    first: &[Entry],
-    second: &[Entry],
-    limits: Limits,
-) -> bool {
-    let lists = [list(rt, alloc, first), list(rt, alloc, second)];
-    is_legal_shifts(&lists, limits)
+// Whether the session in two shifts, the second behind so many entries, is legal under the history 11
+// and under 10, and whether it is under 11 with its shifts the other way round.
+fn joined(rt: &impl Abort, alloc: Global, at: usize) -> (bool, bool, bool) {
+    let all = session();
+    let (before, after) = all.split_at(at.min(all.len()));
+    let first = Vec::from_slice(alloc, before).expect(rt, "out of memory");
+    let second = Vec::from_slice(alloc, after).expect(rt, "out of memory");
+    let tight = Limits {
+        history: 11,
+        ..ROOMY
+    };
+    let tighter = Limits {
+        history: 10,
+        ..ROOMY
+    };
+    let lists = [first, second];
+    let (is_legal, fits) = (
+        is_legal_shifts(&lists, tight),
+        is_legal_shifts(&lists, tighter),
+    );
+    let [first, second] = lists;
+    (is_legal, fits, is_legal_shifts(&[second, first], tight))
 }
 
 // The size is 3 and 7 after the first two entries, and 11 after each from the third to the eighth.
-const TIGHT: Limits = Limits {
-    history: 11,
-    ..LIMITS
-};
-
-const TIGHTER: Limits = Limits {
-    history: 10,
-    ..LIMITS
-};
-
-// The rules go on over a shift behind so many entries, the count of entries begins anew. A shift
-// before the third entry takes one or two entries off the 11.
-fn is_joined(rt: &impl Abort, alloc: Global, at: usize) -> bool {
-    let all = session();
-    let (before, after) = all.split_at(at.min(all.len()));
-    are_legal(rt, alloc, before, after, TIGHT)
-        && are_legal(rt, alloc, before, after, TIGHTER) == (1..=2).contains(&at)
-        && are_legal(rt, alloc, after, before, TIGHT) == (at == 0 || at == 9)
-}
-
+// The rules go on over a shift, and the count of entries begins anew: a shift before the third entry
+// takes one or two entries off the 11.
 #[test]
 fn shifts_are_joined(rt: HostRuntime) {
     for at in 0..=9 {
-        assert!(rt; is_joined(&rt, rt.alloc(), at), "{at}");
+        let wanted = (true, (1..=2).contains(&at), at == 0 || at == 9);
+        assert!(rt; joined(&rt, rt.alloc(), at) == wanted, "{at}");
     }
-    assert!(rt; is_legal_shifts(&[], LIMITS));
+    assert!(rt; is_legal_shifts(&[], ROOMY));
 }

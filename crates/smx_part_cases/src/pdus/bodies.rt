@@ -31,17 +31,12 @@ const WHOLE: Bind<'static> = Bind {
 };
 
 #[test]
-fn a_bind_is_written(rt: HostRuntime) {
-    let bind = WHOLE;
+fn a_bind_is_written_where_it_fits(rt: HostRuntime) {
+    let mut bind = WHOLE;
     assert!(rt; bind.fits());
     let mut out = copy(&rt, rt.alloc(), &[7]);
     write_bind(&bind, &mut out).expect(&rt, "out of memory");
     assert!(rt; out.as_slice() == b"\x07proxy\0pw\0\0\x34\x01\x0249\0".as_slice());
-}
-
-#[test]
-fn a_bind_may_not_fit(rt: HostRuntime) {
-    let mut bind = WHOLE;
     for (password, fits) in [
         (b"12345678".as_slice(), true),
         (b"123456789".as_slice(), false),
@@ -99,21 +94,22 @@ fn parts_of_a_bind(rt: HostRuntime) {
     assert!(rt; read_bind(&body[..16]).err() == Some(BodyFault::FieldTooLong));
 }
 
+// A service_type of six octets has no room for its end, nor has an address of 65.
 #[test]
 fn destinations(rt: HostRuntime) {
-    assert!(rt; read_destination(&MESSAGE) == Ok(b"1".as_slice()));
-    assert!(rt; read_destination(&MESSAGE[..8]) == Ok(b"1".as_slice()));
-    assert!(rt; read_destination(b"\0\0\0\0\0\x004915\0") == Ok(b"4915".as_slice()));
-}
-
-#[test]
-fn no_destinations(rt: HostRuntime) {
-    assert!(rt; read_destination(&MESSAGE[..7]) == Err(BodyFault::Truncated));
-    // A service_type of six octets has no room for its end.
-    assert!(rt; read_destination(b"abcdef\0\0\0") == Err(BodyFault::FieldTooLong));
-    let mut body = [0x31; 71];
-    body[..6].fill(0);
-    assert!(rt; read_destination(&body) == Err(BodyFault::FieldTooLong));
+    let mut long = [0x31; 71];
+    long[..6].fill(0);
+    let bodies: [(&[u8], Result<&[u8], BodyFault>); 6] = [
+        (&MESSAGE, Ok(b"1")),
+        (&MESSAGE[..8], Ok(b"1")),
+        (b"\0\0\0\0\0\x004915\0", Ok(b"4915")),
+        (&MESSAGE[..7], Err(BodyFault::Truncated)),
+        (b"abcdef\0\0\0", Err(BodyFault::FieldTooLong)),
+        (&long, Err(BodyFault::FieldTooLong)),
+    ];
+    for (body, wanted) in bodies {
+        assert!(rt; read_destination(body) == wanted, "{body:?}");
+    }
 }
 
 #[test]

@@ -1,4 +1,4 @@
-use crate::pdus::spelling::comes_as;
+use crate::pdus::spelling::is_spelled;
 use smx_centre::{Centre, Mode};
 use smx_pdu::Pdu;
 use std::alloc::Global;
@@ -22,35 +22,6 @@ fn have_fields(pdus: &[Pdu], wanted: &[Fields]) -> bool {
     pdus.len() == wanted.len()
 }
 
-// Whether the centre answers the request so.
-fn answers(
-    rt: &impl Abort,
-    alloc: Global,
-    centre: &mut Centre,
-    command: u32,
-    number: u32,
-    wanted: &[Fields],
-) -> bool {
-    let request = Pdu::header_only(alloc, command, 0, number);
-    let answers = centre.on_pdu(&request).expect(rt, "out of memory");
-    have_fields(&answers, wanted)
-}
-
-// The answers to submit_sm 1, data_sm 2 and query_sm 3, which a centre doesn't know.
-fn has_mode(
-    rt: &impl Abort,
-    alloc: Global,
-    mode: Mode,
-    first: &[Fields],
-    second: &[Fields],
-    third: &[Fields],
-) -> bool {
-    let mut centre = Centre::new(alloc, mode);
-    answers(rt, alloc, &mut centre, 4, 1, first)
-        && answers(rt, alloc, &mut centre, 0x103, 2, second)
-        && answers(rt, alloc, &mut centre, 3, 3, third)
-}
-
 const SUBMIT: Fields = (0x8000_0004, 0, 1, b"1\0");
 
 const DATA: Fields = (0x8000_0103, 0, 2, b"2\0");
@@ -63,32 +34,65 @@ const DATA_COPY: Fields = (0x8000_0103, 0, 0x7000_0000, b"2\0");
 
 const QUERY_COPY: Fields = (0x8000_0003, 8, 0x7000_0000, b"");
 
+// A request's command and number, with its answers.
+type Row = (u32, u32, &'static [Fields]);
+
+// The other PDUs are answered alike in each mode.
+const SILENT: [Row; 13] = [
+    (4, 1, &[]),
+    (0x103, 2, &[]),
+    (3, 3, &[]),
+    (1, 7, &[(0x8000_0001, 0, 7, b"centre\0")]),
+    (2, 7, &[(0x8000_0002, 0, 7, b"centre\0")]),
+    (9, 7, &[(0x8000_0009, 0, 7, b"centre\0")]),
+    (0x15, 7, &[(0x8000_0015, 0, 7, b"")]),
+    (6, 7, &[(0x8000_0006, 0, 7, b"")]),
+    (5, 7, &[(0x8000_0000, 3, 7, b"")]),
+    (0xB, 7, &[(0x8000_0000, 3, 7, b"")]),
+    (0xAA, 7, &[(0x8000_0000, 3, 7, b"")]),
+    (0x8000_0000, 7, &[]),
+    (0x8000_0005, 7, &[]),
+];
+
+// The answers to submit_sm 1, data_sm 2 and query_sm 3, which a centre doesn't know.
+const PLAIN: [Row; 3] = [(4, 1, &[SUBMIT]), (0x103, 2, &[DATA]), (3, 3, &[QUERY])];
+
+const REVERSED: [Row; 3] = [(4, 1, &[]), (0x103, 2, &[DATA, SUBMIT]), (3, 3, &[])];
+
+const TWICE: [Row; 3] = [
+    (4, 1, &[SUBMIT, SUBMIT]),
+    (0x103, 2, &[DATA, DATA]),
+    (3, 3, &[QUERY, QUERY]),
+];
+
+const STRANGER: [Row; 3] = [
+    (4, 1, &[SUBMIT, SUBMIT_COPY]),
+    (0x103, 2, &[DATA, DATA_COPY]),
+    (3, 3, &[QUERY, QUERY_COPY]),
+];
+
+fn answers(rt: &impl Abort, alloc: Global, centre: &mut Centre, rows: &[Row]) {
+    for (command, number, wanted) in rows {
+        let request = Pdu::header_only(alloc, *command, 0, *number);
+        let answers = centre.on_pdu(&request).expect(rt, "out of memory");
+        assert!(rt; have_fields(&answers, wanted), "{command}");
+    }
+}
+
+const MODES: [(Mode, &[Row]); 5] = [
+    (Mode::Plain, &PLAIN),
+    (Mode::Reversed, &REVERSED),
+    (Mode::Twice, &TWICE),
+    (Mode::Stranger, &STRANGER),
+    (Mode::Silent, &SILENT),
+];
+
 #[test]
 fn modes(rt: HostRuntime) {
-    let alloc = rt.alloc();
-    assert!(rt; has_mode(&rt, alloc, Mode::Plain, &[SUBMIT], &[DATA], &[QUERY]));
-    assert!(rt; has_mode(&rt, alloc, Mode::Reversed, &[], &[DATA, SUBMIT], &[]));
-    assert!(rt;
-        has_mode(
-            &rt,
-            alloc,
-            Mode::Twice,
-            &[SUBMIT; 2],
-            &[DATA; 2],
-            &[QUERY; 2]
-        )
-    );
-    assert!(rt;
-        has_mode(
-            &rt,
-            alloc,
-            Mode::Stranger,
-            &[SUBMIT, SUBMIT_COPY],
-            &[DATA, DATA_COPY],
-            &[QUERY, QUERY_COPY]
-        )
-    );
-    assert!(rt; has_mode(&rt, alloc, Mode::Silent, &[], &[], &[]));
+    for (mode, rows) in MODES {
+        let mut centre = Centre::new(rt.alloc(), mode);
+        answers(&rt, rt.alloc(), &mut centre, rows);
+    }
 }
 
 // Whether the centre answers submit_sm so, asked again where memory was refused.
@@ -112,27 +116,6 @@ fn refused_memory(rt: HostRuntime) {
     assert!(rt; answers_at_last(rt.alloc(), &mut centre, 2, &both));
 }
 
-// The other PDUs are answered alike in each mode.
-#[test]
-fn other_pdus(rt: HostRuntime) {
-    let table: [(u32, &[Fields]); 10] = [
-        (1, &[(0x8000_0001, 0, 7, b"centre\0")]),
-        (2, &[(0x8000_0002, 0, 7, b"centre\0")]),
-        (9, &[(0x8000_0009, 0, 7, b"centre\0")]),
-        (0x15, &[(0x8000_0015, 0, 7, b"")]),
-        (6, &[(0x8000_0006, 0, 7, b"")]),
-        (5, &[(0x8000_0000, 3, 7, b"")]),
-        (0xB, &[(0x8000_0000, 3, 7, b"")]),
-        (0xAA, &[(0x8000_0000, 3, 7, b"")]),
-        (0x8000_0000, &[]),
-        (0x8000_0005, &[]),
-    ];
-    for (command, wanted) in table {
-        let mut centre = Centre::new(rt.alloc(), Mode::Silent);
-        assert!(rt; answers(&rt, rt.alloc(), &mut centre, command, 7, wanted));
-    }
-}
-
 // deliver_sm to `4915`, twice: its octets.
 #[test]
 fn deliveries(rt: HostRuntime) {
@@ -143,6 +126,6 @@ fn deliveries(rt: HostRuntime) {
             0x31, 0x35, 0, 0, 0, 0, 0, 0, 0, 0, 0, 0, 0,
         ];
         let message = centre.deliver(b"4915").expect(&rt, "out of memory");
-        assert!(rt; comes_as(&rt, rt.alloc(), message, &wanted));
+        assert!(rt; is_spelled(&rt, rt.alloc(), &message, &wanted));
     }
 }

@@ -5,11 +5,6 @@ use std::alloc::Global;
 use std::process::Abort;
 use std::test::*;
 
-// A bind with number 7 and this body, as transceiver.
-fn bind_of(rt: &impl Abort, alloc: Global, body: &[u8]) -> Pdu {
-    pdu_of(rt, alloc, 9, 7, body)
-}
-
 fn account(rt: &impl Abort, alloc: Global, texts: [u8; 2]) -> Account {
     let [system_id, password] = texts;
     Account {
@@ -18,149 +13,115 @@ fn account(rt: &impl Abort, alloc: Global, texts: [u8; 2]) -> Account {
     }
 }
 
-fn accounts(rt: &impl Abort, alloc: Global, all: &[[u8; 2]]) -> Vec<Account> {
-    let mut accounts = Vec::new(alloc);
-    for texts in all {
-        let pushed = accounts.push(account(rt, alloc, *texts));
-        pushed.expect(rt, "out of memory");
-    }
-    accounts
-}
-
-// The kind and the account of a bind that is accepted, where its answer has these octets.
-fn bound(
+// Whether the act sends these octets, as the answer to a bind of this kind and account where it is one.
+fn sends(
     rt: &impl Abort,
     alloc: Global,
-    session: &mut ClientSession,
-    accounts: &[Account],
-    pdu: &Pdu,
-    wanted: &[u8],
-) -> Option<(Kind, usize)> {
-    match session.on_pdu(pdu, accounts).expect(rt, "out of memory") {
+    act: &Act,
+    bound: Option<(Kind, usize)>,
+    octets: &[u8],
+) -> bool {
+    match act {
         Act::Bind {
             kind,
             account,
             answer,
-        } => is_spelled(rt, alloc, &answer, wanted).then_some((kind, account)),
-        _ => None,
-    }
-}
-
-// Whether the session is bound to the second account by a bind of this version, which it answers by
-// these octets.
-fn is_bound(
-    rt: &impl Abort,
-    alloc: Global,
-    session: &mut ClientSession,
-    version: u8,
-    wanted: &[u8],
-) -> bool {
-    let accounts = accounts(rt, alloc, &[*b"bq", *b"ap"]);
-    let pdu = bind_of(rt, alloc, &[b'a', 0, b'p', 0, 0, version, 0, 0, 0]);
-    bound(rt, alloc, session, &accounts, &pdu, wanted) == Some((Kind::Trx, 1))
-}
-
-// The answer to a client of SMPP 3.4 says so, and that to an earlier one doesn't.
-#[test]
-fn bind_answers(rt: HostRuntime) {
-    let latest = [
-        0, 0, 0, 0x19, 0x80, 0, 0, 9, 0, 0, 0, 0, 0, 0, 0, 7, 0x73, 0x6d, 0x78, 0, 2, 0x10, 0, 1,
-        0x34,
-    ];
-    let earlier = [
-        0, 0, 0, 0x14, 0x80, 0, 0, 9, 0, 0, 0, 0, 0, 0, 0, 7, 0x73, 0x6d, 0x78, 0,
-    ];
-    for (version, wanted) in [(0x34, latest.as_slice()), (0x33, earlier.as_slice())] {
-        let mut session = ClientSession::new(rt.alloc());
-        assert!(rt; is_bound(&rt, rt.alloc(), &mut session, version, wanted));
-        assert!(rt; session.state() == ClientState::BoundTrx);
-    }
-}
-
-// The command, the status and the number of the answer to a bind that is refused, and the length of
-// its body.
-fn refused(
-    session: &mut ClientSession,
-    accounts: &[Account],
-    pdu: &Pdu,
-) -> Option<(u32, u32, u32, usize)> {
-    match session.on_pdu(pdu, accounts) {
-        Ok(Act::Answer(answer)) => {
-            let length = answer.body.len();
-            Some((answer.command, answer.status, answer.number, length))
+        } => bound == Some((*kind, *account)) && is_spelled(rt, alloc, answer, octets),
+        Act::Answer(answer) | Act::Hangup(answer) => {
+            bound.is_none() && is_spelled(rt, alloc, answer, octets)
         }
-        _ => None,
+        _ => false,
     }
 }
 
-// Whether these binds are refused with these statuses.
-fn are_refused(
-    rt: &impl Abort,
-    alloc: Global,
-    session: &mut ClientSession,
-    accounts: &[Account],
-    binds: &[(&[u8], u32)],
-) -> bool {
-    for (body, status) in binds {
-        let pdu = bind_of(rt, alloc, body);
-        if refused(session, accounts, &pdu) != Some((0x8000_0009, *status, 7, 0)) {
-            return false;
-        }
-    }
-    session.state() == ClientState::Opened
+// The octets of answers to binds with number 7, of a client of SMPP 3.4.
+const RX: [u8; 25] = [
+    0, 0, 0, 0x19, 0x80, 0, 0, 1, 0, 0, 0, 0, 0, 0, 0, 7, 0x73, 0x6d, 0x78, 0, 2, 0x10, 0, 1, 0x34,
+];
+
+const TX: [u8; 25] = [
+    0, 0, 0, 0x19, 0x80, 0, 0, 2, 0, 0, 0, 0, 0, 0, 0, 7, 0x73, 0x6d, 0x78, 0, 2, 0x10, 0, 1, 0x34,
+];
+
+const TRX: [u8; 25] = [
+    0, 0, 0, 0x19, 0x80, 0, 0, 9, 0, 0, 0, 0, 0, 0, 0, 7, 0x73, 0x6d, 0x78, 0, 2, 0x10, 0, 1, 0x34,
+];
+
+// The answer to an earlier client has no version.
+const EARLIER: [u8; 20] = [
+    0, 0, 0, 0x14, 0x80, 0, 0, 9, 0, 0, 0, 0, 0, 0, 0, 7, 0x73, 0x6d, 0x78, 0,
+];
+
+// Those to a wrong password, to an unknown system_id, and to a body that can't be read.
+const NO_PASSWORD: [u8; 16] = [0, 0, 0, 0x10, 0x80, 0, 0, 9, 0, 0, 0, 0x0E, 0, 0, 0, 7];
+
+const NO_SYSTEM: [u8; 16] = [0, 0, 0, 0x10, 0x80, 0, 0, 9, 0, 0, 0, 0x0F, 0, 0, 0, 7];
+
+const NO_BIND: [u8; 16] = [0, 0, 0, 0x10, 0x80, 0, 0, 9, 0, 0, 0, 2, 0, 0, 0, 7];
+
+// A bind that is accepted.
+const BIND: &[u8] = b"a\0p\0\0\x34\0\0\0";
+
+// A bind's command and body, its kind and account where it is accepted, the octets of its answer, and
+// the state behind it.
+type Row<'a> = (u32, &'a [u8], Option<(Kind, usize)>, &'a [u8], ClientState);
+
+fn holds(rt: &impl Abort, alloc: Global, accounts: &[Account], row: Row) -> bool {
+    let (command, body, bound, octets, state) = row;
+    let pdu = pdu_of(rt, alloc, command, 7, body);
+    let mut session = ClientSession::new(alloc);
+    let act = session.on_pdu(&pdu, accounts).expect(rt, "out of memory");
+    session.state() == state && sends(rt, alloc, &act, bound, octets)
 }
 
 // Of accounts with one system_id the first counts; a body that can't be read comes before an
 // unknown system_id.
+const BINDS: [Row<'static>; 9] = [
+    (9, BIND, Some((Kind::Trx, 1)), &TRX, ClientState::BoundTrx),
+    (
+        9,
+        b"a\0p\0\0\x33\0\0\0",
+        Some((Kind::Trx, 1)),
+        &EARLIER,
+        ClientState::BoundTrx,
+    ),
+    (1, BIND, Some((Kind::Rx, 1)), &RX, ClientState::BoundRx),
+    (2, BIND, Some((Kind::Tx, 1)), &TX, ClientState::BoundTx),
+    (
+        9,
+        b"a\0q\0\0\x34\0\0\0",
+        None,
+        &NO_PASSWORD,
+        ClientState::Opened,
+    ),
+    (
+        9,
+        b"c\0p\0\0\x34\0\0\0",
+        None,
+        &NO_SYSTEM,
+        ClientState::Opened,
+    ),
+    (
+        9,
+        b"\0\0p\0\0\x34\0\0\0",
+        None,
+        &NO_SYSTEM,
+        ClientState::Opened,
+    ),
+    (9, b"a\0p\0\0\x34\0\0", None, &NO_BIND, ClientState::Opened),
+    (9, b"c\0p\0\0\x34\0\0", None, &NO_BIND, ClientState::Opened),
+];
+
 #[test]
-fn bind_refusals(rt: HostRuntime) {
-    let accounts = accounts(&rt, rt.alloc(), &[*b"ap", *b"aq"]);
-    let binds = [
-        (b"a\0q\0\0\x34\0\0\0".as_slice(), 0x0E),
-        (b"b\0p\0\0\x34\0\0\0".as_slice(), 0x0F),
-        (b"\0\0p\0\0\x34\0\0\0".as_slice(), 0x0F),
-        (b"a\0p\0\0\x34\0\0".as_slice(), 2),
-        (b"b\0p\0\0\x34\0\0".as_slice(), 2),
+fn binds(rt: HostRuntime) {
+    let alloc = rt.alloc();
+    let accounts = [
+        account(&rt, alloc, *b"bq"),
+        account(&rt, alloc, *b"ap"),
+        account(&rt, alloc, *b"aq"),
     ];
-    let mut session = ClientSession::new(rt.alloc());
-    assert!(rt; are_refused(&rt, rt.alloc(), &mut session, &accounts, &binds));
-}
-
-fn binds_as(
-    rt: &impl Abort,
-    session: &mut ClientSession,
-    accounts: &[Account],
-    pdu: &Pdu,
-) -> Option<u32> {
-    match session.on_pdu(pdu, accounts).expect(rt, "out of memory") {
-        Act::Bind { answer, .. } => Some(answer.command),
-        _ => None,
-    }
-}
-
-// The command of the answer to a bind of this kind, and the session's state behind it.
-fn state_after(
-    rt: &impl Abort,
-    alloc: Global,
-    accounts: &[Account],
-    command: u32,
-) -> (Option<u32>, ClientState) {
-    let pdu = pdu_of(rt, alloc, command, 7, b"a\0p\0\0\x34\0\0\0");
-    let mut session = ClientSession::new(alloc);
-    let answer = binds_as(rt, &mut session, accounts, &pdu);
-    (answer, session.state())
-}
-
-#[test]
-fn kinds(rt: HostRuntime) {
-    let accounts = accounts(&rt, rt.alloc(), &[*b"ap"]);
-    for (command, answer, state) in [
-        (1, 0x8000_0001, ClientState::BoundRx),
-        (2, 0x8000_0002, ClientState::BoundTx),
-        (9, 0x8000_0009, ClientState::BoundTrx),
-    ] {
-        let came = state_after(&rt, rt.alloc(), &accounts, command);
-        assert!(rt; came == (Some(answer), state));
+    for at in 0..BINDS.len() {
+        assert!(rt; holds(&rt, alloc, &accounts, BINDS[at]), "row {at}");
     }
 }
 
@@ -194,17 +155,12 @@ fn refused_memory(rt: HostRuntime) {
     assert!(rt; session.state() == ClientState::BoundTrx);
 }
 
-fn hangup(session: &mut ClientSession) -> Option<(u32, u32, u32, usize)> {
-    match session.on_fault() {
-        Act::Hangup(nack) => Some((nack.command, nack.status, nack.number, nack.body.len())),
-        _ => None,
-    }
-}
-
 // At a length that no PDU has.
 #[test]
 fn client_fault(rt: HostRuntime) {
+    let octets = [0, 0, 0, 0x10, 0x80, 0, 0, 0, 0, 0, 0, 2, 0, 0, 0, 0];
     let mut session = ClientSession::bound(rt.alloc(), Kind::Trx);
-    assert!(rt; hangup(&mut session) == Some((0x8000_0000, 2, 0, 0)));
+    let act = session.on_fault();
+    assert!(rt; sends(&rt, rt.alloc(), &act, None, &octets));
     assert!(rt; session.state() == ClientState::Ended);
 }

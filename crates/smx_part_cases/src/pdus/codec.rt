@@ -1,4 +1,4 @@
-use crate::pdus::spelling::{comes_as, is_spelled};
+use crate::pdus::spelling::is_spelled;
 use smx_pdu::{
     Body, MAX_PDU, Pdu, PduFault, TooLong, command, decode, encode, encode_within, is_forwarded,
     is_response_to, one_spelling, read_header, response_id, status,
@@ -58,39 +58,45 @@ fn vectors(rt: HostRuntime) {
     one_spelling();
 }
 
-// The octets of the answers that have no request, spelled by hand, as the others below (SMPP 3.4,
-// sections 3.2, 4.3 and 5.1).
+// The octets of answers and of a request, spelled by hand (SMPP 3.4, sections 3.2, 4.3 and 5.1).
 #[test]
-fn nacks(rt: HostRuntime) {
-    let alloc = rt.alloc();
-    let undecoded = [0, 0, 0, 0x10, 0x80, 0, 0, 0, 0, 0, 0, 2, 0, 0, 0, 0];
-    let of_outbind = [0, 0, 0, 0x10, 0x80, 0, 0, 0, 0, 0, 0, 4, 0, 0, 0, 9];
-    assert!(rt; comes_as(&rt, alloc, Pdu::unknown(alloc, 5), &NACK));
-    assert!(rt; comes_as(&rt, alloc, Pdu::undecoded(alloc), &undecoded));
-    assert!(rt; comes_as(&rt, alloc, Pdu::refusal(alloc, 0xB, 4, 9), &of_outbind));
-}
-
-#[test]
-fn headers_alone(rt: HostRuntime) {
-    let alloc = rt.alloc();
-    let refusal = [0, 0, 0, 0x10, 0x80, 0, 0, 4, 0, 0, 0, 0x14, 0, 0, 0, 9];
-    let enquiry = [0, 0, 0, 0x10, 0, 0, 0, 0x15, 0, 0, 0, 0, 0, 0, 0, 9];
-    assert!(rt; comes_as(&rt, alloc, Pdu::refusal(alloc, 4, 0x14, 9), &refusal));
-    assert!(rt; comes_as(&rt, alloc, Pdu::header_only(alloc, 0x15, 0, 9), &enquiry));
-}
-
-#[test]
-fn responses(rt: HostRuntime) {
+fn answers(rt: HostRuntime) {
     let alloc = rt.alloc();
     let submit = Pdu::header_only(alloc, 4, 0, 7);
-    let header = [0, 0, 0, 0x10, 0x80, 0, 0, 4, 0, 0, 0, 8, 0, 0, 0, 7];
-    assert!(rt; comes_as(&rt, alloc, submit.header_response(alloc, 8), &header));
+    let pdus = [
+        (Pdu::unknown(alloc, 5), NACK),
+        (
+            Pdu::undecoded(alloc),
+            [0, 0, 0, 0x10, 0x80, 0, 0, 0, 0, 0, 0, 2, 0, 0, 0, 0],
+        ),
+        // An outbind has no response.
+        (
+            Pdu::refusal(alloc, 0xB, 4, 9),
+            [0, 0, 0, 0x10, 0x80, 0, 0, 0, 0, 0, 0, 4, 0, 0, 0, 9],
+        ),
+        (
+            Pdu::refusal(alloc, 4, 0x14, 9),
+            [0, 0, 0, 0x10, 0x80, 0, 0, 4, 0, 0, 0, 0x14, 0, 0, 0, 9],
+        ),
+        (
+            Pdu::header_only(alloc, 0x15, 0, 9),
+            [0, 0, 0, 0x10, 0, 0, 0, 0x15, 0, 0, 0, 0, 0, 0, 0, 9],
+        ),
+        (
+            submit.header_response(alloc, 8),
+            [0, 0, 0, 0x10, 0x80, 0, 0, 4, 0, 0, 0, 8, 0, 0, 0, 7],
+        ),
+    ];
+    for at in 0..pdus.len() {
+        let (pdu, octets) = &pdus[at];
+        assert!(rt; is_spelled(&rt, alloc, pdu, octets), "{pdu:?}");
+    }
+    let id = Vec::from_slice(alloc, b"1\0").expect(&rt, "out of memory");
+    let response = submit.response(0, Body::short(id));
     let whole = [
         0, 0, 0, 0x12, 0x80, 0, 0, 4, 0, 0, 0, 0, 0, 0, 0, 7, 0x31, 0,
     ];
-    let id = Vec::from_slice(alloc, b"1\0").expect(&rt, "out of memory");
-    let response = submit.response(0, Body::short(id));
-    assert!(rt; comes_as(&rt, alloc, response, &whole));
+    assert!(rt; is_spelled(&rt, alloc, &response, &whole));
 }
 
 // What is printed for debugging has no octets of a body, as a bind's has a password.
@@ -102,45 +108,22 @@ fn printed_without_octets(rt: HostRuntime) {
     assert!(rt; text.as_str() == "Body(6 octets)");
 }
 
-// The fault of octets that are no PDU.
-fn fault_of(rt: &impl Abort, alloc: Global, octets: &[u8]) -> PduFault {
-    decode(alloc, octets).err().expect(rt, "no fault")
-}
-
 #[test]
 fn faults_in_words(rt: HostRuntime) {
-    let alloc = rt.alloc();
-    for (octets, words) in [
-        (
-            [0; 15].as_slice(),
-            "15 octets are fewer than the 16 of a header",
-        ),
-        (
-            SUBMIT.split_at(33).0,
-            "the length field says 34, and there are 33 octets",
-        ),
-        (
-            [0; 16].as_slice(),
-            "the length field says 0, and there are 16 octets",
-        ),
-    ] {
-        let fault = fault_of(&rt, alloc, octets);
-        let text = format!(in alloc; "{fault}").expect(&rt, "out of memory");
-        assert!(rt; text.as_str() == words);
-    }
-}
-
-#[test]
-fn longer_faults_in_words(rt: HostRuntime) {
     let words = format!(in rt.alloc();
-        "{}; {}; {}",
+        "{}; {}; {}; {}; {}",
+        PduFault::Short { octets: 15 },
+        PduFault::Length {
+            field: 34,
+            octets: 33
+        },
         PduFault::TooLong { octets: 65_537 },
         PduFault::NoMemory,
         TooLong
     );
     assert_eq!(rt;
         words.expect(&rt, "out of memory").as_str(),
-        "65537 octets are more than the 65,536 of a PDU; out of memory; a body has at most 65,520 octets"
+        "15 octets are fewer than the 16 of a header; the length field says 34, and there are 33 octets; 65537 octets are more than the 65,536 of a PDU; out of memory; a body has at most 65,520 octets"
     );
 }
 

@@ -22,8 +22,3 @@ pub fn is_spelled(rt: &impl Abort, alloc: Global, pdu: &Pdu, wanted: &[u8]) -> b
     encode(pdu, &mut octets).expect(rt, "out of memory");
     octets.as_slice() == wanted
 }
-
-/// The same of a PDU that is let go.
-pub fn comes_as(rt: &impl Abort, alloc: Global, pdu: Pdu, wanted: &[u8]) -> bool {
-    is_spelled(rt, alloc, &pdu, wanted)
-}

@@ -1,9 +1,35 @@
-use crate::pdus::spelling::{comes_as, is_spelled};
+use self::Row::{Asks, Hears, Is, Silent, Starts, Stops};
+use crate::pdus::spelling::is_spelled;
 use smx_pdu::{Bind, Pdu};
 use smx_session::{UpAct, UpstreamSession, UpstreamState};
 use std::alloc::Global;
 use std::process::Abort;
 use std::test::*;
+
+// What a session is asked or told, at a moment, and the octets that it sends.
+#[derive(Clone, Copy)]
+enum Row {
+    Starts(&'static [u8]),
+    // A PDU by its command and number, and what it comes to.
+    Hears(u32, u32, u64, &'static str),
+    Asks(u64, Option<&'static [u8]>),
+    Silent(u64, bool),
+    Stops(Option<&'static [u8]>),
+    Is(UpstreamState),
+}
+
+const BIND: [u8; 30] = [
+    0, 0, 0, 0x1e, 0, 0, 0, 9, 0, 0, 0, 0, 0x7f, 0xff, 0xff, 0xfd, 0x70, 0x72, 0x6f, 0x78, 0x79, 0,
+    0x70, 0x77, 0, 0, 0x34, 0, 0, 0,
+];
+
+const ENQUIRY: [u8; 16] = [
+    0, 0, 0, 0x10, 0, 0, 0, 0x15, 0, 0, 0, 0, 0x7f, 0xff, 0xff, 0xfe,
+];
+
+const UNBIND: [u8; 16] = [
+    0, 0, 0, 0x10, 0, 0, 0, 6, 0, 0, 0, 0, 0x7f, 0xff, 0xff, 0xff,
+];
 
 // A session with the system_id `proxy` and the password `pw`, and the silence 1000, at 0.
 fn upstream(rt: &impl Abort, alloc: Global) -> UpstreamSession {
@@ -22,116 +48,95 @@ fn upstream(rt: &impl Abort, alloc: Global) -> UpstreamSession {
     UpstreamSession::new(alloc, system_id, password, 1000, 0)
 }
 
-fn comes_up(alloc: Global, session: &mut UpstreamSession, now: u64) -> bool {
-    let up = Pdu::header_only(alloc, 0x8000_0009, 0, 0x7fff_fffd);
-    matches!(session.on_pdu(&up, now), UpAct::Up)
-}
-
-// The octets of the bind, and its answer at 5.
-fn binds(rt: &impl Abort, alloc: Global, session: &mut UpstreamSession) -> bool {
-    let wanted = [
-        0, 0, 0, 0x1e, 0, 0, 0, 9, 0, 0, 0, 0, 0x7f, 0xff, 0xff, 0xfd, 0x70, 0x72, 0x6f, 0x78,
-        0x79, 0, 0x70, 0x77, 0, 0, 0x34, 0, 0, 0,
-    ];
-    let bind = session.start().expect(rt, "out of memory");
-    comes_as(rt, alloc, bind, &wanted) && comes_up(alloc, session, 5)
-}
-
-fn asks(session: &mut UpstreamSession, now: u64) -> bool {
-    session.on_moment(now).is_some()
-}
-
-// The octets of the enquiry at 1005.
-fn asks_so(rt: &impl Abort, alloc: Global, session: &mut UpstreamSession) -> bool {
-    let wanted = [
-        0, 0, 0, 0x10, 0, 0, 0, 0x15, 0, 0, 0, 0, 0x7f, 0xff, 0xff, 0xfe,
-    ];
-    match session.on_moment(1005) {
-        Some(enquiry) => is_spelled(rt, alloc, &enquiry, &wanted),
-        None => false,
+fn word(act: &UpAct) -> &'static str {
+    match act {
+        UpAct::Up => "up",
+        UpAct::Closed => "closed",
+        UpAct::Ignore => "ignored",
+        _ => "another",
     }
 }
 
-// Heard last at 5, it enquires at 1005, and is silent at 2005.
-fn enquires(rt: &impl Abort, alloc: Global, session: &mut UpstreamSession) -> bool {
-    !asks(session, 1004)
-        && asks_so(rt, alloc, session)
-        && !session.is_silent(2004)
-        && session.is_silent(2005)
-}
-
-fn stops(session: &mut UpstreamSession) -> bool {
-    session.stop().is_some()
-}
-
-// The octets of the unbind.
-fn stops_so(rt: &impl Abort, alloc: Global, session: &mut UpstreamSession) -> bool {
-    let wanted = [
-        0, 0, 0, 0x10, 0, 0, 0, 6, 0, 0, 0, 0, 0x7f, 0xff, 0xff, 0xff,
-    ];
-    match session.stop() {
-        Some(unbind) => is_spelled(rt, alloc, &unbind, &wanted),
-        None => false,
+// Whether the PDU, where there is one, has these octets.
+fn sends(rt: &impl Abort, alloc: Global, sent: Option<Pdu>, wanted: Option<&[u8]>) -> bool {
+    match (sent, wanted) {
+        (Some(pdu), Some(octets)) => is_spelled(rt, alloc, &pdu, octets),
+        (None, None) => true,
+        _ => false,
     }
 }
 
-fn is_closed(alloc: Global, session: &mut UpstreamSession) -> bool {
-    let closed = Pdu::header_only(alloc, 0x8000_0006, 0, 0x7fff_ffff);
-    matches!(session.on_pdu(&closed, 2006), UpAct::Closed)
+fn holds(rt: &impl Abort, alloc: Global, session: &mut UpstreamSession, row: Row) -> bool {
+    match row {
+        Starts(octets) => {
+            let bind = session.start().expect(rt, "out of memory");
+            is_spelled(rt, alloc, &bind, octets)
+        }
+        Hears(command, number, now, wanted) => {
+            let pdu = Pdu::header_only(alloc, command, 0, number);
+            word(&session.on_pdu(&pdu, now)) == wanted
+        }
+        Asks(now, wanted) => {
+            let enquiry = session.on_moment(now);
+            sends(rt, alloc, enquiry, wanted)
+        }
+        Silent(now, wanted) => session.is_silent(now) == wanted,
+        Stops(wanted) => {
+            let unbind = session.stop();
+            sends(rt, alloc, unbind, wanted)
+        }
+        Is(state) => session.state() == state,
+    }
 }
 
-// The unbind, once, and its answer.
-fn unbinds(rt: &impl Abort, alloc: Global, session: &mut UpstreamSession) -> bool {
-    stops_so(rt, alloc, session) && !stops(session) && is_closed(alloc, session)
-}
-
-// The bind of the proxy, an enquiry after a silence, and the unbind.
-#[test]
-fn upstream_run(rt: HostRuntime) {
-    let mut session = upstream(&rt, rt.alloc());
-    assert!(rt; binds(&rt, rt.alloc(), &mut session));
-    assert!(rt; enquires(&rt, rt.alloc(), &mut session));
-    assert!(rt; unbinds(&rt, rt.alloc(), &mut session));
-    assert!(rt; session.state() == UpstreamState::Ended);
-}
+// The bind of the proxy and its answer, an enquiry after a silence, and the unbind, once, and its
+// answer. Heard last at 5, it enquires at 1005, and is silent at 2005.
+const RUN: [Row; 10] = [
+    Starts(&BIND),
+    Hears(0x8000_0009, 0x7fff_fffd, 5, "up"),
+    Asks(1004, None),
+    Asks(1005, Some(&ENQUIRY)),
+    Silent(2004, false),
+    Silent(2005, true),
+    Stops(Some(&UNBIND)),
+    Stops(None),
+    Hears(0x8000_0006, 0x7fff_ffff, 2006, "closed"),
+    Is(UpstreamState::Ended),
+];
 
 // Before it is bound it neither enquires nor unbinds.
+const BINDING: [Row; 3] = [Asks(5000, None), Stops(None), Is(UpstreamState::Binding)];
+
+// One enquiry at a time; its answer in Bound ends it, and a moment that goes back counts as the last
+// one. It is bound at 10, where it has been told of 5000.
+const MOMENTS: [Row; 10] = [
+    Asks(5000, None),
+    Hears(0x8000_0009, 0x7fff_fffd, 10, "up"),
+    Asks(5999, None),
+    Asks(6000, Some(&ENQUIRY)),
+    Asks(9000, None),
+    Hears(0x8000_0015, 1, 20, "ignored"),
+    Silent(20_000, false),
+    Asks(30, Some(&ENQUIRY)),
+    Silent(20_999, false),
+    Silent(21_000, true),
+];
+
+fn play(rt: &impl Abort, alloc: Global, session: &mut UpstreamSession, rows: &[Row]) {
+    for at in 0..rows.len() {
+        assert!(rt;
+            holds(rt, alloc, session, rows[at]),
+            "row {at} of {}",
+            rows.len()
+        );
+    }
+}
+
 #[test]
-fn binding_waits(rt: HostRuntime) {
-    let mut session = upstream(&rt, rt.alloc());
-    assert!(rt; !asks(&mut session, 5000));
-    assert!(rt; !stops(&mut session));
-    assert!(rt; session.state() == UpstreamState::Binding);
-}
-
-// Whether the answer to an enquiry is taken at this moment.
-fn hears(alloc: Global, session: &mut UpstreamSession, now: u64) -> bool {
-    let answer = Pdu::header_only(alloc, 0x8000_0015, 0, 1);
-    matches!(session.on_pdu(&answer, now), UpAct::Ignore)
-}
-
-// Bound at 10, where it has been told of 5000.
-fn asks_once(alloc: Global, session: &mut UpstreamSession) -> bool {
-    asks(session, 5000);
-    comes_up(alloc, session, 10)
-        && !asks(session, 5999)
-        && asks(session, 6000)
-        && !asks(session, 9000)
-}
-
-fn goes_on(alloc: Global, session: &mut UpstreamSession) -> bool {
-    hears(alloc, session, 20)
-        && !session.is_silent(20_000)
-        && asks(session, 30)
-        && !session.is_silent(20_999)
-        && session.is_silent(21_000)
-}
-
-// One enquiry at a time; its answer in Bound ends it, and a moment that goes back counts as the
-// last one.
-#[test]
-fn moments(rt: HostRuntime) {
-    let mut session = upstream(&rt, rt.alloc());
-    assert!(rt; asks_once(rt.alloc(), &mut session));
-    assert!(rt; goes_on(rt.alloc(), &mut session));
+fn upstream_runs(rt: HostRuntime) {
+    let runs: [&[Row]; 3] = [&RUN, &BINDING, &MOMENTS];
+    for rows in runs {
+        let mut session = upstream(&rt, rt.alloc());
+        play(&rt, rt.alloc(), &mut session, rows);
+    }
 }
