@@ -2,8 +2,10 @@
 //! a slow model of it. Each prints what it found, and the first difference ends the program.
 #![tactic(auto)]
 
+mod difference;
 mod lane_calls;
 mod shared_threads;
+mod threads;
 mod worker_threads;
 
 fn main(rt: HostRuntime) -> anyhow::Result<()> {

@@ -8,16 +8,19 @@ ghost use Rattle.smx_shared.specs.Views.{locks_of};
 mod caller;
 mod sender;
 
+use crate::difference::Difference;
 use crate::shared_threads::caller::{Caller, REQUESTS};
-use crate::shared_threads::sender::{Done, Sender, Tally};
+use crate::shared_threads::sender::Sender;
+use crate::threads::{Done, Work, run_all};
 use smx_centre::{Centre, Mode};
-use smx_lane::{Entry, Lane, Limits};
+use smx_lane::{Lane, Limits};
 use smx_legal::is_legal_shifts;
-use smx_shared::{Door, Exchange, Tap};
-use std::alloc::{AllocError, Global};
+use smx_shared::{Door, EnterFault, Exchange, Tap};
+use std::alloc::Global;
+use std::rt::Clock;
 use std::sync::Wait;
 use std::sync::atomic::AtomicBool;
-use std::thread::{Threads, join};
+use std::thread::Threads;
 
 const LIMITS: Limits = Limits {
     queue: 400,
@@ -26,28 +29,15 @@ const LIMITS: Limits = Limits {
     history: 10_000,
 };
 
-#[derive(Clone, Copy, Debug, thiserror::Error)]
-enum Difference {
-    #[error("there is no memory")]
-    NoMemory,
-    #[error("a client is not entered")]
-    NotEntered,
-    #[error("a lane is missing")]
-    NoLane,
-    #[error("a port was not served as it should be")]
-    Port,
-    #[error("the tap counts {0:?}")]
-    Tap(Tally),
-    #[error("the lane has {0} entries")]
-    Entries(usize),
-    #[error("the history is not legal")]
-    Legal,
-}
-
 /// Prints a line a course, with the entries that its lane's history has.
-pub(crate) fn run<R: Print + Threads + Wait + Sync>(rt: &R, alloc: Global) -> anyhow::Result<()> {
+pub(crate) fn run<R: Print + Threads + Wait + Clock + Sync>(
+    rt: &R,
+    alloc: Global,
+) -> anyhow::Result<()> {
     for course in COURSES {
-        run_course(rt, alloc, course)?;
+        let (handed, entries) = run_course(rt, alloc, course)?;
+        let name = course.name;
+        println!(rt; "{name}: {handed} lists handed out, {entries} entries in all, legal")?;
     }
     Ok(())
 }
@@ -90,33 +80,88 @@ const COURSES: [Course; 4] = [
     },
 ];
 
-fn run_course<R: Print + Threads + Wait + Sync>(
+// How many lists were handed out, and how many entries there were in all.
+fn run_course<R: Threads + Wait + Clock + Sync>(
     rt: &R,
     alloc: Global,
     course: Course,
-) -> anyhow::Result<()> {
-    let Ok((exchange, mut door, taps)) = Exchange::new(rt, alloc, LIMITS, 1) else {
+) -> anyhow::Result<(usize, usize)> {
+    let Ok((exchange, mut door, mut taps)) = Exchange::new(rt, alloc, LIMITS, 1) else {
         return Err(Difference::NoMemory.into());
     };
-    let Some(sender) = tapped(alloc, &exchange, taps, course) else {
-        return Err(Difference::NoLane.into());
+    let Some(tap) = taps.pop() else {
+        return Err(Difference::NoPart.into());
     };
-    let Some(callers) = callers(rt, alloc, &exchange, &mut door, course.tries) else {
-        return Err(Difference::NotEntered.into());
-    };
-    let (served, done) = serve_all(rt, alloc, callers, sender);
-    if !served {
-        return Err(Difference::Port.into());
-    }
-    let lists = lists_of(done)?;
-    let handed = lists.len();
+    let mut done = served(rt, alloc, &exchange, &mut door, tap, course)?;
+    let handed = done.lists.len();
     let Ok(mut lanes) = exchange.finish(door) else {
-        return Err(Difference::NoLane.into());
+        return Err(Difference::NoPart.into());
     };
-    let entries = check(lists, lanes.pop())?;
-    let name = course.name;
-    println!(rt; "{name}: {handed} lists handed out, {entries} entries in all, legal")?;
-    Ok(())
+    match lanes.pop() {
+        Some(lane) => Ok((handed, check(&mut done, &lane)?)),
+        None => Err(Difference::NoPart.into()),
+    }
+}
+
+/// Whether each client's first request was accepted.
+#[derive(Drop)]
+struct Accepts {
+    first: AtomicBool,
+    second: AtomicBool,
+}
+
+/// What has a thread of its own.
+#[derive(Drop)]
+enum Party<'a> {
+    Caller(Caller<'a>),
+    Sender(Sender<'a>),
+}
+
+impl Work for Party<'_> {
+    fn run<R: Wait + Clock>(self, rt: &R, alloc: Global) -> Done {
+        match self {
+            Party::Caller(caller) => Done::ended(alloc, caller.run(rt)),
+            Party::Sender(sender) => sender.run(rt, alloc),
+        }
+    }
+}
+
+// Two clients and the tap of the only lane, with a centre behind it, each in a thread of its own: what
+// the tap did.
+fn served<R: Threads + Wait + Clock + Sync>(
+    rt: &R,
+    alloc: Global,
+    at: &Exchange,
+    door: &mut Door,
+    tap: Tap,
+    course: Course,
+) -> anyhow::Result<Done>
+    requires door { locks_of door.old.fronts ≡ at.now }
+    requires tap { slice_get at.now tap.lane ≡ Some tap.front.lock }
+    ensures { locks_of door.new.fronts ≡ at.now }
+{
+    let accepts = Accepts {
+        first: AtomicBool::new(false),
+        second: AtomicBool::new(false),
+    };
+    let mut parties = callers(rt, alloc, at, door, course.tries, &accepts)?;
+    parties.push(Party::Sender(Sender {
+        at,
+        tap,
+        centre: Centre::new(alloc, course.mode),
+        turns: course.turns,
+        tries: course.tries,
+    }))?;
+    let mut all = run_all(rt, alloc, parties)?;
+    let Some(done) = all.pop() else {
+        return Err(Difference::NoPart.into());
+    };
+    for caller in &all {
+        if !caller.well {
+            return Err(Difference::Port.into());
+        }
+    }
+    Ok(done)
 }
 
 // Two clients that have entered.
@@ -126,110 +171,63 @@ fn callers<'a, R: Wait>(
     at: &'a Exchange,
     door: &mut Door,
     tries: bool,
-) -> Option<(Caller<'a>, Caller<'a>)>
+    accepts: &'a Accepts,
+) -> anyhow::Result<Vec<Party<'a>>>
     requires { locks_of door.old.fronts ≡ at.now }
     ensures { locks_of door.new.fronts ≡ at.now }
 {
-    let one = entered(rt, alloc, at, door, tries)?;
-    let two = entered(rt, alloc, at, door, tries)?;
-    Some((one, two))
+    let (first, second) = (&accepts.first, &accepts.second);
+    let mut parties = Vec::new(alloc);
+    let one = entered(rt, alloc, at, door, tries, first, second)?;
+    parties.push(Party::Caller(one))?;
+    let two = entered(rt, alloc, at, door, tries, second, first)?;
+    parties.push(Party::Caller(two))?;
+    Ok(parties)
 }
 
+// A client that has entered. It tells by one flag that it is there, and the other client by the other.
 fn entered<'a, R: Wait>(
     rt: &R,
     alloc: Global,
     at: &'a Exchange,
     door: &mut Door,
     tries: bool,
-) -> Option<Caller<'a>>
+    mine: &'a AtomicBool,
+    other: &'a AtomicBool,
+) -> Result<Caller<'a>, EnterFault>
     requires { locks_of door.old.fronts ≡ at.now }
     ensures { locks_of door.new.fronts ≡ at.now }
 {
-    let port = door.enter(at, rt).ok()?;
-    Some(Caller {
-        alloc,
-        at,
-        port,
-        tries,
-    })
-}
-
-// The tap of the only lane, with a centre behind it.
-fn tapped<'a>(alloc: Global, at: &'a Exchange, taps: Vec<Tap>, course: Course) -> Option<Sender<'a>>
-    requires { All (λ t. slice_get at.now t.lane ≡ Some t.front.lock) taps.items }
-{
-    let mut taps = taps;
-    let tap = taps.pop()?;
-    Some(Sender {
-        at,
-        tap,
-        centre: Centre::new(alloc, course.mode),
-        turns: course.turns,
-        tries: course.tries,
-    })
-}
-
-// Each in a thread of its own: whether the clients were served as they should be, and what the tap did.
-fn serve_all<'a, R: Threads + Wait + Sync>(
-    rt: &R,
-    alloc: Global,
-    callers: (Caller<'a>, Caller<'a>),
-    sender: Sender<'a>,
-) -> (bool, Done) {
-    let (one, two) = callers;
-    let first = AtomicBool::new(false);
-    let second = AtomicBool::new(false);
-    let (served, done) = join(
-        rt,
-        || {
-            join(
-                rt,
-                || one.run(rt, &first, &second),
-                || two.run(rt, &second, &first),
-            )
-        },
-        || sender.run(rt, alloc),
-    );
-    (served == (true, true), done)
-}
-
-// The lists that the tap's turns over handed out, where it has the counts that it should have.
-fn lists_of(done: Done) -> Result<Vec<Vec<Entry>>, Difference> {
-    let Done { tally, lists, .. } = done;
-    let wanted = Tally {
-        queued: 2 * REQUESTS,
-        unknown: 2 * REQUESTS,
-    };
-    if tally == wanted {
-        Ok(lists)
-    } else {
-        Err(Difference::Tap(tally))
+    match door.enter(at, rt) {
+        Ok(port) => Ok(Caller {
+            alloc,
+            at,
+            port,
+            tries,
+            mine,
+            other,
+        }),
+        Err((fault, _)) => Err(fault),
     }
 }
 
-// How many entries the lists and the lane have together, which are legal.
-fn check(lists: Vec<Vec<Entry>>, lane: Option<Lane>) -> Result<usize, Difference> {
-    let lane = lane.ok_or(Difference::NoLane)?;
-    let Ok(lists) = with_last(lists, lane.entries()) else {
-        return Err(Difference::NoMemory);
-    };
+// How many entries the lists and the lane have together, which are legal, where the tap has the counts
+// that it should have.
+fn check(done: &mut Done, lane: &Lane) -> anyhow::Result<usize> {
+    if done.queued != 2 * REQUESTS || done.unknown != 2 * REQUESTS {
+        return Err(Difference::Tap(done.queued, done.unknown).into());
+    }
+    let last = Vec::from_slice(*done.lists.allocator(), lane.entries())?;
+    done.lists.push(last)?;
     let mut entries = 0usize;
-    for list in &lists {
+    for list in &done.lists {
         entries = entries.saturating_add(list.len());
     }
     if entries != 1_604 {
-        return Err(Difference::Entries(entries));
+        return Err(Difference::Entries(entries).into());
     }
-    if !is_legal_shifts(&lists, lane.limits()) {
-        return Err(Difference::Legal);
+    if !is_legal_shifts(&done.lists, lane.limits()) {
+        return Err(Difference::Legal.into());
     }
     Ok(entries)
-}
-
-// The lists, and then these entries as one more.
-fn with_last(lists: Vec<Vec<Entry>>, last: &[Entry]) -> Result<Vec<Vec<Entry>>, AllocError> {
-    let mut lists = lists;
-    let last = Vec::from_slice(*lists.allocator(), last)?;
-    lists.push(last)?;
-    Ok(lists)
 }

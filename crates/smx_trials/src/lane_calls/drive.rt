@@ -24,8 +24,8 @@ pub struct Driver {
     model: Model,
     // The latest moment so far.
     clock: u64,
-    // How many requests were too old.
-    expired: u32,
+    /// How many requests failed since they were too old.
+    pub(crate) expired: u32,
 }
 
 // One octet that tells requests and responses apart.
@@ -36,7 +36,10 @@ fn octet(number: u64) -> u8 {
 fn body(alloc: Global, number: u64) -> Result<Body, AllocError> {
     let mut octets = Vec::with_capacity(alloc, 1)?;
     octets.push(octet(number))?;
-    Body::new(octets).map_err(|_| AllocError)
+    match Body::new(octets) {
+        Ok(body) => Ok(body),
+        Err(_) => Err(AllocError),
+    }
 }
 
 // Whether the body is the one octet of the number.
@@ -87,11 +90,6 @@ impl Driver {
         })
     }
 
-    /// How many requests failed since they were too old.
-    pub(crate) fn expired(&self) -> u32 {
-        self.expired
-    }
-
     // A number below `end`.
     fn below(&mut self, end: u32) -> u32 {
         self.chance.next_word().checked_rem(end).unwrap_or(0)
@@ -130,7 +128,7 @@ impl Driver {
     // that is not given yet, or was before, or any small one.
     fn number(&mut self) -> u32 {
         let others = self.below(4) as usize;
-        let number = self.model.number_before(others).unwrap_or(0);
+        let number = self.model.number_before(others);
         match self.below(16) {
             0 => number.saturating_add(1_024),
             1 => number.saturating_sub(1_024),
@@ -165,16 +163,20 @@ impl Driver {
     /// Whether the check refuses this history once it is spoiled so, or nothing where it has no
     /// entry to spoil.
     pub(crate) fn refuses(&self, spoiling: Spoiling) -> Result<Option<bool>, AllocError> {
-        match spoiling.of(self.alloc, self.lane.entries())? {
-            Some(entries) => Ok(Some(!smx_legal::is_legal(&entries, LIMITS))),
-            None => Ok(None),
+        let mut entries = Vec::from_slice(self.alloc, self.lane.entries())?;
+        if !spoiling.spoils(&mut entries)? {
+            return Ok(None);
         }
+        Ok(Some(!smx_legal::is_legal(&entries, LIMITS)))
     }
 
     // Begins anew where the history is full, and says whether the old one was legal.
     fn begin(&mut self) -> Result<bool, AllocError> {
         let legal = self.is_legal();
-        self.lane = Lane::new(self.alloc, LIMITS).map_err(|_| AllocError)?;
+        let Ok(lane) = Lane::new(self.alloc, LIMITS) else {
+            return Err(AllocError);
+        };
+        self.lane = lane;
         self.model = Model::new(self.alloc, LIMITS);
         Ok(legal)
     }
@@ -273,7 +275,10 @@ impl Driver {
             _ => 0x8000_0004,
         };
         let accept = self.model.answered(number, command);
-        let told = accept.map_or(0, |accept| accept.ordinal);
+        let told = match accept {
+            Some(accept) => accept.ordinal,
+            None => 0,
+        };
         let response = Pdu {
             command,
             status: self.below(2),
@@ -312,8 +317,12 @@ impl Driver {
             self.model.oldest_answer(client),
         ) {
             (Some(pdu), Some(answer)) => {
-                let (own, command) = self.model.asked(client, answer.ordinal);
-                let same = pdu.number == own && told(&pdu, answer, command);
+                let same = match self.model.accept_of(client, answer.ordinal) {
+                    Some(accept) => {
+                        pdu.number == accept.number && told(&pdu, answer, accept.command)
+                    }
+                    None => false,
+                };
                 self.model
                     .note(entry(Kind::Collect, by, client, answer.ordinal))?;
                 Ok(same)
@@ -336,12 +345,12 @@ impl Driver {
     }
 
     fn down(&mut self, by: u64) -> Result<bool, AllocError> {
-        let refusal = self.model.down_refusal();
-        let answer = self.lane.down(by);
-        if answer.is_ok() {
+        let is_up = self.model.is_up();
+        let lost = self.lane.down(by).is_ok();
+        if lost {
             self.model.note(entry(Kind::Down, by, 0, 0))?;
         }
-        Ok(answer.err() == refusal)
+        Ok(lost == is_up)
     }
 
     fn fail(&mut self, by: u64) -> Result<bool, AllocError> {
@@ -369,7 +378,10 @@ impl Driver {
 
     // The number in the lane's newest entry.
     fn last_number(&self) -> u32 {
-        self.lane.last_entry().map_or(0, |entry| entry.number)
+        match self.lane.last_entry() {
+            Some(entry) => entry.number,
+            None => 0,
+        }
     }
 
     // Which request fails is the lane's choice: its newest entry names the number upstream.

@@ -1,8 +1,6 @@
 //! The slow model: a list of entries, read anew at each call.
 
-use smx_lane::{
-    AdmitFault, AlreadyDown, Entry, FailRefusal, Kind, Limits, Refusal, TakeRefusal, UpRefusal,
-};
+use smx_lane::{AdmitFault, Entry, FailRefusal, Kind, Limits, Refusal, TakeRefusal, UpRefusal};
 use std::alloc::{AllocError, Global};
 
 /// What a lane stores after its calls, and when its takes were, and nothing else.
@@ -15,51 +13,47 @@ pub struct Model {
     moments: Vec<u64>,
 }
 
-// How many entries are of the kind.
-fn of_kind(entries: &[Entry], kind: Kind) -> usize {
-    entries.iter().filter(|entry| entry.kind == kind).count()
+/// Whose entries are looked for.
+#[derive(Clone, Copy)]
+enum Whose {
+    All,
+    Client(u64),
+    // Of the client's request with the ordinal.
+    Request(u64, u64),
 }
 
-// How many entries of the client are of the kind.
-fn of_client(entries: &[Entry], kind: Kind, client: u64) -> usize {
-    entries
-        .iter()
-        .filter(|entry| entry.kind == kind && entry.client == client)
-        .count()
+/// What was looked for: how many entries, the last of them, and the one after so many others.
+#[derive(Clone, Copy)]
+struct Found {
+    count: usize,
+    last: Option<Entry>,
+    nth: Option<Entry>,
 }
 
-// The accept of the request with that name.
-fn accept_of(entries: &[Entry], client: u64, ordinal: u64) -> Option<&Entry> {
-    entries.iter().find(|entry| {
-        entry.kind == Kind::Accept && entry.client == client && entry.ordinal == ordinal
-    })
-}
-
-// Whether an answer to the request came, in time or late, or it failed.
-fn is_settled(entries: &[Entry], client: u64, ordinal: u64) -> bool {
-    entries.iter().any(|entry| {
-        matches!(entry.kind, Kind::Answer | Kind::Late | Kind::Fail)
-            && entry.client == client
-            && entry.ordinal == ordinal
-    })
-}
-
-// How many takes have no answer and did not fail.
-fn open(entries: &[Entry]) -> usize {
-    entries
-        .iter()
-        .filter(|entry| {
-            entry.kind == Kind::Take && !is_settled(entries, entry.client, entry.ordinal)
-        })
-        .count()
-}
-
-// How many responses wait for the client that is present: those that came, and those that tell it of
-// failures.
-fn waiting(entries: &[Entry], client: u64) -> usize {
-    of_client(entries, Kind::Answer, client)
-        .saturating_add(of_client(entries, Kind::Fail, client))
-        .saturating_sub(of_client(entries, Kind::Collect, client))
+// Looks for the entries of these kinds.
+fn find(entries: &[Entry], kinds: &[Kind], whose: Whose, others: usize) -> Found {
+    let mut found = Found {
+        count: 0,
+        last: None,
+        nth: None,
+    };
+    for entry in entries {
+        let fits = match whose {
+            Whose::All => true,
+            Whose::Client(client) => entry.client == client,
+            Whose::Request(client, ordinal) => {
+                entry.client == client && entry.ordinal == ordinal
+            }
+        };
+        if fits && kinds.contains(&entry.kind) {
+            found.last = Some(*entry);
+            if found.count == others {
+                found.nth = found.last;
+            }
+            found.count = found.count.saturating_add(1);
+        }
+    }
+    found
 }
 
 // The place of the window that a number names.
@@ -81,6 +75,33 @@ impl Model {
         self.entries.as_slice()
     }
 
+    // How many entries are of the kind.
+    fn count(&self, kind: Kind, whose: Whose) -> usize {
+        find(self.entries(), &[kind], whose, 0).count
+    }
+
+    // Whether an answer to the entry's request came, in time or late, or it failed.
+    fn is_settled(&self, entry: &Entry) -> bool {
+        for other in self.entries() {
+            let settles = matches!(other.kind, Kind::Answer | Kind::Late | Kind::Fail);
+            if settles && other.client == entry.client && other.ordinal == entry.ordinal {
+                return true;
+            }
+        }
+        false
+    }
+
+    // How many takes have no answer and did not fail.
+    fn open(&self) -> usize {
+        let mut open = 0usize;
+        for entry in self.entries() {
+            if entry.kind == Kind::Take && !self.is_settled(entry) {
+                open = open.saturating_add(1);
+            }
+        }
+        open
+    }
+
     /// Stores what happened.
     pub(crate) fn note(&mut self, entry: Entry) -> Result<(), AllocError> {
         Ok(self.entries.push(entry)?)
@@ -100,63 +121,63 @@ impl Model {
 
     /// The greatest number of a client that was admitted.
     pub(crate) fn greatest(&self) -> u64 {
-        self.entries
-            .iter()
-            .filter(|entry| entry.kind == Kind::Admit)
-            .last()
-            .map_or(0, |entry| entry.client)
+        match find(self.entries(), &[Kind::Admit], Whose::All, 0).last {
+            Some(entry) => entry.client,
+            None => 0,
+        }
     }
 
     /// Whether the client was admitted and has not retired.
     pub(crate) fn is_present(&self, client: u64) -> bool {
-        of_client(self.entries(), Kind::Admit, client) == 1
-            && of_client(self.entries(), Kind::Retire, client) == 0
+        let client = Whose::Client(client);
+        self.count(Kind::Admit, client) == 1 && self.count(Kind::Retire, client) == 0
     }
 
     /// The ordinal of the client's last accept.
     pub(crate) fn last(&self, client: u64) -> u64 {
-        self.entries
-            .iter()
-            .filter(|entry| entry.kind == Kind::Accept && entry.client == client)
-            .last()
-            .map_or(0, |entry| entry.ordinal)
+        match find(self.entries(), &[Kind::Accept], Whose::Client(client), 0).last {
+            Some(entry) => entry.ordinal,
+            None => 0,
+        }
     }
 
-    // How many responses wait for clients that are present, and how many of these there are.
-    fn present(&self) -> (usize, usize) {
-        let mut all = (0_usize, 0_usize);
-        for entry in self.entries.iter() {
+    /// Whether there is a link upstream: the last word on it, and there is one at first.
+    pub(crate) fn is_up(&self) -> bool {
+        match find(self.entries(), &[Kind::Down, Kind::Up], Whose::All, 0).last {
+            Some(entry) => entry.kind == Kind::Up,
+            None => true,
+        }
+    }
+
+    // How many requests wait to be taken.
+    fn queued(&self) -> usize {
+        let accepts = self.count(Kind::Accept, Whose::All);
+        accepts.saturating_sub(self.count(Kind::Take, Whose::All))
+    }
+
+    // How many clients are present, and how many responses wait for them: those that came, and those
+    // that tell of failures.
+    fn present_and_waiting(&self) -> usize {
+        let mut all = 0usize;
+        for entry in self.entries() {
             if entry.kind == Kind::Admit && self.is_present(entry.client) {
-                all.0 = all.0.saturating_add(waiting(self.entries(), entry.client));
-                all.1 = all.1.saturating_add(1);
+                let client = Whose::Client(entry.client);
+                let came = find(self.entries(), &[Kind::Answer, Kind::Fail], client, 0).count;
+                let waiting = came.saturating_sub(self.count(Kind::Collect, client));
+                all = all.saturating_add(waiting).saturating_add(1);
             }
         }
         all
     }
 
-    /// Whether there is a link upstream: the last word on it, and there is one at first.
-    pub(crate) fn is_up(&self) -> bool {
-        self.entries
-            .iter()
-            .filter(|entry| matches!(entry.kind, Kind::Down | Kind::Up))
-            .last()
-            .map_or(true, |entry| entry.kind == Kind::Up)
-    }
-
     // Whether one more accept or admit fits.
     fn has_room(&self) -> bool {
-        let queued = of_kind(self.entries(), Kind::Accept).saturating_sub(of_kind(
-            self.entries(),
-            Kind::Take,
-        ));
-        let (waiting, present) = self.present();
         let used = self
             .entries
             .len()
-            .saturating_add(queued.saturating_mul(3))
-            .saturating_add(open(self.entries()).saturating_mul(2))
-            .saturating_add(waiting)
-            .saturating_add(present)
+            .saturating_add(self.queued().saturating_mul(3))
+            .saturating_add(self.open().saturating_mul(2))
+            .saturating_add(self.present_and_waiting())
             .saturating_add(usize::from(self.is_up()));
         used.saturating_add(4) <= self.limits.history as usize
     }
@@ -174,20 +195,14 @@ impl Model {
 
     /// Why a request of the client is not accepted.
     pub(crate) fn accept_refusal(&self, client: u64) -> Option<Refusal> {
-        let pending = of_client(self.entries(), Kind::Accept, client).saturating_sub(of_client(
-            self.entries(),
-            Kind::Collect,
-            client,
-        ));
-        let queued = of_kind(self.entries(), Kind::Accept).saturating_sub(of_kind(
-            self.entries(),
-            Kind::Take,
-        ));
+        let own = Whose::Client(client);
+        let accepts = self.count(Kind::Accept, own);
+        let pending = accepts.saturating_sub(self.count(Kind::Collect, own));
         if !self.is_present(client) {
             Some(Refusal::NotAdmitted)
         } else if pending >= self.limits.client as usize {
             Some(Refusal::ClientFull)
-        } else if queued >= self.limits.queue as usize {
+        } else if self.queued() >= self.limits.queue as usize {
             Some(Refusal::QueueFull)
         } else if !self.has_room() {
             Some(Refusal::HistoryFull)
@@ -198,20 +213,11 @@ impl Model {
         }
     }
 
-    /// Why the link is not lost.
-    pub(crate) fn down_refusal(&self) -> Option<AlreadyDown> {
-        if self.is_up() {
-            None
-        } else {
-            Some(AlreadyDown)
-        }
-    }
-
     /// Why no request fails.
     pub(crate) fn fail_refusal(&self) -> Option<FailRefusal> {
         if self.is_up() {
             Some(FailRefusal::Up)
-        } else if open(self.entries()) == 0 {
+        } else if self.open() == 0 {
             Some(FailRefusal::WindowEmpty)
         } else {
             None
@@ -222,7 +228,7 @@ impl Model {
     pub(crate) fn up_refusal(&self) -> Option<UpRefusal> {
         if self.is_up() {
             Some(UpRefusal::AlreadyUp)
-        } else if open(self.entries()) > 0 {
+        } else if self.open() > 0 {
             Some(UpRefusal::WindowNotEmpty)
         } else if !self.has_room() {
             Some(UpRefusal::HistoryFull)
@@ -233,21 +239,13 @@ impl Model {
 
     /// The accept of the request that is to be taken next.
     pub(crate) fn next_taken(&self) -> Result<Entry, TakeRefusal> {
-        let taken = of_kind(self.entries(), Kind::Take);
-        let mut accepts = self
-            .entries
-            .iter()
-            .filter(|entry| entry.kind == Kind::Accept);
-        let Some(next) = accepts.nth(taken) else {
-            return Err(TakeRefusal::QueueEmpty);
-        };
-        if open(self.entries()) >= self.limits.window as usize {
-            return Err(TakeRefusal::WindowFull);
+        let taken = self.count(Kind::Take, Whose::All);
+        match find(self.entries(), &[Kind::Accept], Whose::All, taken).nth {
+            None => Err(TakeRefusal::QueueEmpty),
+            Some(_) if self.open() >= self.limits.window as usize => Err(TakeRefusal::WindowFull),
+            Some(_) if !self.is_up() => Err(TakeRefusal::Down),
+            Some(next) => Ok(next),
         }
-        if !self.is_up() {
-            return Err(TakeRefusal::Down);
-        }
-        Ok(*next)
     }
 
     // The place that the next take has: of those that are free the one that became so last, and at
@@ -257,7 +255,7 @@ impl Model {
         for place in (0..self.limits.window).rev() {
             free.push(place)?;
         }
-        for entry in self.entries.iter() {
+        for entry in self.entries() {
             match entry.kind {
                 Kind::Take => {
                     free.pop();
@@ -273,21 +271,33 @@ impl Model {
     /// was given before, and that goes round.
     pub(crate) fn next_number(&self) -> Result<u32, AllocError> {
         let place = self.next_place()?;
-        let given = self
-            .entries
-            .iter()
-            .filter(|entry| entry.kind == Kind::Take && place_in(entry.number) == place)
-            .count();
+        let mut given = 0u64;
+        for entry in self.entries() {
+            if entry.kind == Kind::Take && place_in(entry.number) == place {
+                given = given.saturating_add(1);
+            }
+        }
         let generation = (given % 2_097_151) as u32;
         Ok((generation * 1_024).saturating_add(place).saturating_add(1))
     }
 
-    /// The number of a take that so many others came after.
-    pub(crate) fn number_before(&self, others: usize) -> Option<u32> {
-        let takes = of_kind(self.entries(), Kind::Take);
-        let at = takes.checked_sub(others)?.checked_sub(1)?;
-        let mut all = self.entries.iter().filter(|entry| entry.kind == Kind::Take);
-        all.nth(at).map(|entry| entry.number)
+    /// The number of a take that so many others came after; 0 where there is none.
+    pub(crate) fn number_before(&self, others: usize) -> u32 {
+        let takes = self.count(Kind::Take, Whose::All);
+        if takes <= others {
+            return 0;
+        }
+        match find(
+            self.entries(),
+            &[Kind::Take],
+            Whose::All,
+            takes - others - 1,
+        )
+        .nth
+        {
+            Some(take) => take.number,
+            None => 0,
+        }
     }
 
     /// The numbers of all requests that were taken at least so long ago and neither answered nor
@@ -295,10 +305,13 @@ impl Model {
     pub(crate) fn expired(&self, now: u64, age: u64) -> Result<Vec<u32>, AllocError> {
         let now = u128::from(now.max(self.latest()));
         let mut numbers = Vec::new(self.alloc);
-        let takes = self.entries.iter().filter(|entry| entry.kind == Kind::Take);
-        for (take, moment) in takes.zip(self.moments.iter()) {
-            let is_open = !is_settled(self.entries(), take.client, take.ordinal);
-            if is_open && u128::from(*moment) + u128::from(age) <= now {
+        let mut moments = self.moments.iter();
+        for take in self.entries() {
+            if take.kind != Kind::Take {
+                continue;
+            }
+            let moment = moments.next().copied().unwrap_or(0);
+            if !self.is_settled(take) && u128::from(moment) + u128::from(age) <= now {
                 numbers.push(take.number)?;
             }
         }
@@ -307,14 +320,14 @@ impl Model {
 
     /// The accept of the request that a response with the number and the command answers.
     pub(crate) fn answered(&self, number: u32, command: u32) -> Option<Entry> {
-        let take = self.entries.iter().find(|entry| {
-            entry.kind == Kind::Take
-                && entry.number == number
-                && !is_settled(self.entries(), entry.client, entry.ordinal)
-        })?;
-        let accept = accept_of(self.entries(), take.client, take.ordinal)?;
-        let fits = command == accept.command | 0x8000_0000 || command == 0x8000_0000;
-        fits.then_some(*accept)
+        for take in self.entries() {
+            if take.kind == Kind::Take && take.number == number && !self.is_settled(take) {
+                let accept = self.accept_of(take.client, take.ordinal)?;
+                let fits = command == accept.command | 0x8000_0000 || command == 0x8000_0000;
+                return fits.then_some(accept);
+            }
+        }
+        None
     }
 
     /// The client's oldest answer or failure that it has not collected.
@@ -322,18 +335,19 @@ impl Model {
         if !self.is_present(client) {
             return None;
         }
-        let collected = of_client(self.entries(), Kind::Collect, client);
-        let mut answers = self.entries.iter().filter(|entry| {
-            matches!(entry.kind, Kind::Answer | Kind::Fail) && entry.client == client
-        });
-        answers.nth(collected).copied()
+        let collected = self.count(Kind::Collect, Whose::Client(client));
+        let kinds = [Kind::Answer, Kind::Fail];
+        find(self.entries(), &kinds, Whose::Client(client), collected).nth
     }
 
-    /// What the client called the request, and its command.
-    pub(crate) fn asked(&self, client: u64, ordinal: u64) -> (u32, u32) {
-        accept_of(self.entries(), client, ordinal).map_or(
-            (0, 0),
-            |accept| (accept.number, accept.command),
+    /// The accept of the client's request: what the client called it, and its command.
+    pub(crate) fn accept_of(&self, client: u64, ordinal: u64) -> Option<Entry> {
+        find(
+            self.entries(),
+            &[Kind::Accept],
+            Whose::Request(client, ordinal),
+            0,
         )
+        .nth
     }
 }

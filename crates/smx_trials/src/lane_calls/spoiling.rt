@@ -1,10 +1,10 @@
 //! Changes of one entry that make a legal list illegal.
 
 use smx_lane::{Entry, Kind};
-use std::alloc::{AllocError, Global};
+use std::alloc::AllocError;
 
 /// One change of a list of entries.
-#[derive(Clone, Copy, Debug)]
+#[derive(Clone, Copy)]
 pub enum Spoiling {
     /// The first entry of the kind stands twice.
     Repeated(Kind),
@@ -158,51 +158,36 @@ impl Spoiling {
         }
     }
 
-    /// The entries spoiled so, or nothing where there is no entry to spoil.
-    pub(crate) fn of(
-        self,
-        alloc: Global,
-        entries: &[Entry],
-    ) -> Result<Option<Vec<Entry>>, AllocError> {
-        let Some(at) = entries.iter().position(|entry| entry.kind == self.kind()) else {
-            return Ok(None);
+    /// Spoils the entries so, and tells whether there is an entry to spoil.
+    pub(crate) fn spoils(self, entries: &mut Vec<Entry>) -> Result<bool, AllocError> {
+        let Some(at) = first_of(entries, self.kind()) else {
+            return Ok(false);
         };
-        let mut spoiled = Vec::with_capacity(alloc, entries.len())?;
-        for (i, entry) in entries.iter().enumerate() {
-            if i == at {
-                spoiled.push(self.changed(*entry))?;
-                if let Some(added) = self.added(*entry) {
-                    spoiled.push(added)?;
-                }
-            } else {
-                spoiled.push(*entry)?;
+        match self {
+            Spoiling::Swapped(before, kind) => return Ok(swap(entries, before, kind)),
+            Spoiling::Exchanged(before, kind) => return Ok(exchange(entries, before, kind)),
+            Spoiling::OneNumber => return Ok(renumber(entries, at)),
+            _ => {}
+        }
+        let Some(entry) = entries.get_mut(at) else {
+            return Ok(false);
+        };
+        let added = self.added(*entry);
+        *entry = self.changed(*entry);
+        if let Some(added) = added {
+            if at < entries.len() {
+                entries.insert(at + 1, added)?;
             }
         }
-        match self {
-            Spoiling::Swapped(before, kind) => Ok(swapped(spoiled, before, kind)),
-            Spoiling::Exchanged(before, kind) => Ok(exchanged(spoiled, before, kind)),
-            Spoiling::OneNumber => Ok(renumbered(spoiled, at)),
-            _ => Ok(Some(spoiled)),
-        }
+        Ok(true)
     }
 }
 
-// Where the entry of the kind stands that has the same client and, but for an admit, the same ordinal.
-fn origin_of(entries: &[Entry], before: Kind, entry: Entry) -> Option<usize> {
-    entries.iter().position(|other| {
-        other.kind == before
-            && other.client == entry.client
-            && (before == Kind::Admit || other.ordinal == entry.ordinal)
-    })
-}
-
-// The first entry of the second kind that has one of the first kind so, in the place of that.
-fn swapped(entries: Vec<Entry>, before: Kind, kind: Kind) -> Option<Vec<Entry>> {
+// Where the first entry of the kind stands.
+fn first_of(entries: &[Entry], kind: Kind) -> Option<usize> {
     for (at, entry) in entries.iter().enumerate() {
         if entry.kind == kind {
-            if let Some(from) = origin_of(entries.as_slice(), before, *entry) {
-                return exchange(entries, from, at);
-            }
+            return Some(at);
         }
     }
     None
@@ -210,50 +195,77 @@ fn swapped(entries: Vec<Entry>, before: Kind, kind: Kind) -> Option<Vec<Entry>> 
 
 // Where the last entry of the kind stands among the first of the list.
 fn last_of(entries: &[Entry], kind: Kind, end: usize) -> Option<usize> {
-    entries
-        .iter()
-        .take(end)
-        .enumerate()
-        .filter(|(_, entry)| entry.kind == kind)
-        .last()
-        .map(|(i, _)| i)
+    let mut last = None;
+    for (at, entry) in entries.iter().take(end).enumerate() {
+        if entry.kind == kind {
+            last = Some(at);
+        }
+    }
+    last
+}
+
+// Where the entry of the kind stands that has the same client and, but for an admit, the same ordinal.
+fn origin_of(entries: &[Entry], before: Kind, entry: Entry) -> Option<usize> {
+    for (at, other) in entries.iter().enumerate() {
+        let same = before == Kind::Admit || other.ordinal == entry.ordinal;
+        if other.kind == before && other.client == entry.client && same {
+            return Some(at);
+        }
+    }
+    None
+}
+
+// The first entry of the second kind that has one of the first kind so, in the place of that.
+fn swap(entries: &mut [Entry], before: Kind, kind: Kind) -> bool {
+    for at in 0..entries.len() {
+        let entry = entries[at];
+        if entry.kind == kind {
+            if let Some(from) = origin_of(entries, before, entry) {
+                return replace(entries, from, at);
+            }
+        }
+    }
+    false
 }
 
 // The last entry of the second kind in the place of the last one of the first kind before it.
-fn exchanged(entries: Vec<Entry>, before: Kind, kind: Kind) -> Option<Vec<Entry>> {
-    let at = last_of(entries.as_slice(), kind, entries.len())?;
-    let from = last_of(entries.as_slice(), before, at)?;
-    exchange(entries, from, at)
+fn exchange(entries: &mut [Entry], before: Kind, kind: Kind) -> bool {
+    let Some(at) = last_of(entries, kind, entries.len()) else {
+        return false;
+    };
+    match last_of(entries, before, at) {
+        Some(from) => replace(entries, from, at),
+        None => false,
+    }
+}
+
+// The two entries in each other's place.
+fn replace(entries: &mut [Entry], from: usize, at: usize) -> bool {
+    let within = from < entries.len() && at < entries.len();
+    if within {
+        entries.swap(from, at);
+    }
+    within
 }
 
 // The number of the answer at the index in place of the one that the last request to be taken bears,
 // where that was taken after the answer. So nothing is wrong but that two takes give one number.
-fn renumbered(entries: Vec<Entry>, at: usize) -> Option<Vec<Entry>> {
-    let answer = *entries.get(at)?;
-    let last = last_of(entries.as_slice(), Kind::Take, entries.len())?;
-    let take = *entries.get(last)?;
-    if last < at {
-        return None;
+fn renumber(entries: &mut [Entry], at: usize) -> bool {
+    let Some(last) = last_of(entries, Kind::Take, entries.len()) else {
+        return false;
+    };
+    if last < at || last >= entries.len() {
+        return false;
     }
-    let mut entries = entries;
-    for entry in &mut entries {
+    let (number, take) = (entries[at].number, entries[last]);
+    for entry in entries {
         let bears = matches!(
             entry.kind,
             Kind::Take | Kind::Answer | Kind::Late | Kind::Fail
         );
         if bears && entry.client == take.client && entry.ordinal == take.ordinal {
-            entry.number = answer.number;
+            entry.number = number;
         }
     }
-    Some(entries)
-}
-
-// The two entries in each other's place.
-fn exchange(entries: Vec<Entry>, from: usize, at: usize) -> Option<Vec<Entry>> {
-    let mut entries = entries;
-    if from >= entries.len() || at >= entries.len() {
-        return None;
-    }
-    entries.swap(from, at);
-    Some(entries)
+    true
 }

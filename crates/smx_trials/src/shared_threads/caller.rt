@@ -27,17 +27,20 @@ pub(crate) struct Caller<'a> {
     pub port: Port,
     /// Whether it collects without waiting for the lane.
     pub tries: bool,
+    /// Its own first accept, and that of the other client.
+    pub mine: &'a AtomicBool,
+    pub other: &'a AtomicBool,
     ghost fits: { locks_of port.fronts ≡ at.now },
 }
 
 impl Caller<'_> {
     /// Submits, collects and leaves, and answers whether all went as it should: each response came
     /// once, with a number of its own.
-    pub(crate) fn run<R: Wait>(self, rt: &R, mine: &AtomicBool, other: &AtomicBool) -> bool {
+    pub(crate) fn run<R: Wait>(self, rt: &R) -> bool {
         let mut caller = self;
         let mut came = [false; 200];
         for own in 1..=REQUESTS {
-            if !caller.submit(rt, own) || own == 1 && !meets(mine, other) {
+            if !caller.submit(rt, own) || own == 1 && !caller.meets() {
                 return false;
             }
         }
@@ -85,21 +88,22 @@ impl Caller<'_> {
         if self.tries {
             return self.port.try_collect(self.at, 0);
         }
-        self.port
-            .collect(self.at, rt, 0)
-            .map_err(|_| TryFault::Spent)
-    }
-}
-
-// Tells the other client of this one's first accept, and waits for the other's: one thread alone
-// can't pass.
-fn meets(mine: &AtomicBool, other: &AtomicBool) -> bool {
-    mine.store(true, Ordering::SeqCst);
-    for _ in 0..LOOKS {
-        if other.load(Ordering::SeqCst) {
-            return true;
+        match self.port.collect(self.at, rt, 0) {
+            Ok(response) => Ok(response),
+            Err(_) => Err(TryFault::Spent),
         }
-        thread::yield_now();
     }
-    false
+
+    // Tells the other client of this one's first accept, and waits for the other's: one thread alone
+    // can't pass.
+    fn meets(&self) -> bool {
+        self.mine.store(true, Ordering::SeqCst);
+        for _ in 0..LOOKS {
+            if self.other.load(Ordering::SeqCst) {
+                return true;
+            }
+            thread::yield_now();
+        }
+        false
+    }
 }

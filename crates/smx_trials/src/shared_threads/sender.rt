@@ -2,8 +2,9 @@
 ghost use Rattle.std.specs.Prelude.{◌≡◌, slice_get, Some};
 
 use crate::shared_threads::caller::REQUESTS;
+use crate::threads::Done;
 use smx_centre::Centre;
-use smx_lane::{Answered, Entry, Sent};
+use smx_lane::{Answered, Sent};
 use smx_pdu::Pdu;
 use smx_shared::{Exchange, Tap};
 use std::alloc::Global;
@@ -14,13 +15,6 @@ const TAKES: u32 = 100_000_000;
 
 /// After how many takes the lane is turned over.
 const SHIFT: u32 = 100;
-
-/// How many answers were queued, and how many answered no request.
-#[derive(Clone, Copy, Debug, Default, PartialEq, Eq)]
-pub(crate) struct Tally {
-    pub queued: u32,
-    pub unknown: u32,
-}
 
 // A request as it goes upstream.
 fn upstream(sent: Sent) -> Pdu {
@@ -46,54 +40,37 @@ pub(crate) struct Sender<'a> {
     ghost fits: { slice_get at.now tap.lane ≡ Some tap.front.lock },
 }
 
-/// What a tap did.
-#[derive(Drop)]
-pub(crate) struct Done {
-    pub tally: Tally,
-    /// The lists that it got when it turned the lane over, in order.
-    pub lists: Vec<Vec<Entry>>,
-    taken: u32,
-}
-
-impl Done {
-    pub(crate) fn nothing(alloc: Global) -> Done {
-        Done {
-            tally: Tally::default(),
-            lists: Vec::new(alloc),
-            taken: 0,
-        }
-    }
-}
-
 impl Sender<'_> {
     /// Takes until both clients' requests were answered, and brings each answer of the centre. It
     /// stops where something goes wrong, and then has fewer answers.
     pub(crate) fn run<R: Wait>(self, rt: &R, alloc: Global) -> Done {
         let mut sender = self;
-        let mut done = Done::nothing(alloc);
+        let mut done = Done::ended(alloc, true);
+        let mut taken = 0u32;
         for _ in 0..TAKES {
-            if done.tally.queued >= 2 * REQUESTS || !sender.send(rt, &mut done) {
+            if done.queued >= 2 * REQUESTS {
+                break;
+            }
+            let Some(sent) = sender.take(rt) else {
+                thread::yield_now();
+                continue;
+            };
+            taken = taken.saturating_add(1);
+            let turns = sender.turns && taken % SHIFT == 0;
+            if turns && !sender.turn_over(rt, &mut done) || !sender.send(rt, sent, &mut done) {
                 break;
             }
         }
         done
     }
 
-    // Sends the next request, where there is one. The answer is false where something went wrong.
-    fn send<R: Wait>(&mut self, rt: &R, done: &mut Done) -> bool {
-        let Some(sent) = self.take(rt) else {
-            thread::yield_now();
-            return true;
-        };
-        done.taken = done.taken.saturating_add(1);
-        if self.turns && done.taken % SHIFT == 0 && !self.turn_over(rt, done) {
-            return false;
-        }
+    // Sends the request, and brings each answer. False where something went wrong.
+    fn send<R: Wait>(&mut self, rt: &R, sent: Sent, done: &mut Done) -> bool {
         let Ok(answers) = self.centre.on_pdu(&upstream(sent)) else {
             return false;
         };
         for answer in answers {
-            if !self.bring(rt, answer, &mut done.tally) {
+            if !self.bring(rt, answer, done) {
                 return false;
             }
         }
@@ -114,10 +91,10 @@ impl Sender<'_> {
         }
     }
 
-    fn bring<R: Wait>(&mut self, rt: &R, answer: Pdu, tally: &mut Tally) -> bool {
+    fn bring<R: Wait>(&mut self, rt: &R, answer: Pdu, done: &mut Done) -> bool {
         match self.tap.answer(self.at, rt, answer) {
-            Ok(Answered::Queued { .. }) => tally.queued = tally.queued.saturating_add(1),
-            Ok(Answered::Unknown(_)) => tally.unknown = tally.unknown.saturating_add(1),
+            Ok(Answered::Queued { .. }) => done.queued = done.queued.saturating_add(1),
+            Ok(Answered::Unknown(_)) => done.unknown = done.unknown.saturating_add(1),
             Ok(Answered::Late) | Err(_) => return false,
         }
         true

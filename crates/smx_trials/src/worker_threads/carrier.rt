@@ -17,11 +17,13 @@ use std::sync::atomic::{AtomicBool, AtomicU64, Ordering};
 use std::thread::sleep;
 use std::time::Duration;
 
-/// A lane's tap beside its exchange.
+/// A lane's tap beside its exchange, the lane's ends, and how many clients are done.
 #[derive(Drop)]
 pub(crate) struct Drawer<'a> {
     pub at: &'a Exchange,
     pub tap: Tap,
+    pub ends: LaneEnds,
+    pub done: &'a AtomicU64,
     ghost fits: { slice_get at.now tap.lane ≡ Some tap.front.lock },
 }
 
@@ -44,27 +46,7 @@ fn session(alloc: Global) -> Option<UpstreamSession>
     Some(UpstreamSession::new(alloc, system_id, password, 30_000, 0))
 }
 
-impl<'a> Carrier<'a> {
-    fn new(alloc: Global, drawer: Drawer<'a>, ends: LaneEnds) -> Option<Carrier<'a>> {
-        let session = session(alloc)?;
-        let Drawer { at, tap } = drawer;
-        let LaneEnds { answers, senders } = ends;
-        let centre = CentrePeer::new(alloc, Centre::new(alloc, Mode::Plain));
-        let parts = Parts {
-            link: MemoryLink::new(centre),
-            tap,
-            session,
-            answers,
-            senders,
-        };
-        let worker = UpstreamWorker::new(alloc, parts, 1_000, 60_000).ok()?;
-        Some(Carrier {
-            at,
-            worker,
-            over: false,
-        })
-    }
-
+impl Carrier<'_> {
     // Turns it once.
     fn turn<R: Wait, G: Gate, D: Directory>(
         &mut self,
@@ -82,63 +64,68 @@ impl<'a> Carrier<'a> {
         end
     }
 
-    // Turns it until both clients are done, at most so often.
-    fn turn_all<R: Wait + Clock, G: Gate, D: Directory>(
+    // Turns it until both clients are done, and then until its session ended. Answers whether the
+    // centre agreed to that.
+    fn run<R: Wait + Clock, G: Gate, D: Directory>(
         &mut self,
         rt: &R,
         gate: &mut G,
         directory: &mut D,
         done: &AtomicU64,
     ) -> bool {
-        for _ in 0..TURNS {
-            if done.load(Ordering::SeqCst) >= 2 {
-                return true;
+        let mut stopped = false;
+        for _ in 0..2 * TURNS {
+            if !stopped && done.load(Ordering::SeqCst) >= 2 {
+                if self.over || self.worker.stop() != Ok(true) {
+                    return false;
+                }
+                stopped = true;
             }
             match self.turn(rt, gate, directory) {
-                RunEnd::Idle => sleep(rt, Duration::from_millis(1)),
                 RunEnd::Turns => {}
-                RunEnd::Left | RunEnd::Fault(_) => return false,
-            }
-        }
-        false
-    }
-
-    // Ends its session in order, and answers whether the centre agreed.
-    fn stop<R: Wait, G: Gate, D: Directory>(
-        &mut self,
-        rt: &R,
-        gate: &mut G,
-        directory: &mut D,
-    ) -> bool {
-        if self.over || self.worker.stop() != Ok(true) {
-            return false;
-        }
-        for _ in 0..TURNS {
-            match self.turn(rt, gate, directory) {
-                RunEnd::Turns => {}
-                end => return end == RunEnd::Left,
+                RunEnd::Idle if !stopped => sleep(rt, Duration::from_millis(1)),
+                end => return stopped && end == RunEnd::Left,
             }
         }
         false
     }
 }
 
-impl Drawer<'_> {
+impl<'a> Drawer<'a> {
+    // The worker of the lane, with this session.
+    fn carrier(self, alloc: Global, session: UpstreamSession) -> Option<Carrier<'a>>
+        requires { session.state ≡ UpstreamState.Binding }
+    {
+        let Drawer { at, tap, ends, .. } = self;
+        let LaneEnds { answers, senders } = ends;
+        let centre = CentrePeer::new(alloc, Centre::new(alloc, Mode::Plain));
+        let parts = Parts {
+            link: MemoryLink::new(centre),
+            tap,
+            session,
+            answers,
+            senders,
+        };
+        match UpstreamWorker::new(alloc, parts, 1_000, 60_000) {
+            Ok(worker) => Some(Carrier {
+                at,
+                worker,
+                over: false,
+            }),
+            Err(_) => None,
+        }
+    }
+
     /// Serves the lane until both clients are done, and answers whether it then ended in order.
-    pub(crate) fn serve<R: Wait + Clock>(
-        self,
-        rt: &R,
-        alloc: Global,
-        ends: LaneEnds,
-        done: &AtomicU64,
-    ) -> bool {
-        let Some(mut carrier) = Carrier::new(alloc, self, ends) else {
+    pub(crate) fn serve<R: Wait + Clock>(self, rt: &R, alloc: Global) -> bool {
+        let done = self.done;
+        let Some(session) = session(alloc) else {
+            return false;
+        };
+        let Some(mut carrier) = self.carrier(alloc, session) else {
             return false;
         };
         let open = AtomicBool::new(true);
-        let mut gate = FlagGate::new(&open);
-        let mut nobody = Nobody::new();
-        carrier.turn_all(rt, &mut gate, &mut nobody, done)
-            && carrier.stop(rt, &mut gate, &mut nobody)
+        carrier.run(rt, &mut FlagGate::new(&open), &mut Nobody::new(), done)
     }
 }

@@ -31,14 +31,6 @@ const BIND_ANSWER: usize = 25;
 /// How many octets the answers to [`BEGIN`] have.
 const ANSWERS: usize = BIND_ANSWER + 18;
 
-/// A client that has entered, beside its exchange.
-#[derive(Drop)]
-pub(crate) struct Seat<'a> {
-    pub at: &'a Exchange,
-    pub port: Port,
-    ghost fits: { locks_of port.fronts ≡ at.now },
-}
-
 /// What the threads tell one another.
 #[derive(Drop)]
 pub(crate) struct Signals {
@@ -58,6 +50,8 @@ pub(crate) struct Flags<'a> {
     // What the client tells, and once so many octets were written to it.
     told: &'a AtomicBool,
     after: usize,
+    // What the client is written in all.
+    wanted: &'static [u8],
     done: &'a AtomicU64,
 }
 
@@ -71,21 +65,23 @@ impl Signals {
     }
 
     /// Those of the first client, whose submit is held until the second's response was written.
-    pub(crate) fn first(&self) -> Flags<'_> {
+    pub(crate) fn first(&self, wanted: &'static [u8]) -> Flags<'_> {
         Flags {
             gate: &self.second_served,
             told: &self.first_bound,
             after: BIND_ANSWER,
+            wanted,
             done: &self.done,
         }
     }
 
     /// Those of the second client, whose submit is held until the first's bind was answered.
-    pub(crate) fn second(&self) -> Flags<'_> {
+    pub(crate) fn second(&self, wanted: &'static [u8]) -> Flags<'_> {
         Flags {
             gate: &self.first_bound,
             told: &self.second_served,
             after: ANSWERS,
+            wanted,
             done: &self.done,
         }
     }
@@ -111,30 +107,7 @@ fn peer<'a>(alloc: Global, flags: Flags<'a>) -> Flagged<'a> {
     }
 }
 
-impl<'a> Member<'a> {
-    fn new(
-        alloc: Global,
-        seat: Seat<'a>,
-        desk: &'a Desk,
-        ends: ClientEnds,
-        peer: Flagged<'a>,
-    ) -> Option<Member<'a>> {
-        if ends.senders.len() != seat.port.lanes() {
-            return None;
-        }
-        let Seat { at, port } = seat;
-        let ClientEnds { inbox, senders } = ends;
-        let link = MemoryLink::new(peer);
-        match ClientWorker::new(alloc, port, desk, inbox, senders, 4, link) {
-            Ok(worker) => Some(Member {
-                at,
-                worker,
-                over: false,
-            }),
-            Err(_) => None,
-        }
-    }
-
+impl Member<'_> {
     // Turns it once.
     fn turn<R: Wait, G: Gate, D: Directory>(
         &mut self,
@@ -169,40 +142,57 @@ impl<'a> Member<'a> {
         }
         false
     }
-
-    // Whether its client was written these octets.
-    fn close<R: Wait, D: Directory>(self, rt: &R, directory: &mut D, wanted: &[u8]) -> bool {
-        let Member { at, worker, .. } = self;
-        let closed = worker.close(at, rt, directory);
-        closed.link.peer().script.taken() == wanted
-    }
 }
 
-/// A client that is to be served.
+/// A client that has entered, and is to be served.
 #[derive(Drop)]
 pub(crate) struct Guest<'a> {
-    pub seat: Seat<'a>,
+    pub at: &'a Exchange,
+    pub port: Port,
+    pub desk: &'a Desk,
     pub ends: ClientEnds,
     pub flags: Flags<'a>,
+    ghost fits: { locks_of port.fronts ≡ at.now },
 }
 
 impl<'a> Guest<'a> {
-    /// Serves the client until it has left, and answers whether it was written these octets.
-    pub(crate) fn serve<R: Wait + Clock>(
-        self,
-        rt: &R,
-        alloc: Global,
-        desk: &'a Desk,
-        wanted: &[u8],
-    ) -> bool {
-        let Guest { seat, ends, flags } = self;
-        let Some(mut member) = Member::new(alloc, seat, desk, ends, peer(alloc, flags)) else {
+    // The client's worker.
+    fn member(self, alloc: Global) -> Option<Member<'a>> {
+        if self.ends.senders.len() != self.port.lanes() {
+            return None;
+        }
+        let Guest {
+            at,
+            port,
+            desk,
+            ends,
+            flags,
+            ..
+        } = self;
+        let ClientEnds { inbox, senders } = ends;
+        let link = MemoryLink::new(peer(alloc, flags));
+        match ClientWorker::new(alloc, port, desk, inbox, senders, 4, link) {
+            Ok(worker) => Some(Member {
+                at,
+                worker,
+                over: false,
+            }),
+            Err(_) => None,
+        }
+    }
+
+    /// Serves the client until it has left, and answers whether it was written what it should be.
+    pub(crate) fn serve<R: Wait + Clock>(self, rt: &R, alloc: Global) -> bool {
+        let flags = self.flags;
+        let Some(mut member) = self.member(alloc) else {
             return false;
         };
         let mut gate = FlagGate::new(flags.gate);
         let mut nobody = Nobody::new();
         let left = member.turn_all(rt, &mut gate, &mut nobody);
-        let well = member.close(rt, &mut nobody, wanted);
+        let Member { at, worker, .. } = member;
+        let closed = worker.close(at, rt, &mut nobody);
+        let well = closed.link.peer().script.taken() == flags.wanted;
         flags.done.fetch_add(1, Ordering::SeqCst);
         left && well
     }
