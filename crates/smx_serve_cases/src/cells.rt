@@ -1,10 +1,13 @@
 //! The cells of the two session tables over sockets (SMPP 3.4, sections 2.2 and 4): in each state
 //! each kind of PDU, by its header alone, and what comes back.
-use crate::stage::{Header, OWN_BIND, OWN_BOUND, comes, config_for, number_of};
-use smx_serve::{Ended, Server};
+use crate::stage::{
+    Header, OWN_BOUND, binding, bound, comes, config_for, connected, number_of, server,
+};
+use smx_serve::{Ended, Remote};
 use std::alloc::Global;
 use std::io::Write;
-use std::net::{TcpListener, TcpStream};
+use std::net::{Net, TcpListener, TcpStream};
+use std::process::Abort;
 use std::test::Fail;
 use std::thread;
 
@@ -134,7 +137,8 @@ fn is_bound(stream: &mut TcpStream, command: u8) -> bool {
 
 // Whether each kind of PDU is answered as the table's column says.
 fn are_answered(alloc: Global, stream: &mut TcpStream, up: &mut TcpStream, state: usize) -> bool {
-    for (command, replies) in CLIENT {
+    for at in 0..CLIENT.len() {
+        let (command, replies) = CLIENT[at];
         let Some(reply) = replies.get(state) else {
             return false;
         };
@@ -145,80 +149,118 @@ fn are_answered(alloc: Global, stream: &mut TcpStream, up: &mut TcpStream, state
     true
 }
 
+// Whether the proxy answers a PDU of this kind from the centre so.
+fn is_decided(alloc: Global, up: &mut TcpStream, command: u32, reply: Reply) -> bool {
+    if !header(command, 0, 7).is_said(alloc, up) {
+        return false;
+    }
+    match reply {
+        Status(status) => header(RESPONSE | command, status, 7).is_heard(alloc, up),
+        Unknown => header(GENERIC_NACK, 3, 7).is_heard(alloc, up),
+        Nothing | Forwarded => is_quiet(alloc, up),
+    }
+}
+
 // Whether each kind of PDU, from this row on, is answered as the table's column says.
 fn are_decided(alloc: Global, up: &mut TcpStream, state: usize, from: usize) -> bool {
-    for (command, replies) in CENTRE.into_iter().skip(from) {
+    for at in from..CENTRE.len() {
+        let (command, replies) = CENTRE[at];
         let Some(reply) = replies.get(state) else {
             return false;
         };
-        if !header(command, 0, 7).is_said(alloc, up) {
-            return false;
-        }
-        let is_right = match reply {
-            Status(status) => header(RESPONSE | command, *status, 7).is_heard(alloc, up),
-            Unknown => header(GENERIC_NACK, 3, 7).is_heard(alloc, up),
-            Nothing | Forwarded => is_quiet(alloc, up),
-        };
-        if !is_right {
+        if !is_decided(alloc, up, command, *reply) {
             return false;
         }
     }
     true
 }
 
+// A client that is bound by this command, or not at all by 0: each kind of PDU is answered as the
+// table's column says.
+fn meets<R: Net<Stream = TcpStream> + Abort>(
+    rt: &R,
+    alloc: Global,
+    remote: &Remote,
+    up: &mut TcpStream,
+    kind: u8,
+    state: usize,
+) -> Result<(), Fail> {
+    let mut client = connected(rt, alloc, remote)?;
+    assert!(rt; kind == 0 || is_bound(&mut client, kind));
+    assert!(rt; are_answered(alloc, &mut client, up, state));
+    Ok(())
+}
+
+// A client that isn't bound, and ones that are by bind_transmitter, bind_receiver and
+// bind_transceiver.
+fn meet_all<R: Net<Stream = TcpStream> + Abort>(
+    rt: &R,
+    alloc: Global,
+    remote: &Remote,
+    up: &mut TcpStream,
+) -> Result<(), Fail> {
+    meets(rt, alloc, remote, up, 0, 0)?;
+    meets(rt, alloc, remote, up, 2, 1)?;
+    meets(rt, alloc, remote, up, 1, 2)?;
+    meets(rt, alloc, remote, up, 9, 3)
+}
+
+// Once the proxy unbinds, each kind of PDU is answered as before the bind. Then the centre answers
+// the unbind.
+fn unbind(rt: &impl Abort, alloc: Global, up: &mut TcpStream) {
+    assert!(rt; header(UNBIND, 0, OWN_UNBIND).is_heard(alloc, up));
+    assert!(rt; are_decided(alloc, up, 0, 1));
+    assert!(rt; header(RESPONSE | UNBIND, 0, OWN_UNBIND).is_said(alloc, up));
+}
+
+// The centre's link, over which the clients are met and the proxy unbinds.
+fn clients_met<R: Net<Stream = TcpStream> + Abort>(
+    rt: &R,
+    alloc: Global,
+    centre: &TcpListener,
+    remote: &Remote,
+) -> Result<TcpStream, Fail> {
+    let mut up = bound(rt, centre)?;
+    assert!(rt; is_quiet(alloc, &mut up));
+    meet_all(rt, alloc, remote, &mut up)?;
+    remote.stop();
+    unbind(rt, alloc, &mut up);
+    Ok(up)
+}
+
 // Clients that aren't bound, and bound in each way, each of which unbinds last; and then a centre that
 // the proxy unbinds from.
 #[test]
 fn cells_of_a_client(rt: HostRuntime) -> Result<(), Fail> {
-    let alloc = rt.alloc();
     let centre = TcpListener::bind(&rt, "127.0.0.1:0")?;
-    let config = config_for(alloc, centre.local_addr()?.port())?;
-    let Some(server) = Server::new(&rt, alloc) else {
-        panic!(rt; "no server");
-    };
-    let Some(remote) = server.remote() else {
-        panic!(rt; "no remote");
-    };
+    let config = config_for(rt.alloc(), &centre, 30_000)?;
+    let (server, remote) = server(&rt, rt.alloc());
     let proxy = thread::spawn(&rt, move || server.serve(&rt, rt.alloc(), &config))?;
-    let (mut up, _) = centre.accept()?;
-    assert!(rt; comes(&mut up, OWN_BIND));
-    up.write_all(OWN_BOUND)?;
-    assert!(rt; is_quiet(alloc, &mut up));
-    let address = format!(in alloc; "127.0.0.1:{}", remote.port())?;
-    // Not bound, and by bind_transmitter, bind_receiver and bind_transceiver.
-    for (state, kind) in [0u8, 2, 1, 9].iter().enumerate() {
-        let mut client = TcpStream::connect(&rt, address.as_str())?;
-        assert!(rt; *kind == 0 || is_bound(&mut client, *kind));
-        assert!(rt; are_answered(alloc, &mut client, &mut up, state));
-    }
-    remote.stop();
-    assert!(rt; header(UNBIND, 0, OWN_UNBIND).is_heard(alloc, &mut up));
-    assert!(rt; are_decided(alloc, &mut up, 0, 1));
-    assert!(rt; header(RESPONSE | UNBIND, 0, OWN_UNBIND).is_said(alloc, &mut up));
+    let _link = clients_met(&rt, rt.alloc(), &centre, &remote)?;
     assert_eq!(rt; proxy.join(&rt), Ended::Stopped);
     Ok(())
 }
 
-// A centre before and after it answered the bind. It unbinds last.
-#[test]
-fn cells_of_a_centre(rt: HostRuntime) -> Result<(), Fail> {
-    let alloc = rt.alloc();
-    let centre = TcpListener::bind(&rt, "127.0.0.1:0")?;
-    let config = config_for(alloc, centre.local_addr()?.port())?;
-    let Some(server) = Server::new(&rt, alloc) else {
-        panic!(rt; "no server");
-    };
-    let Some(remote) = server.remote() else {
-        panic!(rt; "no remote");
-    };
-    let proxy = thread::spawn(&rt, move || server.serve(&rt, rt.alloc(), &config))?;
-    let (mut up, _) = centre.accept()?;
-    assert!(rt; comes(&mut up, OWN_BIND));
+// The centre's link, over which it answers the bind and unbinds last: each kind of PDU before and
+// after that answer.
+fn centre_met(rt: &impl Abort, alloc: Global, centre: &TcpListener) -> Result<TcpStream, Fail> {
+    let mut up = binding(rt, centre)?;
     assert!(rt; are_decided(alloc, &mut up, 0, 0));
     up.write_all(OWN_BOUND)?;
     assert!(rt; are_decided(alloc, &mut up, 1, 0));
     assert!(rt; header(UNBIND, 0, 7).is_said(alloc, &mut up));
     assert!(rt; header(RESPONSE | UNBIND, 0, 7).is_heard(alloc, &mut up));
+    Ok(up)
+}
+
+// A centre before and after it answered the bind. It unbinds last.
+#[test]
+fn cells_of_a_centre(rt: HostRuntime) -> Result<(), Fail> {
+    let centre = TcpListener::bind(&rt, "127.0.0.1:0")?;
+    let config = config_for(rt.alloc(), &centre, 30_000)?;
+    let (server, remote) = server(&rt, rt.alloc());
+    let proxy = thread::spawn(&rt, move || server.serve(&rt, rt.alloc(), &config))?;
+    let _link = centre_met(&rt, rt.alloc(), &centre)?;
     remote.stop();
     assert_eq!(rt; proxy.join(&rt), Ended::Stopped);
     Ok(())

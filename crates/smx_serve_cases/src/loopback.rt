@@ -1,7 +1,10 @@
-use crate::stage::{OWN_BIND, OWN_BOUND, comes, config_for};
-use smx_serve::{Ended, Server};
+use self::Step::{CentreHears, CentreSays, ClientHears, ClientSays};
+use crate::stage::{bound, comes, config_for, connected, server};
+use smx_serve::{Ended, Remote};
+use std::alloc::Global;
 use std::io::Write;
-use std::net::{TcpListener, TcpStream};
+use std::net::{Net, TcpListener, TcpStream};
+use std::process::Abort;
 use std::test::Fail;
 use std::thread;
 
@@ -44,41 +47,76 @@ const OWN_UNBIND: &[u8] = b"\x00\x00\x00\x10\x00\x00\x00\x06\x00\x00\x00\x00\x7f
 
 const OWN_UNBOUND: &[u8] = b"\x00\x00\x00\x10\x80\x00\x00\x06\x00\x00\x00\x00\x7f\xff\xff\xff";
 
+// What the client or the centre does: it says octets, or these come to it next.
+#[derive(Clone, Copy)]
+enum Step {
+    ClientSays(&'static [u8]),
+    ClientHears(&'static [u8]),
+    CentreSays(&'static [u8]),
+    CentreHears(&'static [u8]),
+}
+
+const WALK: [Step; 12] = [
+    ClientSays(BIND),
+    ClientHears(BOUND),
+    ClientSays(SUBMIT),
+    CentreHears(SENT),
+    CentreSays(RESPONSE),
+    ClientHears(COLLECTED),
+    CentreSays(MESSAGE),
+    ClientHears(DELIVERED),
+    ClientSays(TAKEN),
+    CentreHears(TAKEN_UP),
+    ClientSays(UNBIND),
+    ClientHears(UNBOUND),
+];
+
+// The proxy stops in order.
+const STOP: [Step; 2] = [CentreHears(OWN_UNBIND), CentreSays(OWN_UNBOUND)];
+
+fn holds(client: &mut TcpStream, up: &mut TcpStream, step: Step) -> bool {
+    match step {
+        ClientSays(octets) => client.write_all(octets).is_ok(),
+        ClientHears(octets) => comes(client, octets),
+        CentreSays(octets) => up.write_all(octets).is_ok(),
+        CentreHears(octets) => comes(up, octets),
+    }
+}
+
+fn play(rt: &impl Abort, client: &mut TcpStream, up: &mut TcpStream, steps: &[Step]) {
+    for at in 0..steps.len() {
+        assert!(rt;
+            holds(client, up, steps[at]),
+            "step {at} of {}",
+            steps.len()
+        );
+    }
+}
+
+// The walk and the stop, and the links that they went over.
+fn walk<R: Net<Stream = TcpStream> + Abort>(
+    rt: &R,
+    alloc: Global,
+    centre: &TcpListener,
+    remote: &Remote,
+) -> Result<(TcpStream, TcpStream), Fail> {
+    let mut up = bound(rt, centre)?;
+    let mut client = connected(rt, alloc, remote)?;
+    play(rt, &mut client, &mut up, &WALK);
+    remote.stop();
+    play(rt, &mut client, &mut up, &STOP);
+    Ok((up, client))
+}
+
 // A request, its response, a message of the centre and its answer go the whole way over sockets;
 // then the proxy stops in order.
 #[test]
 fn a_message_goes_both_ways(rt: HostRuntime) -> Result<(), Fail> {
-    let alloc = rt.alloc();
     let centre = TcpListener::bind(&rt, "127.0.0.1:0")?;
-    let port = centre.local_addr()?.port();
-    let config = config_for(alloc, port)?;
-    let Some(server) = Server::new(&rt, alloc) else {
-        panic!(rt; "no server");
-    };
-    let Some(remote) = server.remote() else {
-        panic!(rt; "no remote");
-    };
+    let config = config_for(rt.alloc(), &centre, 30_000)?;
+    let (server, remote) = server(&rt, rt.alloc());
     let proxy = thread::spawn(&rt, move || server.serve(&rt, rt.alloc(), &config))?;
-    let (mut up, _) = centre.accept()?;
-    assert!(rt; comes(&mut up, OWN_BIND));
-    up.write_all(OWN_BOUND)?;
-    let address = format!(in alloc; "127.0.0.1:{}", remote.port())?;
-    let mut client = TcpStream::connect(&rt, address.as_str())?;
-    client.write_all(BIND)?;
-    assert!(rt; comes(&mut client, BOUND));
-    client.write_all(SUBMIT)?;
-    assert!(rt; comes(&mut up, SENT));
-    up.write_all(RESPONSE)?;
-    assert!(rt; comes(&mut client, COLLECTED));
-    up.write_all(MESSAGE)?;
-    assert!(rt; comes(&mut client, DELIVERED));
-    client.write_all(TAKEN)?;
-    assert!(rt; comes(&mut up, TAKEN_UP));
-    client.write_all(UNBIND)?;
-    assert!(rt; comes(&mut client, UNBOUND));
-    remote.stop();
-    assert!(rt; comes(&mut up, OWN_UNBIND));
-    up.write_all(OWN_UNBOUND)?;
+    let _links = walk(&rt, rt.alloc(), &centre, &remote)?;
     assert_eq!(rt; proxy.join(&rt), Ended::Stopped);
     Ok(())
 }

@@ -1,37 +1,31 @@
 //! A centre that is gone for a while.
 
-use crate::stage::{OWN_BIND, OWN_BOUND, comes, config_with};
-use smx_serve::{Ended, Server};
-use std::io::Write;
-use std::net::TcpListener;
+use crate::stage::{binding, bound, config_for, server};
+use smx_serve::Ended;
+use std::net::{TcpListener, TcpStream};
+use std::process::Abort;
 use std::test::Fail;
 use std::thread;
+
+// Connections that the proxy makes one after another: the centre closes the first two, and never
+// answers the bind on the last two.
+fn rebound(rt: &impl Abort, centre: &TcpListener) -> Result<(TcpStream, TcpStream), Fail> {
+    drop(binding(rt, centre)?);
+    drop(bound(rt, centre)?);
+    let silent = binding(rt, centre)?;
+    let last = binding(rt, centre)?;
+    Ok((silent, last))
+}
 
 // The centre closes the connection before and after it answered the bind, and never answers one. Each
 // time the proxy connects and binds again.
 #[test]
 fn centre_comes_back(rt: HostRuntime) -> Result<(), Fail> {
-    let alloc = rt.alloc();
     let centre = TcpListener::bind(&rt, "127.0.0.1:0")?;
-    let config = config_with(alloc, centre.local_addr()?.port(), 300)?;
-    let Some(server) = Server::new(&rt, alloc) else {
-        panic!(rt; "no server");
-    };
-    let Some(remote) = server.remote() else {
-        panic!(rt; "no remote");
-    };
+    let config = config_for(rt.alloc(), &centre, 300)?;
+    let (server, remote) = server(&rt, rt.alloc());
     let proxy = thread::spawn(&rt, move || server.serve(&rt, rt.alloc(), &config))?;
-    for answers in [false, true] {
-        let (mut up, _) = centre.accept()?;
-        assert!(rt; comes(&mut up, OWN_BIND));
-        if answers {
-            up.write_all(OWN_BOUND)?;
-        }
-    }
-    let (mut silent, _) = centre.accept()?;
-    assert!(rt; comes(&mut silent, OWN_BIND));
-    let (mut last, _) = centre.accept()?;
-    assert!(rt; comes(&mut last, OWN_BIND));
+    let _links = rebound(&rt, &centre)?;
     remote.stop();
     assert_eq!(rt; proxy.join(&rt), Ended::Stopped);
     Ok(())

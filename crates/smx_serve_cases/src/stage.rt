@@ -1,9 +1,12 @@
-//! A proxy's configuration, and headers over a socket.
+//! A proxy, the links to it, and headers over a socket.
 use smx_config::{Config, read};
 use smx_pdu::{Body, Pdu, encode};
+use smx_serve::{Remote, Server};
 use std::alloc::Global;
 use std::io::{Read, Write};
-use std::net::TcpStream;
+use std::net::{Net, TcpListener, TcpStream};
+use std::process::Abort;
+use std::sync::Arc;
 use std::test::Fail;
 
 // The proxy's own bind, and the centre's answer (SMPP 3.4, sections 4.1.5 and 4.1.6).
@@ -13,17 +16,49 @@ pub(crate) const OWN_BIND: &[u8] =
 pub(crate) const OWN_BOUND: &[u8] =
     b"\x00\x00\x00\x17\x80\x00\x00\x09\x00\x00\x00\x00\x7f\xff\xff\xfdcentre\x00";
 
-// A proxy at any free port, with one upstream at this port and the account alpha.
-pub(crate) fn config_for(alloc: Global, port: u16) -> Result<Config, Fail> {
-    config_with(alloc, port, 30_000)
-}
-
-// The same with this silence, in milliseconds.
-pub(crate) fn config_with(alloc: Global, port: u16, silence: u64) -> Result<Config, Fail> {
+// A proxy at any free port, with one upstream at this centre, the account alpha, and this silence in
+// milliseconds.
+pub(crate) fn config_for(
+    alloc: Global,
+    centre: &TcpListener,
+    silence: u64,
+) -> Result<Config, Fail> {
+    let port = centre.local_addr()?.port();
     let text = format!(in alloc;
         "listen = \"127.0.0.1:0\"\nsilence = {silence}\n[[upstream]]\naddress = \"127.0.0.1:{port}\"\nsystem_id = \"proxy\"\npassword = \"pw\"\n[[account]]\nsystem_id = \"alpha\"\npassword = \"p\"\nprefixes = [\"49\"]\n"
     )?;
     Ok(read(alloc, text.as_str())?)
+}
+
+// A proxy, and what stops it.
+pub(crate) fn server<R: Net + Abort>(rt: &R, alloc: Global) -> (Server, Arc<Remote>) {
+    let server = Server::new(rt, alloc).expect(rt, "no server");
+    let remote = server.remote().expect(rt, "no remote");
+    (server, remote)
+}
+
+// The connection that the proxy makes to the centre, which hears its bind.
+pub(crate) fn binding(rt: &impl Abort, centre: &TcpListener) -> Result<TcpStream, Fail> {
+    let (mut up, _) = centre.accept()?;
+    assert!(rt; comes(&mut up, OWN_BIND));
+    Ok(up)
+}
+
+// The same, and the centre answers it.
+pub(crate) fn bound(rt: &impl Abort, centre: &TcpListener) -> Result<TcpStream, Fail> {
+    let mut up = binding(rt, centre)?;
+    up.write_all(OWN_BOUND)?;
+    Ok(up)
+}
+
+// A client's connection.
+pub(crate) fn connected<R: Net<Stream = TcpStream>>(
+    rt: &R,
+    alloc: Global,
+    remote: &Remote,
+) -> Result<TcpStream, Fail> {
+    let address = format!(in alloc; "127.0.0.1:{}", remote.port())?;
+    Ok(TcpStream::connect(rt, address.as_str())?)
 }
 
 // Whether these octets come next.
