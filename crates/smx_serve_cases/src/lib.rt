@@ -5,6 +5,8 @@
 #[cfg(test)]
 mod cells;
 #[cfg(test)]
+mod hostile;
+#[cfg(test)]
 mod loopback;
 #[cfg(test)]
 mod returning;

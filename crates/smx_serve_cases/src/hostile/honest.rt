@@ -1,26 +1,26 @@
 //! The honest client.
-use crate::caller::Caller;
+use super::caller::Caller;
 use smx_pdu::Header;
 use smx_pdu::command::{ENQUIRE_LINK, RESPONSE, SUBMIT_SM};
 use smx_pdu::status::ESME_ROK;
 
-/// How many requests it sends at once.
+// How many requests it sends at once.
 pub(crate) const REQUESTS: u32 = 10;
 
-/// The number of the enquiry behind them.
+// The number of the enquiry behind them.
 const ENQUIRY: u32 = 99;
 
-/// How many PDUs it hears at most.
+// How many PDUs it hears at most.
 const MOST: u32 = 100;
 
-/// How its requests were answered.
+// How its requests were answered.
 #[derive(Clone, Copy)]
 pub(crate) struct Answers {
     // By request how many answers came.
     counts: [u32; 10],
-    /// How many of all answers had status 0.
+    // How many of all answers had status 0.
     pub well: u32,
-    /// How many PDUs were no answer to a request.
+    // How many PDUs were no answer to a request.
     strange: u32,
 }
 
@@ -51,19 +51,19 @@ impl Answers {
         self.counts.iter().all(|count| *count > 0)
     }
 
-    /// Whether each request was answered once, and nothing else came.
+    // Whether each request was answered once, and nothing else came.
     pub(crate) fn is_once(&self) -> bool {
         self.strange == 0 && self.counts.iter().all(|count| *count == 1)
     }
 
-    /// The same, each with status 0.
+    // The same, each with status 0.
     pub(crate) fn is_well(&self) -> bool {
         self.is_once() && self.well == REQUESTS
     }
 }
 
 impl Caller {
-    /// Sends the requests, hears their answers, and then what comes before an enquiry is answered.
+    // Sends the requests, hears their answers, and then what comes before an enquiry is answered.
     pub(crate) fn exchange(&mut self) -> Answers {
         let mut answers = Answers::new();
         for number in 1..=REQUESTS {
