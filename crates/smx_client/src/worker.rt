@@ -101,6 +101,7 @@ impl<'d, L: Link + Drop> ClientWorker<'d, L> {
         requires lanes { length senders.items ≡ length port.fronts }
         requires places { IsSize places }
         ensures port { IfOk result (λ w. (w.port ≡ port) × (w.origin.port.value ≡ port)) }
+        ensures desk { IfOk result (λ w. w.desk.now ≡ desk.now) }
         ensures boxes { IfOk result
             (λ w. (w.origin.inbox.value ≡ inbox) × (w.origin.senders.value ≡ senders)) }
         ensures window { IfOk result
