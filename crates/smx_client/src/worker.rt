@@ -107,6 +107,7 @@ impl<'d, L: Link + Drop> ClientWorker<'d, L> {
         ensures window { IfOk result
             (λ w. (w.origin.window.value.waiting ≡ []) × (w.origin.window.value.places ≡ places)) }
         ensures link { IfOk result (λ w. (w.wire.start ≡ link) × (w.wire.failed ≡ None)) }
+        ensures unused { IfOk result (λ w. w.wire.link ≡ link) }
         ensures none { IfOk result
             (λ w. (w.held ≡ None) × (w.parked ≡ None) × (w.events ≡ []) × (w.turns ≡ 0)) }
         ensures stage { IfOk result (λ w. (w.stage ≡ Stage.Open) × (w.settled ≡ true)) }
