@@ -10,3 +10,4 @@ pub mod Settling
 pub mod Replying
 pub mod Leavings
 pub mod Entering
+pub mod Coursing

@@ -8,4 +8,5 @@ pub mod Table
 pub mod Stages
 pub mod Turns
 pub mod Scenes
+pub mod Courses
 pub mod Leaving

@@ -1,23 +1,28 @@
 -- One turn more, at the moment that a clock gave.
-use Rattle.std.proofs.Common.{◌≡◌, ℕ, List, [], ◌∷◌, ◌++◌, Result, refl}
+use Rattle.std.proofs.Common.{◌≡◌, ℕ, ◌+◌, List, [], ◌∷◌, ◌++◌, Result, refl}
 use Rattle.smx_session.specs.Moments.{is_bound}
+use Rattle.smx_link.specs.declared.link.Polled.{Polled}
+use Rattle.smx_link.specs.declared.link.LinkFault.{LinkFault}
+use Rattle.smx_turns.specs.declared.gate.Question.{Question}
+use Rattle.smx_turns.specs.declared.gate.Party.{Party}
+use Rattle.smx_turns.specs.declared.directory.Query.{Query}
 use Rattle.smx_turns.specs.declared.end.TurnEnd.{TurnEnd}
 use Rattle.smx_turns.specs.declared.end.Fault.{Fault}
 use Rattle.smx_turns.specs.Runs.{Runs}
-use Rattle.smx_turns.specs.Steps.{events}
 use Rattle.smx_turns.proofs.Chains.{runs_push}
-use Rattle.smx_upstream.specs.Phases.{phase_of, IsTurn}
+use Rattle.smx_upstream.specs.Phases.{phase_of, link_faults, IsTurn}
 use Rattle.smx_upstream.specs.Quiet.{are_all_quiet}
-use Rattle.smx_upstream.specs.Working.{Working, before_turn}
-use Rattle.smx_upstream.specs.Timing.{Timing, timing, TurnsAt}
+use Rattle.smx_upstream.specs.Working.{Working, before_turn, side_of, ChangesSide}
+use Rattle.smx_upstream.specs.Timing.{Timing, TurnsAt}
 
-module _ {C L : Type 0} (gives : C → ℕ → C → Type 0) where
-  pub clocked_more : (a : Timing C L) (c d : C) (w w' : Working L) (now : ℕ) (end : Result TurnEnd Fault) → (moments : List ℕ) × Runs (TurnsAt gives) a moments (timing c w)
-      → gives c now d → IsTurn (is_bound w'.stand.session.state) (are_all_quiet w'.steps) end (phase_of (before_turn now w) w'.steps)
-      → w'.events ≡ w.events ++ events w'.steps → w'.ends ≡ w.ends ++ end ∷ [] → (moments : List ℕ) × Runs (TurnsAt gives) a moments (timing d w')
-  clocked_more a c d w w' now end r asked order more ends =
-      (r.0 ++ now ∷ [], runs_push (TurnsAt gives) a (timing c w) (timing d w') r.0 (r.0 ++ now ∷ []) now refl (record { end = end; asked = asked; order = order; more = more; ends = ends }) r.1)
+module _ {C L : Type 0} (gives : C → ℕ → C → Type 0) (polls : L → List (Result Polled LinkFault)) (failures : L → ℕ) where
+  pub clocked_more : (a b d : Timing C L) (now : ℕ) (end : Result TurnEnd Fault) → (moments : List ℕ) × Runs (TurnsAt gives polls failures) a moments b
+      → gives b.clock now d.clock → IsTurn (is_bound d.worker.stand.session.state) (are_all_quiet d.worker.steps) end (phase_of (before_turn now b.worker) d.worker.steps)
+      → ChangesSide d.worker.stand.age.turns (side_of polls b.asked b.told b.queries b.worker) (side_of polls d.asked d.told d.queries d.worker) d.worker.steps
+      → failures d.worker.wire.link ≡ failures b.worker.wire.link + link_faults end → d.worker.ends ≡ b.worker.ends ++ end ∷ [] → (moments : List ℕ) × Runs (TurnsAt gives polls failures) a moments d
+  clocked_more a b d now end r asked order turned fails ends =
+      (r.0 ++ now ∷ [], runs_push (TurnsAt gives polls failures) a b d r.0 (r.0 ++ now ∷ []) now refl (record { end = end; asked = asked; order = order; turned = turned; fails = fails; ends = ends }) r.1)
 
   -- what is left of it once the clock is gone
-  pub clocked_out : (a : Timing C L) (d : C) (w : Working L) → (moments : List ℕ) × Runs (TurnsAt gives) a moments (timing d w) → (moments : List ℕ) × (last : C) × Runs (TurnsAt gives) a moments (timing last w)
-  clocked_out a d w r = (r.0, d, r.1)
+  pub clocked_out : (a : Timing C L) (d : C) (asked : List Question) (told : List Party) (queries : List Query) (w : Working L) → (moments : List ℕ) × Runs (TurnsAt gives polls failures) a moments (record { clock = d; worker = w; asked = asked; told = told; queries = queries }) → (moments : List ℕ) × (last : C) × Runs (TurnsAt gives polls failures) a moments (record { clock = last; worker = w; asked = asked; told = told; queries = queries })
+  clocked_out a d asked told queries w r = (r.0, d, r.1)

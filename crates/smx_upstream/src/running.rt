@@ -140,10 +140,13 @@ pub fn run_upstream<L: Link + Drop, R: Wait, G: Gate, D: Directory, C: FnMut() -
     ensures ran { RunsOn Does worker.old.stand worker.old.events
         worker.new.stand worker.new.events }
 
-    // Each turn is one in the table's order, at the moment that one call of the clock gave.
+    // Each turn is one in the table's order, at the moment that one call of the clock gave, and
+    // nothing else is asked of the gate, the directory and the link's reads.
     ensures clocked { (moments : List ℕ) × (last : C)
-        × Runs (TurnsAt (λ a now b. C.step a now b)) (timing clock worker.old) moments
-        (timing last worker.new) }
+        × Runs (TurnsAt (λ a now b. C.step a now b) L.polls L.failures)
+        (timing clock (G.asked gate.old) (G.told gate.old) (D.queries directory.old) worker.old)
+        moments
+        (timing last (G.asked gate.new) (G.told gate.new) (D.queries directory.new) worker.new) }
 {
     for _turn in 0..turns {
         let now = clock();

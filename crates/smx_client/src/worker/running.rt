@@ -1,11 +1,13 @@
 //! Turns of a client's worker, one after another.
-ghost use Rattle.std.specs.Prelude.{◌≡◌, ◌≢◌, ◌+◌, ◌-◌, ◌^◌, ◌++◌, ◌∷◌, [], ℕ, List, min, Ok, None, OnOk, true};
+ghost use Rattle.std.specs.Prelude.{◌≡◌, ◌≢◌, ◌+◌, ◌-◌, ◌^◌, ◌++◌, ◌∷◌, [], ℕ, List, min, Ok, None, OnOk, Result, true};
 ghost use Rattle.smx_frame.specs.Stream.{HasNone};
 ghost use Rattle.smx_shared.specs.Views.{locks_of};
 ghost use Rattle.smx_turns.specs.Rounds.{EndsSo};
 ghost use Rattle.smx_turns.specs.Runs.{Runs, RunsOn};
 ghost use Rattle.smx_turns.specs.Steps.{asks, polls, events, are_quiet};
 ghost use Rattle.smx_turns.specs.declared.end.Fault.{Fault};
+ghost use Rattle.smx_turns.specs.declared.end.TurnEnd.{TurnEnd};
+ghost use Rattle.smx_client.specs.Courses.{course, TurnsSo};
 ghost use Rattle.smx_client.specs.Events.{is_quiet_event, tells};
 ghost use Rattle.smx_client.specs.Marks.{is_quiet_mark};
 ghost use Rattle.smx_client.specs.Parts.{Does};
@@ -233,6 +235,12 @@ pub fn run_client<'d, L: Link + Drop, R: Wait, G: Gate, D: Directory>(
     ensures ends { EndsSo turns result worker.old.ends worker.new.ends }
     ensures ran { RunsOn Does (parts_of worker.old) worker.old.events (parts_of worker.new)
         worker.new.events }
+
+    // It makes turns, and asks nothing else of the gate, the directory and the link.
+    ensures turned { (ends : List (Result TurnEnd Fault)) × Runs TurnsSo
+        (course (G.asked gate.old) (G.told gate.old) (D.queries directory.old) worker.old)
+        ends
+        (course (G.asked gate.new) (G.told gate.new) (D.queries directory.new) worker.new) }
     ensures goes_on { ((fault : Fault) → result ≢ RunEnd.Fault fault)
         → worker.new.stage ≢ Stage.Closed → worker.new.wire.failed ≡ None }
     ensures locks { locks_of worker.new.port.fronts ≡ locks_of worker.old.port.fronts }

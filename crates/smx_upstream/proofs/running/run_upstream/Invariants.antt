@@ -13,6 +13,9 @@ invariant-loop-turn g l = record {
   lock : slice_get l.fn.at l.worker.stand.tap.lane ≡ Some l.worker.stand.tap.front.lock;
   first : l.worker.first ≡ l.fn.worker.first;
   ends : l.worker.ends ≡ l.fn.worker.ends ++ worked_turns l._turn [];
-  clocked : (moments : List ℕ) × Runs (TurnsAt (λ a now b. goal.C-step g a now b)) (timing l.initial.clock l.fn.worker) moments (timing l.clock l.worker);
+  clocked : (moments : List ℕ) × Runs (TurnsAt (λ a now b. goal.C-step g a now b) g.L.Link.polls g.L.Link.failures)
+      (timing l.initial.clock (g.G.Gate.asked l.fn.gate) (g.G.Gate.told l.fn.gate) (g.D.Directory.queries l.fn.directory) l.fn.worker)
+      moments
+      (timing l.clock (g.G.Gate.asked l.gate) (g.G.Gate.told l.gate) (g.D.Directory.queries l.directory) l.worker);
   ran : RunsOn Does l.fn.worker.stand l.fn.worker.events l.worker.stand l.worker.events;
 }

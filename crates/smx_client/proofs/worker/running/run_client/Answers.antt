@@ -1,9 +1,10 @@
-use Rattle.std.proofs.Common.{rules, refl, sym, Ok, Err}
+use Rattle.std.proofs.Common.{rules, [], refl, sym, Ok, Err}
 use Rattle.std.proofs.lemmas.List.{append-nil}
 use Rattle.smx_turns.specs.declared.end.TurnEnd.TheVariants.{Idle, Done}
-use Rattle.smx_turns.proofs.Chains.{ran_none, ran_more}
+use Rattle.smx_turns.proofs.Chains.{ran_none, ran_more, runs_none}
 use Rattle.smx_client.specs.Parts.{Does}
 use Rattle.smx_turns.proofs.Rounding.{last_one, round_more, end_as}
+use Rattle.smx_client.proofs.Coursing.{turned_more}
 use Rattle.smx_client.proofs.worker.running.run_client.Goals as goal
 
 pub loop-turn-init : goal.loop-turn-init
@@ -12,6 +13,7 @@ loop-turn-init g c = record {
   origin = refl;
   goes_on = c.requires.goes_on;
   ends = sym (append-nil _);
+  turned = ([], runs_none _ _);
   ran = ran_none Does _ _ _ _ refl refl;
 }
 
@@ -21,6 +23,7 @@ loop-turn-preserved g c = record {
   origin = search rules;
   goes_on = search rules;
   ends = round_more _ _ _ _ (end_as _ _ _ _ c.in-Ok-Worked.field-0-is c.in-Ok-Worked.ensures.ends) c.loop-turn.invariant.ends;
+  turned = turned_more _ _ _ c.turn.result c.loop-turn.invariant.turned c.turn.ensures.changes c.turn.ensures.order c.turn.ensures.ends;
   ran = ran_more Does _ _ _ _ _ _ _ c.loop-turn.invariant.ran c.in-Ok-Worked.ensures.events c.in-Ok-Worked.ensures.runs;
 }
 
@@ -44,3 +47,12 @@ returns-in-Err-clause-ran g c = ran_more Does _ _ _ _ _ _ _ c.loop-turn.invarian
 
 pub returns-in-Err-clause-goes_on : goal.returns-in-Err-clause-goes_on
 returns-in-Err-clause-goes_on g c = λ other. absurd (other _ refl)
+
+pub returns-in-Ok-Idle-clause-turned : goal.returns-in-Ok-Idle-clause-turned
+returns-in-Ok-Idle-clause-turned g c = turned_more _ _ _ c.turn.result c.loop-turn.invariant.turned c.turn.ensures.changes c.turn.ensures.order c.turn.ensures.ends
+
+pub returns-in-Ok-Done-clause-turned : goal.returns-in-Ok-Done-clause-turned
+returns-in-Ok-Done-clause-turned g c = turned_more _ _ _ c.turn.result c.loop-turn.invariant.turned c.turn.ensures.changes c.turn.ensures.order c.turn.ensures.ends
+
+pub returns-in-Err-clause-turned : goal.returns-in-Err-clause-turned
+returns-in-Err-clause-turned g c = turned_more _ _ _ c.turn.result c.loop-turn.invariant.turned c.turn.ensures.changes c.turn.ensures.order c.turn.ensures.ends
