@@ -1,7 +1,7 @@
 //! The parts below shared lanes against octets and replies worked out by hand: the codec, framing,
 //! sessions and the loopback centre, lanes and the check of their histories, boxes, routes and mailboxes,
-//! the lock, and what waits for a socket. It has tests alone, in a crate of their own, so that none of
-//! those is proved twice.
+//! the lock, and what waits for a socket; and a lane against a slow model of it. It has tests alone, in a
+//! crate of their own, so that none of those is proved twice.
 #![tactic(auto)]
 
 #[cfg(test)]
