@@ -10,11 +10,12 @@ use smx_box::{Boxed, Got, Receiver, Sender};
 use smx_client::{ClientWorker, Desk, run_client};
 use smx_history::Answered;
 use smx_lane::Lane;
+use smx_link::Link;
 use smx_memory::{MemoryLink, Script};
 use smx_pdu::{Body, Pdu};
 use smx_session::{Account, ClientState};
 use smx_shared::{Door, Exchange, Port, Tap};
-use smx_turns::{MoItem, Party, RunEnd};
+use smx_turns::{Directory, Gate, MoItem, Party, RunEnd};
 use std::alloc::{AllocError, Global};
 use std::process::Abort;
 use std::sync::Wait;
@@ -50,29 +51,36 @@ enum Step<'s> {
     Closes(&'s [&'s [u8]], bool),
 }
 
-// A client's worker with its exchange.
+/// A client's worker with its exchange.
 #[derive(Drop)]
-struct Seat<'a, 'd> {
-    at: &'a Exchange,
-    worker: ClientWorker<'d, MemoryLink<Script>>,
+pub struct Seat<'a, 'd, L: Link + Drop> {
+    pub at: &'a Exchange,
+    pub worker: ClientWorker<'d, L>,
     // A fault ended a run.
     faulty: bool,
     ghost fits: { locks_of worker.port.fronts ≡ at.now },
     ghost goes_on: { faulty ≡ false → worker.stage ≢ Stage.Closed → worker.wire.failed ≡ None },
 }
 
-impl Seat<'_, '_> {
-    fn run<R: Wait + Abort>(&mut self, rt: &R, world: &mut World, turns: u64) -> RunEnd {
+impl<L: Link + Drop> Seat<'_, '_, L> {
+    pub fn run<R: Wait + Abort, G: Gate, D: Directory>(
+        &mut self,
+        rt: &R,
+        gate: &mut G,
+        directory: &mut D,
+        turns: u64,
+    ) -> RunEnd {
         if self.faulty {
             return RunEnd::Left;
         }
-        let World { gate, book } = world;
-        let end = run_client(&mut self.worker, self.at, rt, gate, book, turns);
+        let end = run_client(&mut self.worker, self.at, rt, gate, directory, turns);
         self.faulty = matches!(end, RunEnd::Fault(_));
         name_want(rt, end);
         end
     }
+}
 
+impl Seat<'_, '_, MemoryLink<Script>> {
     fn stands(&self, state: ClientState, unsent: usize) -> bool {
         let worker = &self.worker;
         (worker.client(), worker.state(), worker.unsent()) == (1, state, unsent)
@@ -89,7 +97,7 @@ impl Seat<'_, '_> {
 // lane's return box, and the lanes.
 #[derive(Drop)]
 struct Stand<'a, 'd> {
-    seat: Option<Seat<'a, 'd>>,
+    seat: Option<Seat<'a, 'd, MemoryLink<Script>>>,
     world: World,
     messages: Vec<Sender<MoItem>>,
     answers: Vec<Receiver<Pdu>>,
@@ -100,7 +108,10 @@ impl Stand<'_, '_> {
     fn holds<R: Wait + Abort>(&mut self, rt: &R, alloc: Global, step: Step) -> bool {
         match step {
             Step::Runs(turns, want) => match &mut self.seat {
-                Some(seat) => seat.run(rt, &mut self.world, turns) == want,
+                Some(seat) => {
+                    let World { gate, book } = &mut self.world;
+                    seat.run(rt, gate, book, turns) == want
+                }
                 None => false,
             },
             Step::Stands(state, unsent) => match &self.seat {
@@ -173,8 +184,8 @@ fn responds<R: Wait + Abort>(
     }
 }
 
-// The account `a` with the password `p` and two prefixes.
-fn desk(alloc: Global) -> Result<Desk, AllocError> {
+/// The account `a` with the password `p` and two prefixes.
+pub fn desk(alloc: Global) -> Result<Desk, AllocError> {
     let account = Account {
         system_id: Vec::from_slice(alloc, b"a")?,
         password: Vec::from_slice(alloc, b"p")?,
@@ -208,8 +219,8 @@ fn return_boxes<R: Wait + Abort>(
     (senders, answers)
 }
 
-// There must be a sender for each lane.
-fn seat_of<'a, 'd>(
+/// There must be a sender for each lane.
+pub fn seat_of<'a, 'd, L: Link + Drop>(
     rt: &impl Abort,
     alloc: Global,
     at: &'a Exchange,
@@ -217,14 +228,13 @@ fn seat_of<'a, 'd>(
     port: Port,
     inbox: Receiver<MoItem>,
     senders: Vec<Sender<Pdu>>,
-    script: Script,
-) -> Seat<'a, 'd>
+    link: L,
+) -> Seat<'a, 'd, L>
     requires { locks_of port.fronts ≡ at.now }
 {
     if senders.len() != port.lanes() {
         panic!(rt; "each lane has a sender")
     }
-    let link = link_to(rt, script);
     let worker = ClientWorker::new(alloc, port, desk, inbox, senders, 4, link).ok();
     Seat {
         at,
@@ -278,8 +288,9 @@ fn stand_at<'a, 'd, R: Wait + Abort>(
     let (inbox, messages) = made.expect(rt, "out of memory");
     let (senders, answers) = return_boxes(rt, alloc, lanes, places);
     let port = door.enter(at, rt).ok().expect(rt, "out of memory");
+    let link = link_to(rt, script);
     Stand {
-        seat: Some(seat_of(rt, alloc, at, desk, port, inbox, senders, script)),
+        seat: Some(seat_of(rt, alloc, at, desk, port, inbox, senders, link)),
         world: World::new(),
         messages,
         answers,

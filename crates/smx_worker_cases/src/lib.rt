@@ -11,4 +11,6 @@ mod shared;
 #[cfg(test)]
 mod stand;
 #[cfg(test)]
+mod threads;
+#[cfg(test)]
 mod upstream;

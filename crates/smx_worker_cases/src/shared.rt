@@ -19,6 +19,7 @@ use std::sync::Wait;
 mod comparing;
 mod making;
 mod scenes;
+mod threads;
 mod turning;
 
 const LAST: u64 = 1 << 62;

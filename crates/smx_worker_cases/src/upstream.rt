@@ -8,6 +8,7 @@ use crate::hall::{Client, Hall, enter, lanes_of, last_tap};
 use crate::stand::{Piece, World, link_to, name_want, script, took};
 use smx_box::{Boxed, Got, Receiver};
 use smx_lane::Lane;
+use smx_link::Link;
 use smx_memory::{MemoryLink, Script};
 use smx_pdu::{Bind, Body, Pdu};
 use smx_session::{UpstreamSession, UpstreamState};
@@ -98,25 +99,25 @@ enum Step<'s> {
     GoesOn(&'s [&'s [u8]], &'s [Piece<'s>]),
 }
 
-// A worker with its exchange.
+/// A worker with its exchange.
 #[derive(Drop)]
-struct Seat<'a> {
+pub struct Seat<'a, L: Link + Drop> {
     at: &'a Exchange,
-    worker: UpstreamWorker<MemoryLink<Script>>,
+    pub worker: UpstreamWorker<L>,
     // A fault ended a run.
     faulty: bool,
     ghost fits: { slice_get at.now worker.stand.tap.lane ≡ Some worker.stand.tap.front.lock },
     ghost goes_on: { faulty ≡ false → worker.held ≡ None },
 }
 
-impl<'a> Seat<'a> {
-    fn new(
+impl<'a, L: Link + Drop> Seat<'a, L> {
+    pub fn new(
         rt: &impl Abort,
         alloc: Global,
         at: &'a Exchange,
-        parts: Parts<MemoryLink<Script>>,
+        parts: Parts<L>,
         history: usize,
-    ) -> Seat<'a>
+    ) -> Seat<'a, L>
         requires lock { slice_get at.now parts.tap.lane ≡ Some parts.tap.front.lock }
         requires state { parts.session.state ≡ UpstreamState.Binding }
     {
@@ -128,7 +129,13 @@ impl<'a> Seat<'a> {
         }
     }
 
-    fn run<R: Wait + Abort>(&mut self, rt: &R, world: &mut World, now: u64, turns: u64) -> RunEnd {
+    pub fn run<R: Wait + Abort>(
+        &mut self,
+        rt: &R,
+        world: &mut World,
+        now: u64,
+        turns: u64,
+    ) -> RunEnd {
         if self.faulty {
             return RunEnd::Left;
         }
@@ -138,7 +145,9 @@ impl<'a> Seat<'a> {
         name_want(rt, end);
         end
     }
+}
 
+impl<'a> Seat<'a, MemoryLink<Script>> {
     fn closes<R: Wait>(self, rt: &R, parts: &[&[u8]]) -> bool {
         let Seat { at, worker, .. } = self;
         took(&worker.close(at, rt).link, parts)
@@ -150,7 +159,7 @@ impl<'a> Seat<'a> {
         alloc: Global,
         taken: &[&[u8]],
         pieces: &[Piece],
-    ) -> (bool, Seat<'a>) {
+    ) -> (bool, Seat<'a, MemoryLink<Script>>) {
         let Seat { at, worker, .. } = self;
         let Closed {
             link,
@@ -171,8 +180,8 @@ impl<'a> Seat<'a> {
     }
 }
 
-// The session of `proxy` with the password `pw` at the moment 0. It enquires after a second.
-fn session(rt: &impl Abort, alloc: Global) -> UpstreamSession
+/// The session of `proxy` with the password `pw` at the moment 0. It enquires after a second.
+pub fn session(rt: &impl Abort, alloc: Global) -> UpstreamSession
     ensures { result.state ≡ UpstreamState.Binding }
 {
     let bind = Bind {
@@ -194,7 +203,7 @@ fn session(rt: &impl Abort, alloc: Global) -> UpstreamSession
 #[derive(Drop)]
 struct Stand<'a> {
     client: Client<'a>,
-    seat: Option<Seat<'a>>,
+    seat: Option<Seat<'a, MemoryLink<Script>>>,
     world: World,
     inbox: Receiver<MoItem>,
 }
