@@ -1,11 +1,11 @@
 -- A run, a line at a time.
 use Rattle.std.proofs.Common.{◌≡◌, ℕ, ◌+◌, List, [], ◌∷◌, ◌++◌, Option, Some, None, refl, sym, ap, subst, ◌∙◌, append_assoc}
 use Rattle.std.proofs.lemmas.List.{append-nil}
-use Rattle.smx_relay.specs.Texts.{bad_line}
-use Rattle.smx_relay.specs.Relay.{Relay, new_relay}
-use Rattle.smx_relay.specs.Turns.{Lines}
+use Rattle.smx_lines.specs.Texts.{bad_line}
+use Rattle.smx_lines.specs.Relay.{Relay, new_relay}
+use Rattle.smx_lines.specs.Turns.{Lines}
 use Rattle.smx_relay.specs.Runs.{Runs}
-use Rattle.smx_relay.proofs.Lining.{some_line}
+use Rattle.smx_lines.proofs.Lining.{some_line}
 
 pub runs_end : (n : ℕ) (s : Relay) → Runs n s [] [] None
 unfolding Runs

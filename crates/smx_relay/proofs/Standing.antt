@@ -7,13 +7,13 @@ use Rattle.std.proofs.lemmas.List.{drop_more, get_or-map, length-map}
 use Rattle.std.specs.Io.KnownBytes.{Appends}
 use Rattle.std.proofs.KnownBytes.{Appends-nil, Appends-trans}
 use Rattle.std.proofs.lemmas.List.{drop_all}
-use Rattle.smx_relay.specs.declared.state.State.{State}
+use Rattle.smx_lines.specs.declared.state.State.{State}
 use Rattle.smx_script.specs.Script.{lines_of}
-use Rattle.smx_relay.specs.Texts.{bad_line}
-use Rattle.smx_relay.specs.Relay.{Relay, new_relay}
-use Rattle.smx_relay.specs.Turns.{Lines}
+use Rattle.smx_lines.specs.Texts.{bad_line}
+use Rattle.smx_lines.specs.Relay.{Relay, new_relay}
+use Rattle.smx_lines.specs.Turns.{Lines}
 use Rattle.smx_relay.specs.Runs.{Runs, Relays}
-use Rattle.smx_relay.specs.Private.States.{StandsFor, TurnLeaves, MayPrint}
+use Rattle.smx_lines.specs.States.{StandsFor, TurnLeaves, MayPrint}
 use Rattle.smx_relay.specs.Ends.{BeginsRelay, BreaksOff}
 use Rattle.smx_relay.proofs.Running.{SoFar, so_far_start, so_far_more, so_far_end, so_far_bad, so_far_front, so_far_part, runs_on}
 

@@ -1,12 +1,2 @@
-pub mod Texts
-pub mod Links
-pub mod Relay
-pub mod LaneLinks
-pub mod Expiring
-pub mod Messages
-pub mod ClientTurn
-pub mod CentreTurn
-pub mod Turns
 pub mod Runs
 pub mod Ends
-pub mod Private

@@ -1,9 +1,9 @@
 -- What a whole script prints.
 use Rattle.std.specs.Prelude.{◌≡◌, ℕ, ◌+◌, List, [], ◌∷◌, ◌++◌, Option, Some, None}
 use Rattle.smx_script.specs.Script.{lines_of}
-use Rattle.smx_relay.specs.Texts.{bad_line}
-use Rattle.smx_relay.specs.Relay.{Relay, new_relay}
-use Rattle.smx_relay.specs.Turns.{Lines}
+use Rattle.smx_lines.specs.Texts.{bad_line}
+use Rattle.smx_lines.specs.Relay.{Relay, new_relay}
+use Rattle.smx_lines.specs.Turns.{Lines}
 
 -- a line prints its text, and the lines after it print the rest; a bad line is the last
 abbrev pub PrintsOn : ℕ → Option (List ℕ × Relay) → (Relay → List ℕ → Type 0) → List ℕ → Option ℕ → Type 0

@@ -4,10 +4,7 @@ ghost use Rattle.std.specs.Io.KnownBytes.{Appends};
 ghost use Rattle.smx_relay.specs.Ends.{Ends};
 
 use crate::end::RunEnd;
-use crate::line::run_line;
-use crate::reason::reason;
-use crate::settings::new_state;
-use crate::texts::bad_line;
+use smx_lines::{bad_line, new_state, reason, run_line};
 use smx_script::lines_of;
 use smx_text::{ReadFault, read_octets, write_text};
 use std::alloc::Global;

@@ -1,0 +1,12 @@
+use Rattle.std.proofs.Common.{◌≡◌, length}
+use Rattle.smx_lines.proofs.Expiring.{Expiring}
+use Rattle.smx_lines.proofs.on_lane.expire_on.Given as goal
+
+abbrev pub invariant-loop-failed : goal.invariant-loop-failed
+invariant-loop-failed l = record {
+  so_far : Expiring l.moment l.age l.fn.lane l.lane l.text.items;
+  limits_are : l.lane.limits ≡ l.fn.lane.limits;
+}
+
+abbrev pub decreases-loop-failed : goal.decreases-loop-failed
+decreases-loop-failed l = length l.lane.window

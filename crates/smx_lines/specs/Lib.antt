@@ -1,0 +1,12 @@
+pub mod Texts
+pub mod Links
+pub mod Relay
+pub mod LaneLinks
+pub mod Expiring
+pub mod Messages
+pub mod ClientTurn
+pub mod CentreTurn
+pub mod Turns
+pub mod Lanes
+pub mod States
+pub mod Private

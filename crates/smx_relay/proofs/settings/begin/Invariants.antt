@@ -1,5 +1,0 @@
-use Rattle.smx_relay.proofs.Beginning.{Beginning}
-use Rattle.smx_relay.proofs.settings.begin.Given as goal
-
-abbrev pub invariant-loop : goal.invariant-loop
-invariant-loop l = Beginning l.fn.state l.state l.counter

@@ -1,7 +1,0 @@
-use Rattle.std.proofs.Common.{◌≡◌, take}
-use Rattle.std.specs.List.{flat_map}
-use Rattle.smx_relay.specs.Texts.{entry_line}
-use Rattle.smx_relay.proofs.texts.entry_lines.Given as goal
-
-abbrev pub invariant-loop-entry : goal.invariant-loop-entry
-invariant-loop-entry l = l.text.items ≡ flat_map entry_line (take l.entry-index l.entries)

@@ -1,5 +1,0 @@
--- What contracts of private functions cite: no public contract does.
-pub mod Lanes
-pub mod States
-pub mod Inboxes
-pub mod Lending
