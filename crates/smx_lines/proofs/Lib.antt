@@ -1,4 +1,5 @@
 pub mod Offers
+pub mod Printing
 pub mod FreeNumbers
 pub mod LaneTurns
 pub mod GivingUp

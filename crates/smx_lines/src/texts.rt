@@ -70,6 +70,13 @@ pub fn bad_line(alloc: Global, number: u64) -> Result<String, AllocError>
     format!(in alloc; "bad line {number}\n")
 }
 
+// A line of a word, with its space, and a number.
+fn word_line(alloc: Global, word: &str, number: u64) -> Result<Vec<u8>, AllocError>
+    ensures { IfOk result (λ line. line.items ≡ text_line (word.now ++ decimal number)) }
+{
+    Ok(format!(in alloc; "{word}{number}\n")?.into_bytes())
+}
+
 /// What is printed of a lane that has nothing to take.
 pub fn empty_line(alloc: Global, lane: u64) -> Result<Vec<u8>, AllocError>
     ensures { IfOk result (λ line.
@@ -90,21 +97,21 @@ pub fn full_line(alloc: Global, lane: u64) -> Result<Vec<u8>, AllocError>
 pub fn queued_line(alloc: Global, client: u64) -> Result<Vec<u8>, AllocError>
     ensures { IfOk result (λ line. line.items ≡ text_line (codes "queued " ++ decimal client)) }
 {
-    Ok(format!(in alloc; "queued {client}\n")?.into_bytes())
+    word_line(alloc, "queued ", client)
 }
 
 /// What is printed of a message that waits for a client.
 pub fn message_line(alloc: Global, client: u64) -> Result<Vec<u8>, AllocError>
     ensures { IfOk result (λ line. line.items ≡ text_line (codes "mo " ++ decimal client)) }
 {
-    Ok(format!(in alloc; "mo {client}\n")?.into_bytes())
+    word_line(alloc, "mo ", client)
 }
 
 /// What is printed of a client that enters.
 pub fn client_line(alloc: Global, client: u64) -> Result<Vec<u8>, AllocError>
     ensures { IfOk result (λ line. line.items ≡ text_line (codes "client " ++ decimal client)) }
 {
-    Ok(format!(in alloc; "client {client}\n")?.into_bytes())
+    word_line(alloc, "client ", client)
 }
 
 /// What is printed of a request that a lane accepts.
@@ -120,35 +127,35 @@ pub fn accepted_line(alloc: Global, client: u64, lane: u64) -> Result<Vec<u8>, A
 pub fn none_line(alloc: Global, client: u64) -> Result<Vec<u8>, AllocError>
     ensures { IfOk result (λ line. line.items ≡ text_line (codes "none " ++ decimal client)) }
 {
-    Ok(format!(in alloc; "none {client}\n")?.into_bytes())
+    word_line(alloc, "none ", client)
 }
 
 /// What is printed of a client that was hung up.
 pub fn closed_line(alloc: Global, client: u64) -> Result<Vec<u8>, AllocError>
     ensures { IfOk result (λ line. line.items ≡ closed_line client) }
 {
-    Ok(format!(in alloc; "closed {client}\n")?.into_bytes())
+    word_line(alloc, "closed ", client)
 }
 
 /// What is printed of a lane that is down.
 pub fn down_line(alloc: Global, lane: u64) -> Result<Vec<u8>, AllocError>
     ensures { IfOk result (λ line. line.items ≡ down_line lane) }
 {
-    Ok(format!(in alloc; "down {lane}\n")?.into_bytes())
+    word_line(alloc, "down ", lane)
 }
 
 /// What is printed of a lane that is bound to the centre.
 pub fn bound_line(alloc: Global, lane: u64) -> Result<Vec<u8>, AllocError>
     ensures { IfOk result (λ line. line.items ≡ bound_line lane) }
 {
-    Ok(format!(in alloc; "bound {lane}\n")?.into_bytes())
+    word_line(alloc, "bound ", lane)
 }
 
 /// What is printed of a lane that stays down for want of room.
 pub fn unbound_line(alloc: Global, lane: u64) -> Result<Vec<u8>, AllocError>
     ensures { IfOk result (λ line. line.items ≡ unbound_line lane) }
 {
-    Ok(format!(in alloc; "full {lane}\n")?.into_bytes())
+    word_line(alloc, "full ", lane)
 }
 
 /// What is printed of a request that fails on a lane that is up.
@@ -156,7 +163,7 @@ pub fn failed_line(alloc: Global, failed: Failed) -> Result<Vec<u8>, AllocError>
     ensures { IfOk result (λ line. line.items ≡ failed_line failed) }
 {
     match failed {
-        Failed::Queued { client } => Ok(format!(in alloc; "failed {client}\n")?.into_bytes()),
+        Failed::Queued { client } => word_line(alloc, "failed ", client),
         Failed::Late => Vec::from_slice(alloc, b"late\n"),
     }
 }
@@ -165,7 +172,7 @@ pub fn failed_line(alloc: Global, failed: Failed) -> Result<Vec<u8>, AllocError>
 pub fn kept_line(alloc: Global, lane: u64) -> Result<Vec<u8>, AllocError>
     ensures { IfOk result (λ line. line.items ≡ kept_line lane) }
 {
-    Ok(format!(in alloc; "kept {lane}\n")?.into_bytes())
+    word_line(alloc, "kept ", lane)
 }
 
 /// What a client gets last, and that it is hung up.

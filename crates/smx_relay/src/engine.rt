@@ -1,10 +1,13 @@
 //! A whole run: the script is read, and then run line by line.
-ghost use Rattle.std.specs.Prelude.{◌≡◌, ℕ, List, IfSome};
+ghost use Rattle.std.specs.Prelude.{◌≡◌, ℕ, List, map, IfSome};
 ghost use Rattle.std.specs.Io.KnownBytes.{Appends};
+ghost use Rattle.smx_script.specs.Script.{lines_of};
+ghost use Rattle.smx_lines.specs.Relay.{new_relay};
+ghost use Rattle.smx_lines.specs.States.{StandsFor};
 ghost use Rattle.smx_relay.specs.Ends.{Ends};
 
 use crate::end::RunEnd;
-use smx_lines::{bad_line, new_state, reason, run_line};
+use smx_lines::{State, bad_line, new_state, reason, run_line};
 use smx_script::lines_of;
 use smx_text::{ReadFault, read_octets, write_text};
 use std::alloc::Global;
@@ -12,6 +15,40 @@ use std::io::{Read, Write};
 
 /// The most octets that a script has.
 const MAX_SCRIPT: usize = 1_048_576;
+
+// Runs the lines of a script on the state before the first.
+fn relay_lines<W: Write>(
+    alloc: Global,
+    state: &mut State,
+    lines: &[&[u8]],
+    writer: &mut W,
+) -> RunEnd
+    requires { StandsFor state.old new_relay }
+    ensures { (script : List ℕ) → map (λ line. line.now) lines.now ≡ lines_of script
+        → (out : List ℕ) × Appends (W.contents writer.old) (W.contents writer.new) out
+        × Ends result script out }
+{
+    for (i, line) in lines.iter().enumerate() {
+        match run_line(alloc, state, line) {
+            Ok(Some(text)) => match write_text(writer, &text) {
+                Ok(()) => {}
+                Err(_) => return RunEnd::WriteFault,
+            },
+            Ok(None) => {
+                let number = i as u64 + 1;
+                let Ok(text) = bad_line(alloc, number) else {
+                    return RunEnd::NoMemory;
+                };
+                match write_text(writer, text.as_bytes()) {
+                    Ok(()) => return RunEnd::BadLine(number, reason(alloc, state, line)),
+                    Err(_) => return RunEnd::WriteFault,
+                }
+            }
+            Err(_) => return RunEnd::NoMemory,
+        }
+    }
+    RunEnd::Clean
+}
 
 // Runs a script that was read.
 fn relay<W: Write>(alloc: Global, script: &[u8], writer: &mut W) -> RunEnd
@@ -25,27 +62,7 @@ fn relay<W: Write>(alloc: Global, script: &[u8], writer: &mut W) -> RunEnd
     let Ok(lines) = lines_of(alloc, script) else {
         return RunEnd::NoMemory;
     };
-    let lines = lines.as_slice();
-    for (i, line) in lines.iter().enumerate() {
-        match run_line(alloc, &mut state, line) {
-            Ok(Some(text)) => match write_text(writer, &text) {
-                Ok(()) => {}
-                Err(_) => return RunEnd::WriteFault,
-            },
-            Ok(None) => {
-                let number = i as u64 + 1;
-                let Ok(text) = bad_line(alloc, number) else {
-                    return RunEnd::NoMemory;
-                };
-                match write_text(writer, text.as_bytes()) {
-                    Ok(()) => return RunEnd::BadLine(number, reason(alloc, &state, line)),
-                    Err(_) => return RunEnd::WriteFault,
-                }
-            }
-            Err(_) => return RunEnd::NoMemory,
-        }
-    }
-    RunEnd::Clean
+    relay_lines(alloc, &mut state, lines.as_slice(), writer)
 }
 
 /// Reads a script whole, and then writes what its lines print, up to and with the first bad line.
