@@ -1,17 +1,14 @@
 //! Rounds of accept, take, answer and collect on one lane.
-use crate::figures::{Stopped, nanos_since};
+use crate::figures::{REFUSED, nanos_since, stopped};
 use smx_lane::{Answered, Lane, Limits, Request, Sent};
 use smx_pdu::{Body, Pdu};
 use std::alloc::Global;
+use std::io;
 use std::rt::Clock;
 use std::time::Instant;
 
-const LIMITS: Limits = Limits {
-    queue: 16,
-    window: 16,
-    client: 256,
-    history: 1_000_000,
-};
+/// How many clients take turns, and how many entries are stored before the first round.
+const STORED: [(u64, usize); 4] = [(1, 1_000), (1, 900_000), (256, 1_000), (256, 900_000)];
 
 /// The windows of the table, and how many clients take turns beside each.
 const WINDOWS: [u32; 4] = [1, 10, 100, 1_024];
@@ -34,45 +31,28 @@ struct Case {
     rounds: u64,
 }
 
-/// A cell of the table.
-const CELL: Case = Case {
-    window: 1,
-    fillers: 4,
-    clients: 1,
-    stored: 0,
-    repeats: 5,
-    rounds: 4_000,
-};
-
 /// Prints the nanoseconds of a round with 1 and with 256 clients, from 1,000 and from 900,000 stored
 /// entries on, and then a table of them beside a window that is full but for one place.
-pub(crate) fn run<R: Print + Clock + AllocGlobal>(rt: &R) -> anyhow::Result<()> {
-    for (clients, stored) in [(1, 1_000), (1, 900_000), (256, 1_000), (256, 900_000)] {
-        measure(rt, clients, stored)?;
+pub(crate) fn run<R: Print + Clock + AllocGlobal>(rt: &R) -> io::Result<()> {
+    for &(clients, stored) in &STORED {
+        measure(rt, rt.alloc(), clients, stored)?;
     }
     println!(rt; "window full but for one place, and clients that take turns:")?;
-    for window in WINDOWS {
-        for clients in CLIENTS {
-            let nanos = nanos_of_round(
-                rt,
-                &Case {
-                    window,
-                    clients,
-                    ..CELL
-                },
-            )?;
-            println!(rt; "window {window}, {clients} clients: {nanos} ns a round")?;
+    for &window in &WINDOWS {
+        for &clients in &CLIENTS {
+            measure_beside(rt, rt.alloc(), window, clients)?;
         }
     }
     Ok(())
 }
 
 /// Prints the nanoseconds of a round with so many clients, from so many stored entries on.
-pub(crate) fn measure<R: Print + Clock + AllocGlobal>(
+pub(crate) fn measure<R: Print + Clock>(
     rt: &R,
+    alloc: Global,
     clients: u64,
     stored: usize,
-) -> anyhow::Result<()> {
+) -> io::Result<()> {
     let case = Case {
         window: 16,
         fillers: 0,
@@ -81,43 +61,78 @@ pub(crate) fn measure<R: Print + Clock + AllocGlobal>(
         repeats: 1,
         rounds: 20_000,
     };
-    let nanos = nanos_of_round(rt, &case)?;
-    println!(rt; "{clients} clients, {stored} entries: {nanos} ns a round")?;
-    Ok(())
+    let nanos = nanos_of_round(rt, alloc, case)?;
+    println!(rt; "{clients} clients, {stored} entries: {nanos} ns a round")
+}
+
+// Prints a cell of the table.
+fn measure_beside<R: Print + Clock>(
+    rt: &R,
+    alloc: Global,
+    window: u32,
+    clients: u64,
+) -> io::Result<()> {
+    let case = Case {
+        window,
+        fillers: 4,
+        clients,
+        stored: 0,
+        repeats: 5,
+        rounds: 4_000,
+    };
+    let nanos = nanos_of_round(rt, alloc, case)?;
+    println!(rt; "window {window}, {clients} clients: {nanos} ns a round")
 }
 
 // The nanoseconds of a round.
-fn nanos_of_round<R: Clock + AllocGlobal>(rt: &R, case: &Case) -> anyhow::Result<u64> {
+fn nanos_of_round<R: Clock>(rt: &R, alloc: Global, case: Case) -> io::Result<u64> {
     let limits = Limits {
+        queue: 16,
         window: case.window,
-        ..LIMITS
+        client: 256,
+        history: 1_000_000,
     };
-    let mut lane = Lane::new(rt.alloc(), limits)?;
-    least_nanos(rt, &mut lane, case)
+    match Lane::new(alloc, limits) {
+        Ok(mut lane) => least_nanos(rt, alloc, &mut lane, case),
+        Err(fault) => Err(stopped(fault)),
+    }
 }
 
 // The least of some measurements, once the lane is as it should be before them.
-fn least_nanos<R: Clock + AllocGlobal>(
-    rt: &R,
-    lane: &mut Lane,
-    case: &Case,
-) -> anyhow::Result<u64> {
-    let mut done = prepare(rt.alloc(), lane, case)?;
+fn least_nanos<R: Clock>(rt: &R, alloc: Global, lane: &mut Lane, case: Case) -> io::Result<u64> {
+    let Some(before) = prepare(alloc, lane, case) else {
+        return Err(stopped(REFUSED));
+    };
+    let mut done = before;
     let mut least = u64::MAX;
     for _ in 0..case.repeats {
-        let start = Instant::now(rt)?;
-        rounds(rt.alloc(), lane, case, done, case.rounds)?;
-        least = least.min(nanos_since(rt, start)?);
+        least = least.min(nanos_of_rounds(rt, alloc, lane, case, done)?);
         done = done.saturating_add(case.rounds);
     }
     Ok(least.checked_div(case.rounds).unwrap_or(0))
 }
 
+// The nanoseconds of one measurement.
+fn nanos_of_rounds<R: Clock>(
+    rt: &R,
+    alloc: Global,
+    lane: &mut Lane,
+    case: Case,
+    done: u64,
+) -> io::Result<u64> {
+    let start = Instant::now(rt)?;
+    if rounds(alloc, lane, case, done, case.rounds) {
+        nanos_since(rt, start)
+    } else {
+        Err(stopped(REFUSED))
+    }
+}
+
 // Admits all clients, fills the window and the history, and answers how many rounds that took.
-fn prepare(alloc: Global, lane: &mut Lane, case: &Case) -> Result<u64, Stopped> {
+fn prepare(alloc: Global, lane: &mut Lane, case: Case) -> Option<u64> {
     for client in 1..=case.fillers.saturating_add(case.clients) {
         if lane.admit(0, client).is_err() {
-            return Err(Stopped::Refused);
+            return None;
         }
     }
     if case.fillers > 0 {
@@ -127,24 +142,19 @@ fn prepare(alloc: Global, lane: &mut Lane, case: &Case) -> Result<u64, Stopped> 
     }
     // A round stores four entries.
     let missing = case.stored.saturating_sub(lane.entries().len()).div_ceil(4) as u64;
-    rounds(alloc, lane, case, 0, missing)?;
-    Ok(missing)
+    rounds(alloc, lane, case, 0, missing).then_some(missing)
 }
 
-// So many rounds, in which the clients take turns.
-fn rounds(
-    alloc: Global,
-    lane: &mut Lane,
-    case: &Case,
-    done: u64,
-    count: u64,
-) -> Result<(), Stopped> {
+// So many rounds, in which the clients take turns. It tells whether none was refused.
+fn rounds(alloc: Global, lane: &mut Lane, case: Case, done: u64, count: u64) -> bool {
     for next in 0..count {
         let number = done.saturating_add(next);
         let client = client_of(number, case.clients).saturating_add(case.fillers);
-        round(alloc, lane, client, number.saturating_add(1))?;
+        if !round(alloc, lane, client, number.saturating_add(1)) {
+            return false;
+        }
     }
-    Ok(())
+    true
 }
 
 fn client_of(number: u64, clients: u64) -> u64 {
@@ -152,9 +162,9 @@ fn client_of(number: u64, clients: u64) -> u64 {
 }
 
 // Accepts a submit_sm without a body, which its client calls 7, and takes the oldest request.
-fn take_one(alloc: Global, lane: &mut Lane, client: u64, ordinal: u64) -> Result<Sent, Stopped> {
+fn take_one(alloc: Global, lane: &mut Lane, client: u64, ordinal: u64) -> Option<Sent> {
     if !lane.is_next(0, client, ordinal) || !lane.is_own(0, client) {
-        return Err(Stopped::Refused);
+        return None;
     }
     let request = Request {
         client,
@@ -164,31 +174,24 @@ fn take_one(alloc: Global, lane: &mut Lane, client: u64, ordinal: u64) -> Result
         body: Body::empty(alloc),
     };
     if lane.accept(0, request).is_err() {
-        return Err(Stopped::Refused);
+        return None;
     }
-    match lane.take(0, 0) {
-        Ok(sent) => Ok(sent),
-        Err(_) => Err(Stopped::Refused),
-    }
+    lane.take(0, 0).ok()
 }
 
-// One request of the client there and its response back.
-fn round(alloc: Global, lane: &mut Lane, client: u64, ordinal: u64) -> Result<(), Stopped> {
-    let sent = take_one(alloc, lane, client, ordinal)?;
+// One request of the client there and its response back. It tells whether nothing was refused.
+fn round(alloc: Global, lane: &mut Lane, client: u64, ordinal: u64) -> bool {
+    let Some(sent) = take_one(alloc, lane, client, ordinal) else {
+        return false;
+    };
     let response = Pdu {
         command: 0x8000_0004,
         status: 0,
         number: sent.upstream,
         body: sent.request.body,
     };
-    let Answered::Queued { .. } = lane.answer(0, response) else {
-        return Err(Stopped::Refused);
-    };
-    if !lane.is_own(0, client) {
-        return Err(Stopped::Refused);
-    }
-    match lane.collect(0, client) {
-        Some(_) => Ok(()),
-        None => Err(Stopped::Refused),
-    }
+    let answered = lane.answer(0, response);
+    matches!(answered, Answered::Queued { .. })
+        && lane.is_own(0, client)
+        && lane.collect(0, client).is_some()
 }

@@ -1,9 +1,11 @@
 //! The ticket lock beside the toolchain's `Mutex`, each round a counter.
 ghost use Rattle.std.specs.Prelude.{◌≡◌};
 
-use crate::figures::{Hundredths, Work, nanos_of_works};
-use smx_lock::{LockSeat, SeatInPlace, TicketLock};
+use crate::figures::{Hundredths, Work, nanos_of_all, nanos_of_works, no_memory, push, stopped};
+use smx_lock::{SeatInPlace, TicketLock};
 use smx_lock_counter::{Adder, Counter};
+use std::alloc::{AllocError, Global};
+use std::io;
 use std::rt::Clock;
 use std::sync::{Mutex, Wait};
 use std::thread::Threads;
@@ -16,58 +18,100 @@ const TOGETHER: u64 = 400_000;
 /// a counter, holds in millions a second under each lock, and the Mutex's by the ticket lock's.
 pub(crate) fn run<R: Threads + Wait + Sync + Print + Clock + AllocGlobal>(
     rt: &R,
-) -> anyhow::Result<()> {
-    let ticket = nanos_under_ticket_lock(rt, 1, ALONE)?;
-    let mutex = nanos_under_mutex(rt, 1, ALONE)?;
+) -> io::Result<()> {
+    let (ticket, mutex) = nanos_under_both(rt, rt.alloc(), 1, ALONE)?;
     println!(rt;
         "uncontended acquire and release: ticket lock {} ns, std Mutex {} ns",
-        Hundredths::quotient(u128::from(ticket), u128::from(ALONE)),
-        Hundredths::quotient(u128::from(mutex), u128::from(ALONE))
+        Hundredths::quotient(ticket, ALONE),
+        Hundredths::quotient(mutex, ALONE)
     )?;
-    for threads in [2, 4, 8] {
-        let ticket = nanos_under_ticket_lock(rt, threads, TOGETHER)?;
-        let mutex = nanos_under_mutex(rt, threads, TOGETHER)?;
-        println!(rt;
-            "{threads} threads, million holds a second: ticket lock {}, std Mutex {} ({} to 1)",
-            Hundredths::quotient(u128::from(TOGETHER) * 1000, u128::from(ticket)),
-            Hundredths::quotient(u128::from(TOGETHER) * 1000, u128::from(mutex)),
-            Hundredths::quotient(u128::from(ticket), u128::from(mutex))
-        )?;
+    for &threads in &[2, 4, 8] {
+        measure(rt, rt.alloc(), threads)?;
     }
     Ok(())
 }
 
-// The nanoseconds in which so many threads add 1 to a counter so often, over all of them.
-fn nanos_under_ticket_lock<R: Threads + Wait + Sync + Clock + AllocGlobal>(
+fn measure<R: Threads + Wait + Sync + Print + Clock>(
     rt: &R,
+    alloc: Global,
     threads: u64,
-    times: u64,
-) -> anyhow::Result<u64> {
-    let (lock, seat) = match TicketLock::new(rt.alloc(), Counter::new(u64::MAX)) {
-        Ok(made) => made,
-        Err((_, refused)) => return Err(refused.into()),
-    };
-    let works = works_on(rt, &lock, seat, threads, times / threads.max(1))?;
-    let (nanos, added) = nanos_of_works(rt, works)?;
-    anyhow::ensure!(added == times, "{added} additions");
-    Ok(nanos)
+) -> io::Result<()> {
+    let (ticket, mutex) = nanos_under_both(rt, alloc, threads, TOGETHER)?;
+    println!(rt;
+        "{threads} threads, million holds a second: ticket lock {}, std Mutex {} ({} to 1)",
+        Hundredths::quotient(TOGETHER * 1000, ticket),
+        Hundredths::quotient(TOGETHER * 1000, mutex),
+        Hundredths::quotient(ticket, mutex)
+    )
 }
 
-fn nanos_under_mutex<R: Threads + Wait + Sync + Clock + AllocGlobal>(
+// The nanoseconds in which so many threads add 1 to a counter so often, over all of them: under the
+// ticket lock, and under the Mutex.
+fn nanos_under_both<R: Threads + Wait + Sync + Clock>(
     rt: &R,
+    alloc: Global,
     threads: u64,
     times: u64,
-) -> anyhow::Result<u64> {
-    let mutex = Mutex::new(Counter::new(u64::MAX));
-    let mut works = Vec::new(rt.alloc());
-    for _ in 0..threads {
-        works.push(UnderMutex {
-            mutex: &mutex,
-            times: times / threads.max(1),
-        })?;
+) -> io::Result<(u64, u64)> {
+    let ticket = nanos_under_ticket_lock(rt, alloc, threads, times)?;
+    let mutex = nanos_under_mutex(rt, alloc, threads, times)?;
+    Ok((ticket, mutex))
+}
+
+fn nanos_under_ticket_lock<R: Threads + Wait + Sync + Clock>(
+    rt: &R,
+    alloc: Global,
+    threads: u64,
+    times: u64,
+) -> io::Result<u64> {
+    match TicketLock::new(alloc, Counter::new(u64::MAX)) {
+        Ok((lock, first)) => {
+            let mut seat = SeatInPlace::new(first);
+            nanos_of_adders(rt, alloc, &lock, &mut seat, threads, times)
+        }
+        Err(_) => Err(no_memory()),
     }
-    let (nanos, _) = nanos_of_works(rt, works)?;
-    Ok(nanos)
+}
+
+// The first seat takes no part.
+fn nanos_of_adders<R: Threads + Wait + Sync + Clock>(
+    rt: &R,
+    alloc: Global,
+    lock: &TicketLock<Counter>,
+    seat: &mut SeatInPlace<Counter>,
+    threads: u64,
+    times: u64,
+) -> io::Result<u64>
+    requires { seat.old.lock ≡ lock.now }
+{
+    let works = works_on(rt, alloc, lock, seat, threads, times / threads.max(1))?;
+    nanos_of_all(rt, works, times, "additions")
+}
+
+fn nanos_under_mutex<R: Threads + Wait + Sync + Clock>(
+    rt: &R,
+    alloc: Global,
+    threads: u64,
+    times: u64,
+) -> io::Result<u64> {
+    let mutex = Mutex::new(Counter::new(u64::MAX));
+    match under_mutex(alloc, &mutex, threads, times / threads.max(1)) {
+        Ok(works) => Ok(nanos_of_works(rt, works)?.0),
+        Err(_) => Err(no_memory()),
+    }
+}
+
+fn under_mutex<'a>(
+    alloc: Global,
+    mutex: &'a Mutex<Counter>,
+    threads: u64,
+    times: u64,
+) -> Result<Vec<UnderMutex<'a>>, AllocError> {
+    let mut works = Vec::new(alloc);
+    for _ in 0..threads {
+        works.push(UnderMutex { mutex, times })?;
+    }
+    Ok(works)
 }
 
 /// What one thread does: it adds 1 so often.
@@ -88,13 +132,20 @@ impl Work for UnderTicketLock<'_> {
             times,
             ..
         } = self;
-        for added in 0..times {
-            if adder.add(rt, lock, 1).is_err() {
-                return added;
-            }
-        }
-        times
+        add_all(rt, lock, &mut adder, times)
     }
+}
+
+// Adds 1 so often, and counts the additions.
+fn add_all<R: Wait>(rt: &R, lock: &TicketLock<Counter>, adder: &mut Adder, times: u64) -> u64
+    requires { adder.old.lock ≡ lock.now }
+{
+    for added in 0..times {
+        if adder.add(rt, lock, 1).is_err() {
+            return added;
+        }
+    }
+    times
 }
 
 /// The same under the other lock.
@@ -113,24 +164,40 @@ impl Work for UnderMutex<'_> {
     }
 }
 
-// The work of so many threads. The first seat takes no part.
-fn works_on<'a, R: Wait + AllocGlobal>(
+// The work of so many threads, with seats split off this one.
+fn works_on<'a, R: Wait>(
     rt: &R,
+    alloc: Global,
     lock: &'a TicketLock<Counter>,
-    first: LockSeat<Counter>,
+    seat: &mut SeatInPlace<Counter>,
     threads: u64,
     times: u64,
-) -> anyhow::Result<Vec<UnderTicketLock<'a>>>
-    requires { first.lock ≡ lock.now }
+) -> io::Result<Vec<UnderTicketLock<'a>>>
+    requires { seat.old.lock ≡ lock.now }
 {
-    let mut seat = SeatInPlace::new(first);
-    let mut works = Vec::new(rt.alloc());
+    let mut works = Vec::new(alloc);
     for _ in 0..threads {
-        works.push(UnderTicketLock {
-            lock,
-            adder: Adder::new(seat.split(rt, lock)?.into_seat()),
-            times,
-        })?;
+        let work = work_on(rt, lock, seat, times)?;
+        push(&mut works, work)?;
     }
     Ok(works)
+}
+
+fn work_on<'a, R: Wait>(
+    rt: &R,
+    lock: &'a TicketLock<Counter>,
+    seat: &mut SeatInPlace<Counter>,
+    times: u64,
+) -> io::Result<UnderTicketLock<'a>>
+    requires { seat.old.lock ≡ lock.now }
+    ensures { seat.new.lock ≡ seat.old.lock }
+{
+    match seat.split(rt, lock) {
+        Ok(split) => Ok(UnderTicketLock {
+            lock,
+            adder: Adder::new(split.into_seat()),
+            times,
+        }),
+        Err(spent) => Err(stopped(spent)),
+    }
 }

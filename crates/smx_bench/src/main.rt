@@ -12,7 +12,10 @@ mod shared;
 mod shifts;
 mod worker;
 
-use std::env;
+use std::rt::Clock;
+use std::sync::Wait;
+use std::thread::Threads;
+use std::{env, io};
 
 const USAGE: &str = "usage: smx_bench WORD
 
@@ -26,13 +29,20 @@ worker  requests through a client's worker and one towards the centre, and turns
 
 fn main(rt: HostRuntime) -> anyhow::Result<()> {
     let word = env::args(&rt)?.nth(1);
-    match word.as_deref() {
-        Some("lock") => lock::run(&rt),
-        Some("box") => boxes::run(&rt),
-        Some("lane") => lane::run(&rt),
-        Some("frame") => frame::run(&rt),
-        Some("shared") => shared::run(&rt),
-        Some("worker") => worker::run(&rt),
-        _ => Ok(print!(rt; "{USAGE}")?),
+    Ok(measure(&rt, word.as_deref())?)
+}
+
+fn measure<R: Threads + Wait + Sync + Print + Clock + AllocGlobal>(
+    rt: &R,
+    word: Option<&str>,
+) -> io::Result<()> {
+    match word {
+        Some("lock") => lock::run(rt),
+        Some("box") => boxes::run(rt),
+        Some("lane") => lane::run(rt),
+        Some("frame") => frame::run(rt),
+        Some("shared") => shared::run(rt),
+        Some("worker") => worker::run(rt, rt.alloc()),
+        _ => print!(rt; "{USAGE}"),
     }
 }

@@ -2,12 +2,14 @@
 ghost use Rattle.std.specs.Prelude.{◌≡◌, slice_get, Some, All, IfOk};
 ghost use Rattle.smx_shared.specs.Views.{locks_of};
 
+use crate::figures::{NOT_MADE, stopped};
 use smx_lane::{Answered, Limits};
 use smx_lock::Spent;
 use smx_pdu::command::{RESPONSE, SUBMIT_SM};
 use smx_pdu::{Body, Pdu};
-use smx_shared::{Door, EnterFault, Exchange, MakeFault, Offer, Port, TakeFault, Tap};
-use std::alloc::{AllocError, Global};
+use smx_shared::{Door, Exchange, Offer, Port, TakeFault, Tap};
+use std::alloc::Global;
+use std::io;
 use std::sync::Wait;
 
 /// A client that has entered.
@@ -32,14 +34,14 @@ pub(crate) fn open<R: Wait>(
     alloc: Global,
     limits: Limits,
     lanes: usize,
-) -> Result<(Exchange, Door, Vec<Tap>), MakeFault>
+) -> io::Result<(Exchange, Door, Vec<Tap>)>
     ensures door { IfOk result (λ made. locks_of made.1.fronts ≡ made.0) }
     ensures taps { IfOk result (λ made.
         All (λ t. slice_get made.0 t.lane ≡ Some t.front.lock) made.2.items) }
 {
     match Exchange::new(rt, alloc, limits, lanes) {
         Ok(made) => Ok(made),
-        Err(unmade) => Err(unmade.fault),
+        Err(unmade) => Err(stopped(unmade.fault)),
     }
 }
 
@@ -48,30 +50,26 @@ pub(crate) fn seat_at<'a, R: Wait>(
     rt: &R,
     at: &'a Exchange,
     door: &mut Door,
-) -> Result<Seat<'a>, EnterFault>
+) -> io::Result<Seat<'a>>
     requires { locks_of door.old.fronts ≡ at.now }
     ensures at { IfOk result (λ seat. seat.at.now ≡ at.now) }
     ensures door { locks_of door.new.fronts ≡ at.now }
 {
     match door.enter(at, rt) {
         Ok(port) => Ok(Seat { at, port }),
-        Err((fault, _)) => Err(fault),
+        Err((fault, _)) => Err(stopped(fault)),
     }
 }
 
-/// The taps of all lanes, in order.
-pub(crate) fn drawers_at<'a>(
-    alloc: Global,
-    at: &'a Exchange,
-    taps: Vec<Tap>,
-) -> Result<Vec<Drawer<'a>>, AllocError>
+/// The tap of the last lane.
+pub(crate) fn last_drawer<'a>(at: &'a Exchange, taps: Vec<Tap>) -> io::Result<Drawer<'a>>
     requires { All (λ t. slice_get at.now t.lane ≡ Some t.front.lock) taps.items }
 {
-    let mut drawers = Vec::new(alloc);
-    for tap in taps {
-        drawers.push(Drawer { at, tap })?;
+    let mut taps = taps;
+    match taps.pop() {
+        Some(tap) => Ok(Drawer { at, tap }),
+        None => Err(stopped(NOT_MADE)),
     }
-    Ok(drawers)
 }
 
 impl Seat<'_> {
@@ -91,23 +89,32 @@ impl Seat<'_> {
         if lanes == 0 {
             return Ok(false);
         }
-        let response = self.port.collect(self.at, rt, turn % lanes)?;
-        Ok(response.is_some())
+        match self.port.collect(self.at, rt, turn % lanes) {
+            Ok(response) => Ok(response.is_some()),
+            Err(spent) => Err(spent),
+        }
     }
 }
 
 impl Drawer<'_> {
     /// Takes a request and answers it, and tells whether the response was queued.
     pub(crate) fn serve<R: Wait>(&mut self, rt: &R) -> Result<bool, TakeFault> {
-        let sent = self.tap.take(self.at, rt, 0)?;
+        match self.tap.take(self.at, rt, 0) {
+            Ok(sent) => Ok(self.answer(rt, sent.upstream, sent.request.body)),
+            Err(fault) => Err(fault),
+        }
+    }
+
+    // Answers the request with this number, and tells whether the response was queued.
+    fn answer<R: Wait>(&mut self, rt: &R, number: u32, body: Body) -> bool {
         let response = Pdu {
             command: RESPONSE | SUBMIT_SM,
             status: 0,
-            number: sent.upstream,
-            body: sent.request.body,
+            number,
+            body,
         };
         let answered = self.tap.answer(self.at, rt, response);
-        Ok(matches!(answered, Ok(Answered::Queued { .. })))
+        matches!(answered, Ok(Answered::Queued { .. }))
     }
 
     /// Turns the lane over where it has so many notes of the tap, and tells whether it had.

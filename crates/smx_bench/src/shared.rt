@@ -1,18 +1,18 @@
 //! Requests of several ports over shared lanes. Each port and each lane's tap has a thread of its own.
-ghost use Rattle.std.specs.Prelude.{◌≡◌};
+ghost use Rattle.std.specs.Prelude.{◌≡◌, slice_get, Some, All};
 ghost use Rattle.smx_shared.specs.Views.{locks_of};
 
-use crate::figures::{Hundredths, Work, nanos_of_works};
-use crate::seats::{Drawer, Seat, drawers_at, open, seat_at};
+use crate::figures::{Hundredths, Work, nanos_of_all, push};
+use crate::seats::{Drawer, Seat, open, seat_at};
 use crate::shifts;
 use smx_lane::Limits;
-use smx_shared::{Door, Exchange};
+use smx_shared::{Door, Exchange, Tap};
 use std::alloc::Global;
 use std::rt::Clock;
 use std::sync::Wait;
 use std::sync::atomic::{AtomicU64, Ordering};
-use std::thread;
 use std::thread::Threads;
+use std::{io, thread};
 
 const LIMITS: Limits = Limits {
     queue: 64,
@@ -35,63 +35,94 @@ const LOOKS: usize = 1_000_000_000;
 /// port on one lane that is turned over all the while.
 pub(crate) fn run<R: Threads + Wait + Sync + Print + Clock + AllocGlobal>(
     rt: &R,
-) -> anyhow::Result<()> {
-    for lanes in [1, 4] {
-        for ports in [1, 2, 4] {
-            let nanos = nanos_of_case(rt, ports, lanes)?;
-            println!(rt;
-                "ports {ports}, lanes {lanes}: {} thousand requests a second",
-                Hundredths::quotient(u128::from(REQUESTS) * 1_000_000, u128::from(nanos))
-            )?;
+) -> io::Result<()> {
+    for &lanes in &[1, 4] {
+        for &ports in &[1, 2, 4] {
+            measure(rt, rt.alloc(), ports, lanes)?;
         }
     }
-    shifts::run(rt)
+    shifts::run(rt, rt.alloc())
 }
 
-fn nanos_of_case<R: Threads + Wait + Sync + Clock + AllocGlobal>(
+fn measure<R: Threads + Wait + Sync + Print + Clock>(
     rt: &R,
+    alloc: Global,
     ports: u64,
     lanes: usize,
-) -> anyhow::Result<u64> {
-    let (exchange, mut door, taps) = open(rt, rt.alloc(), LIMITS, lanes)?;
-    let drawers = drawers_at(rt.alloc(), &exchange, taps)?;
+) -> io::Result<()> {
+    let nanos = nanos_of_case(rt, alloc, ports, lanes)?;
+    println!(rt;
+        "ports {ports}, lanes {lanes}: {} thousand requests a second",
+        Hundredths::quotient(REQUESTS * 1_000_000, nanos)
+    )
+}
+
+fn nanos_of_case<R: Threads + Wait + Sync + Clock>(
+    rt: &R,
+    alloc: Global,
+    ports: u64,
+    lanes: usize,
+) -> io::Result<u64> {
+    let (exchange, mut door, taps) = open(rt, alloc, LIMITS, lanes)?;
+    nanos_at(rt, alloc, &exchange, &mut door, taps, ports)
+}
+
+fn nanos_at<R: Threads + Wait + Sync + Clock>(
+    rt: &R,
+    alloc: Global,
+    at: &Exchange,
+    door: &mut Door,
+    taps: Vec<Tap>,
+    ports: u64,
+) -> io::Result<u64>
+    requires door { locks_of door.old.fronts ≡ at.now }
+    requires taps { All (λ t. slice_get at.now t.lane ≡ Some t.front.lock) taps.items }
+{
     let active = AtomicU64::new(ports);
-    let mut parties = parties_of(rt, rt.alloc(), &exchange, &mut door, ports, &active)?;
-    for drawer in drawers {
-        parties.push(Party::Upstream {
-            drawer,
-            active: &active,
-        })?;
-    }
-    let (nanos, count) = nanos_of_works(rt, parties)?;
-    anyhow::ensure!(
-        count == 2 * REQUESTS,
-        "{count} responses queued or collected"
-    );
-    Ok(nanos)
+    let mut parties = Vec::new(alloc);
+    add_clients(rt, alloc, at, door, ports, &active, &mut parties)?;
+    add_taps(at, taps, &active, &mut parties)?;
+    nanos_of_all(rt, parties, 2 * REQUESTS, "responses queued or collected")
 }
 
 // So many clients, which share the requests of a case.
-fn parties_of<'a, R: Wait>(
+fn add_clients<'a, R: Wait>(
     rt: &R,
     alloc: Global,
     at: &'a Exchange,
     door: &mut Door,
     ports: u64,
     active: &'a AtomicU64,
-) -> anyhow::Result<Vec<Party<'a>>>
+    parties: &mut Vec<Party<'a>>,
+) -> io::Result<()>
     requires { locks_of door.old.fronts ≡ at.now }
 {
-    let mut parties = Vec::new(alloc);
     for _ in 0..ports {
-        parties.push(Party::Client {
+        let client = Party::Client {
             alloc,
             seat: seat_at(rt, at, door)?,
             requests: REQUESTS / ports.max(1),
             active,
-        })?;
+        };
+        push(parties, client)?;
     }
-    Ok(parties)
+    Ok(())
+}
+
+// The taps of all lanes.
+fn add_taps<'a>(
+    at: &'a Exchange,
+    taps: Vec<Tap>,
+    active: &'a AtomicU64,
+    parties: &mut Vec<Party<'a>>,
+) -> io::Result<()>
+    requires { All (λ t. slice_get at.now t.lane ≡ Some t.front.lock) taps.items }
+{
+    for tap in taps {
+        let drawer = Drawer { at, tap };
+        push(parties, Party::Upstream { drawer, active })?;
+    }
+    Ok(())
 }
 
 /// What has a thread of its own. `active` counts the clients that aren't done.
@@ -117,22 +148,21 @@ impl Work for Party<'_> {
         match self {
             Party::Client {
                 alloc,
-                seat,
+                mut seat,
                 requests,
                 active,
             } => {
-                let collected = submit_all(rt, alloc, seat, requests);
+                let collected = submit_all(rt, alloc, &mut seat, requests);
                 active.fetch_sub(1, Ordering::SeqCst);
                 collected
             }
-            Party::Upstream { drawer, active } => serve_all(rt, drawer, active),
+            Party::Upstream { mut drawer, active } => serve_all(rt, &mut drawer, active),
         }
     }
 }
 
 // Submits a client's requests, and answers how many responses were collected.
-fn submit_all<R: Wait>(rt: &R, alloc: Global, seat: Seat, requests: u64) -> u64 {
-    let mut seat = seat;
+fn submit_all<R: Wait>(rt: &R, alloc: Global, seat: &mut Seat, requests: u64) -> u64 {
     let mut submitted: u64 = 0;
     let mut collected: u64 = 0;
     for turn in 0..LOOKS {
@@ -157,8 +187,7 @@ fn submit_all<R: Wait>(rt: &R, alloc: Global, seat: Seat, requests: u64) -> u64 
 }
 
 // Serves until no client is active, and answers how many responses were queued.
-fn serve_all<R: Wait>(rt: &R, drawer: Drawer, active: &AtomicU64) -> u64 {
-    let mut drawer = drawer;
+fn serve_all<R: Wait>(rt: &R, drawer: &mut Drawer, active: &AtomicU64) -> u64 {
     let mut queued: u64 = 0;
     for _ in 0..LOOKS {
         match drawer.serve(rt) {

@@ -2,7 +2,7 @@
 ghost use Rattle.std.specs.Prelude.{◌≡◌, None, slice_get, Some, IfOk, false};
 ghost use Rattle.smx_session.specs.declared.upstream_state.UpstreamState.{UpstreamState};
 
-use crate::figures::Stopped;
+use crate::figures::{NOT_MADE, stopped};
 use crate::seats::Drawer;
 use crate::worker::hall::Worker;
 use smx_centre::{Centre, Mode};
@@ -13,6 +13,7 @@ use smx_slots::LaneEnds;
 use smx_turns::RunEnd;
 use smx_upstream::{Parts, UpstreamWorker, run_upstream};
 use std::alloc::{AllocError, Global};
+use std::io;
 use std::sync::Wait;
 
 /// The worker over a link to a loopback centre.
@@ -43,7 +44,7 @@ impl<'a> Carrier<'a> {
         session: UpstreamSession,
         ends: LaneEnds,
         history: usize,
-    ) -> Result<Carrier<'a>, Stopped>
+    ) -> io::Result<Carrier<'a>>
         requires { session.state ≡ UpstreamState.Binding }
     {
         let Drawer { at, tap, .. } = drawer;
@@ -62,7 +63,7 @@ impl<'a> Carrier<'a> {
                 worker,
                 over: false,
             }),
-            Err(_) => Err(Stopped::NotMade),
+            Err(_) => Err(stopped(NOT_MADE)),
         }
     }
 }

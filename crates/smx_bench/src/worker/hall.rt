@@ -1,9 +1,10 @@
 //! The workers of all clients and the one towards the centre, turned one after another.
-use crate::figures::{Hundredths, Stopped, nanos_since};
+use crate::figures::{Hundredths, nanos_since, stopped};
 use crate::worker::carrier::Carrier;
 use crate::worker::member::Member;
 use smx_memory::{FlagGate, Nobody};
 use smx_turns::RunEnd;
+use std::io;
 use std::rt::Clock;
 use std::sync::Wait;
 use std::sync::atomic::{AtomicU64, Ordering};
@@ -14,6 +15,8 @@ const TURNS: u64 = 64;
 
 /// How many turns that do nothing are measured.
 const IDLE_TURNS: u64 = 100_000;
+
+const BUSY: &str = "a worker had something to do";
 
 /// A worker of either kind.
 pub(crate) trait Worker {
@@ -33,23 +36,21 @@ pub(crate) fn nanos_of_idle_turn<W: Worker, R: Wait + Clock>(
     rt: &R,
     gate: &mut FlagGate,
     nobody: &mut Nobody,
-) -> anyhow::Result<Hundredths> {
-    if worker.run(rt, gate, nobody, TURNS) != RunEnd::Idle {
-        return Err(Stopped::Busy.into());
-    }
+) -> io::Result<Hundredths> {
+    let RunEnd::Idle = worker.run(rt, gate, nobody, TURNS) else {
+        return Err(stopped(BUSY));
+    };
     let start = Instant::now(rt)?;
     for _ in 0..IDLE_TURNS {
-        if worker.run(rt, gate, nobody, 1) != RunEnd::Idle {
-            return Err(Stopped::Busy.into());
-        }
+        let RunEnd::Idle = worker.run(rt, gate, nobody, 1) else {
+            return Err(stopped(BUSY));
+        };
     }
-    let nanos = nanos_since(rt, start)?;
-    Ok(Hundredths::quotient(u128::from(nanos), u128::from(IDLE_TURNS)))
+    Ok(Hundredths::quotient(nanos_since(rt, start)?, IDLE_TURNS))
 }
 
-/// Turns each worker while it has something to do, until so many requests are answered over all
-/// clients.
-pub(crate) fn serve<R: Wait>(
+/// The nanoseconds until so many requests are answered over all clients.
+pub(crate) fn nanos_of_requests<R: Wait + Clock>(
     rt: &R,
     members: &mut [Member],
     carrier: &mut Carrier,
@@ -57,21 +58,40 @@ pub(crate) fn serve<R: Wait>(
     nobody: &mut Nobody,
     answered: &AtomicU64,
     requests: u64,
-) -> Result<(), Stopped> {
+) -> io::Result<u64> {
+    let start = Instant::now(rt)?;
+    if serve(rt, members, carrier, gate, nobody, answered, requests) {
+        nanos_since(rt, start)
+    } else {
+        Err(stopped("a worker ended before all was answered"))
+    }
+}
+
+// Turns each worker while it has something to do, until so many requests are answered over all
+// clients. It tells whether they were.
+fn serve<R: Wait>(
+    rt: &R,
+    members: &mut [Member],
+    carrier: &mut Carrier,
+    gate: &mut FlagGate,
+    nobody: &mut Nobody,
+    answered: &AtomicU64,
+    requests: u64,
+) -> bool {
     for _ in 0..requests {
         if answered.load(Ordering::SeqCst) >= requests {
-            return Ok(());
+            return true;
         }
         for member in members.iter_mut() {
             if !goes_on(member.run(rt, gate, nobody, TURNS)) {
-                return Err(Stopped::Ended);
+                return false;
             }
         }
         if !goes_on(carrier.run(rt, gate, nobody, TURNS)) {
-            return Err(Stopped::Ended);
+            return false;
         }
     }
-    Err(Stopped::Ended)
+    false
 }
 
 // Whether a worker may be turned again.

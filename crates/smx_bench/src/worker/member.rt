@@ -3,7 +3,7 @@ ghost use Rattle.std.specs.Prelude.{◌≡◌, ◌≢◌, None, false};
 ghost use Rattle.smx_shared.specs.Views.{locks_of};
 ghost use Rattle.smx_client.specs.declared.mark.Stage.TheVariants as stage;
 
-use crate::figures::Stopped;
+use crate::figures::{NOT_MADE, stopped};
 use crate::seats::Seat;
 use crate::worker::flood::Flood;
 use crate::worker::hall::Worker;
@@ -13,6 +13,7 @@ use smx_shared::Exchange;
 use smx_slots::ClientEnds;
 use smx_turns::RunEnd;
 use std::alloc::Global;
+use std::io;
 use std::sync::Wait;
 
 /// A client's worker.
@@ -34,9 +35,9 @@ impl<'a> Member<'a> {
         desk: &'a Desk,
         ends: ClientEnds,
         flood: Flood<'a>,
-    ) -> Result<Member<'a>, Stopped> {
+    ) -> io::Result<Member<'a>> {
         if ends.senders.len() != seat.port.lanes() {
-            return Err(Stopped::NotMade);
+            return Err(stopped(NOT_MADE));
         }
         let Seat { at, port, .. } = seat;
         let ClientEnds { inbox, senders } = ends;
@@ -47,7 +48,7 @@ impl<'a> Member<'a> {
                 worker,
                 over: false,
             }),
-            Err(_) => Err(Stopped::NotMade),
+            Err(_) => Err(stopped(NOT_MADE)),
         }
     }
 }

@@ -1,6 +1,6 @@
 use Rattle.std.proofs.Common.{◌≡◌, suc, List, ◌∷◌, All, slice_get, Some, subst, arith}
 use Rattle.smx_shared.specs.declared.tap.Tap.{Tap}
-use Rattle.smx_bench.proofs.seats.drawers_at.Goals as goal
+use Rattle.smx_bench.proofs.shared.add_taps.Goals as goal
 
 first : {X : Type 0} (P : X → Type 0) (x : X) (xs all : List X) → all ≡ x ∷ xs → All P all → P x
 first P x xs all e h = (subst (All P) e h) 0 x (omega arith)
@@ -8,8 +8,8 @@ first P x xs all e h = (subst (All P) e h) 0 x (omega arith)
 others : {X : Type 0} (P : X → Type 0) (x : X) (xs all : List X) → all ≡ x ∷ xs → All P all → All P xs
 others P x xs all e h = λ k d within. (subst (All P) e h) (suc k) d (omega arith)
 
-pub invariant_of-push : goal.invariant_of-push
-invariant_of-push c = record {
+pub invariant_of-drawer : goal.invariant_of-drawer
+invariant_of-drawer c = record {
   fits = first (λ (t : Tap). slice_get c.args.at.now t.lane ≡ Some t.front.lock) c.in-Some.tap c.next.new.self.rest.items c.loop-tap.tap-iterator.rest.items c.in-Some.ensures.steps.0 c.loop-tap.invariant;
 }
 
