@@ -37,27 +37,27 @@ fn client_act(
     state: &mut State,
     client: u64,
     pdu: Pdu,
-    act: Act,
+    act: &Act,
 ) -> Result<Vec<u8>, AllocError>
     requires reached { IsReached state.old }
     requires known { IsKnown state.old.clients.list.items client }
     ensures { (s : Relay) → StandsFor state.old s → IfOk result (λ text.
-        TurnLeaves (client_act client pdu act s) state.new text.items) }
+        TurnLeaves (client_act client pdu act.now s) state.new text.items) }
 {
     match act {
-        Act::Answer(answer) => to_line(alloc, client, &answer),
+        Act::Answer(answer) => to_line(alloc, client, answer),
         Act::Bind {
             kind: _,
             account: _,
             answer,
-        } => to_line(alloc, client, &answer),
+        } => to_line(alloc, client, answer),
         Act::Forward => forward(alloc, state, client, pdu),
         Act::Leave(answer) => {
-            let mut text = to_line(alloc, client, &answer)?;
+            let mut text = to_line(alloc, client, answer)?;
             text.extend_from_slice(&leave(alloc, state, client)?)?;
             Ok(text)
         }
-        Act::Hangup(answer) => hang_up(alloc, state, client, &answer),
+        Act::Hangup(answer) => hang_up(alloc, state, client, answer),
         Act::MoAnswer { number: _ } => answer(alloc, state, client, pdu),
         Act::Ignore => Ok(Vec::new(alloc)),
     }
@@ -77,7 +77,7 @@ fn client_pdu(
 {
     let known = state.clients.known_mut(client);
     let act = known.link.decide(&pdu, &state.accounts)?;
-    client_act(alloc, state, client, pdu, act)
+    client_act(alloc, state, client, pdu, &act)
 }
 
 // Each PDU of a client in turn.
