@@ -5,5 +5,6 @@ mod calls;
 mod fixture;
 mod legal;
 mod refusals;
+mod said;
 mod scenarios;
 mod trials;

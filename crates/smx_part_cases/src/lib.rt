@@ -13,4 +13,6 @@ mod locks;
 #[cfg(test)]
 mod pdus;
 #[cfg(test)]
+mod rows;
+#[cfg(test)]
 mod sockets;

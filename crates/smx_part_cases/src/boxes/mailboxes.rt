@@ -1,4 +1,5 @@
 use self::Row::{Empties, Last, Puts, Sends, Settles};
+use crate::rows::check;
 use smx_mailbox::{Mailbox, Message, Unanswered};
 use smx_pdu::Pdu;
 use smx_pdu::command::{DATA_SM, DELIVER_SM};
@@ -35,21 +36,28 @@ fn is_put(alloc: Global, mailbox: &mut Mailbox, lane: usize, number: u32, room: 
 }
 
 fn have_numbers(pdus: &[Pdu], numbers: &[u32]) -> bool {
-    for (pdu, number) in pdus.iter().zip(numbers) {
-        if pdu.number != *number {
+    if pdus.len() != numbers.len() {
+        return false;
+    }
+    for at in 0..numbers.len() {
+        if pdus[at].number != numbers[at] {
             return false;
         }
     }
-    pdus.len() == numbers.len()
+    true
 }
 
 fn are_unanswered(left: &[Unanswered], wanted: &[(usize, u32)]) -> bool {
-    for (message, wanted) in left.iter().zip(wanted) {
-        if (message.lane, message.number) != *wanted || message.command != DELIVER_SM {
+    if left.len() != wanted.len() {
+        return false;
+    }
+    for at in 0..wanted.len() {
+        let message = &left[at];
+        if (message.lane, message.number) != wanted[at] || message.command != DELIVER_SM {
             return false;
         }
     }
-    left.len() == wanted.len()
+    true
 }
 
 fn holds(rt: &impl Abort, alloc: Global, mailbox: &mut Mailbox, row: Row) -> bool {
@@ -102,26 +110,23 @@ const GOES_ON: [Row; 4] = [Last(3), Puts(0, 10, true), Sends(&[4]), Last(4)];
 
 fn play(rt: &impl Abort, alloc: Global, mailbox: &mut Mailbox, rows: &[Row]) {
     for at in 0..rows.len() {
-        assert!(rt;
-            holds(rt, alloc, mailbox, rows[at]),
-            "row {at} of {}",
-            rows.len()
-        );
+        let holds = holds(rt, alloc, mailbox, rows[at]);
+        check(rt, holds, "mailbox", at);
     }
+}
+
+// Plays the rows on a mailbox of so many places that goes on behind this number.
+fn play_anew(rt: &impl Abort, alloc: Global, places: u32, last: u32, rows: &[Row]) {
+    assert!(rt; last <= 0x7FFF_FFFF);
+    let mut mailbox = Mailbox::after(alloc, places, last).expect(rt, "no mailbox");
+    play(rt, alloc, &mut mailbox, rows);
 }
 
 #[test]
 fn mailboxes_send_and_settle(rt: HostRuntime) {
-    let mailboxes: [(u32, u32, &[Row]); 3] = [
-        (1, 0, &ONE_PLACE),
-        (3, 0, &CLIENT_LEAVES),
-        (1, 3, &GOES_ON),
-    ];
-    for (places, last, rows) in mailboxes {
-        assert!(rt; last <= 0x7FFF_FFFF);
-        let mut mailbox = Mailbox::after(rt.alloc(), places, last).expect(&rt, "no mailbox");
-        play(&rt, rt.alloc(), &mut mailbox, rows);
-    }
+    play_anew(&rt, rt.alloc(), 1, 0, &ONE_PLACE);
+    play_anew(&rt, rt.alloc(), 3, 0, &CLIENT_LEAVES);
+    play_anew(&rt, rt.alloc(), 1, 3, &GOES_ON);
 }
 
 fn is_sent(pdu: &Pdu, fields: (u32, u32, u32), body: &[u8]) -> bool {
@@ -180,7 +185,7 @@ fn keeps_what_stays(alloc: Global, mailbox: &mut Mailbox) -> bool {
         Ok(messages) => messages.len() == if are_sent { 1 } else { 2 },
         Err(AllocError) => true,
     };
-    are_put && is_settled == are_sent && is_left
+    are_put & (is_settled == are_sent) & is_left
 }
 
 // Want of memory is said by name: tools/refuse-memory refuses each allocation in turn. What does not

@@ -1,5 +1,7 @@
 use self::Row::{Insert, Remove, To};
+use crate::rows::check;
 use smx_routes::{RouteFault, Routes};
+use std::alloc::Global;
 use std::process::Abort;
 use std::test::*;
 
@@ -13,19 +15,26 @@ enum Row<'a> {
     To(&'a [u8], Option<u64>),
 }
 
-fn play(rt: &impl Abort, routes: &mut Routes, rows: &[Row]) {
-    for at in 0..rows.len() {
-        match rows[at] {
-            Insert(prefix, client, wanted) => {
-                let found = routes.insert(prefix, client);
-                assert!(rt; found == wanted, "row {at}: {found:?}");
-            }
-            Remove(client) => routes.remove(client),
-            To(address, wanted) => {
-                let found = routes.route(address);
-                assert!(rt; found == wanted, "row {at}: {found:?}");
-            }
+fn holds(rt: &impl Abort, routes: &mut Routes, row: Row) -> bool {
+    match row {
+        Insert(prefix, client, wanted) => {
+            let found = routes.insert(prefix, client);
+            assert!(rt; found != Err(RouteFault::NoMemory), "out of memory");
+            found == wanted
         }
+        Remove(client) => {
+            routes.remove(client);
+            true
+        }
+        To(address, wanted) => routes.route(address) == wanted,
+    }
+}
+
+// Plays the rows on new routes.
+fn play(rt: &impl Abort, alloc: Global, rows: &[Row]) {
+    let mut routes = Routes::new(alloc);
+    for at in 0..rows.len() {
+        check(rt, holds(rt, &mut routes, rows[at]), "routes", at);
     }
 }
 
@@ -75,13 +84,16 @@ fn messages_go_to_the_longest_prefix(rt: HostRuntime) {
         To(&address, Some(1)),
         To(&address[..63], None),
     ];
-    let tables: [&[Row]; 2] = [&LONGEST_PREFIX, &LEAVING];
-    for rows in tables {
-        let mut routes = Routes::new(rt.alloc());
-        play(&rt, &mut routes, rows);
+    play(&rt, rt.alloc(), &LONGEST_PREFIX);
+    play(&rt, rt.alloc(), &LEAVING);
+    play(&rt, rt.alloc(), &refused);
+}
+
+fn inserts_or_says(routes: &mut Routes) -> bool {
+    match routes.insert(b"49", 1) {
+        Ok(()) => routes.route(b"4915") == Some(1),
+        Err(fault) => fault == RouteFault::NoMemory && routes.route(b"4915").is_none(),
     }
-    let mut routes = Routes::new(rt.alloc());
-    play(&rt, &mut routes, &refused);
 }
 
 // Want of memory is said by name, and leaves the rows as they were: tools/refuse-memory refuses each
@@ -89,10 +101,5 @@ fn messages_go_to_the_longest_prefix(rt: HostRuntime) {
 #[test]
 fn refused_memory(rt: HostRuntime) {
     let mut routes = Routes::new(rt.alloc());
-    match routes.insert(b"49", 1) {
-        Ok(()) => assert!(rt; routes.route(b"4915") == Some(1)),
-        Err(fault) => {
-            assert!(rt; fault == RouteFault::NoMemory && routes.route(b"4915").is_none());
-        }
-    }
+    assert!(rt; inserts_or_says(&mut routes));
 }

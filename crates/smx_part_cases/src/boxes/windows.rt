@@ -1,5 +1,8 @@
 use self::Row::{Full, Gives, Last, Settles, Takes};
+use crate::rows::check;
 use smx_routes::{MoWindow, WindowFault};
+use std::alloc::Global;
+use std::process::Abort;
 use std::test::*;
 
 const DELIVER_SM: u32 = 0x0000_0005;
@@ -62,28 +65,30 @@ const GOES_ROUND: [Row; 9] = [
 // A window that goes on where another ended.
 const GOES_ON: [Row; 2] = [Last(5), Gives(0, 10, DELIVER_SM, Some(6))];
 
-#[test]
-fn windows_give_and_settle(rt: HostRuntime) {
-    let windows: [(u32, u32, &[Row]); 3] = [
-        (1, 0, &ONE_PLACE),
-        (3, 0x7FFF_FFFE, &GOES_ROUND),
-        (2, 5, &GOES_ON),
-    ];
-    for (places, last, rows) in windows {
-        assert!(rt; last <= 0x7FFF_FFFF);
-        let mut window = MoWindow::after(rt.alloc(), places, last).expect(&rt, "no window");
-        assert!(rt; window.places() == places);
-        for at in 0..rows.len() {
-            assert!(rt; holds(&mut window, rows[at]), "{places} places, row {at}");
-        }
+// Plays the rows on a window of so many places that goes on behind this number.
+fn play(rt: &impl Abort, alloc: Global, places: u32, last: u32, rows: &[Row]) {
+    assert!(rt; last <= 0x7FFF_FFFF);
+    let mut window = MoWindow::after(alloc, places, last).expect(rt, "no window");
+    check(rt, window.places() == places, "places", 0);
+    for at in 0..rows.len() {
+        check(rt, holds(&mut window, rows[at]), "window", at);
     }
 }
 
 #[test]
+fn windows_give_and_settle(rt: HostRuntime) {
+    play(&rt, rt.alloc(), 1, 0, &ONE_PLACE);
+    play(&rt, rt.alloc(), 3, 0x7FFF_FFFE, &GOES_ROUND);
+    play(&rt, rt.alloc(), 2, 5, &GOES_ON);
+}
+
+const BAD_SIZES: [u32; 3] = [0, 257, u32::MAX];
+
+#[test]
 fn sizes_have_a_range(rt: HostRuntime) {
-    for places in [0, 257, u32::MAX] {
-        let fault = MoWindow::new(rt.alloc(), places).err();
-        assert!(rt; fault == Some(WindowFault::BadSize), "at {places}");
+    for at in 0..BAD_SIZES.len() {
+        let fault = MoWindow::new(rt.alloc(), BAD_SIZES[at]).err();
+        check(&rt, fault == Some(WindowFault::BadSize), "bad sizes", at);
     }
 }
 

@@ -3,6 +3,7 @@
 use crate::lanes::fixture::Row::{Clients, Is};
 use crate::lanes::fixture::Step::{Accept, Answer, Take};
 use crate::lanes::fixture::{ROOMY, Row, SUBMIT_SM, play, played, request, said, submitted};
+use crate::rows::check;
 use smx_lane::{AdmitFault, Call, Lane, LaneFault, Limits, Reply, run_all};
 use std::alloc::{AllocError, Global};
 use std::process::Abort;
@@ -99,27 +100,23 @@ const WORDS: [(&str, u64); 10] = [
     ("retired", 0),
 ];
 
-// Whether the replies are these words. Want of memory is named.
-fn are_words(rt: &impl Abort, replies: &[Reply]) -> bool {
+// Asserts that the replies are these words.
+fn check_words(rt: &impl Abort, replies: &[Reply]) {
+    assert!(rt; replies.len() == WORDS.len());
     for at in 0..WORDS.len() {
-        let reply = replies.get(at);
-        assert!(rt; reply.map(said) == Some(WORDS[at]), "{at}: {reply:?}");
+        let found = said(&replies[at]);
+        check(rt, found == WORDS[at], found.0, at);
     }
-    replies.len() == WORDS.len()
-}
-
-// Whether the ten calls are replied to by these words, and one entry is left.
-fn makes_ten_calls(rt: &impl Abort, alloc: Global, lane: &mut Lane) -> bool {
-    let calls = ten_calls(rt, alloc);
-    let replies = run_all(lane, alloc, calls).expect(rt, "out of memory");
-    are_words(rt, replies.as_slice()) && lane.entries().len() == 1
 }
 
 // The calls of a list are made in order, but for those that don't keep to their conditions.
 #[test]
 fn lists_of_calls(rt: HostRuntime) {
     let mut lane = played(&rt, rt.alloc(), "lists", ROOMY, &[]);
-    assert!(rt; makes_ten_calls(&rt, rt.alloc(), &mut lane));
+    let calls = ten_calls(&rt, rt.alloc());
+    let replies = run_all(&mut lane, rt.alloc(), calls).expect(&rt, "out of memory");
+    check_words(&rt, &replies);
+    check(&rt, lane.entries().len() == 1, "entries", 0);
 }
 
 // What an admit left: true where it said want of memory and changed nothing, or did its work.
@@ -140,16 +137,17 @@ fn turns_or_says(lane: &mut Lane) -> bool {
     }
 }
 
-fn does_or_says(lane: &mut Lane) -> bool {
-    admits_or_says(lane) && lane.limits() == ROOMY && turns_or_says(lane)
+fn is_made_or_says(made: &mut Result<Lane, LaneFault>) -> bool {
+    match made {
+        Ok(lane) => admits_or_says(lane) && lane.limits() == ROOMY && turns_or_says(lane),
+        Err(fault) => *fault == LaneFault::NoMemory,
+    }
 }
 
 // Want of memory is said by name, and leaves the lane as it was: tools/refuse-memory refuses each
 // allocation in turn.
 #[test]
 fn refused_memory(rt: HostRuntime) {
-    match Lane::new(rt.alloc(), ROOMY) {
-        Ok(mut lane) => assert!(rt; does_or_says(&mut lane)),
-        Err(fault) => assert!(rt; fault == LaneFault::NoMemory),
-    }
+    let mut made = Lane::new(rt.alloc(), ROOMY);
+    assert!(rt; is_made_or_says(&mut made));
 }

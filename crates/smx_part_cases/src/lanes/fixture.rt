@@ -1,9 +1,7 @@
 //! Calls on a lane as rows, each with what comes of it.
 
-use smx_lane::{
-    AdmitFault, Answered, Call, FailRefusal, Failed, Lane, Limits, Refusal, Reply, Request,
-    TakeRefusal, UpRefusal, run,
-};
+use crate::lanes::said::said as told;
+use smx_lane::{Call, Lane, Limits, Reply, Request, run};
 use smx_pdu::{Body, Pdu, is_forwarded};
 use std::alloc::Global;
 use std::process::Abort;
@@ -111,44 +109,13 @@ fn call_of(rt: &impl Abort, alloc: Global, step: Step) -> Call {
 /// status of what is collected, the length of a list.
 pub(crate) fn said(reply: &Reply) -> (&'static str, u64) {
     match reply {
-        Reply::Admitted(Ok(())) => ("admitted", 0),
-        Reply::Admitted(Err(AdmitFault::Known)) => ("known", 0),
-        Reply::Admitted(Err(AdmitFault::HistoryFull)) => ("history full", 0),
-        Reply::Accepted(Ok(())) => ("accepted", 0),
-        Reply::Accepted(Err((_, Refusal::ClientFull))) => ("client full", 0),
-        Reply::Accepted(Err((_, Refusal::HistoryFull))) => ("history full", 0),
-        Reply::Accepted(Err((_, Refusal::Down))) => ("is down", 0),
-        Reply::Taken(Ok(sent)) => ("taken", u64::from(sent.upstream)),
-        Reply::Taken(Err(TakeRefusal::WindowFull)) => ("window full", 0),
-        Reply::Taken(Err(TakeRefusal::Down)) => ("is down", 0),
-        Reply::Answered(answered) => said_of(answered),
         Reply::Collected(Some(pdu)) if pdu.number == 7 && pdu.body.is_empty() => {
             (name_of(pdu.command), u64::from(pdu.status))
         }
-        Reply::Collected(None) => ("nothing", 0),
-        Reply::Retired(Ok(())) => ("retired", 0),
-        Reply::Retired(Err(_)) => ("not admitted", 0),
-        Reply::TurnedOver(Ok(Some(list))) => ("turned over", list.len() as u64),
-        Reply::TurnedOver(Ok(None)) => ("too few", 0),
-        Reply::WentDown(Ok(())) => ("down", 0),
-        Reply::Failed(Err(FailRefusal::WindowEmpty)) => ("window empty", 0),
-        Reply::Failed(Ok(Failed::Late)) | Reply::Expired(Ok(Failed::Late)) => ("late", 0),
-        Reply::Failed(Ok(Failed::Queued { client })) => ("failed", *client),
-        Reply::Expired(Ok(Failed::Queued { client })) => ("given up", *client),
-        Reply::Expired(Err(_)) => ("kept", 0),
-        Reply::CameUp(Ok(())) => ("up", 0),
-        Reply::CameUp(Err(UpRefusal::WindowNotEmpty)) => ("window not empty", 0),
-        Reply::CameUp(Err(UpRefusal::HistoryFull)) => ("history full", 0),
-        Reply::Unkept => ("unkept", 0),
-        _ => ("another", 0),
-    }
-}
-
-fn said_of(answered: &Answered) -> (&'static str, u64) {
-    match answered {
-        Answered::Queued { client } => ("queued", *client),
-        Answered::Late => ("late", 0),
-        Answered::Unknown(pdu) => ("unknown", u64::from(pdu.number)),
+        _ => {
+            let (word, numbers) = told(reply);
+            (word, numbers[0])
+        }
     }
 }
 
@@ -162,6 +129,11 @@ fn name_of(response: u32) -> &'static str {
     }
 }
 
+fn compare(rt: &impl Abort, name: &str, found: (&str, u64), wanted: (&str, u64)) {
+    let ((is, count), (word, number)) = (found, wanted);
+    assert!(rt; found == wanted, "{name}: {word} {number} is {is} {count}");
+}
+
 fn is(
     rt: &impl Abort,
     alloc: Global,
@@ -171,11 +143,7 @@ fn is(
     wanted: (&str, u64),
 ) {
     let reply = run(lane, call_of(rt, alloc, step));
-    let found = said(&reply);
-    assert!(rt;
-        found == wanted,
-        "{name}: {wanted:?} is {found:?}, {reply:?}"
-    );
+    compare(rt, name, said(&reply), wanted);
 }
 
 fn rounds(
@@ -190,14 +158,25 @@ fn rounds(
         let ordinal = first.0.saturating_add(u64::from(done));
         let number = first.1.saturating_add(done.saturating_mul(1_024));
         let now = ordinal.saturating_sub(1);
-        for (step, wanted) in [
-            (Step::Accept(1, ordinal), ("accepted", 0)),
-            (Step::Take(now), ("taken", u64::from(number))),
-            (Step::Answer(number), ("queued", 1)),
-            (Step::Collect(1), ("submit_sm_resp", 0)),
-        ] {
-            is(rt, alloc, lane, name, step, wanted);
-        }
+        let taken = ("taken", u64::from(number));
+        is(
+            rt,
+            alloc,
+            lane,
+            name,
+            Step::Accept(1, ordinal),
+            ("accepted", 0),
+        );
+        is(rt, alloc, lane, name, Step::Take(now), taken);
+        is(rt, alloc, lane, name, Step::Answer(number), ("queued", 1));
+        is(
+            rt,
+            alloc,
+            lane,
+            name,
+            Step::Collect(1),
+            ("submit_sm_resp", 0),
+        );
     }
 }
 

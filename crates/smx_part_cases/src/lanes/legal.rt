@@ -2,6 +2,7 @@
 
 use crate::lanes::fixture::Row::Is;
 use crate::lanes::fixture::{ROOMY, Row, SUBMIT_SM, Step, played};
+use crate::rows::check;
 use smx_history::Kind::{Accept, Admit, Answer, Collect, Down, Fail, Late, Retire, Take, Up};
 use smx_history::{Entry, Kind, Limits};
 use smx_legal::{is_legal, is_legal_shifts};
@@ -91,8 +92,9 @@ fn lists_are_told_apart(rt: HostRuntime) {
         (&[admit, accept, down, take], false),
         (&[admit, accept, down, up, take], true),
     ];
-    for (list, legal) in lists {
-        assert!(rt; is_legal(list, ROOMY) == legal, "{list:?}");
+    for at in 0..lists.len() {
+        let (list, legal) = lists[at];
+        check(&rt, is_legal(list, ROOMY) == legal, "lists", at);
     }
 }
 
@@ -106,20 +108,22 @@ fn is_found(a: usize, b: usize) -> bool {
     !is_legal(&spoiled, ROOMY)
 }
 
+const SWAPPED: [(usize, usize); 8] = [
+    (0, 1),
+    (1, 2),
+    (1, 3),
+    (3, 4),
+    (3, 5),
+    (5, 6),
+    (6, 7),
+    (7, 8),
+];
+
 #[test]
 fn swapped_entries_are_found(rt: HostRuntime) {
-    let places = [
-        (0, 1),
-        (1, 2),
-        (1, 3),
-        (3, 4),
-        (3, 5),
-        (5, 6),
-        (6, 7),
-        (7, 8),
-    ];
-    for (a, b) in places {
-        assert!(rt; is_found(a, b), "{a} and {b}");
+    for at in 0..SWAPPED.len() {
+        let (a, b) = SWAPPED[at];
+        check(&rt, is_found(a, b), "swapped", at);
     }
 }
 
@@ -152,9 +156,9 @@ fn wrong_entries_are_found(rt: HostRuntime) {
         (8, entry(Answer, 1, 2, 2, SUBMIT_SM_RESP)),
         (8, entry(Accept, 1, 3, 7, SUBMIT_SM)),
     ];
-    for (at, entry) in instead {
-        let mut spoiled = session();
-        assert!(rt; is_wrong(&mut spoiled, at, entry), "{at}: {entry:?}");
+    for row in 0..instead.len() {
+        let (at, entry) = instead[row];
+        check(&rt, is_wrong(&mut session(), at, entry), "entries", row);
     }
 }
 
@@ -174,9 +178,9 @@ fn wrong_links_are_found(rt: HostRuntime) {
         (9, entry(Collect, 1, 2, 0, 0)),
         (10, entry(Down, 0, 0, 0, 0)),
     ];
-    for (at, entry) in instead {
-        let mut spoiled = lost_link();
-        assert!(rt; is_wrong(&mut spoiled, at, entry), "{at}: {entry:?}");
+    for row in 0..instead.len() {
+        let (at, entry) = instead[row];
+        check(&rt, is_wrong(&mut lost_link(), at, entry), "links", row);
     }
 }
 
@@ -212,30 +216,44 @@ fn lost_and_found() -> [Entry; 8] {
 #[test]
 fn lost_lanes_come_up_again(rt: HostRuntime) {
     let lane = played(&rt, rt.alloc(), "lost", ROOMY, &LOST_AND_FOUND);
-    assert!(rt; lane.entries() == lost_and_found().as_slice());
-    assert!(rt; is_legal(lane.entries(), ROOMY));
+    let are_noted = lane.entries() == lost_and_found().as_slice();
+    check(&rt, are_noted, "noted", 0);
+    check(&rt, is_legal(lane.entries(), ROOMY), "legal", 0);
 }
 
+const TIGHT: Limits = Limits {
+    queue: 2,
+    window: 2,
+    client: 2,
+    history: 11,
+};
+
+const TIGHTER: Limits = Limits {
+    history: 10,
+    ..TIGHT
+};
+
+// Two requests wait in the queue, two are open in the window, and the one client has both. The size
+// is three entries, three to come of each of two requests, the client's retire and a down.
 #[test]
 fn limits_are_kept(rt: HostRuntime) {
-    // Two requests wait in the queue, two are open in the window, and the one client has both. The
-    // size is three entries, three to come of each of two requests, the client's retire and a down.
-    for (queue, window, client, history, legal) in [
-        (2, 2, 2, 11, true),
-        (1, 2, 2, 11, false),
-        (2, 1, 2, 11, false),
-        (2, 2, 1, 11, false),
-        (2, 2, 2, 10, false),
-    ] {
-        let limits = Limits {
-            queue,
-            window,
-            client,
-            history,
-        };
-        assert!(rt; is_legal(&session(), limits) == legal, "{limits:?}");
-    }
+    let session = session();
+    assert!(rt; is_legal(&session, TIGHT));
+    assert!(rt; !is_legal(&session, Limits { queue: 1, ..TIGHT }));
+    assert!(rt; !is_legal(&session, Limits { window: 1, ..TIGHT }));
+    assert!(rt; !is_legal(&session, Limits { client: 1, ..TIGHT }));
+    assert!(rt; !is_legal(&session, TIGHTER));
 }
+
+const FULL: Limits = Limits {
+    history: 11,
+    ..ROOMY
+};
+
+const FULLER: Limits = Limits {
+    history: 10,
+    ..ROOMY
+};
 
 // Whether the session in two shifts, the second behind so many entries, is legal under the history 11
 // and under 10, and whether it is under 11 with its shifts the other way round.
@@ -244,21 +262,11 @@ fn joined(rt: &impl Abort, alloc: Global, at: usize) -> (bool, bool, bool) {
     let (before, after) = all.split_at(at.min(all.len()));
     let first = Vec::from_slice(alloc, before).expect(rt, "out of memory");
     let second = Vec::from_slice(alloc, after).expect(rt, "out of memory");
-    let tight = Limits {
-        history: 11,
-        ..ROOMY
-    };
-    let tighter = Limits {
-        history: 10,
-        ..ROOMY
-    };
-    let lists = [first, second];
-    let (is_legal, fits) = (
-        is_legal_shifts(&lists, tight),
-        is_legal_shifts(&lists, tighter),
-    );
-    let [first, second] = lists;
-    (is_legal, fits, is_legal_shifts(&[second, first], tight))
+    let mut lists = [first, second];
+    let is_legal = is_legal_shifts(&lists, FULL);
+    let fits = is_legal_shifts(&lists, FULLER);
+    lists.swap(0, 1);
+    (is_legal, fits, is_legal_shifts(&lists, FULL))
 }
 
 // The size is 3 and 7 after the first two entries, and 11 after each from the third to the eighth.
@@ -266,9 +274,10 @@ fn joined(rt: &impl Abort, alloc: Global, at: usize) -> (bool, bool, bool) {
 // takes one or two entries off the 11.
 #[test]
 fn shifts_are_joined(rt: HostRuntime) {
-    for at in 0..=9 {
-        let wanted = (true, (1..=2).contains(&at), at == 0 || at == 9);
-        assert!(rt; joined(&rt, rt.alloc(), at) == wanted, "{at}");
+    for at in 0..10 {
+        let wanted = (true, at == 1 || at == 2, at == 0 || at == 9);
+        let found = joined(&rt, rt.alloc(), at);
+        check(&rt, found == wanted, "shifts", at);
     }
     assert!(rt; is_legal_shifts(&[], ROOMY));
 }

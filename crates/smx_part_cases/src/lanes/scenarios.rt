@@ -6,6 +6,8 @@ use crate::lanes::fixture::Step::{
 };
 use crate::lanes::fixture::{ROOMY, Row, SUBMIT_SM, played};
 use smx_lane::Limits;
+use std::alloc::Global;
+use std::process::Abort;
 use std::test::*;
 
 const TIGHT: Limits = Limits {
@@ -200,12 +202,12 @@ const FAILURES: [Row; 43] = [
 // 5.1.3), and its response comes for nobody.
 const GIVEN_UP: [Row; 10] = [
     Is(Admit(1), "admitted", 0),
-    Is(Expire(100, 0), "kept", 0),
+    Is(Expire(100, 0), "none so old", 0),
     Is(Accept(1, 1), "accepted", 0),
     Is(Take(100), "taken", 1),
-    Is(Expire(599, 500), "kept", 0),
-    Is(Expire(600, 500), "given up", 1),
-    Is(Expire(600, 500), "kept", 0),
+    Is(Expire(599, 500), "none so old", 0),
+    Is(Expire(600, 500), "failed", 1),
+    Is(Expire(600, 500), "none so old", 0),
     Is(Collect(1), "submit_sm_resp", 0x45),
     Is(Answer(1), "unknown", 1),
     Is(Collect(1), "nothing", 0),
@@ -218,12 +220,12 @@ const OLDER_GIVEN_UP: [Row; 11] = [
     Is(Take(100), "taken", 1),
     Is(Accept(1, 2), "accepted", 0),
     Is(Take(300), "taken", 2),
-    Is(Expire(650, 500), "given up", 1),
-    Is(Expire(650, 500), "kept", 0),
+    Is(Expire(650, 500), "failed", 1),
+    Is(Expire(650, 500), "none so old", 0),
     Is(Answer(2), "queued", 1),
     Is(Collect(1), "submit_sm_resp", 0x45),
     Is(Collect(1), "submit_sm_resp", 0),
-    Is(Expire(1_000, 500), "kept", 0),
+    Is(Expire(1_000, 500), "none so old", 0),
 ];
 
 // A lane that is down gives up what is too old, and then comes up.
@@ -232,8 +234,8 @@ const GIVEN_UP_WHILE_DOWN: [Row; 8] = [
     Is(Accept(1, 1), "accepted", 0),
     Is(Take(100), "taken", 1),
     Is(Down, "down", 0),
-    Is(Expire(599, 500), "kept", 0),
-    Is(Expire(600, 500), "given up", 1),
+    Is(Expire(599, 500), "none so old", 0),
+    Is(Expire(600, 500), "failed", 1),
     Is(Collect(1), "submit_sm_resp", 0x45),
     Is(Up, "up", 0),
 ];
@@ -244,9 +246,9 @@ const GIVEN_UP_LATE: [Row; 8] = [
     Is(Accept(1, 1), "accepted", 0),
     Is(Take(100), "taken", 1),
     Is(Retire(1), "retired", 0),
-    Is(Expire(599, 500), "kept", 0),
+    Is(Expire(599, 500), "none so old", 0),
     Is(Expire(600, 500), "late", 0),
-    Is(Expire(600, 500), "kept", 0),
+    Is(Expire(600, 500), "none so old", 0),
     Is(Answer(1), "unknown", 1),
 ];
 
@@ -257,10 +259,10 @@ const TAKES_DO_NOT_FALL: [Row; 12] = [
     Is(Take(1_000), "taken", 1),
     Is(Accept(1, 2), "accepted", 0),
     Is(Take(10), "taken", 2),
-    Is(Expire(1_499, 500), "kept", 0),
-    Is(Expire(1_500, 500), "given up", 1),
-    Is(Expire(1_500, 500), "given up", 1),
-    Is(Expire(1_500, 500), "kept", 0),
+    Is(Expire(1_499, 500), "none so old", 0),
+    Is(Expire(1_500, 500), "failed", 1),
+    Is(Expire(1_500, 500), "failed", 1),
+    Is(Expire(1_500, 500), "none so old", 0),
     Is(Collect(1), "submit_sm_resp", 0x45),
     Is(Collect(1), "submit_sm_resp", 0x45),
     Is(Collect(1), "nothing", 0),
@@ -273,11 +275,11 @@ const EXPIRIES_DO_NOT_FALL: [Row; 11] = [
     Is(Take(1_600), "taken", 1),
     Is(Accept(1, 2), "accepted", 0),
     Is(Take(1_700), "taken", 2),
-    Is(Expire(0, 101), "kept", 0),
-    Is(Expire(0, 100), "given up", 1),
+    Is(Expire(0, 101), "none so old", 0),
+    Is(Expire(0, 100), "failed", 1),
     Is(Answer(1), "unknown", 1),
-    Is(Expire(0, 100), "kept", 0),
-    Is(Expire(0, 0), "given up", 1),
+    Is(Expire(0, 100), "none so old", 0),
+    Is(Expire(0, 0), "failed", 1),
     Is(Answer(2), "unknown", 2),
 ];
 
@@ -288,9 +290,9 @@ const ONE_STAYS: [Row; 8] = [
     Is(Accept(1, 1), "accepted", 0),
     Is(Take(0), "taken", 1),
     Rounds(2, 2, 100),
-    Is(Expire(200, 150), "given up", 1),
+    Is(Expire(200, 150), "failed", 1),
     Is(Answer(1), "unknown", 1),
-    Is(Expire(200, 0), "kept", 0),
+    Is(Expire(200, 0), "none so old", 0),
     Is(Collect(1), "submit_sm_resp", 0x45),
 ];
 
@@ -306,43 +308,94 @@ const TWO_STAY: [Row; 17] = [
     Is(Accept(1, 3), "accepted", 0),
     Is(Take(2), "taken", 1_025),
     Rounds(4, 3, 100),
-    Is(Expire(150, 150), "kept", 0),
-    Is(Expire(151, 150), "given up", 1),
+    Is(Expire(150, 150), "none so old", 0),
+    Is(Expire(151, 150), "failed", 1),
     Is(Answer(2), "unknown", 2),
-    Is(Expire(151, 150), "kept", 0),
-    Is(Expire(152, 150), "given up", 1),
+    Is(Expire(151, 150), "none so old", 0),
+    Is(Expire(152, 150), "failed", 1),
     Is(Answer(1_025), "unknown", 1_025),
-    Is(Expire(152, 0), "kept", 0),
+    Is(Expire(152, 0), "none so old", 0),
 ];
 
-// A name, the limits, and the rows.
-type Scenario = (&'static str, Limits, &'static [Row]);
-
-const SCENARIOS: [Scenario; 19] = [
-    ("client full before the queue", TIGHT, &FULL_CLIENT),
-    ("numbers of clients rise", ROOMY, &RISING_NUMBERS),
-    ("retired clients get nothing", ROOMY, &RETIRED_CLIENT),
-    ("rounds fill the history", ROOMY, &FULL_HISTORY),
-    ("turned lanes go on", ROOMY, &TURNED_HISTORY),
-    ("clients fill the history", ROOMY, &MANY_CLIENTS),
-    ("each round has a number", ONE_PLACE, &MANY_NUMBERS),
-    ("places are given again", THREE_PLACES, &GIVEN_AGAIN),
-    ("numbers go on over a lost link", ROOMY, &LOST_LINK),
-    ("lanes are answered while down", ROOMY, &ANSWERED_WHILE_DOWN),
-    ("failures tell by the command", ROOMY, &FAILURES),
-    ("requests are given up", ROOMY, &GIVEN_UP),
-    ("the older is given up", ROOMY, &OLDER_GIVEN_UP),
-    ("given up while down", ROOMY, &GIVEN_UP_WHILE_DOWN),
-    ("nobody is told late", ROOMY, &GIVEN_UP_LATE),
-    ("takes do not fall", ROOMY, &TAKES_DO_NOT_FALL),
-    ("expiries do not fall", ROOMY, &EXPIRIES_DO_NOT_FALL),
-    ("ages: one stays", TWO_PLACES, &ONE_STAYS),
-    ("ages: two stay", THREE_PLACES, &TWO_STAY),
-];
+// Plays the rows on a new lane under these limits.
+fn scenario(rt: &impl Abort, alloc: Global, name: &str, limits: Limits, rows: &[Row]) {
+    played(rt, alloc, name, limits, rows);
+}
 
 #[test]
 fn lanes_answer_as_worked_out(rt: HostRuntime) {
-    for (name, limits, rows) in SCENARIOS {
-        played(&rt, rt.alloc(), name, limits, rows);
-    }
+    let alloc = rt.alloc();
+    scenario(
+        &rt,
+        alloc,
+        "client full before the queue",
+        TIGHT,
+        &FULL_CLIENT,
+    );
+    scenario(
+        &rt,
+        alloc,
+        "numbers of clients rise",
+        ROOMY,
+        &RISING_NUMBERS,
+    );
+    scenario(
+        &rt,
+        alloc,
+        "retired clients get nothing",
+        ROOMY,
+        &RETIRED_CLIENT,
+    );
+    scenario(&rt, alloc, "rounds fill the history", ROOMY, &FULL_HISTORY);
+    scenario(&rt, alloc, "turned lanes go on", ROOMY, &TURNED_HISTORY);
+    scenario(&rt, alloc, "clients fill the history", ROOMY, &MANY_CLIENTS);
+    scenario(
+        &rt,
+        alloc,
+        "each round has a number",
+        ONE_PLACE,
+        &MANY_NUMBERS,
+    );
+    scenario(
+        &rt,
+        alloc,
+        "places are given again",
+        THREE_PLACES,
+        &GIVEN_AGAIN,
+    );
+    scenario(
+        &rt,
+        alloc,
+        "numbers go on over a lost link",
+        ROOMY,
+        &LOST_LINK,
+    );
+    scenario(
+        &rt,
+        alloc,
+        "lanes are answered while down",
+        ROOMY,
+        &ANSWERED_WHILE_DOWN,
+    );
+    scenario(&rt, alloc, "failures tell by the command", ROOMY, &FAILURES);
+    scenario(&rt, alloc, "requests are given up", ROOMY, &GIVEN_UP);
+    scenario(&rt, alloc, "the older is given up", ROOMY, &OLDER_GIVEN_UP);
+    scenario(
+        &rt,
+        alloc,
+        "given up while down",
+        ROOMY,
+        &GIVEN_UP_WHILE_DOWN,
+    );
+    scenario(&rt, alloc, "nobody is told late", ROOMY, &GIVEN_UP_LATE);
+    scenario(&rt, alloc, "takes do not fall", ROOMY, &TAKES_DO_NOT_FALL);
+    scenario(
+        &rt,
+        alloc,
+        "expiries do not fall",
+        ROOMY,
+        &EXPIRIES_DO_NOT_FALL,
+    );
+    scenario(&rt, alloc, "ages: one stays", TWO_PLACES, &ONE_STAYS);
+    scenario(&rt, alloc, "ages: two stay", THREE_PLACES, &TWO_STAY);
 }

@@ -1,4 +1,6 @@
+use crate::rows::{check, says};
 use smx_ticket_core::{Caller, Core, Event, Illegal};
+use std::alloc::Global;
 use std::process::Abort;
 use std::test::*;
 
@@ -50,41 +52,41 @@ const TICKETS_END: [Row; 2] = [
     ),
 ];
 
-fn play(rt: &impl Abort, core: &mut Core, rows: &[Row]) {
-    for (event, answer, by, caller) in rows {
-        assert_eq!(rt; core.step(*event), *answer, "{event:?}");
-        assert_eq!(rt; core.caller(*by), *caller, "{event:?}");
+// Plays the rows with so many callers from this ticket on: behind them these are the next ticket and
+// the one that is served.
+fn play(rt: &impl Abort, alloc: Global, start: (usize, u64), rows: &[Row], after: (u64, u64)) {
+    let (callers, first) = start;
+    assert!(rt; first <= ENDED);
+    let mut core = Core::start(alloc, callers, first).expect(rt, "out of memory");
+    for at in 0..rows.len() {
+        let (event, answer, by, caller) = rows[at];
+        check(rt, core.step(event) == answer, "answers", at);
+        check(rt, core.caller(by) == caller, "callers", at);
     }
+    check(rt, (core.next(), core.serving()) == after, "tickets", 0);
 }
 
 #[test]
 fn callers_take_turns(rt: HostRuntime) {
-    // The callers, the first ticket, the rows, and the next ticket and the one served behind them.
-    let walks: [(usize, u64, &[Row], (u64, u64)); 3] = [
-        (2, 0, &TURNS, (3, 3)),
-        (2, 5, &LOST_DRAW, (6, 5)),
-        (1, ENDED, &TICKETS_END, (ENDED, ENDED)),
-    ];
-    for (callers, first, rows, after) in walks {
-        assert!(rt; first <= ENDED);
-        let mut core = Core::start(rt.alloc(), callers, first).expect(&rt, "out of memory");
-        play(&rt, &mut core, rows);
-        assert_eq!(rt; (core.next(), core.serving()), after);
-    }
+    play(&rt, rt.alloc(), (2, 0), &TURNS, (3, 3));
+    play(&rt, rt.alloc(), (2, 5), &LOST_DRAW, (6, 5));
+    play(&rt, rt.alloc(), (1, ENDED), &TICKETS_END, (ENDED, ENDED));
 }
+
+const REFUSALS: [(Illegal, &str); 3] = [
+    (Illegal::NoCaller, "no caller has this index"),
+    (
+        Illegal::WrongState,
+        "the caller's state does not allow this event",
+    ),
+    (Illegal::Spent, "every ticket was drawn"),
+];
 
 #[test]
 fn refusals_say_why(rt: HostRuntime) {
-    let alloc = rt.alloc();
-    for (illegal, text) in [
-        (Illegal::NoCaller, "no caller has this index"),
-        (
-            Illegal::WrongState,
-            "the caller's state does not allow this event",
-        ),
-        (Illegal::Spent, "every ticket was drawn"),
-    ] {
-        let said = format!(in alloc; "{illegal}").expect(&rt, "out of memory");
-        assert_eq!(rt; said.as_str(), text);
+    for at in 0..REFUSALS.len() {
+        let (illegal, words) = REFUSALS[at];
+        let is_said = says(&rt, rt.alloc(), &illegal, words);
+        check(&rt, is_said, words, at);
     }
 }

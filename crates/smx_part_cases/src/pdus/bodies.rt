@@ -1,4 +1,5 @@
 use crate::pdus::spelling::copy;
+use crate::rows::{check, says};
 use smx_pdu::{Bind, BodyFault, read_bind, read_destination, write_bind};
 use std::alloc::Global;
 use std::process::Abort;
@@ -15,9 +16,12 @@ const MESSAGE: [u8; 18] = [0, 0, 0, 0, 0, 0, 0x31, 0, 0, 0, 0, 0, 0, 0, 0, 0, 0,
 fn a_bind_is_read(rt: HostRuntime) {
     let body = [0x61, 0, 0x70, 0, 0, 0x34, 0, 0, 0, 0xFF, 0];
     let bind = read_bind(&body).expect(&rt, "a bind");
-    assert!(rt; bind.system_id == b"a".as_slice() && bind.password == b"p".as_slice());
-    assert!(rt; bind.system_type.is_empty() && bind.address_range.is_empty());
-    assert!(rt; (bind.interface_version, bind.addr_ton, bind.addr_npi) == (0x34, 0, 0));
+    check(&rt, bind.system_id == b"a".as_slice(), "system_id", 0);
+    check(&rt, bind.password == b"p".as_slice(), "password", 0);
+    check(&rt, bind.system_type.is_empty(), "system_type", 0);
+    check(&rt, bind.address_range.is_empty(), "address_range", 0);
+    let numbers = (bind.interface_version, bind.addr_ton, bind.addr_npi);
+    check(&rt, numbers == (0x34, 0, 0), "numbers", 0);
 }
 
 const WHOLE: Bind<'static> = Bind {
@@ -30,21 +34,34 @@ const WHOLE: Bind<'static> = Bind {
     address_range: b"49",
 };
 
+fn fits_with(password: &[u8]) -> bool {
+    let mut bind = WHOLE;
+    bind.password = password;
+    bind.fits()
+}
+
+// Passwords, and whether a bind with them fits.
+const PASSWORDS: [(&[u8], bool); 3] = [
+    (b"12345678", true),
+    (b"123456789", false),
+    (b"p\0w", false),
+];
+
 #[test]
 fn a_bind_is_written_where_it_fits(rt: HostRuntime) {
-    let mut bind = WHOLE;
-    assert!(rt; bind.fits());
+    assert!(rt; WHOLE.fits());
     let mut out = copy(&rt, rt.alloc(), &[7]);
-    write_bind(&bind, &mut out).expect(&rt, "out of memory");
+    write_bind(&WHOLE, &mut out).expect(&rt, "out of memory");
     assert!(rt; out.as_slice() == b"\x07proxy\0pw\0\0\x34\x01\x0249\0".as_slice());
-    for (password, fits) in [
-        (b"12345678".as_slice(), true),
-        (b"123456789".as_slice(), false),
-        (b"p\0w".as_slice(), false),
-    ] {
-        bind.password = password;
-        assert!(rt; bind.fits() == fits);
+    for at in 0..PASSWORDS.len() {
+        let (password, fits) = PASSWORDS[at];
+        check(&rt, fits_with(password) == fits, "passwords", at);
     }
+}
+
+// Whether a bind isn't read for that fault.
+fn fails(body: &[u8], fault: BodyFault) -> bool {
+    read_bind(body).err() == Some(fault)
 }
 
 // Whether a text of so many octets is read there, once it and the fields behind it have ended.
@@ -59,26 +76,29 @@ fn has_limit(rt: &impl Abort, alloc: Global, before: &[u8], limit: usize) -> boo
     let mut body = copy(rt, alloc, before);
     for _ in 1..limit {
         body.push(0x61).expect(rt, "out of memory");
-        if read_bind(&body).err() != Some(BodyFault::Truncated) {
+        if !fails(&body, BodyFault::Truncated) {
             return false;
         }
     }
     let is_read = is_read(rt, alloc, &body);
     body.push(0x61).expect(rt, "out of memory");
-    is_read && read_bind(&body).err() == Some(BodyFault::FieldTooLong)
+    is_read && fails(&body, BodyFault::FieldTooLong)
 }
 
 // Each text of a bind, behind the shortest fields before it, at its greatest length.
+const TEXTS: [(&[u8], usize); 4] = [
+    (b"", 16),
+    (b"\0", 9),
+    (b"\0\0", 13),
+    (b"\0\0\0\x34\0\0", 41),
+];
+
 #[test]
 fn limits_of_a_bind(rt: HostRuntime) {
-    let texts = [
-        (b"".as_slice(), 16),
-        (b"\0".as_slice(), 9),
-        (b"\0\0".as_slice(), 13),
-        (b"\0\0\0\x34\0\0".as_slice(), 41),
-    ];
-    for (before, limit) in texts {
-        assert!(rt; has_limit(&rt, rt.alloc(), before, limit));
+    for at in 0..TEXTS.len() {
+        let (before, limit) = TEXTS[at];
+        let is_limit = has_limit(&rt, rt.alloc(), before, limit);
+        check(&rt, is_limit, "texts", at);
     }
 }
 
@@ -86,12 +106,13 @@ fn limits_of_a_bind(rt: HostRuntime) {
 #[test]
 fn parts_of_a_bind(rt: HostRuntime) {
     for len in 0..BIND.len() {
-        assert!(rt; read_bind(&BIND[..len]).err() == Some(BodyFault::Truncated));
+        let is_truncated = fails(&BIND[..len], BodyFault::Truncated);
+        check(&rt, is_truncated, "parts", len);
     }
     // The system_id is at fault before the password is.
     let body = [0x61; 40];
-    assert!(rt; read_bind(&body[..15]).err() == Some(BodyFault::Truncated));
-    assert!(rt; read_bind(&body[..16]).err() == Some(BodyFault::FieldTooLong));
+    assert!(rt; fails(&body[..15], BodyFault::Truncated));
+    assert!(rt; fails(&body[..16], BodyFault::FieldTooLong));
 }
 
 // A service_type of six octets has no room for its end, nor has an address of 65.
@@ -107,16 +128,25 @@ fn destinations(rt: HostRuntime) {
         (b"abcdef\0\0\0", Err(BodyFault::FieldTooLong)),
         (&long, Err(BodyFault::FieldTooLong)),
     ];
-    for (body, wanted) in bodies {
-        assert!(rt; read_destination(body) == wanted, "{body:?}");
+    for at in 0..bodies.len() {
+        let (body, wanted) = bodies[at];
+        check(&rt, read_destination(body) == wanted, "destinations", at);
     }
 }
 
+const FAULTS: [(BodyFault, &str); 2] = [
+    (BodyFault::Truncated, "the body ends within a field"),
+    (
+        BodyFault::FieldTooLong,
+        "a text has no end within its greatest length",
+    ),
+];
+
 #[test]
 fn body_faults_in_words(rt: HostRuntime) {
-    let words = format!(in rt.alloc(); "{}; {}", BodyFault::Truncated, BodyFault::FieldTooLong);
-    assert_eq!(rt;
-        words.expect(&rt, "out of memory").as_str(),
-        "the body ends within a field; a text has no end within its greatest length"
-    );
+    for at in 0..FAULTS.len() {
+        let (fault, words) = FAULTS[at];
+        let is_said = says(&rt, rt.alloc(), &fault, words);
+        check(&rt, is_said, words, at);
+    }
 }

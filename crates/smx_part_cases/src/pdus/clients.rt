@@ -1,4 +1,5 @@
 use crate::pdus::spelling::{copy, is_spelled, pdu_of};
+use crate::rows::check;
 use smx_pdu::Pdu;
 use smx_session::{Account, Act, ClientSession, ClientState, Kind};
 use std::alloc::Global;
@@ -71,7 +72,7 @@ fn holds(rt: &impl Abort, alloc: Global, accounts: &[Account], row: Row) -> bool
     let pdu = pdu_of(rt, alloc, command, 7, body);
     let mut session = ClientSession::new(alloc);
     let act = session.on_pdu(&pdu, accounts).expect(rt, "out of memory");
-    session.state() == state && sends(rt, alloc, &act, bound, octets)
+    (session.state() == state) & sends(rt, alloc, &act, bound, octets)
 }
 
 // Of accounts with one system_id the first counts; a body that can't be read comes before an
@@ -112,6 +113,13 @@ const BINDS: [Row<'static>; 9] = [
     (9, b"c\0p\0\0\x34\0\0", None, &NO_BIND, ClientState::Opened),
 ];
 
+fn play(rt: &impl Abort, alloc: Global, accounts: &[Account]) {
+    for at in 0..BINDS.len() {
+        let holds = holds(rt, alloc, accounts, BINDS[at]);
+        check(rt, holds, "binds", at);
+    }
+}
+
 #[test]
 fn binds(rt: HostRuntime) {
     let alloc = rt.alloc();
@@ -120,9 +128,7 @@ fn binds(rt: HostRuntime) {
         account(&rt, alloc, *b"ap"),
         account(&rt, alloc, *b"aq"),
     ];
-    for at in 0..BINDS.len() {
-        assert!(rt; holds(&rt, alloc, &accounts, BINDS[at]), "row {at}");
-    }
+    play(&rt, alloc, &accounts);
 }
 
 // Whether the session accepts the bind, or stays open for want of memory and accepts it then.

@@ -1,4 +1,5 @@
 use crate::pdus::spelling::is_spelled;
+use crate::rows::{check, says};
 use smx_pdu::{
     Body, MAX_PDU, Pdu, PduFault, TooLong, command, decode, encode, encode_within, is_forwarded,
     is_response_to, one_spelling, read_header, response_id, status,
@@ -41,21 +42,42 @@ fn is_spelled_within(rt: &impl Abort, alloc: Global, pdu: &Pdu, wanted: &[u8]) -
     octets.as_slice() == wanted
 }
 
+// Asserts that the octets have this command, status and number and a body of this length.
+fn vector(rt: &impl Abort, alloc: Global, octets: &[u8], fields: (u32, u32, u32), body: usize) {
+    let pdu = decode(alloc, octets).expect(rt, "a PDU");
+    check(rt, has_fields(&pdu, fields, body), "fields", body);
+    let is_spelled = is_spelled(rt, alloc, &pdu, octets);
+    check(rt, is_spelled, "octets", body);
+    let is_within = is_spelled_within(rt, alloc, &pdu, octets);
+    check(rt, is_within, "octets within", body);
+}
+
 // Each vector is read as these fields, and written again as it was.
 #[test]
 fn vectors(rt: HostRuntime) {
-    let vectors = [
-        (SUBMIT.as_slice(), (4, 0, 7), 18),
-        (RESPONSE.as_slice(), (0x8000_0004, 0, 1), 2),
-        (NACK.as_slice(), (0x8000_0000, 3, 5), 0),
-    ];
-    for (octets, fields, body) in vectors {
-        let pdu = decode(rt.alloc(), octets).expect(&rt, "a PDU");
-        assert!(rt; has_fields(&pdu, fields, body));
-        assert!(rt; is_spelled(&rt, rt.alloc(), &pdu, octets));
-        assert!(rt; is_spelled_within(&rt, rt.alloc(), &pdu, octets));
-    }
+    vector(&rt, rt.alloc(), &SUBMIT, (4, 0, 7), 18);
+    vector(&rt, rt.alloc(), &RESPONSE, (0x8000_0004, 0, 1), 2);
+    vector(&rt, rt.alloc(), &NACK, (0x8000_0000, 3, 5), 0);
     one_spelling();
+}
+
+const UNDECODED: [u8; 16] = [0, 0, 0, 0x10, 0x80, 0, 0, 0, 0, 0, 0, 2, 0, 0, 0, 0];
+
+// An outbind has no response.
+const OUTBIND_REFUSED: [u8; 16] = [0, 0, 0, 0x10, 0x80, 0, 0, 0, 0, 0, 0, 4, 0, 0, 0, 9];
+
+const SUBMIT_REFUSED: [u8; 16] = [0, 0, 0, 0x10, 0x80, 0, 0, 4, 0, 0, 0, 0x14, 0, 0, 0, 9];
+
+const ENQUIRY: [u8; 16] = [0, 0, 0, 0x10, 0, 0, 0, 0x15, 0, 0, 0, 0, 0, 0, 0, 9];
+
+const SUBMIT_FAILED: [u8; 16] = [0, 0, 0, 0x10, 0x80, 0, 0, 4, 0, 0, 0, 8, 0, 0, 0, 7];
+
+const SUBMITTED: [u8; 18] = [
+    0, 0, 0, 0x12, 0x80, 0, 0, 4, 0, 0, 0, 0, 0, 0, 0, 7, 0x31, 0,
+];
+
+fn check_spelled(rt: &impl Abort, alloc: Global, pdu: Pdu, octets: &[u8]) {
+    assert!(rt; is_spelled(rt, alloc, &pdu, octets));
 }
 
 // The octets of answers and of a request, spelled by hand (SMPP 3.4, sections 3.2, 4.3 and 5.1).
@@ -63,40 +85,19 @@ fn vectors(rt: HostRuntime) {
 fn answers(rt: HostRuntime) {
     let alloc = rt.alloc();
     let submit = Pdu::header_only(alloc, 4, 0, 7);
-    let pdus = [
-        (Pdu::unknown(alloc, 5), NACK),
-        (
-            Pdu::undecoded(alloc),
-            [0, 0, 0, 0x10, 0x80, 0, 0, 0, 0, 0, 0, 2, 0, 0, 0, 0],
-        ),
-        // An outbind has no response.
-        (
-            Pdu::refusal(alloc, 0xB, 4, 9),
-            [0, 0, 0, 0x10, 0x80, 0, 0, 0, 0, 0, 0, 4, 0, 0, 0, 9],
-        ),
-        (
-            Pdu::refusal(alloc, 4, 0x14, 9),
-            [0, 0, 0, 0x10, 0x80, 0, 0, 4, 0, 0, 0, 0x14, 0, 0, 0, 9],
-        ),
-        (
-            Pdu::header_only(alloc, 0x15, 0, 9),
-            [0, 0, 0, 0x10, 0, 0, 0, 0x15, 0, 0, 0, 0, 0, 0, 0, 9],
-        ),
-        (
-            submit.header_response(alloc, 8),
-            [0, 0, 0, 0x10, 0x80, 0, 0, 4, 0, 0, 0, 8, 0, 0, 0, 7],
-        ),
-    ];
-    for at in 0..pdus.len() {
-        let (pdu, octets) = &pdus[at];
-        assert!(rt; is_spelled(&rt, alloc, pdu, octets), "{pdu:?}");
-    }
+    check_spelled(&rt, alloc, Pdu::unknown(alloc, 5), &NACK);
+    check_spelled(&rt, alloc, Pdu::undecoded(alloc), &UNDECODED);
+    let refusal = Pdu::refusal(alloc, 0xB, 4, 9);
+    check_spelled(&rt, alloc, refusal, &OUTBIND_REFUSED);
+    let refusal = Pdu::refusal(alloc, 4, 0x14, 9);
+    check_spelled(&rt, alloc, refusal, &SUBMIT_REFUSED);
+    let enquiry = Pdu::header_only(alloc, 0x15, 0, 9);
+    check_spelled(&rt, alloc, enquiry, &ENQUIRY);
+    let response = submit.header_response(alloc, 8);
+    check_spelled(&rt, alloc, response, &SUBMIT_FAILED);
     let id = Vec::from_slice(alloc, b"1\0").expect(&rt, "out of memory");
     let response = submit.response(0, Body::short(id));
-    let whole = [
-        0, 0, 0, 0x12, 0x80, 0, 0, 4, 0, 0, 0, 0, 0, 0, 0, 7, 0x31, 0,
-    ];
-    assert!(rt; is_spelled(&rt, alloc, &response, &whole));
+    check_spelled(&rt, alloc, response, &SUBMITTED);
 }
 
 // What is printed for debugging has no octets of a body, as a bind's has a password.
@@ -108,23 +109,34 @@ fn printed_without_octets(rt: HostRuntime) {
     assert!(rt; text.as_str() == "Body(6 octets)");
 }
 
-#[test]
-fn faults_in_words(rt: HostRuntime) {
-    let words = format!(in rt.alloc();
-        "{}; {}; {}; {}; {}",
+const FAULTS: [(PduFault, &str); 4] = [
+    (
         PduFault::Short { octets: 15 },
+        "15 octets are fewer than the 16 of a header",
+    ),
+    (
         PduFault::Length {
             field: 34,
-            octets: 33
+            octets: 33,
         },
+        "the length field says 34, and there are 33 octets",
+    ),
+    (
         PduFault::TooLong { octets: 65_537 },
-        PduFault::NoMemory,
-        TooLong
-    );
-    assert_eq!(rt;
-        words.expect(&rt, "out of memory").as_str(),
-        "15 octets are fewer than the 16 of a header; the length field says 34, and there are 33 octets; 65537 octets are more than the 65,536 of a PDU; out of memory; a body has at most 65,520 octets"
-    );
+        "65537 octets are more than the 65,536 of a PDU",
+    ),
+    (PduFault::NoMemory, "out of memory"),
+];
+
+#[test]
+fn faults_in_words(rt: HostRuntime) {
+    for at in 0..FAULTS.len() {
+        let (fault, words) = FAULTS[at];
+        let is_said = says(&rt, rt.alloc(), &fault, words);
+        check(&rt, is_said, words, at);
+    }
+    let words = "a body has at most 65,520 octets";
+    assert!(rt; says(&rt, rt.alloc(), &TooLong, words));
 }
 
 // So many octets of a body.
@@ -156,63 +168,88 @@ fn one_octet_too_many(rt: HostRuntime) {
     assert!(rt; octets.len() == 65_521);
 }
 
-// The request ids of SMPP 3.4, table 5-1, with a response each, and some that have none.
-#[test]
-fn commands(rt: HostRuntime) {
-    for id in [1, 2, 3, 4, 5, 6, 7, 8, 9, 0x15, 0x21, 0x103] {
-        assert!(rt; response_id(id) == Some(0x8000_0000 + id));
-        assert!(rt; is_response_to(id, 0x8000_0000 + id) && is_response_to(id, 0x8000_0000));
-        assert!(rt; !is_response_to(id, id));
-    }
-    for id in [0, 0xA, 0xB, 0x102, 0x8000_0000, 0x8000_0004] {
-        assert!(rt; response_id(id).is_none());
+// The request ids of SMPP 3.4, table 5-1, with a response each, and some that have none; and whether
+// they are forwarded.
+const COMMANDS: [(u32, Option<u32>, bool); 18] = [
+    (1, Some(0x8000_0001), false),
+    (2, Some(0x8000_0002), false),
+    (3, Some(0x8000_0003), true),
+    (4, Some(0x8000_0004), true),
+    (5, Some(0x8000_0005), false),
+    (6, Some(0x8000_0006), false),
+    (7, Some(0x8000_0007), true),
+    (8, Some(0x8000_0008), true),
+    (9, Some(0x8000_0009), false),
+    (0x15, Some(0x8000_0015), false),
+    (0x21, Some(0x8000_0021), true),
+    (0x103, Some(0x8000_0103), true),
+    (0, None, false),
+    (0xA, None, false),
+    (0xB, None, false),
+    (0x102, None, false),
+    (0x8000_0000, None, false),
+    (0x8000_0004, None, false),
+];
+
+// Whether the response and generic_nack answer the command and it does not answer itself, where there
+// is a response.
+fn answers_as(id: u32, response: Option<u32>) -> bool {
+    match response {
+        Some(response) => {
+            is_response_to(id, response)
+                && is_response_to(id, 0x8000_0000)
+                && !is_response_to(id, id)
+        }
+        None => true,
     }
 }
 
 #[test]
-fn forwarded_commands(rt: HostRuntime) {
-    for id in [3, 4, 7, 8, 0x21, 0x103] {
-        assert!(rt; is_forwarded(id));
-    }
-    for id in [1, 2, 5, 6, 9, 0x15, 0x8000_0004] {
-        assert!(rt; !is_forwarded(id));
+fn commands(rt: HostRuntime) {
+    for at in 0..COMMANDS.len() {
+        let (id, response, forwarded) = COMMANDS[at];
+        check(&rt, response_id(id) == response, "responses", at);
+        check(&rt, answers_as(id, response), "answers", at);
+        check(&rt, is_forwarded(id) == forwarded, "forwarded", at);
     }
 }
 
 // The contracts name ids and statuses by these constants, so no clause sees a wrong number: the
 // numbers of SMPP 3.4, tables 5-1 and 5-2, are here.
+const NUMBERS: [(u32, u32); 26] = [
+    (command::BIND_RECEIVER, 0x0000_0001),
+    (command::BIND_TRANSMITTER, 0x0000_0002),
+    (command::QUERY_SM, 0x0000_0003),
+    (command::SUBMIT_SM, 0x0000_0004),
+    (command::DELIVER_SM, 0x0000_0005),
+    (command::UNBIND, 0x0000_0006),
+    (command::REPLACE_SM, 0x0000_0007),
+    (command::CANCEL_SM, 0x0000_0008),
+    (command::BIND_TRANSCEIVER, 0x0000_0009),
+    (command::OUTBIND, 0x0000_000B),
+    (command::ENQUIRE_LINK, 0x0000_0015),
+    (command::SUBMIT_MULTI, 0x0000_0021),
+    (command::ALERT_NOTIFICATION, 0x0000_0102),
+    (command::DATA_SM, 0x0000_0103),
+    (command::GENERIC_NACK, 0x8000_0000),
+    (status::ESME_ROK, 0x00),
+    (status::ESME_RINVCMDLEN, 0x02),
+    (status::ESME_RINVCMDID, 0x03),
+    (status::ESME_RINVBNDSTS, 0x04),
+    (status::ESME_RALYBND, 0x05),
+    (status::ESME_RSYSERR, 0x08),
+    (status::ESME_RINVPASWD, 0x0E),
+    (status::ESME_RINVSYSID, 0x0F),
+    (status::ESME_RMSGQFUL, 0x14),
+    (status::ESME_RSUBMITFAIL, 0x45),
+    (status::ESME_RX_T_APPN, 0x64),
+];
+
 #[test]
 fn numbers_of_the_standard(rt: HostRuntime) {
-    let numbers = [
-        (command::BIND_RECEIVER, 0x0000_0001),
-        (command::BIND_TRANSMITTER, 0x0000_0002),
-        (command::QUERY_SM, 0x0000_0003),
-        (command::SUBMIT_SM, 0x0000_0004),
-        (command::DELIVER_SM, 0x0000_0005),
-        (command::UNBIND, 0x0000_0006),
-        (command::REPLACE_SM, 0x0000_0007),
-        (command::CANCEL_SM, 0x0000_0008),
-        (command::BIND_TRANSCEIVER, 0x0000_0009),
-        (command::OUTBIND, 0x0000_000B),
-        (command::ENQUIRE_LINK, 0x0000_0015),
-        (command::SUBMIT_MULTI, 0x0000_0021),
-        (command::ALERT_NOTIFICATION, 0x0000_0102),
-        (command::DATA_SM, 0x0000_0103),
-        (command::GENERIC_NACK, 0x8000_0000),
-        (status::ESME_ROK, 0x00),
-        (status::ESME_RINVCMDLEN, 0x02),
-        (status::ESME_RINVCMDID, 0x03),
-        (status::ESME_RINVBNDSTS, 0x04),
-        (status::ESME_RALYBND, 0x05),
-        (status::ESME_RSYSERR, 0x08),
-        (status::ESME_RINVPASWD, 0x0E),
-        (status::ESME_RINVSYSID, 0x0F),
-        (status::ESME_RMSGQFUL, 0x14),
-        (status::ESME_RSUBMITFAIL, 0x45),
-        (status::ESME_RX_T_APPN, 0x64),
-    ];
-    for (constant, number) in numbers {
-        assert!(rt; constant == number);
+    for at in 0..NUMBERS.len() {
+        let (constant, number) = NUMBERS[at];
+        check(&rt, constant == number, "numbers", at);
     }
 }
 

@@ -1,5 +1,6 @@
 use self::Row::{Fails, Feed, Gives, Refuses, Waits};
 use crate::pdus::spelling::copy;
+use crate::rows::{check, says};
 use smx_frame::{FrameFault, Framer, compact, stream_law};
 use std::alloc::Global;
 use std::process::Abort;
@@ -25,12 +26,20 @@ enum Row<'a> {
     Refuses(FrameFault),
 }
 
-fn gives(rt: &impl Abort, framer: &mut Framer, fields: (u32, u32, u32), body: &[u8]) -> bool {
-    match framer.next_pdu().expect(rt, "no fault is next") {
-        Some(pdu) => {
-            (pdu.command, pdu.status, pdu.number) == fields && pdu.body.as_slice() == body
+// What is next: a PDU's command, status and number and its body, nothing, or a fault.
+type Next<'a> = Result<Option<((u32, u32, u32), &'a [u8])>, FrameFault>;
+
+fn gives(rt: &impl Abort, framer: &mut Framer, wanted: Next) -> bool {
+    match framer.next_pdu() {
+        Ok(Some(pdu)) => {
+            let fields = (pdu.command, pdu.status, pdu.number);
+            wanted == Ok(Some((fields, pdu.body.as_slice())))
         }
-        None => false,
+        Ok(None) => wanted == Ok(None),
+        Err(fault) => {
+            assert!(rt; fault != FrameFault::NoMemory, "out of memory");
+            wanted == Err(fault)
+        }
     }
 }
 
@@ -40,18 +49,19 @@ fn holds(rt: &impl Abort, framer: &mut Framer, row: Row) -> bool {
             framer.feed(piece).expect(rt, "no fault is known");
             true
         }
-        Gives(command, status, number, body) => gives(rt, framer, (command, status, number), body),
-        Waits(rest) => {
-            framer.next_pdu().expect(rt, "no fault is next").is_none() && framer.rest() == rest
+        Gives(command, status, number, body) => {
+            gives(rt, framer, Ok(Some(((command, status, number), body))))
         }
-        Fails(fault, rest) => framer.next_pdu().err() == Some(fault) && framer.rest() == rest,
+        Waits(rest) => gives(rt, framer, Ok(None)) && framer.rest() == rest,
+        Fails(fault, rest) => gives(rt, framer, Err(fault)) && framer.rest() == rest,
         Refuses(fault) => framer.feed(&SUBMIT) == Err(fault),
     }
 }
 
 fn play(rt: &impl Abort, framer: &mut Framer, rows: &[Row]) {
     for at in 0..rows.len() {
-        assert!(rt; holds(rt, framer, rows[at]), "row {at}");
+        let holds = holds(rt, framer, rows[at]);
+        check(rt, holds, "frames", at);
     }
 }
 
@@ -76,7 +86,7 @@ fn cut_at_every_place(rt: HostRuntime) {
 // How many PDUs are handed out, at most.
 fn handed_out(rt: &impl Abort, framer: &mut Framer, most: u32) -> u32 {
     for done in 0..most {
-        if !gives(rt, framer, (4, 0, 7), &SUBMIT[16..]) {
+        if !gives(rt, framer, Ok(Some(((4, 0, 7), &SUBMIT[16..])))) {
             return done;
         }
     }
@@ -94,6 +104,8 @@ fn found(rt: &impl Abort, framer: &mut Framer, stream: &[u8], size: usize) -> u3
     found
 }
 
+const SIZES: [usize; 3] = [1, 50, 4_000];
+
 // A hundred PDUs and one that lacks its last octet, octet by octet, in pieces and in one piece.
 #[test]
 fn many(rt: HostRuntime) {
@@ -104,23 +116,26 @@ fn many(rt: HostRuntime) {
             .expect(&rt, "out of memory");
     }
     stream.pop();
-    for size in [1, 50, 4_000] {
+    for at in 0..SIZES.len() {
         let mut framer = Framer::new(rt.alloc(), 34);
-        assert!(rt; found(&rt, &mut framer, &stream, size) == 100);
+        let count = found(&rt, &mut framer, &stream, SIZES[at]);
+        check(&rt, count == 100, "sizes", at);
         play(&rt, &mut framer, &[Waits(&SUBMIT[..33])]);
     }
 }
+
+const BAD_LENGTHS: [([u8; 4], FrameFault); 3] = [
+    ([0, 0, 0, 0x0F], FrameFault::Below16),
+    ([0, 1, 0, 1], FrameFault::AboveMax),
+    ([0xFF, 0, 0, 0], FrameFault::AboveMax),
+];
 
 // A bad length is a fault once its four octets stand there, behind what came before it, and the
 // framer keeps it.
 #[test]
 fn bad_lengths(rt: HostRuntime) {
-    let lengths = [
-        ([0, 0, 0, 0x0F], FrameFault::Below16),
-        ([0, 1, 0, 1], FrameFault::AboveMax),
-        ([0xFF, 0, 0, 0], FrameFault::AboveMax),
-    ];
-    for (octets, fault) in lengths {
+    for at in 0..BAD_LENGTHS.len() {
+        let (octets, fault) = BAD_LENGTHS[at];
         let rows = [
             Feed(&SUBMIT),
             Feed(&octets[..3]),
@@ -166,32 +181,39 @@ fn shortest(rt: HostRuntime) {
 }
 
 // What is left of 1, 2, 3, 4 moves once as much was handed out.
+const COMPACTED: [(usize, &[u8], usize); 4] = [
+    (0, &[1, 2, 3, 4], 0),
+    (1, &[1, 2, 3, 4], 1),
+    (2, &[3, 4], 0),
+    (4, &[], 0),
+];
+
 #[test]
 fn compacted(rt: HostRuntime) {
-    let rows: [(usize, &[u8], usize); 4] = [
-        (0, &[1, 2, 3, 4], 0),
-        (1, &[1, 2, 3, 4], 1),
-        (2, &[3, 4], 0),
-        (4, &[], 0),
-    ];
-    for (start, wanted, left) in rows {
+    for at in 0..COMPACTED.len() {
+        let (start, wanted, left) = COMPACTED[at];
         let mut octets = copy(&rt, rt.alloc(), &[1, 2, 3, 4]);
-        let mut at = start.min(octets.len());
-        compact(&mut octets, &mut at);
-        assert!(rt; octets.as_slice() == wanted && at == left, "{start}");
+        let mut place = start.min(octets.len());
+        compact(&mut octets, &mut place);
+        let holds = octets.as_slice() == wanted && place == left;
+        check(&rt, holds, "compacted", at);
     }
 }
 
+const FAULTS: [(FrameFault, &str); 3] = [
+    (
+        FrameFault::Below16,
+        "a length below the 16 octets of a header",
+    ),
+    (FrameFault::AboveMax, "a length above the greatest one"),
+    (FrameFault::NoMemory, "out of memory"),
+];
+
 #[test]
 fn faults_in_words(rt: HostRuntime) {
-    let words = format!(in rt.alloc();
-        "{}; {}; {}",
-        FrameFault::Below16,
-        FrameFault::AboveMax,
-        FrameFault::NoMemory
-    );
-    assert_eq!(rt;
-        words.expect(&rt, "out of memory").as_str(),
-        "a length below the 16 octets of a header; a length above the greatest one; out of memory"
-    );
+    for at in 0..FAULTS.len() {
+        let (fault, words) = FAULTS[at];
+        let is_said = says(&rt, rt.alloc(), &fault, words);
+        check(&rt, is_said, words, at);
+    }
 }

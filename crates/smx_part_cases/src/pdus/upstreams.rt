@@ -1,5 +1,6 @@
 use self::Row::{Asks, Hears, Is, Silent, Starts, Stops};
 use crate::pdus::spelling::is_spelled;
+use crate::rows::check;
 use smx_pdu::{Bind, Pdu};
 use smx_session::{UpAct, UpstreamSession, UpstreamState};
 use std::alloc::Global;
@@ -58,11 +59,13 @@ fn word(act: &UpAct) -> &'static str {
 }
 
 // Whether the PDU, where there is one, has these octets.
-fn sends(rt: &impl Abort, alloc: Global, sent: Option<Pdu>, wanted: Option<&[u8]>) -> bool {
-    match (sent, wanted) {
-        (Some(pdu), Some(octets)) => is_spelled(rt, alloc, &pdu, octets),
-        (None, None) => true,
-        _ => false,
+fn sends(rt: &impl Abort, alloc: Global, sent: Option<&Pdu>, wanted: Option<&[u8]>) -> bool {
+    match sent {
+        Some(pdu) => match wanted {
+            Some(octets) => is_spelled(rt, alloc, pdu, octets),
+            None => false,
+        },
+        None => wanted.is_none(),
     }
 }
 
@@ -78,12 +81,12 @@ fn holds(rt: &impl Abort, alloc: Global, session: &mut UpstreamSession, row: Row
         }
         Asks(now, wanted) => {
             let enquiry = session.on_moment(now);
-            sends(rt, alloc, enquiry, wanted)
+            sends(rt, alloc, enquiry.as_ref(), wanted)
         }
         Silent(now, wanted) => session.is_silent(now) == wanted,
         Stops(wanted) => {
             let unbind = session.stop();
-            sends(rt, alloc, unbind, wanted)
+            sends(rt, alloc, unbind.as_ref(), wanted)
         }
         Is(state) => session.state() == state,
     }
@@ -122,21 +125,18 @@ const MOMENTS: [Row; 10] = [
     Silent(21_000, true),
 ];
 
-fn play(rt: &impl Abort, alloc: Global, session: &mut UpstreamSession, rows: &[Row]) {
+// Plays the rows in a new session.
+fn play(rt: &impl Abort, alloc: Global, rows: &[Row]) {
+    let mut session = upstream(rt, alloc);
     for at in 0..rows.len() {
-        assert!(rt;
-            holds(rt, alloc, session, rows[at]),
-            "row {at} of {}",
-            rows.len()
-        );
+        let holds = holds(rt, alloc, &mut session, rows[at]);
+        check(rt, holds, "upstream", at);
     }
 }
 
 #[test]
 fn upstream_runs(rt: HostRuntime) {
-    let runs: [&[Row]; 3] = [&RUN, &BINDING, &MOMENTS];
-    for rows in runs {
-        let mut session = upstream(&rt, rt.alloc());
-        play(&rt, rt.alloc(), &mut session, rows);
-    }
+    play(&rt, rt.alloc(), &RUN);
+    play(&rt, rt.alloc(), &BINDING);
+    play(&rt, rt.alloc(), &MOMENTS);
 }

@@ -1,7 +1,7 @@
 //! Calls drawn by chance.
 
 use super::past::{answered, greatest, last_ordinal, number_before};
-use super::said::octet;
+use crate::lanes::said::octet;
 use rand_core::utils::NextWord;
 use rand_pcg::Pcg32;
 use smx_lane::{Call, Entry, Kind, Request};
@@ -11,7 +11,7 @@ use std::process::Abort;
 
 /// A call: its kind, its caller and as much of the entry that it leaves as is known before. The moment
 /// is that of a take or of a request that fails since it is too old, and only such a one has an age.
-#[derive(Clone, Copy, Debug)]
+#[derive(Clone, Copy)]
 pub(crate) struct Asked {
     pub(crate) entry: Entry,
     pub(crate) now: u64,
@@ -26,6 +26,10 @@ pub(crate) struct Chance {
     words: Pcg32,
     // The latest moment so far.
     clock: u64,
+    /// How many calls it gave.
+    pub(crate) calls: u32,
+    /// Whether one of them gave up a request that was too old.
+    pub(crate) has_expired: bool,
 }
 
 // A call of the kind with nothing else in its entry.
@@ -51,6 +55,8 @@ impl Chance {
         Chance {
             words: Pcg32::new(42, 54),
             clock: 0,
+            calls: 0,
+            has_expired: false,
         }
     }
 
@@ -148,6 +154,7 @@ impl Chance {
 
     /// A call after these entries, most often of a client that may be there and of who admitted it.
     pub(crate) fn asked(&mut self, past: &[Entry]) -> Asked {
+        self.calls = self.calls.saturating_add(1);
         let back = u64::from(self.below(4));
         let client = greatest(past).saturating_sub(back);
         let by = client % 3;

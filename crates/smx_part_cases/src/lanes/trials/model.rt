@@ -6,7 +6,7 @@ use super::past::{
     Whose, accept_of, answered, borne, count, find, greatest, is_present, is_settled, is_up,
     next_number, oldest_answer, open, present_and_waiting, queued,
 };
-use super::said::{Said, mark, word, word_of};
+use crate::lanes::said::{Said, mark, word, word_of};
 use smx_lane::{Entry, Kind};
 use std::alloc::Global;
 use std::process::Abort;
@@ -15,7 +15,7 @@ use std::process::Abort;
 #[derive(Drop)]
 pub(crate) struct Model {
     pub(crate) entries: Vec<Entry>,
-    // The moments of the takes, in order.
+    // Of each entry the moment of the last take up to it.
     moments: Vec<u64>,
 }
 
@@ -204,10 +204,13 @@ impl Model {
 
     /// Stores what happened. A take's moment is that of the last take where that is greater.
     pub(crate) fn note(&mut self, rt: &impl Abort, entry: Entry, now: u64) {
-        if entry.kind == Kind::Take {
-            let moment = now.max(self.latest());
-            self.moments.push(moment).expect(rt, "out of memory");
-        }
+        let latest = self.latest();
+        let moment = if entry.kind == Kind::Take {
+            now.max(latest)
+        } else {
+            latest
+        };
+        self.moments.push(moment).expect(rt, "out of memory");
         self.entries.push(entry).expect(rt, "out of memory");
     }
 
@@ -215,15 +218,13 @@ impl Model {
     // the number where one is named.
     fn is_expired(&self, now: u64, age: u64, number: Option<u32>) -> bool {
         let now = u128::from(now.max(self.latest()));
-        let mut moments = self.moments.iter();
-        for take in &self.entries {
-            if take.kind == Kind::Take {
-                let moment = moments.next().copied().unwrap_or(0);
-                let is_old = u128::from(moment) + u128::from(age) <= now;
-                let is_it = number.unwrap_or(take.number) == take.number;
-                if is_old && is_it && !is_settled(&self.entries, take) {
-                    return true;
-                }
+        for at in 0..self.entries.len() {
+            let take = self.entries[at];
+            let moment = self.moments.get(at).copied().unwrap_or(0);
+            let is_old = u128::from(moment) + u128::from(age) <= now;
+            let is_it = take.kind == Kind::Take && number.unwrap_or(take.number) == take.number;
+            if is_old && is_it && !is_settled(&self.entries, &take) {
+                return true;
             }
         }
         false

@@ -129,7 +129,8 @@ fn place_in(number: u32) -> u32 {
 // take had yet.
 fn next_place(entries: &[Entry]) -> u32 {
     let mut taken = 0u32;
-    for entry in entries.iter().rev() {
+    for behind in 0..entries.len() {
+        let entry = &entries[entries.len() - 1 - behind];
         if entry.kind == Kind::Take {
             taken = taken.saturating_add(1);
         } else if ENDS.contains(&entry.kind) {

@@ -1,11 +1,10 @@
 //! Changes of one entry that make a legal list illegal.
 
 use smx_lane::{Entry, Kind};
-use std::alloc::Global;
 use std::process::Abort;
 
 /// One change of a list of entries.
-#[derive(Clone, Copy, Debug)]
+#[derive(Clone, Copy)]
 pub(crate) enum Spoiling {
     /// The first entry of the kind stands twice.
     Repeated(Kind),
@@ -106,34 +105,18 @@ impl Spoiling {
 
     // The entry that stands in place of the one that is changed.
     fn changed(self, entry: Entry) -> Entry {
+        let mut changed = entry;
         match self {
-            Spoiling::By(_) => Entry {
-                by: entry.by ^ 1,
-                ..entry
-            },
-            Spoiling::Client(_) => Entry {
-                client: entry.client ^ 0x1_0000_0000,
-                ..entry
-            },
-            Spoiling::Ordinal(_) => Entry {
-                ordinal: entry.ordinal ^ 0x1_0000_0000,
-                ..entry
-            },
-            Spoiling::Number(_) => Entry { number: 0, ..entry },
-            Spoiling::Command(_) => Entry {
-                command: 0x8000_0005,
-                ..entry
-            },
-            Spoiling::Late => Entry {
-                kind: Kind::Late,
-                ..entry
-            },
-            Spoiling::OtherFailure => Entry {
-                command: other_failure(entry.command),
-                ..entry
-            },
-            _ => entry,
+            Spoiling::By(_) => changed.by ^= 1,
+            Spoiling::Client(_) => changed.client ^= 0x1_0000_0000,
+            Spoiling::Ordinal(_) => changed.ordinal ^= 0x1_0000_0000,
+            Spoiling::Number(_) => changed.number = 0,
+            Spoiling::Command(_) => changed.command = 0x8000_0005,
+            Spoiling::Late => changed.kind = Kind::Late,
+            Spoiling::OtherFailure => changed.command = other_failure(entry.command),
+            _ => {}
         }
+        changed
     }
 
     // The entry that the change adds behind it.
@@ -159,18 +142,17 @@ impl Spoiling {
         }
     }
 
-    // Spoils the entries so, and tells whether there is an entry to spoil.
-    fn spoils(self, rt: &impl Abort, entries: &mut Vec<Entry>) -> bool {
+    /// Spoils the entries so, and tells whether there is an entry to spoil.
+    pub(crate) fn spoils(self, rt: &impl Abort, entries: &mut Vec<Entry>) -> bool {
         let Some(at) = first_of(entries, self.kind()) else {
             return false;
         };
         match self {
-            Spoiling::Swapped(before, kind) => return swap(entries, before, kind),
-            Spoiling::Exchanged(before, kind) => return exchange(entries, before, kind),
-            Spoiling::OneNumber => return renumber(entries, at),
-            _ => {}
+            Spoiling::Swapped(before, kind) => swap(entries, before, kind),
+            Spoiling::Exchanged(before, kind) => exchange(entries, before, kind),
+            Spoiling::OneNumber => renumber(entries, at),
+            _ => self.alters(rt, entries, at),
         }
-        self.alters(rt, entries, at)
     }
 
     // Changes the entry at the index, or adds one behind it.
@@ -185,23 +167,12 @@ impl Spoiling {
         }
         true
     }
-
-    /// A copy of the entries that is spoiled so, where they have an entry to spoil.
-    pub(crate) fn spoiled(
-        self,
-        rt: &impl Abort,
-        alloc: Global,
-        entries: &[Entry],
-    ) -> Option<Vec<Entry>> {
-        let mut copy = Vec::from_slice(alloc, entries).expect(rt, "out of memory");
-        self.spoils(rt, &mut copy).then_some(copy)
-    }
 }
 
 // Where the first entry of the kind stands.
 fn first_of(entries: &[Entry], kind: Kind) -> Option<usize> {
-    for (at, entry) in entries.iter().enumerate() {
-        if entry.kind == kind {
+    for at in 0..entries.len() {
+        if entries[at].kind == kind {
             return Some(at);
         }
     }
@@ -211,8 +182,8 @@ fn first_of(entries: &[Entry], kind: Kind) -> Option<usize> {
 // Where the last entry of the kind stands among the first of the list.
 fn last_of(entries: &[Entry], kind: Kind, end: usize) -> Option<usize> {
     let mut last = None;
-    for (at, entry) in entries.iter().take(end).enumerate() {
-        if entry.kind == kind {
+    for at in 0..end.min(entries.len()) {
+        if entries[at].kind == kind {
             last = Some(at);
         }
     }
@@ -221,7 +192,8 @@ fn last_of(entries: &[Entry], kind: Kind, end: usize) -> Option<usize> {
 
 // Where the entry of the kind stands that has the same client and, but for an admit, the same ordinal.
 fn origin_of(entries: &[Entry], before: Kind, entry: Entry) -> Option<usize> {
-    for (at, other) in entries.iter().enumerate() {
+    for at in 0..entries.len() {
+        let other = &entries[at];
         let same = before == Kind::Admit || other.ordinal == entry.ordinal;
         if other.kind == before && other.client == entry.client && same {
             return Some(at);

@@ -1,5 +1,5 @@
 //! A counter's lock with its seats.
-ghost use Rattle.std.specs.Prelude.{◌≡◌, IfOk, IfSome};
+ghost use Rattle.std.specs.Prelude.{◌≡◌, IfSome};
 
 use smx_lock::{LockSeat, Spent, TicketLock, TryFault};
 use smx_lock_counter::{Adder, Counter, Deed};
@@ -38,25 +38,20 @@ impl Opened {
 }
 
 /// Splits a seat off in a hold that is compared with it.
-pub fn split<R: Wait>(
+pub fn split<R: Wait + Abort>(
     rt: &R,
     lock: &TicketLock<Counter>,
     seat: LockSeat<Counter>,
-) -> Result<(LockSeat<Counter>, LockSeat<Counter>), Spent>
+) -> (LockSeat<Counter>, LockSeat<Counter>)
     requires { seat.lock ≡ lock.now }
-    ensures one { IfOk result (λ s. s.0.lock ≡ lock.now) }
-    ensures two { IfOk result (λ s. s.1.lock ≡ lock.now) }
+    ensures one { result.0.lock ≡ lock.now }
+    ensures two { result.1.lock ≡ lock.now }
 {
-    let mut held = match lock.acquire(rt, seat) {
-        Ok(held) => held,
-        Err((_, spent)) => return Err(spent),
-    };
-    let mut other = lock.split(&mut held);
-    if let Ok(other) = &mut other {
-        lock.compare_held(&mut held, other);
-    }
+    let mut held = lock.acquire(rt, seat).ok().expect(rt, "no ticket is left");
+    let mut other = lock.split(&mut held).expect(rt, "no second seat");
+    lock.compare_held(&mut held, &mut other);
     let seat = lock.release_told(held, &Deed::Nothing);
-    Ok((seat, other?))
+    (seat, other)
 }
 
 /// A lock and two seats.
@@ -73,7 +68,7 @@ impl Pair {
     /// Those of a counter with this limit.
     pub fn new<R: Wait + Abort>(rt: &R, alloc: Global, limit: u64) -> Pair {
         let Opened { lock, seat } = Opened::new(alloc, limit).expect(rt, "no lock");
-        let (one, two) = split(rt, &lock, seat).expect(rt, "no second seat");
+        let (one, two) = split(rt, &lock, seat);
         Pair { lock, one, two }
     }
 }
@@ -110,17 +105,17 @@ pub fn added<R: Wait>(
 }
 
 /// The count that the last seat reads, and the one that the lock leaves.
-pub fn last_counts<R: Wait>(
+pub fn last_counts<R: Wait + Abort>(
     rt: &R,
     lock: TicketLock<Counter>,
     seat: LockSeat<Counter>,
-) -> Option<(u64, u64)>
+) -> (u64, u64)
     requires { seat.lock ≡ lock }
 {
     let mut adder = Adder::new(seat);
-    let read = adder.read(rt, &lock);
-    let counter = adder.finish(lock).ok()?;
-    Some((read.ok()?, counter.count))
+    let read = adder.read(rt, &lock).expect(rt, "no ticket is left");
+    let counter = adder.finish(lock).expect(rt, "the value is out");
+    (read, counter.count)
 }
 
 /// Why a try is refused, where it is.
