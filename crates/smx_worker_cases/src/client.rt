@@ -4,19 +4,18 @@ ghost use Rattle.std.specs.Prelude.{◌≡◌, ◌≢◌, length, None, All, Som
 ghost use Rattle.smx_shared.specs.Views.{locks_of};
 ghost use Rattle.smx_client.specs.declared.mark.Stage.{Stage};
 
-use crate::hall::{Hall, Line, lanes_of, lines_of};
-use crate::stand::{Piece, World, link_to, name_want, script, took};
+use crate::hall::{Brought, Hall, Line, hold, lanes_of, lines_of};
+use crate::stand::{Piece, World, body_of, link_to, name_want, octets_in, script, took};
 use smx_box::{Boxed, Got, Receiver, Sender};
 use smx_client::{ClientWorker, Desk, run_client};
-use smx_history::Answered;
 use smx_lane::Lane;
 use smx_link::Link;
 use smx_memory::{MemoryLink, Script};
-use smx_pdu::{Body, Pdu};
+use smx_pdu::Pdu;
 use smx_session::{Account, ClientState};
 use smx_shared::{Door, Exchange, Port, Tap};
 use smx_turns::{Directory, Gate, MoItem, Party, RunEnd};
-use std::alloc::{AllocError, Global};
+use std::alloc::Global;
 use std::process::Abort;
 use std::sync::Wait;
 
@@ -170,34 +169,29 @@ fn responds<R: Wait + Abort>(
     octets: &[u8],
     zeros: usize,
 ) -> bool {
-    let mut all = Vec::from_slice(alloc, octets).expect(rt, "out of memory");
-    let resized = all.resize(octets.len().saturating_add(zeros), 0);
-    resized.expect(rt, "out of memory");
-    let body = Body::new(all).ok();
-    let body = body.expect(rt, "the body is short enough");
-    match line.take(rt, 0) {
-        Ok((_, number)) => {
-            let answered = line.answer(rt, number, body);
-            matches!(answered, Ok(Answered::Queued { client: 1 }))
-        }
+    let body = body_of(rt, alloc, octets, zeros);
+    match line.tap.take(line.at, rt, 0) {
+        Ok(sent) => line.answer(rt, sent.upstream, body) == Brought::To(1),
         Err(_) => false,
     }
 }
 
 /// The account `a` with the password `p` and two prefixes.
-pub fn desk(alloc: Global) -> Result<Desk, AllocError> {
+pub fn desk(rt: &impl Abort, alloc: Global) -> Desk {
     let account = Account {
-        system_id: Vec::from_slice(alloc, b"a")?,
-        password: Vec::from_slice(alloc, b"p")?,
+        system_id: octets_in(rt, alloc, b"a"),
+        password: octets_in(rt, alloc, b"p"),
     };
     let mut own = Vec::new(alloc);
-    own.push(Vec::from_slice(alloc, b"49")?)?;
-    own.push(Vec::from_slice(alloc, b"491")?)?;
+    for prefix in [&b"49"[..], &b"491"[..]] {
+        let added = own.push(octets_in(rt, alloc, prefix));
+        added.expect(rt, "out of memory");
+    }
     let mut accounts = Vec::new(alloc);
     let mut prefixes = Vec::new(alloc);
-    accounts.push(account)?;
-    prefixes.push(own)?;
-    Ok(Desk { accounts, prefixes })
+    accounts.push(account).expect(rt, "out of memory");
+    prefixes.push(own).expect(rt, "out of memory");
+    Desk { accounts, prefixes }
 }
 
 // The return box of each lane, of so many places: their senders, and their other ends.
@@ -300,10 +294,8 @@ fn stand_at<'a, 'd, R: Wait + Abort>(
 
 fn play<R: Wait + Abort>(rt: &R, alloc: Global, stand: &mut Stand, case: usize, steps: &[Step]) {
     for place in 0..steps.len() {
-        assert!(rt;
-            stand.holds(rt, alloc, steps[place]),
-            "case {case}, step {place}"
-        );
+        let held = stand.holds(rt, alloc, steps[place]);
+        hold(rt, held, case, place);
     }
 }
 
@@ -319,7 +311,7 @@ fn lanes_after<R: Wait + Abort>(
         mut door,
         taps,
     } = Hall::roomy(rt, alloc, setting.lanes);
-    let desk = desk(alloc).expect(rt, "out of memory");
+    let desk = desk(rt, alloc);
     let case = setting.case;
     let mut stand = stand_at(rt, alloc, &exchange, &mut door, taps, &desk, setting);
     play(rt, alloc, &mut stand, case, steps);

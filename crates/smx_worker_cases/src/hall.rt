@@ -8,7 +8,7 @@ use smx_lane::Lane;
 use smx_lock::Spent;
 use smx_pdu::command::{RESPONSE, SUBMIT_SM};
 use smx_pdu::{Body, Pdu};
-use smx_shared::{Door, EnterFault, Exchange, Offer, Port, Starts, SubmitFault, TakeFault, Tap};
+use smx_shared::{Door, EnterFault, Exchange, Offer, Port, Starts, SubmitFault, Tap};
 use std::alloc::{AllocError, Global};
 use std::process::Abort;
 use std::sync::Wait;
@@ -111,12 +111,10 @@ impl Client<'_> {
         self.port.collect(self.at, rt, lane)
     }
 
-    pub fn leave<R: Wait>(self, rt: &R) -> Result<(), Spent> {
+    /// Whether it left with no lane spent.
+    pub fn leave<R: Wait>(self, rt: &R) -> bool {
         let Client { at, port, .. } = self;
-        match port.leave(at, rt) {
-            Ok(_) => Ok(()),
-            Err((_, spent)) => Err(spent),
-        }
+        port.leave(at, rt).is_ok()
     }
 }
 
@@ -142,25 +140,38 @@ pub struct Line<'a> {
     ghost fits: { slice_get at.now tap.lane ≡ Some tap.front.lock },
 }
 
+/// What becomes of a response: of one to no request its number is told.
+#[derive(Clone, Copy, PartialEq, Eq)]
+pub enum Brought {
+    To(u64),
+    Late,
+    Unknown(u32),
+    Spent,
+}
+
+fn outcome_of(answer: Result<Answered, (Pdu, Spent)>) -> Brought {
+    match answer {
+        Ok(Answered::Queued { client }) => Brought::To(client),
+        Ok(Answered::Late) => Brought::Late,
+        Ok(Answered::Unknown(pdu)) => Brought::Unknown(pdu.number),
+        Err(_) => Brought::Spent,
+    }
+}
+
 impl Line<'_> {
-    /// The client and the number upstream of the request that is taken at this moment.
-    pub fn take<R: Wait>(&mut self, rt: &R, now: u64) -> Result<(u64, u32), TakeFault> {
-        let sent = self.tap.take(self.at, rt, now)?;
-        Ok((sent.request.client, sent.upstream))
+    pub fn bring<R: Wait>(&mut self, rt: &R, response: Pdu) -> Brought {
+        outcome_of(self.tap.answer(self.at, rt, response))
     }
 
     /// Brings submit_sm_resp under this number upstream.
-    pub fn answer<R: Wait>(&mut self, rt: &R, number: u32, body: Body) -> Result<Answered, Spent> {
+    pub fn answer<R: Wait>(&mut self, rt: &R, number: u32, body: Body) -> Brought {
         let response = Pdu {
             command: RESPONSE | SUBMIT_SM,
             status: 0,
             number,
             body,
         };
-        match self.tap.answer(self.at, rt, response) {
-            Ok(answered) => Ok(answered),
-            Err((_, spent)) => Err(spent),
-        }
+        self.bring(rt, response)
     }
 }
 
@@ -201,4 +212,9 @@ pub fn is_of(lanes: &[Lane], kinds: &[Kind]) -> bool {
         }
     }
     rest.is_empty()
+}
+
+/// Names the step that doesn't hold.
+pub fn hold(rt: &impl Abort, held: bool, case: usize, step: usize) {
+    assert!(rt; held, "case {case}, step {step}");
 }

@@ -3,9 +3,9 @@ ghost use Rattle.std.specs.Prelude.{◌≡◌};
 ghost use Rattle.smx_shared.specs.Views.{locks_of};
 ghost use Rattle.smx_shared.specs.Making.{AreStarts};
 
-use crate::hall::{Client, Hall, Line, enter, is_of, lanes_of, lines_of};
-use smx_history::{Answered, Failed, Kind};
-use smx_lane::Lane;
+use crate::hall::{Brought, Client, Hall, Line, enter, hold, lanes_of, lines_of};
+use smx_history::{Failed, Limits};
+use smx_lane::{Entry, Lane, Sent};
 use smx_lock::{Spent, TryFault};
 use smx_pdu::{Body, Pdu};
 use smx_shared::{
@@ -27,10 +27,12 @@ const LAST: u64 = 1 << 62;
 // A call with what it answers: of the client at this place, or of the tap of this lane.
 #[derive(Clone, Copy)]
 enum Step {
+    // One client more enters, or a fault keeps it out.
+    Enters(Option<EnterFault>),
     Asks(usize, Ask),
     Serves(usize, Serve),
-    // The client leaves, and those behind it move up.
-    Leaves(usize, Result<(), Spent>),
+    // The client leaves, with no lane spent or with one, and those behind it move up.
+    Leaves(usize, bool),
 }
 
 // A response is told by its status and its number.
@@ -41,31 +43,45 @@ enum Ask {
     TryCollect(Result<Option<(u32, u32)>, TryFault>),
 }
 
-// What is taken is told by its client. An answer has a number upstream; where what becomes of it is
-// `None`, the lane is spent.
+// What is taken is told by its client and its number upstream, and what a turn over hands out by how
+// many entries there are.
 #[derive(Clone, Copy)]
 enum Serve {
-    Take(u64, Result<u64, TakeFault>),
-    TryTake(Result<u64, TryTakeFault>),
-    Answer(u32, Option<Brought>),
+    Take(u64, Result<(u64, u32), TakeFault>),
+    TryTake(Result<(u64, u32), TryTakeFault>),
+    Answer(u32, Brought),
     Expire(u64, u64, Result<Failed, ExpiryFault>),
     Down(Result<(), DownFault>),
     Fail(Result<Failed, FailFault>),
     Up(Result<(), UpFault>),
-    TurnOver(TurnFault),
+    // Where so many entries are wanted.
+    TurnOver(usize, Result<Option<usize>, TurnFault>),
 }
 
-#[derive(Clone, Copy)]
-enum Brought {
-    To(u64),
-    Late,
-    Unknown,
+fn told<E>(found: Result<Option<Pdu>, E>) -> Result<Option<(u32, u32)>, E> {
+    match found {
+        Ok(Some(pdu)) => Ok(Some((pdu.status, pdu.number))),
+        Ok(None) => Ok(None),
+        Err(fault) => Err(fault),
+    }
 }
 
-fn told(response: Option<Pdu>) -> Option<(u32, u32)> {
-    match response {
-        Some(pdu) => Some((pdu.status, pdu.number)),
-        None => None,
+fn taken<E>(found: Result<Sent, E>) -> Result<(u64, u32), E> {
+    match found {
+        Ok(sent) => Ok((sent.request.client, sent.upstream)),
+        Err(fault) => Err(fault),
+    }
+}
+
+fn handed(
+    rt: &impl Abort,
+    found: Result<Option<Vec<Entry>>, TurnFault>,
+) -> Result<Option<usize>, TurnFault> {
+    match found {
+        Ok(Some(entries)) => Ok(Some(entries.len())),
+        Ok(None) => Ok(None),
+        Err(TurnFault::NoMemory) => panic!(rt; "out of memory"),
+        Err(fault) => Err(fault),
     }
 }
 
@@ -73,14 +89,8 @@ impl Client<'_> {
     fn holds<R: Wait>(&mut self, rt: &R, alloc: Global, ask: Ask) -> bool {
         match ask {
             Ask::Submit(own, want) => self.submit(rt, own, Body::empty(alloc)) == want,
-            Ask::Collect(lane, want) => match self.collect(rt, lane) {
-                Ok(response) => want == Ok(told(response)),
-                Err(spent) => want == Err(spent),
-            },
-            Ask::TryCollect(want) => match self.try_collect() {
-                Ok(response) => want == Ok(told(response)),
-                Err(fault) => want == Err(fault),
-            },
+            Ask::Collect(lane, want) => told(self.collect(rt, lane)) == want,
+            Ask::TryCollect(want) => told(self.try_collect()) == want,
         }
     }
 
@@ -93,53 +103,45 @@ impl Client<'_> {
 }
 
 impl Line<'_> {
-    fn holds<R: Wait>(&mut self, rt: &R, alloc: Global, serve: Serve) -> bool {
+    fn holds<R: Wait + Abort>(&mut self, rt: &R, alloc: Global, serve: Serve) -> bool {
         match serve {
-            Serve::Take(now, want) => match self.take(rt, now) {
-                Ok((client, _)) => want == Ok(client),
-                Err(fault) => want == Err(fault),
-            },
-            Serve::TryTake(want) => match self.tap.try_take(self.at, 0) {
-                Ok(sent) => want == Ok(sent.request.client),
-                Err(fault) => want == Err(fault),
-            },
-            Serve::Answer(number, want) => self.brings(rt, alloc, number, want),
+            Serve::Take(now, want) => taken(self.tap.take(self.at, rt, now)) == want,
+            Serve::TryTake(want) => taken(self.tap.try_take(self.at, 0)) == want,
+            Serve::Answer(number, want) => self.answer(rt, number, Body::empty(alloc)) == want,
             Serve::Expire(now, age, want) => {
                 self.tap.fail_expired(self.at, rt, now, age) == want
             }
             Serve::Down(want) => self.tap.down(self.at, rt) == want,
             Serve::Fail(want) => self.tap.fail(self.at, rt) == want,
             Serve::Up(want) => self.tap.up(self.at, rt) == want,
-            Serve::TurnOver(fault) => self.tap.turn_over(self.at, rt, 0) == Err(fault),
-        }
-    }
-
-    fn brings<R: Wait>(
-        &mut self,
-        rt: &R,
-        alloc: Global,
-        number: u32,
-        want: Option<Brought>,
-    ) -> bool {
-        match (self.answer(rt, number, Body::empty(alloc)), want) {
-            (Ok(Answered::Queued { client }), Some(Brought::To(wanted))) => client == wanted,
-            (Ok(Answered::Late), Some(Brought::Late)) => true,
-            (Ok(Answered::Unknown(pdu)), Some(Brought::Unknown)) => pdu.number == number,
-            (Err(Spent), None) => true,
-            _ => false,
+            Serve::TurnOver(wanted, want) => {
+                handed(rt, self.tap.turn_over(self.at, rt, wanted)) == want
+            }
         }
     }
 }
 
+// The clients that entered, and the lines of the lanes.
 #[derive(Drop)]
 struct Room<'a> {
     clients: Vec<Client<'a>>,
     lines: Vec<Line<'a>>,
 }
 
-impl Room<'_> {
-    fn holds<R: Wait>(&mut self, rt: &R, alloc: Global, step: Step) -> bool {
+impl<'a> Room<'a> {
+    fn holds<R: Wait + Abort>(
+        &mut self,
+        rt: &R,
+        alloc: Global,
+        at: &'a Exchange,
+        door: &mut Door,
+        step: Step,
+    ) -> bool
+        requires { locks_of door.old.fronts ≡ at.now }
+        ensures { locks_of door.new.fronts ≡ at.now }
+    {
         match step {
+            Step::Enters(want) => self.enters(rt, at, door) == want,
             Step::Asks(place, ask) => match self.clients.get_mut(place) {
                 Some(client) => client.holds(rt, alloc, ask),
                 None => false,
@@ -153,56 +155,66 @@ impl Room<'_> {
             }
         }
     }
+
+    // Why no client more enters.
+    fn enters<R: Wait + Abort>(
+        &mut self,
+        rt: &R,
+        at: &'a Exchange,
+        door: &mut Door,
+    ) -> Option<EnterFault>
+        requires { locks_of door.old.fronts ≡ at.now }
+        ensures { locks_of door.new.fronts ≡ at.now }
+    {
+        match enter(rt, at, door) {
+            Ok(client) => {
+                self.clients.push(client).expect(rt, "out of memory");
+                None
+            }
+            Err(EnterFault::NoMemory) => panic!(rt; "out of memory"),
+            Err(fault) => Some(fault),
+        }
+    }
 }
 
-fn clients_of<'a, R: Wait + Abort>(
+fn play<'a, R: Wait + Abort>(
     rt: &R,
     alloc: Global,
     at: &'a Exchange,
     door: &mut Door,
-    count: usize,
-) -> Vec<Client<'a>>
+    room: &mut Room<'a>,
+    steps: &[Step],
+)
     requires { locks_of door.old.fronts ≡ at.now }
     ensures { locks_of door.new.fronts ≡ at.now }
 {
-    let mut clients = Vec::new(alloc);
-    for _place in 0..count {
-        let client = enter(rt, at, door).expect(rt, "no client");
-        clients.push(client).expect(rt, "out of memory");
-    }
-    clients
-}
-
-fn play<R: Wait + Abort>(rt: &R, alloc: Global, room: &mut Room, steps: &[Step]) {
     for place in 0..steps.len() {
-        assert!(rt; room.holds(rt, alloc, steps[place]), "step {place}");
+        let held = room.holds(rt, alloc, at, door, steps[place]);
+        hold(rt, held, 0, place);
     }
 }
 
-// The lanes of an exchange of so many lanes and clients after these steps. Where there is a fault, the next client has it.
+// The lanes of an exchange of so many lanes after these steps.
 fn lanes_after<R: Wait + Abort>(
     rt: &R,
     alloc: Global,
-    counts: (usize, usize),
+    limits: Limits,
+    lanes: usize,
     starts: Starts,
     steps: &[Step],
-    fault: Option<EnterFault>,
 ) -> Vec<Lane>
     requires { AreStarts starts }
 {
-    let (lanes, clients) = counts;
     let Hall {
         exchange,
         mut door,
         taps,
-    } = Hall::new(rt, alloc, crate::hall::ROOMY, lanes, starts);
-    let clients = clients_of(rt, alloc, &exchange, &mut door, clients);
-    let lines = lines_of(alloc, &exchange, taps).expect(rt, "out of memory");
-    let mut room = Room { clients, lines };
-    play(rt, alloc, &mut room, steps);
+    } = Hall::new(rt, alloc, limits, lanes, starts);
+    let mut room = Room {
+        clients: Vec::new(alloc),
+        lines: lines_of(alloc, &exchange, taps).expect(rt, "out of memory"),
+    };
+    play(rt, alloc, &exchange, &mut door, &mut room, steps);
     drop(room);
-    if fault.is_some() {
-        assert_eq!(rt; enter(rt, &exchange, &mut door).err(), fault);
-    }
     lanes_of(rt, exchange, door)
 }

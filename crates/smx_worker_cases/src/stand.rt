@@ -2,6 +2,7 @@
 ghost use Rattle.std.specs.Prelude.{◌≡◌};
 
 use smx_memory::{MemoryLink, Script};
+use smx_pdu::Body;
 use smx_routes::RouteFault;
 use smx_trace::Trace;
 use smx_turns::{Directory, Fault, Gate, Party, Place, Point, Query, Question, RunEnd};
@@ -158,6 +159,18 @@ pub fn took(link: &MemoryLink<Script>, parts: &[&[u8]]) -> bool {
         }
     }
     rest.is_empty()
+}
+
+pub fn octets_in(rt: &impl Abort, alloc: Global, octets: &[u8]) -> Vec<u8> {
+    Vec::from_slice(alloc, octets).expect(rt, "out of memory")
+}
+
+/// A body of these octets, and so many zeros behind them.
+pub fn body_of(rt: &impl Abort, alloc: Global, octets: &[u8], zeros: usize) -> Body {
+    let mut all = octets_in(rt, alloc, octets);
+    let resized = all.resize(octets.len().saturating_add(zeros), 0);
+    resized.expect(rt, "out of memory");
+    Body::new(all).ok().expect(rt, "the body is short enough")
 }
 
 /// Names want of memory, which tools/refuse-memory brings about.

@@ -74,6 +74,17 @@ fn guest<'a, R: Abort>(
     seat_of(rt, alloc, at, desk, port, inbox, senders, link)
 }
 
+// Whether the worker has left. After a turn that did nothing it sleeps.
+fn has_left<R: Clock + Abort>(rt: &R, end: RunEnd) -> bool {
+    match end {
+        RunEnd::Turns => {}
+        RunEnd::Idle => sleep(rt, Duration::from_millis(1)),
+        RunEnd::Left => return true,
+        RunEnd::Fault(fault) => panic!(rt; "a worker: {fault:?}"),
+    }
+    false
+}
+
 // Turns the client's worker until its client has left.
 fn turn_client<R: Wait + Clock + Abort>(
     rt: &R,
@@ -82,14 +93,11 @@ fn turn_client<R: Wait + Clock + Abort>(
     nobody: &mut Nobody,
 ) {
     for _ in 0..TURNS {
-        match seat.run(rt, gate, nobody, 1) {
-            RunEnd::Turns => {}
-            RunEnd::Idle => sleep(rt, Duration::from_millis(1)),
-            RunEnd::Left => return,
-            RunEnd::Fault(fault) => panic!(rt; "a client's worker: {fault:?}"),
+        if has_left(rt, seat.run(rt, gate, nobody, 1)) {
+            return;
         }
     }
-    panic!(rt; "a client is not done after {TURNS} turns");
+    panic!(rt; "a client is not done after its turns");
 }
 
 // Serves the client, whose gate has this flag, until it has left. It is written just what is wanted.
@@ -110,7 +118,7 @@ fn serve<R: Wait + Clock + Abort>(
     turn_client(rt, &mut seat, &mut FlagGate::new(flag), &mut nobody);
     let client::Seat { at, worker, .. } = seat;
     let closed = worker.close(at, rt, &mut nobody);
-    assert_eq!(rt; closed.link.peer().script.taken(), wanted);
+    assert!(rt; closed.link.peer().script.taken() == wanted);
     done.fetch_add(1, Ordering::SeqCst);
 }
 
@@ -145,13 +153,12 @@ fn turn_lane<R: Wait + Clock + Abort>(
         if done.load(Ordering::SeqCst) >= 2 {
             return;
         }
-        match seat.run(rt, world, 0, 1) {
-            RunEnd::Turns => {}
-            RunEnd::Idle => sleep(rt, Duration::from_millis(1)),
-            end => panic!(rt; "the lane's worker: {end:?}"),
-        }
+        assert!(rt;
+            !has_left(rt, seat.run(rt, world, 0, 1)),
+            "the lane's worker has left"
+        );
     }
-    panic!(rt; "the clients are not done after {TURNS} turns");
+    panic!(rt; "the clients are not done after their turns");
 }
 
 // Serves the lane until both clients are done, and then until its session ended, to which the centre
@@ -166,8 +173,8 @@ fn carry<R: Wait + Clock + Abort>(
     let mut seat = carrier(rt, alloc, line, ends);
     let mut world = World::new();
     turn_lane(rt, &mut seat, &mut world, done);
-    assert_eq!(rt; seat.worker.stop(), Ok(true));
-    assert_eq!(rt; seat.run(rt, &mut world, 0, TURNS), RunEnd::Left);
+    assert!(rt; seat.worker.stop() == Ok(true));
+    assert!(rt; seat.run(rt, &mut world, 0, TURNS) == RunEnd::Left);
 }
 
 // The workers are made in their threads.
@@ -180,7 +187,7 @@ fn workers_in_three_threads(rt: HostRuntime) {
         taps,
     } = Hall::roomy(&rt, alloc, 1);
     let line = last_line(&rt, &exchange, taps);
-    let desk = desk(alloc).expect(&rt, "out of memory");
+    let desk = desk(&rt, alloc);
     let ends = ends_of(&rt, alloc, 2, 1, 4);
     let (mut clients, mut lanes) = ends.expect(&rt, "out of memory");
     let lane = lanes.pop().expect(&rt, "a lane has no ends");

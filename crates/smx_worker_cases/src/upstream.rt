@@ -4,13 +4,13 @@ ghost use Rattle.std.specs.Prelude.{◌≡◌, slice_get, Some, None, false};
 ghost use Rattle.smx_shared.specs.Views.{locks_of};
 ghost use Rattle.smx_session.specs.declared.upstream_state.UpstreamState.{UpstreamState};
 
-use crate::hall::{Client, Hall, enter, lanes_of, last_tap};
-use crate::stand::{Piece, World, link_to, name_want, script, took};
+use crate::hall::{Client, Hall, enter, hold, lanes_of, last_tap};
+use crate::stand::{Piece, World, body_of, link_to, name_want, script, took};
 use smx_box::{Boxed, Got, Receiver};
 use smx_lane::Lane;
 use smx_link::Link;
 use smx_memory::{MemoryLink, Script};
-use smx_pdu::{Bind, Body, Pdu};
+use smx_pdu::{Bind, Pdu};
 use smx_session::{UpstreamSession, UpstreamState};
 use smx_shared::{Door, Exchange, SubmitFault, Tap};
 use smx_turns::{MoItem, RunEnd};
@@ -59,6 +59,11 @@ const SECOND_RESPONSE: [u8; 18] = [
 const MESSAGE: [u8; 37] = [
     0, 0, 0, 0x25, 0, 0, 0, 5, 0, 0, 0, 0, 0, 0, 0, 3, 0, 0, 0, 0, 0, 0, b'4', b'9', b'1', b'5', 0,
     0, 0, 0, 0, 0, 0, 0, 0, 0, 0,
+];
+
+// The message's body.
+const TEXT: [u8; 21] = [
+    0, 0, 0, 0, 0, 0, b'4', b'9', b'1', b'5', 0, 0, 0, 0, 0, 0, 0, 0, 0, 0, 0,
 ];
 
 const ANSWER: [u8; 17] = [0, 0, 0, 0x11, 0x80, 0, 0, 5, 0, 0, 0, 0, 0, 0, 0, 3, 0];
@@ -147,39 +152,6 @@ impl<'a, L: Link + Drop> Seat<'a, L> {
     }
 }
 
-impl<'a> Seat<'a, MemoryLink<Script>> {
-    fn closes<R: Wait>(self, rt: &R, parts: &[&[u8]]) -> bool {
-        let Seat { at, worker, .. } = self;
-        took(&worker.close(at, rt).link, parts)
-    }
-
-    fn goes_on<R: Wait + Abort>(
-        self,
-        rt: &R,
-        alloc: Global,
-        taken: &[&[u8]],
-        pieces: &[Piece],
-    ) -> (bool, Seat<'a, MemoryLink<Script>>) {
-        let Seat { at, worker, .. } = self;
-        let Closed {
-            link,
-            tap,
-            answers,
-            senders,
-            lost,
-        } = worker.close(at, rt);
-        let parts = Parts {
-            link: link_to(rt, script(alloc, 65_536, pieces)),
-            tap,
-            session: session(rt, alloc),
-            answers,
-            senders,
-        };
-        let well = took(&link, taken) && lost.failed == 1;
-        (well, Seat::new(rt, alloc, at, parts, 1_000))
-    }
-}
-
 /// The session of `proxy` with the password `pw` at the moment 0. It enquires after a second.
 pub fn session(rt: &impl Abort, alloc: Global) -> UpstreamSession
     ensures { result.state ≡ UpstreamState.Binding }
@@ -228,19 +200,42 @@ impl Stand<'_> {
             },
             Step::Asked(want) => self.world.gate.questions == want,
             Step::Told(want) => self.world.gate.tidings == want,
-            Step::Closes(parts) => match self.seat.take() {
-                Some(seat) => seat.closes(rt, parts),
-                None => false,
-            },
-            Step::GoesOn(parts, pieces) => match self.seat.take() {
-                Some(seat) => {
-                    let (well, next) = seat.goes_on(rt, alloc, parts, pieces);
-                    self.seat = Some(next);
-                    well
-                }
-                None => false,
-            },
+            Step::Closes(parts) => self.closes(rt, alloc, parts, None),
+            Step::GoesOn(parts, pieces) => self.closes(rt, alloc, parts, Some(pieces)),
         }
+    }
+
+    // Closes the worker, whose link took this. Where there are pieces, one request failed, and another
+    // worker goes on.
+    fn closes<R: Wait + Abort>(
+        &mut self,
+        rt: &R,
+        alloc: Global,
+        taken: &[&[u8]],
+        pieces: Option<&[Piece]>,
+    ) -> bool {
+        let Some(Seat { at, worker, .. }) = self.seat.take() else {
+            return false;
+        };
+        let Closed {
+            link,
+            tap,
+            answers,
+            senders,
+            lost,
+        } = worker.close(at, rt);
+        let Some(pieces) = pieces else {
+            return took(&link, taken);
+        };
+        let parts = Parts {
+            link: link_to(rt, script(alloc, 65_536, pieces)),
+            tap,
+            session: session(rt, alloc),
+            answers,
+            senders,
+        };
+        self.seat = Some(Seat::new(rt, alloc, at, parts, 1_000));
+        took(&link, taken) && lost.failed == 1
     }
 }
 
@@ -249,39 +244,34 @@ fn submit<R: Wait + Abort>(
     alloc: Global,
     client: &mut Client,
 ) -> Result<usize, SubmitFault> {
-    let octets = Vec::from_slice(alloc, &SUBMIT[16..]).expect(rt, "out of memory");
-    let body = Body::new(octets).ok();
-    client.submit(rt, 7, body.expect(rt, "the body is short enough"))
+    client.submit(rt, 7, body_of(rt, alloc, &SUBMIT[16..], 0))
 }
 
 // It is submit_sm_resp with the client's own number.
 fn collects<R: Wait>(rt: &R, client: &mut Client, want: Option<(u32, &[u8])>) -> bool {
-    match (client.collect(rt, 0), want) {
-        (Ok(Some(pdu)), Some((status, body))) => {
-            (pdu.command, pdu.status, pdu.number) == (0x8000_0004, status, 7)
-                && pdu.body.as_slice() == body
+    match client.collect(rt, 0) {
+        Ok(Some(pdu)) => {
+            (pdu.command, pdu.number) == (0x8000_0004, 7)
+                && want == Some((pdu.status, pdu.body.as_slice()))
         }
-        (Ok(None), None) => true,
-        _ => false,
+        Ok(None) => want.is_none(),
+        Err(_) => false,
     }
 }
 
 fn gets<R: Wait>(rt: &R, inbox: &mut Receiver<MoItem>, want: Option<(u32, &[u8])>) -> bool {
-    match (inbox.get(rt), want) {
-        (
-            Ok(
-                Got::Item {
-                    number: 1,
-                    content,
-                    ..
-                },
-            ),
-            Some((number, body)),
+    match inbox.get(rt) {
+        Ok(
+            Got::Item {
+                number,
+                content,
+                ..
+            },
         ) => {
-            (content.client, content.lane, content.number) == (1, 0, number)
-                && content.pdu.body.as_slice() == body
+            (number, content.client, content.lane) == (1, 1, 0)
+                && want == Some((content.number, content.pdu.body.as_slice()))
         }
-        (Ok(Got::Empty), None) => true,
+        Ok(Got::Empty) => want.is_none(),
         _ => false,
     }
 }
@@ -356,10 +346,8 @@ fn stand_at<'a, R: Wait + Abort>(
 
 fn play<R: Wait + Abort>(rt: &R, alloc: Global, stand: &mut Stand, case: usize, steps: &[Step]) {
     for place in 0..steps.len() {
-        assert!(rt;
-            stand.holds(rt, alloc, steps[place]),
-            "case {case}, step {place}"
-        );
+        let held = stand.holds(rt, alloc, steps[place]);
+        hold(rt, held, case, place);
     }
 }
 

@@ -34,58 +34,78 @@ const SUBMITTED: &[u8] = b"\0\0\0\x12\x80\0\0\x04\0\0\0\0\0\0\0\x071\0";
 
 // The client's request is accepted, of which the lane is told, and its response collected. Two routes
 // were made and one client's taken back.
+const RESPONSE_PIECES: [Piece; 2] = [(0, BIND), (25, SUBMIT)];
+
+const RESPONSE_STEPS: [Step; 7] = [
+    Runs(100, RunEnd::Idle),
+    Told(Some(Party::Lane(0))),
+    Responds(0, b"1\0", 0),
+    Runs(100, RunEnd::Idle),
+    Stands(ClientState::BoundTrx, 0),
+    Closes(&[&BOUND, SUBMITTED], false),
+    Routes(2, 1),
+];
+
 #[test]
 fn response_bears_the_clients_number(rt: HostRuntime) {
-    let pieces: [Piece; 2] = [(0, BIND), (25, SUBMIT)];
-    let steps = [
-        Runs(100, RunEnd::Idle),
-        Told(Some(Party::Lane(0))),
-        Responds(0, b"1\0", 0),
-        Runs(100, RunEnd::Idle),
-        Stands(ClientState::BoundTrx, 0),
-        Closes(&[&BOUND, SUBMITTED], false),
-        Routes(2, 1),
-    ];
-    let setting = Setting::new(0, script(rt.alloc(), 4_096, &pieces));
-    lanes_after(&rt, rt.alloc(), setting, &steps);
+    let setting = Setting::new(0, script(rt.alloc(), 4_096, &RESPONSE_PIECES));
+    lanes_after(&rt, rt.alloc(), setting, &RESPONSE_STEPS);
 }
 
 // Two messages are sent under the numbers 1 and 2. The answer to 1 goes back under the centre's
 // number. Once the client is closed, the message that it didn't answer and the one in its box are
 // answered with 0x64.
+const ANSWER: &[u8] = b"\0\0\0\x10\x80\0\0\x05\0\0\0\0\0\0\0\x01";
+
+const SENT: &[u8] = b"\0\0\0\x10\0\0\0\x05\0\0\0\0\0\0\0\x01\
+    \0\0\0\x10\0\0\0\x05\0\0\0\0\0\0\0\x02";
+
+const ANSWERS_PIECES: [Piece; 2] = [(0, BIND), (57, ANSWER)];
+
+const ANSWERS_STEPS: [Step; 11] = [
+    Runs(100, RunEnd::Idle),
+    Sends(3),
+    Sends(4),
+    Runs(100, RunEnd::Idle),
+    Told(Some(Party::Lane(0))),
+    Sends(5),
+    Closes(&[&BOUND, SENT], true),
+    Gets(Some((0x8000_0005, 0, 3))),
+    Gets(Some((0x8000_0005, 0x64, 4))),
+    Gets(Some((0x8000_0005, 0x64, 5))),
+    Gets(None),
+];
+
 #[test]
 fn messages_are_answered(rt: HostRuntime) {
-    let answer = b"\0\0\0\x10\x80\0\0\x05\0\0\0\0\0\0\0\x01";
-    let sent: &[u8] = b"\0\0\0\x10\0\0\0\x05\0\0\0\0\0\0\0\x01\
-        \0\0\0\x10\0\0\0\x05\0\0\0\0\0\0\0\x02";
-    let pieces: [Piece; 2] = [(0, BIND), (57, answer)];
-    let steps = [
-        Runs(100, RunEnd::Idle),
-        Sends(3),
-        Sends(4),
-        Runs(100, RunEnd::Idle),
-        Told(Some(Party::Lane(0))),
-        Sends(5),
-        Closes(&[&BOUND, sent], true),
-        Gets(Some((0x8000_0005, 0, 3))),
-        Gets(Some((0x8000_0005, 0x64, 4))),
-        Gets(Some((0x8000_0005, 0x64, 5))),
-        Gets(None),
-    ];
-    let setting = Setting::new(0, script(rt.alloc(), 4_096, &pieces));
-    lanes_after(&rt, rt.alloc(), setting, &steps);
+    let setting = Setting::new(0, script(rt.alloc(), 4_096, &ANSWERS_PIECES));
+    lanes_after(&rt, rt.alloc(), setting, &ANSWERS_STEPS);
 }
 
 // The second answer waits while the return box, which has one place, has the first, and then has its
 // place. Until the enquiry that came with them is decided nothing is read: the link's fourth read
 // would fail. The enquiry is answered in the turn that puts the answer, which reads nothing.
+// The second is a generic_nack, which answers a message too.
+const WAITING: &[u8] = b"\0\0\0\x10\x80\0\0\x05\0\0\0\0\0\0\0\x02\
+    \0\0\0\x10\x80\0\0\0\0\0\0\x08\0\0\0\x01\
+    \0\0\0\x10\0\0\0\x15\0\0\0\0\0\0\0\x09";
+
+const WAITING_PIECES: [Piece; 2] = [(0, BIND), (57, WAITING)];
+
+const WAITING_STEPS: [Step; 8] = [
+    Sends(3),
+    Sends(4),
+    Runs(100, RunEnd::Turns),
+    Gets(Some((0x8000_0005, 0, 4))),
+    Gets(None),
+    Runs(1, RunEnd::Turns),
+    Stands(ClientState::BoundTrx, 16),
+    Gets(Some((0x8000_0000, 8, 3))),
+];
+
 #[test]
 fn answer_waits_for_its_box(rt: HostRuntime) {
-    // The second is a generic_nack, which answers a message too.
-    let all = b"\0\0\0\x10\x80\0\0\x05\0\0\0\0\0\0\0\x02\
-        \0\0\0\x10\x80\0\0\0\0\0\0\x08\0\0\0\x01\
-        \0\0\0\x10\0\0\0\x15\0\0\0\0\0\0\0\x09";
-    let mut script = script(rt.alloc(), 4_096, &[(0, BIND), (57, all)]);
+    let mut script = script(rt.alloc(), 4_096, &WAITING_PIECES);
     script.failing_read = 4;
     let setting = Setting {
         case: 0,
@@ -93,17 +113,7 @@ fn answer_waits_for_its_box(rt: HostRuntime) {
         lanes: 1,
         places: 1,
     };
-    let steps = [
-        Sends(3),
-        Sends(4),
-        Runs(100, RunEnd::Turns),
-        Gets(Some((0x8000_0005, 0, 4))),
-        Gets(None),
-        Runs(1, RunEnd::Turns),
-        Stands(ClientState::BoundTrx, 16),
-        Gets(Some((0x8000_0000, 8, 3))),
-    ];
-    lanes_after(&rt, rt.alloc(), setting, &steps);
+    lanes_after(&rt, rt.alloc(), setting, &WAITING_STEPS);
 }
 
 #[test]
@@ -129,23 +139,25 @@ fn link_that_fails(rt: HostRuntime) {
 }
 
 // Of two responses of 65,536 octets, on two lanes, a turn collects one, and the next none.
+const STOPPING_PIECES: [Piece; 3] = [(0, BIND), (25, SUBMIT), (25, SUBMIT)];
+
+const STOPPING_STEPS: [Step; 7] = [
+    Runs(100, RunEnd::Idle),
+    Responds(1, b"", 65_520),
+    Responds(0, b"", 65_520),
+    Runs(1, RunEnd::Turns),
+    Stands(ClientState::BoundTrx, 65_536),
+    Runs(1, RunEnd::Turns),
+    Stands(ClientState::BoundTrx, 65_536),
+];
+
 #[test]
 fn turn_stops_where_many_octets_wait(rt: HostRuntime) {
-    let pieces: [Piece; 3] = [(0, BIND), (25, SUBMIT), (25, SUBMIT)];
     let setting = Setting {
         case: 0,
-        script: script(rt.alloc(), 100_000, &pieces),
+        script: script(rt.alloc(), 100_000, &STOPPING_PIECES),
         lanes: 2,
         places: 1,
     };
-    let steps = [
-        Runs(100, RunEnd::Idle),
-        Responds(1, b"", 65_520),
-        Responds(0, b"", 65_520),
-        Runs(1, RunEnd::Turns),
-        Stands(ClientState::BoundTrx, 65_536),
-        Runs(1, RunEnd::Turns),
-        Stands(ClientState::BoundTrx, 65_536),
-    ];
-    lanes_after(&rt, rt.alloc(), setting, &steps);
+    lanes_after(&rt, rt.alloc(), setting, &STOPPING_STEPS);
 }

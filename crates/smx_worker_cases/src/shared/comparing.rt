@@ -3,7 +3,8 @@ ghost use Rattle.std.specs.Prelude.{◌≡◌, ◌<◌, length, slice_get, Some}
 ghost use Rattle.smx_shared.specs.Views.{locks_of};
 
 use super::*;
-use crate::hall::last_tap;
+use crate::hall::{is_of, last_tap};
+use smx_history::Kind;
 use smx_pdu::command::SUBMIT_SM;
 use smx_shared::{Offer, Port, Tap};
 use std::test::*;

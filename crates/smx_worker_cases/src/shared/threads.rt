@@ -7,8 +7,6 @@ ghost use Rattle.std.specs.Prelude.{◌≡◌};
 use super::*;
 use crate::hall::last_line;
 use smx_centre::{Centre, Mode};
-use smx_history::Limits;
-use smx_lane::{Entry, Sent};
 use smx_legal::is_legal_shifts;
 use std::sync::atomic::{AtomicBool, Ordering};
 use std::test::*;
@@ -45,6 +43,14 @@ struct Course {
     tries: bool,
 }
 
+// Notes a response, which has to be of a request of the client's that had none before.
+fn note(rt: &impl Abort, came: &mut [bool], own: u32) {
+    let place = came.get_mut(own.wrapping_sub(1) as usize);
+    let place = place.expect(rt, "a response is not the client's");
+    assert!(rt; !*place, "a response came before");
+    *place = true;
+}
+
 impl Client<'_> {
     // Submits, collects and leaves. The one flag tells of its first accept, the other of the other
     // client's.
@@ -59,7 +65,7 @@ impl Client<'_> {
         let mut client = self;
         client.submit_all(rt, alloc, mine, other);
         client.collect_all(rt, tries);
-        assert_eq!(rt; client.leave(rt), Ok(()));
+        assert!(rt; client.leave(rt));
     }
 
     fn submit_all<R: Wait + Abort>(
@@ -70,39 +76,42 @@ impl Client<'_> {
         other: &AtomicBool,
     ) {
         for own in 1..=REQUESTS {
-            assert_eq!(rt; self.submit(rt, own, Body::empty(alloc)), Ok(0));
+            assert!(rt; self.submit(rt, own, Body::empty(alloc)) == Ok(0));
             if own == 1 {
                 meet(rt, mine, other);
             }
         }
     }
 
-    // Each response comes once, with a number of the client's own.
+    // Each response comes once, with a number of the client's own. It waits for each.
     fn collect_all<R: Wait + Abort>(&mut self, rt: &R, tries: bool) {
         let mut came = [false; 200];
-        for _ in 0..REQUESTS {
-            let own = self.next(rt, tries).number as usize;
-            if own == 0 || own > came.len() || came[own - 1] {
-                panic!(rt; "response {own} is not the client's, or came before");
-            }
-            came[own - 1] = true;
-        }
-    }
-
-    // The next response, for which it waits.
-    fn next<R: Wait + Abort>(&mut self, rt: &R, tries: bool) -> Pdu {
+        let mut count = 0u32;
         for _ in 0..COLLECTS {
-            let found = match tries {
-                true => self.try_collect(),
-                false => Ok(self.collect(rt, 0).expect(rt, "the lane is spent")),
-            };
-            match found {
-                Ok(Some(response)) => return response,
-                Ok(None) | Err(TryFault::Busy) => thread::yield_now(),
-                Err(TryFault::Spent) => break,
+            if count >= REQUESTS {
+                return;
+            }
+            match self.next(rt, tries) {
+                Some(own) => {
+                    note(rt, &mut came, own);
+                    count = count.saturating_add(1);
+                }
+                None => thread::yield_now(),
             }
         }
         panic!(rt; "no response comes")
+    }
+
+    // The number of the next response, where one waits and, of a client that only tries, the lane is
+    // free.
+    fn next<R: Wait>(&mut self, rt: &R, tries: bool) -> Option<u32> {
+        let found = if tries {
+            self.try_collect().ok()
+        } else {
+            self.collect(rt, 0).ok()
+        };
+        let response = found??;
+        Some(response.number)
     }
 }
 
@@ -149,8 +158,7 @@ impl Line<'_> {
             };
             taken = taken.saturating_add(1);
             if course.turns && taken % SHIFT == 0 {
-                let list = line.list(rt);
-                served.lists.push(list).expect(rt, "out of memory");
+                line.list(rt, &mut served.lists);
             }
             line.send(rt, &mut centre, sent, &mut served);
         }
@@ -164,13 +172,12 @@ impl Line<'_> {
         self.tap.take(self.at, rt, 0).ok()
     }
 
-    // What the lane hands out as it is turned over.
-    fn list<R: Wait + Abort>(&mut self, rt: &R) -> Vec<Entry> {
-        match self.tap.turn_over(self.at, rt, 1) {
-            Ok(Some(entries)) => entries,
-            Ok(None) => panic!(rt; "the lane hands out no list"),
-            Err(fault) => panic!(rt; "the lane is not turned over: {fault:?}"),
-        }
+    // Keeps what the lane hands out as it is turned over.
+    fn list<R: Wait + Abort>(&mut self, rt: &R, lists: &mut Vec<Vec<Entry>>) {
+        let handed = self.tap.turn_over(self.at, rt, 1);
+        let handed = handed.expect(rt, "the lane is not turned over");
+        let list = handed.expect(rt, "the lane hands out no list");
+        lists.push(list).expect(rt, "out of memory");
     }
 
     // Sends the request to the centre, and brings each answer.
@@ -189,38 +196,44 @@ impl Line<'_> {
             body: request.body,
         };
         for answer in centre.on_pdu(&upstream).expect(rt, "out of memory") {
-            self.bring(rt, answer, served);
-        }
-    }
-
-    fn bring<R: Wait + Abort>(&mut self, rt: &R, answer: Pdu, served: &mut Served) {
-        match self.tap.answer(self.at, rt, answer) {
-            Ok(Answered::Queued { .. }) => served.queued = served.queued.saturating_add(1),
-            Ok(Answered::Unknown(_)) => served.unknown = served.unknown.saturating_add(1),
-            Ok(Answered::Late) => panic!(rt; "an answer came late"),
-            Err(_) => panic!(rt; "the lane is spent"),
+            count(rt, self.bring(rt, answer), served);
         }
     }
 }
 
-// The tap has the counts that it should have, and its lists and the lane's entries are a legal history.
-fn check(rt: &impl Abort, served: Served, lane: &Lane, handed: usize) {
-    let Served {
-        queued,
-        unknown,
-        mut lists,
-    } = served;
-    let found = (queued, unknown, lists.len());
-    assert_eq!(rt; found, (2 * REQUESTS, 2 * REQUESTS, handed));
-    let last = Vec::from_slice(*lists.allocator(), lane.entries()).expect(rt, "out of memory");
-    lists.push(last).expect(rt, "out of memory");
+fn count(rt: &impl Abort, brought: Brought, served: &mut Served) {
+    match brought {
+        Brought::To(_) => served.queued = served.queued.saturating_add(1),
+        Brought::Unknown(_) => served.unknown = served.unknown.saturating_add(1),
+        Brought::Late => panic!(rt; "an answer came late"),
+        Brought::Spent => panic!(rt; "the lane is spent"),
+    }
+}
+
+fn entries_of(lists: &[Vec<Entry>]) -> usize {
     let mut entries: usize = 0;
-    for list in &lists {
+    for list in lists {
         entries = entries.saturating_add(list.len());
     }
-    assert_eq!(rt; entries, 1_604);
+    entries
+}
+
+// The tap has the counts that it should have, and its lists and the lane's entries are a legal history.
+fn check(rt: &impl Abort, served: &mut Served, lane: &Lane, handed: usize) {
+    let alloc = *served.lists.allocator();
+    let last = Vec::from_slice(alloc, lane.entries()).expect(rt, "out of memory");
+    let stored = entries_of(&served.lists).saturating_add(last.len());
+    let found = [
+        served.queued as usize,
+        served.unknown as usize,
+        served.lists.len(),
+        stored,
+    ];
+    let both = 2 * REQUESTS as usize;
+    assert!(rt; found == [both, both, handed, 1_604]);
+    served.lists.push(last).expect(rt, "out of memory");
     assert!(rt;
-        is_legal_shifts(&lists, lane.limits()),
+        is_legal_shifts(&served.lists, lane.limits()),
         "the history is not legal"
     );
 }
@@ -237,7 +250,7 @@ fn run_course<R: Threads + Wait + Abort + Sync>(rt: &R, alloc: Global, course: C
     let second = enter(rt, &exchange, &mut door).expect(rt, "no client");
     let (one, two) = (AtomicBool::new(false), AtomicBool::new(false));
     let tries = course.tries;
-    let (served, ()) = join(
+    let (mut served, ()) = join(
         rt,
         || line.serve(rt, alloc, course),
         || {
@@ -250,7 +263,7 @@ fn run_course<R: Threads + Wait + Abort + Sync>(rt: &R, alloc: Global, course: C
     );
     let lanes = lanes_of(rt, exchange, door);
     let lane = lanes.last().expect(rt, "there is one lane");
-    check(rt, served, lane, if course.turns { 4 } else { 0 });
+    check(rt, &mut served, lane, if course.turns { 4 } else { 0 });
 }
 
 #[test]

@@ -23,7 +23,7 @@ fn meets<R: Wait + Abort>(
     heard: usize,
     taken: usize,
 ) {
-    let message: Option<(u32, &[u8])> = (heard >= 60).then_some((3, &MESSAGE[16..]));
+    let message: Option<(u32, &[u8])> = (heard >= 60).then_some((3, &TEXT));
     let told = match heard {
         0..23 => None,
         23..78 => FAILED,
@@ -110,17 +110,18 @@ fn stray(rt: &impl Abort, alloc: Global) -> Vec<u8> {
 
 // Responses to no request reach nobody, and the lane notes none of them: its entries are of the
 // client's coming and of the worker's end.
+const STRAY_STEPS: [Step; 5] = [
+    Runs(0, 1_000, RunEnd::Idle),
+    Told(0),
+    Closes(&[&BIND]),
+    Gets(None),
+    Collects(None),
+];
+
 #[test]
 fn responses_that_nobody_asked_for(rt: HostRuntime) {
     let octets = stray(&rt, rt.alloc());
-    let steps = [
-        Runs(0, 1_000, RunEnd::Idle),
-        Told(0),
-        Closes(&[&BIND]),
-        Gets(None),
-        Collects(None),
-    ];
     let setting = Setting::new(0, script(rt.alloc(), 65_536, &[(30, &octets)]));
-    let lanes = lanes_after(&rt, rt.alloc(), setting, &steps);
+    let lanes = lanes_after(&rt, rt.alloc(), setting, &STRAY_STEPS);
     assert!(rt; is_of(&lanes, &[Kind::Admit, Kind::Down]));
 }

@@ -10,59 +10,69 @@ use std::test::*;
 // A request and its response, a message and a client's answer, which is in the return box before the
 // first turn. The centre gives its response to the bind, then a message, and then the response to the
 // request. The worker tells of the response and of the message.
+const ONE_EACH_PIECES: [Piece; 3] = [(30, &BOUND), (47, &MESSAGE), (81, &RESPONSE)];
+
+const ONE_EACH_STEPS: [Step; 7] = [
+    Submits(Ok(0)),
+    Runs(0, 1_000, RunEnd::Idle),
+    Stands(UpstreamState::Bound),
+    Told(2),
+    Gets(Some((3, &TEXT))),
+    Closes(&[&BIND, &ANSWER, &SUBMIT]),
+    Collects(ANSWERED),
+];
+
 fn lanes_of_one_each<R: Wait + Abort>(rt: &R, alloc: Global, history: usize) -> Vec<Lane> {
-    let pieces: [Piece; 3] = [(30, &BOUND), (47, &MESSAGE), (81, &RESPONSE)];
     let answer = decode(alloc, &ANSWER).expect(rt, "a PDU");
     let setting = Setting {
         case: history,
-        script: script(alloc, 65_536, &pieces),
+        script: script(alloc, 65_536, &ONE_EACH_PIECES),
         answer: Some(answer),
         history,
     };
-    let steps = [
-        Submits(Ok(0)),
-        Runs(0, 1_000, RunEnd::Idle),
-        Stands(UpstreamState::Bound),
-        Told(2),
-        Gets(Some((3, &MESSAGE[16..]))),
-        Closes(&[&BIND, &ANSWER, &SUBMIT]),
-        Collects(ANSWERED),
-    ];
-    lanes_after(rt, alloc, setting, &steps)
+    lanes_after(rt, alloc, setting, &ONE_EACH_STEPS)
 }
 
 // A lane whose history is said to have 8 entries is turned over at each note, which leaves the last
 // two: the down of the worker's end, and a collect.
+const ONE_EACH_KINDS: [Kind; 6] = [
+    Kind::Admit,
+    Kind::Accept,
+    Kind::Take,
+    Kind::Answer,
+    Kind::Down,
+    Kind::Collect,
+];
+
 #[test]
 fn one_of_each(rt: HostRuntime) {
-    let kinds = [
-        Kind::Admit,
-        Kind::Accept,
-        Kind::Take,
-        Kind::Answer,
-        Kind::Down,
-        Kind::Collect,
-    ];
     let all = lanes_of_one_each(&rt, rt.alloc(), 1_000);
-    assert!(rt; is_of(&all, &kinds));
+    assert!(rt; is_of(&all, &ONE_EACH_KINDS));
     let last = lanes_of_one_each(&rt, rt.alloc(), 8);
-    assert!(rt; is_of(&last, &kinds[4..]));
+    assert!(rt; is_of(&last, &ONE_EACH_KINDS[4..]));
 }
 
 // An answer with the greatest body.
 fn greatest(rt: &impl Abort, alloc: Global) -> Pdu {
-    let octets = vec![in alloc; 0; 65_520].expect(rt, "out of memory");
-    let body = Body::new(octets).ok();
     Pdu {
         command: 0x8000_0005,
         status: 0,
         number: 3,
-        body: body.expect(rt, "the body is short enough"),
+        body: body_of(rt, alloc, &[], 65_520),
     }
 }
 
 // With 65,536 octets waiting a turn asks its gate nothing. The last turn is one in which nothing
 // came.
+const WAITING_STEPS: [Step; 6] = [
+    Runs(0, 1, RunEnd::Turns),
+    Asked(0),
+    Runs(0, 1, RunEnd::Turns),
+    Asked(2),
+    Runs(0, 1_000, RunEnd::Idle),
+    Asked(4),
+];
+
 #[test]
 fn waiting_octets_stop_a_turn(rt: HostRuntime) {
     let setting = Setting {
@@ -71,61 +81,57 @@ fn waiting_octets_stop_a_turn(rt: HostRuntime) {
         answer: Some(greatest(&rt, rt.alloc())),
         history: 1_000,
     };
-    let steps = [
-        Runs(0, 1, RunEnd::Turns),
-        Asked(0),
-        Runs(0, 1, RunEnd::Turns),
-        Asked(2),
-        Runs(0, 1_000, RunEnd::Idle),
-        Asked(4),
-    ];
-    lanes_after(&rt, rt.alloc(), setting, &steps);
+    lanes_after(&rt, rt.alloc(), setting, &WAITING_STEPS);
 }
 
 // The centre answers the first request once it has the second, and then the second. After 59,999 ms
 // the request still waits, after 60,000 its client is told that it failed, and the late response
 // reaches nobody.
+const LATE_PIECES: [Piece; 3] = [(30, &BOUND), (114, &RESPONSE), (114, &SECOND_RESPONSE)];
+
+const LATE_STEPS: [Step; 13] = [
+    Submits(Ok(0)),
+    Runs(0, 1_000, RunEnd::Idle),
+    Runs(59_999, 1_000, RunEnd::Idle),
+    Collects(None),
+    Told(0),
+    Runs(60_000, 1_000, RunEnd::Idle),
+    Told(1),
+    Collects(FAILED),
+    Submits(Ok(0)),
+    Runs(60_001, 1_000, RunEnd::Idle),
+    Collects(ANSWERED_SECOND),
+    Collects(None),
+    Closes(&[&BIND, &SUBMIT, &ENQUIRY, &SECOND]),
+];
+
 #[test]
 fn late_response_reaches_nobody(rt: HostRuntime) {
-    let pieces: [Piece; 3] = [(30, &BOUND), (114, &RESPONSE), (114, &SECOND_RESPONSE)];
-    let steps = [
-        Submits(Ok(0)),
-        Runs(0, 1_000, RunEnd::Idle),
-        Runs(59_999, 1_000, RunEnd::Idle),
-        Collects(None),
-        Told(0),
-        Runs(60_000, 1_000, RunEnd::Idle),
-        Told(1),
-        Collects(FAILED),
-        Submits(Ok(0)),
-        Runs(60_001, 1_000, RunEnd::Idle),
-        Collects(ANSWERED_SECOND),
-        Collects(None),
-        Closes(&[&BIND, &SUBMIT, &ENQUIRY, &SECOND]),
-    ];
-    let setting = Setting::new(0, script(rt.alloc(), 65_536, &pieces));
-    lanes_after(&rt, rt.alloc(), setting, &steps);
+    let setting = Setting::new(0, script(rt.alloc(), 65_536, &LATE_PIECES));
+    lanes_after(&rt, rt.alloc(), setting, &LATE_STEPS);
 }
 
 // Two requests are queued. The first is taken, and fails with the link at its second read; nothing is
 // accepted while the lane is down. The next worker takes the second, and nothing again.
+const ANSWERING: [Piece; 2] = [(30, &BOUND), (64, &SECOND_RESPONSE)];
+
+const ANEW_STEPS: [Step; 9] = [
+    Submits(Ok(0)),
+    Submits(Ok(0)),
+    Runs(0, 1_000, RunEnd::Fault(Fault::Link)),
+    GoesOn(&[&BIND, &SUBMIT], &ANSWERING),
+    Collects(FAILED),
+    Submits(Err(SubmitFault::AllFull)),
+    Runs(0, 1_000, RunEnd::Idle),
+    Collects(ANSWERED_SECOND),
+    Closes(&[&BIND, &SECOND]),
+];
+
 #[test]
 fn lane_goes_on_over_a_new_link(rt: HostRuntime) {
     let mut failing = script(rt.alloc(), 65_536, &[(30, &BOUND)]);
     failing.failing_read = 2;
-    let answering: [Piece; 2] = [(30, &BOUND), (64, &SECOND_RESPONSE)];
-    let steps = [
-        Submits(Ok(0)),
-        Submits(Ok(0)),
-        Runs(0, 1_000, RunEnd::Fault(Fault::Link)),
-        GoesOn(&[&BIND, &SUBMIT], &answering),
-        Collects(FAILED),
-        Submits(Err(SubmitFault::AllFull)),
-        Runs(0, 1_000, RunEnd::Idle),
-        Collects(ANSWERED_SECOND),
-        Closes(&[&BIND, &SECOND]),
-    ];
-    lanes_after(&rt, rt.alloc(), Setting::new(0, failing), &steps);
+    lanes_after(&rt, rt.alloc(), Setting::new(0, failing), &ANEW_STEPS);
 }
 
 // The proxy's unbind, the centre's answer, and what tells it that its message is out of place.
@@ -143,30 +149,32 @@ const REFUSAL: [u8; 16] = [0, 0, 0, 0x10, 0x80, 0, 0, 5, 0, 0, 0, 4, 0, 0, 0, 3]
 // unbind. Before it is bound a stop says nothing. Once it is, the first says the unbind and the second
 // nothing more. The request that came before the stop has its response, the one that came after it
 // isn't taken. This over a link that takes all at once, and over one that takes an octet a write.
+const STOPPED_PIECES: [Piece; 4] = [
+    (30, &BOUND),
+    (80, &RESPONSE),
+    (80, &MESSAGE),
+    (96, &UNBOUND),
+];
+
+const STOPPED_STEPS: [Step; 12] = [
+    Stops(false),
+    Stands(UpstreamState::Binding),
+    Submits(Ok(0)),
+    Runs(0, 1_000, RunEnd::Idle),
+    Stops(true),
+    Stops(false),
+    Stands(UpstreamState::Unbinding),
+    Submits(Ok(0)),
+    Runs(0, 1_000, RunEnd::Left),
+    Closes(&[&BIND, &SUBMIT, &UNBIND, &REFUSAL]),
+    Collects(ANSWERED),
+    Collects(None),
+];
+
 #[test]
 fn stopped_in_order(rt: HostRuntime) {
-    let pieces: [Piece; 4] = [
-        (30, &BOUND),
-        (80, &RESPONSE),
-        (80, &MESSAGE),
-        (96, &UNBOUND),
-    ];
-    let steps = [
-        Stops(false),
-        Stands(UpstreamState::Binding),
-        Submits(Ok(0)),
-        Runs(0, 1_000, RunEnd::Idle),
-        Stops(true),
-        Stops(false),
-        Stands(UpstreamState::Unbinding),
-        Submits(Ok(0)),
-        Runs(0, 1_000, RunEnd::Left),
-        Closes(&[&BIND, &SUBMIT, &UNBIND, &REFUSAL]),
-        Collects(ANSWERED),
-        Collects(None),
-    ];
     for most in [65_536, 1] {
-        let setting = Setting::new(most, script(rt.alloc(), most, &pieces));
-        lanes_after(&rt, rt.alloc(), setting, &steps);
+        let setting = Setting::new(most, script(rt.alloc(), most, &STOPPED_PIECES));
+        lanes_after(&rt, rt.alloc(), setting, &STOPPED_STEPS);
     }
 }

@@ -28,30 +28,33 @@ fn goes_so<R: Wait + Abort>(rt: &R, alloc: Global, gives: [&[u8]; 2], steps: &[S
 }
 
 // After a second of silence the worker enquires, and after another one it ends.
+const QUIET: [Step; 3] = [
+    Runs(0, 1_000, RunEnd::Idle),
+    Runs(999, 1_000, RunEnd::Idle),
+    Closes(&[&BIND]),
+];
+
+const ENQUIRING: [Step; 5] = [
+    Runs(0, 1_000, RunEnd::Idle),
+    Runs(999, 1_000, RunEnd::Idle),
+    Runs(1_000, 1_000, RunEnd::Idle),
+    Runs(1_999, 1_000, RunEnd::Idle),
+    Closes(&[&BIND, &ENQUIRY]),
+];
+
+const ENDING: [Step; 6] = [
+    Runs(0, 1_000, RunEnd::Idle),
+    Runs(999, 1_000, RunEnd::Idle),
+    Runs(1_000, 1_000, RunEnd::Idle),
+    Runs(1_999, 1_000, RunEnd::Idle),
+    Runs(2_000, 1_000, RunEnd::Left),
+    Closes(&[&BIND, &ENQUIRY]),
+];
+
 #[test]
 fn silence(rt: HostRuntime) {
-    let quiet = [
-        Runs(0, 1_000, RunEnd::Idle),
-        Runs(999, 1_000, RunEnd::Idle),
-        Closes(&[&BIND]),
-    ];
-    let enquires = [
-        Runs(0, 1_000, RunEnd::Idle),
-        Runs(999, 1_000, RunEnd::Idle),
-        Runs(1_000, 1_000, RunEnd::Idle),
-        Runs(1_999, 1_000, RunEnd::Idle),
-        Closes(&[&BIND, &ENQUIRY]),
-    ];
-    let ends = [
-        Runs(0, 1_000, RunEnd::Idle),
-        Runs(999, 1_000, RunEnd::Idle),
-        Runs(1_000, 1_000, RunEnd::Idle),
-        Runs(1_999, 1_000, RunEnd::Idle),
-        Runs(2_000, 1_000, RunEnd::Left),
-        Closes(&[&BIND, &ENQUIRY]),
-    ];
     let given: [&[u8]; 2] = [&BOUND, &[]];
-    for steps in [&quiet[..], &enquires[..], &ends[..]] {
+    for steps in [&QUIET[..], &ENQUIRING[..], &ENDING[..]] {
         goes_so(&rt, rt.alloc(), given, steps);
     }
 }
