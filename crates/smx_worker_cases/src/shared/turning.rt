@@ -27,7 +27,7 @@ fn add_turn_over(rt: &impl Abort, steps: &mut Vec<Step>, count: usize) {
 }
 
 // A client enters, 1,000 of its requests pass, and it leaves. Each 25th is taken before a turn over and
-// answered after it. In the steps, and how many entries are handed out.
+// answered after it. The steps, and how many entries are handed out in all.
 fn requests(rt: &impl Abort, alloc: Global) -> (Vec<Step>, usize) {
     let mut steps = Vec::new(alloc);
     let mut stored: usize = 0;
