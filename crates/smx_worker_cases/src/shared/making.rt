@@ -51,7 +51,7 @@ fn lanes_limits_and_tickets_have_ranges(rt: HostRuntime) {
         Some(MakeFault::BadLimits),
         Some(MakeFault::Spent),
     ];
-    assert!(rt; found == wanted);
+    assert_eq!(rt; found, wanted);
 }
 
 // Of a lane's 1,000 entries 1 is kept for its end, an admit takes 2 and a request 4: 249 on lane 1
