@@ -12,7 +12,7 @@ mod words;
 use clap::Error;
 use config_file::config_of;
 use options::Asked;
-use smx_serve::{Ended, Server};
+use smx_serve::{Ended, Server, is_name};
 use std::io::IsTerminal;
 use std::process::ExitCode;
 use std::thread;
@@ -41,7 +41,7 @@ fn main(rt: HostRuntime) -> ExitCode {
         Ok(Asked::Relay(None)) => relaying::run_input(&rt, rt.stdin().is_terminal()),
         Ok(Asked::Relay(Some(path))) => relaying::run_file(&rt, path),
         Ok(Asked::Check(path)) => config_file::run(&rt, path),
-        Ok(Asked::Serve(path)) => {
+        Ok(Asked::Serve(path, always_reads)) => {
             let Some(config) = config_of(&rt, path) else {
                 return ExitCode::FAILURE;
             };
@@ -49,12 +49,32 @@ fn main(rt: HostRuntime) -> ExitCode {
                 let _ = eprintln!(rt; "{}", Ended::NoEvents);
                 return ExitCode::FAILURE;
             };
-            if let Some(remote) = server.remote() {
-                let _ = thread::spawn(&rt, move || serving::heed(&rt, &remote));
+            let mut has_threads = true;
+            if always_reads || !rt.stdin().is_terminal() {
+                if let Some(remote) = server.remote() {
+                    let heeded = thread::spawn(&rt, move || serving::heed(&rt, &remote));
+                    has_threads &= heeded.is_ok();
+                }
             }
-            serving::run(&rt, rt.alloc(), server, &config)
+            for (lane, upstream) in config.upstream.iter().enumerate() {
+                if !is_name(upstream.address.as_str()) {
+                    continue;
+                }
+                if let Some(lookups) = server.lookups() {
+                    let served = thread::spawn(&rt, move || lookups.serve(&rt, lane));
+                    has_threads &= served.is_ok();
+                }
+            }
+            if !has_threads {
+                let _ = eprintln!(rt; "{}", Ended::NoThreads);
+                return ExitCode::FAILURE;
+            }
+            serving::run(rt, server, &config, rt.stderr())
         }
-        Ok(Asked::Demo(path)) => demonstrating::run(&rt, path),
+        Ok(Asked::Demo(path, is_verbose)) => {
+            let errors = if is_verbose { Some(rt.stderr()) } else { None };
+            demonstrating::run(rt, path, errors)
+        }
         Ok(Asked::Nothing) => ExitCode::FAILURE,
         Err(error) => say(&rt, &error),
     }

@@ -15,6 +15,10 @@ const EXAMPLES: &str = "Examples:
   smx demo examples/smx.toml
   smx relay examples/first-path.relay";
 
+const STDIN: &str = "stdin";
+
+const VERBOSE: &str = "verbose";
+
 /// What the command line asks for.
 #[derive(Clone, Copy, Debug, PartialEq, Eq)]
 pub enum Asked<'a> {
@@ -22,10 +26,12 @@ pub enum Asked<'a> {
     Relay(Option<&'a str>),
     /// Checks the configuration in the file with this path.
     Check(&'a str),
-    /// Runs the proxy by the configuration in the file with this path.
-    Serve(&'a str),
-    /// Shows the proxy at work by the configuration in the file with this path.
-    Demo(&'a str),
+    /// Runs the proxy by the configuration in the file with this path, and reads standard input also
+    /// where that is a terminal, or only where it is none.
+    Serve(&'a str, bool),
+    /// Shows the proxy at work by the configuration in the file with this path, with its lines or
+    /// without them.
+    Demo(&'a str, bool),
     /// Nothing, which a command line that was read doesn't ask for.
     Nothing,
 }
@@ -47,6 +53,14 @@ fn over_file<'a>(
         .arg(file)
 }
 
+// A word that is there or not.
+fn flag<'a>(alloc: Global, name: &'a str, help: &'a str) -> Arg<'a> {
+    Arg::new(alloc, name)
+        .long(name)
+        .action(ArgAction::SetTrue)
+        .help(help)
+}
+
 // The command of scripts.
 fn relay<'a>(alloc: Global) -> Result<Command<'a>, AllocError> {
     let file = Arg::new(alloc, "FILE").action(ArgAction::Set).help(
@@ -65,13 +79,19 @@ fn command<'a>(alloc: Global) -> Result<Command<'a>, AllocError> {
         "serve",
         "Runs the proxy, until a line stop comes on standard input",
         "Example: smx serve /etc/smx/smx.toml",
-    )?;
+    )?
+    .arg(flag(
+        alloc,
+        STDIN,
+        "Read standard input also where it is a terminal",
+    ))?;
     let demo = over_file(
         alloc,
         "demo",
-        "Shows a proxy at work: loopback centres, the proxy, a client an account",
+        "Shows a proxy at work over loopback; opens none of FILE's addresses",
         "Example: smx demo examples/smx.toml",
-    )?;
+    )?
+    .arg(flag(alloc, VERBOSE, "Write the proxy's lines on standard error"))?;
     let check = over_file(
         alloc,
         "check",
@@ -104,8 +124,8 @@ pub(crate) fn read<'a>(alloc: Global, words: &'a [String]) -> Result<Asked<'a>, 
     };
     Ok(match name {
         "check" => Asked::Check(path),
-        "serve" => Asked::Serve(path),
-        "demo" => Asked::Demo(path),
+        "serve" => Asked::Serve(path, found.get_flag(STDIN)),
+        "demo" => Asked::Demo(path, found.get_flag(VERBOSE)),
         _ => Asked::Nothing,
     })
 }

@@ -128,7 +128,7 @@ fn shut<R: Wait>(rt: &R, sender: Sender<u64>) {
     for _ in rt.forever() {
         match sender.shut(rt) {
             Err((back, PutFault::Full)) => sender = back,
-            Ok(()) | Err(_) => return,
+            Ok(_) | Err(_) => return,
         }
         thread::yield_now();
     }

@@ -3,7 +3,7 @@ ghost use Rattle.std.specs.Prelude.{◌≡◌};
 
 use crate::figures::{Hundredths, Work, nanos_of_all, nanos_of_works, no_memory, push, stopped};
 use smx_lock::{SeatInPlace, TicketLock};
-use smx_lock_counter::{Adder, Counter};
+use smx_lock_example::{Adder, Counter};
 use std::alloc::{AllocError, Global};
 use std::io;
 use std::rt::Clock;

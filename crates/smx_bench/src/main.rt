@@ -7,6 +7,7 @@ mod figures;
 mod frame;
 mod lane;
 mod lock;
+mod script;
 mod seats;
 mod shared;
 mod shifts;
@@ -17,7 +18,7 @@ use std::sync::Wait;
 use std::thread::Threads;
 use std::{env, io};
 
-const USAGE: &str = "usage: smx_bench WORD
+const USAGE: &str = "usage: smx_bench WORD [NAME]
 
 lock    the ticket lock, alone and among threads, beside the toolchain's Mutex
 box     letters from 1, 2, 16 and 256 senders in threads of their own to one receiver
@@ -25,16 +26,19 @@ lane    rounds of accept, take, answer and collect on one lane
 frame   PDUs from a stream in pieces of four sizes
 shared  requests of several ports over shared lanes, with a tap for each lane
 worker  requests through a client's worker and one towards the centre, and turns that do nothing
+script  scripts of the relay, of a kind of lines each, whose name begins with NAME
 ";
 
 fn main(rt: HostRuntime) -> anyhow::Result<()> {
-    let word = env::args(&rt)?.nth(1);
-    Ok(measure(&rt, word.as_deref())?)
+    let mut words = env::args(&rt)?.skip(1);
+    let (word, name) = (words.next(), words.next());
+    Ok(measure(&rt, word.as_deref(), name.as_deref().unwrap_or(""))?)
 }
 
 fn measure<R: Threads + Wait + Sync + Print + Clock + AllocGlobal>(
     rt: &R,
     word: Option<&str>,
+    name: &str,
 ) -> io::Result<()> {
     match word {
         Some("lock") => lock::run(rt),
@@ -43,6 +47,7 @@ fn measure<R: Threads + Wait + Sync + Print + Clock + AllocGlobal>(
         Some("frame") => frame::run(rt),
         Some("shared") => shared::run(rt),
         Some("worker") => worker::run(rt, rt.alloc()),
+        Some("script") => script::run(rt, name),
         _ => print!(rt; "{USAGE}"),
     }
 }

@@ -16,7 +16,7 @@ use hall::{nanos_of_idle_turn, nanos_of_requests};
 use member::Member;
 use smx_client::Desk;
 use smx_lane::Limits;
-use smx_memory::{FlagGate, Nobody};
+use smx_memory_link::{FlagGate, Nobody};
 use smx_session::Account;
 use smx_shared::{Door, Exchange};
 use smx_slots::{ClientEnds, LaneEnds, ends_of};

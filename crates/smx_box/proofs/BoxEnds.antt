@@ -1,5 +1,5 @@
 -- What a sender and a receiver keep of their seats.
-use Rattle.std.proofs.Common.{cond, ◌≡◌, ℕ, ◌+◌, ◌<◌, Bool, true, false, eqb, List, [], ◌∷◌, ◌++◌, length, sym, refl, ap, ◌∙◌, subst, arith, Option, Some, None, Result, Ok, Err, MatchOption, MatchResult, length-append, nat_le}
+use Rattle.std.proofs.Common.{cond, ◌≡◌, ℕ, ◌+◌, ◌<◌, ◌≤◌, Bool, true, false, eqb, List, [], ◌∷◌, ◌++◌, length, sym, refl, ap, ◌∙◌, subst, arith, Option, Some, None, Result, Ok, Err, MatchOption, MatchResult, length-append, nat_le}
 use Rattle.std.proofs.lemmas.Bool.{eqb-true}
 use Rattle.std.proofs.lemmas.List.{append-nil, nil_from_length}
 use Rattle.crossbeam_queue.specs.Fifo.{Held}
@@ -9,11 +9,12 @@ use Rattle.smx_box.specs.declared.letter.Known.{Known}
 use Rattle.smx_box.specs.declared.letter.Note.{Note}
 use Rattle.smx_box.specs.declared.letter.Deed.TheVariants.{Putting, Getting}
 use Rattle.smx_box.specs.Letters.{is_item, letter, of, is_open, Numbered, AllShut}
-use Rattle.smx_box.specs.Boxes.{most_items, deed_note, pass_notes, puts, gets, Stood, Posts, TakesLetter, FindsLetters, BoxHistory, PassFront, PutServes, FullPutServes, OldestServes, Receiving, Hands, GetServes}
-use Rattle.smx_box.specs.Private.Ends.{pass_front, IsNextLetter, IsFreshPass, IsSender, IsReceiver, shut_below, sending, receiving, PostServes}
+use Rattle.smx_box.specs.Boxes.{most_items, deed_note, pass_notes, puts, gets, Stood, Posts, TakesLetter, FindsLetters, BoxHistory, PassFront, PutServes, FullPutServes, OldestServes, EmptyGetServes, Receiving, Hands, GetServes}
+use Rattle.smx_box.specs.Private.Ends.{pass_front, IsTold, IsNextLetter, IsFreshPass, IsSender, IsReceiver, shut_below, sending, receiving, PostServes}
+use Rattle.smx_box.specs.Private.Rule.{Tells, WasTold, FindsNone, FindsOne, telling_known, told_known}
 use Rattle.smx_box.specs.declared.receiver.Got.TheVariants.{Item, Shut}
 use Rattle.smx_box.proofs.LetterLists.{of-append, of_yes, of_no, open_snoc, shut_snoc, Numbered_snoc, next_got, numbered_got}
-use Rattle.smx_box.proofs.BoxHistories.{puts-append, gets-append, own_puts, own_gets}
+use Rattle.smx_box.proofs.BoxHistories.{puts-append, gets-append, own_puts, own_gets, none_since, notes_here}
 use Rattle.smx_box.proofs.ShutCounts.{shut_same, shut_more, shut_not_all, all_shut, shut_all, none_shut}
 
 not_nil : {A : Type 0} (xs : List A) (x : A) (ys : List A) → xs ++ x ∷ ys ≡ [] → ⊥
@@ -29,14 +30,14 @@ module _ {T : Type 0} where
   own_gots v found items s pass = own_gets found s.history.own ∙ ap (λ k. gets (pass_notes k found)) (sym pass) ∙ ap gets s.own
 
   -- what a step of the queue tells of an end
-  pub put_serves : (f g : PassFront T) (m : Letter T) → g.queue ≡ f.queue → f.known.number ≡ m.sender + 1 → Posts f.known m g.known → PutServes (sending m.sender f) g m
-  put_serves f g m same pass s = (same, s.0, s.1, s.2, own_list f.known s.0 s.1 m.sender s.2.finds pass)
+  pub put_serves : (f g : PassFront T) (m : Letter T) → IsTold f → g.queue ≡ f.queue → f.known.number ≡ m.sender + 1 → Posts f.known m g.known → PutServes (sending m.sender f) g m
+  put_serves f g m told same pass s = (same, s.0, s.1, s.2, own_list f.known s.0 s.1 m.sender s.2.finds pass, subst (λ n. length (s.1 ++ m ∷ []) ≤ n) (s.2.places.1 ∙ told.1) s.2.room_left)
 
   pub full_serves : (f g : PassFront T) (p : ℕ) → g ≡ f → f.known.number ≡ p + 1 → Held {T = Letter T} f.queue.places (FindsLetters f.known) → FullPutServes (sending p f) g
   full_serves f g p same pass s = (same, s.2.0, s.0, s.2.1, own_list f.known s.2.0 s.0 p s.2.1 pass, s.1)
 
-  pub got_serves : (f g : PassFront T) (m : Letter T) → g.queue ≡ f.queue → f.known.number ≡ 0 → TakesLetter f.known m g.known → OldestServes (receiving f) g (Some m)
-  got_serves f g m same pass s = (same, s.0, s.1, s.2, own_gots f.known s.0 (m ∷ s.1) s.2.finds pass)
+  pub got_serves : (f g : PassFront T) (m : Letter T) → IsTold f → g.queue ≡ f.queue → f.known.number ≡ 0 → TakesLetter f.known m g.known → OldestServes (receiving f) g (Some m)
+  got_serves f g m told same pass s = (same, s.0, s.1, s.2, own_gots f.known s.0 (m ∷ s.1) s.2.finds pass, subst (λ n. length (m ∷ s.1) ≤ n) told.1 s.2.finds.room)
 
   pub empty_serves : (f g : PassFront T) → g ≡ f → f.known.number ≡ 0 → Held {T = Letter T} 0 (FindsLetters f.known) → OldestServes (receiving f) g None
   empty_serves f g same pass s = let none = nil_from_length s.0 s.1 in let stands = subst (Stood f.known s.2.0) none s.2.1 in (same, s.2.0, stands, own_gots f.known s.2.0 [] stands pass)
@@ -45,18 +46,28 @@ module _ {T : Type 0} where
   same_front places p q same e = let t = same.0 in cc
 
   -- what a push tells
-  pub posted : (places : ℕ) (p q : Pass (Letter T) (Known T)) (m : Letter T) (r : Result (Unit {0}) (Letter T)) → (view p).number ≡ m.sender + 1 → IsSamePass p q
+  pub posted : (places : ℕ) (p q : Pass (Letter T) (Known T)) (m : Letter T) (r : Result (Unit {0}) (Letter T)) → IsTold (pass_front places p) → (view p).number ≡ m.sender + 1 → IsSamePass p q
       → MatchResult r (λ _. Posts (view p) m (view q)) (λ x. (x ≡ m) × (view q ≡ view p) × Held {T = Letter T} places (FindsLetters (view p)))
       → PostServes (sending m.sender (pass_front places p)) (pass_front places q) m r
-  posted places p q m (Ok _) number same told = put_serves (pass_front places p) (pass_front places q) m (let t = same.0 in cc) number told
-  posted places p q m (Err back) number same told = (told.0, full_serves (pass_front places p) (pass_front places q) m.sender (same_front places p q same told.1) number told.2)
+  posted places p q m (Ok _) knows number same told = put_serves (pass_front places p) (pass_front places q) m knows (let t = same.0 in cc) number told
+  posted places p q m (Err back) knows number same told = (told.0, full_serves (pass_front places p) (pass_front places q) m.sender (same_front places p q same told.1) number told.2)
 
   -- what a pop tells
-  pub popped : (places : ℕ) (p q : Pass (Letter T) (Known T)) (r : Option (Letter T)) → (view p).number ≡ 0 → IsSamePass p q
+  pub popped : (places : ℕ) (p q : Pass (Letter T) (Known T)) (r : Option (Letter T)) → IsTold (pass_front places p) → (view p).number ≡ 0 → IsSamePass p q
       → MatchOption r ((view q ≡ view p) × Held {T = Letter T} 0 (FindsLetters (view p))) (λ x. TakesLetter (view p) x (view q))
       → OldestServes (receiving (pass_front places p)) (pass_front places q) r
-  popped places p q (Some m) number same told = got_serves (pass_front places p) (pass_front places q) m (let t = same.0 in cc) number told
-  popped places p q None number same told = empty_serves (pass_front places p) (pass_front places q) (same_front places p q same told.0) number told.1
+  popped places p q (Some m) knows number same told = got_serves (pass_front places p) (pass_front places q) m knows (let t = same.0 in cc) number told
+  popped places p q None knows number same told = empty_serves (pass_front places p) (pass_front places q) (same_front places p q same told.0) number told.1
+
+  -- the letter that tells went in and came out
+  pub went_in : (cap : ℕ) (v w : Known T) (m : Letter T) (r : Result (Unit {0}) (Letter T)) → 0 < cap
+      → MatchResult r (λ _. Tells v m w) (λ x. (x ≡ m) × (w ≡ v) × Held {T = Letter T} cap (FindsNone v)) → w ≡ telling_known m.number
+  went_in cap v w m (Ok _) some_places told = told
+  went_in cap v w m (Err back) some_places told = let held = told.2 in let none : length held.0 ≡ 0 = ap length held.2 in let full = held.1 in absurd (omega arith)
+
+  pub came_out : (n : ℕ) (v w : Known T) (r : Option (Letter T)) → v ≡ telling_known n → MatchOption r ((w ≡ v) × Held {T = Letter T} 0 (FindsOne v)) (λ x. WasTold v x w) → w ≡ told_known n
+  came_out n v w (Some m) is told = told ∙ ap (λ (y : Known T). record y { told = true }) is
+  came_out n v w None is told = let held = told.1 in let one = held.2 in let none = held.1 in absurd (omega arith)
 
   -- a sender
   pub first_sender : (f : PassFront T) (p : ℕ) → IsFreshPass f p → IsSender f p 0
@@ -92,6 +103,8 @@ module _ {T : Type 0} where
     pub opened : is_open (of m.sender (gets f.known.mine)) ≡ true
     pub numbered : (p : ℕ) → Numbered 0 (of p (gets g.known.mine))
     pub below : m.sender < f.known.senders
+    pub own : pass_notes 0 g.known.seen ≡ g.known.mine
+    pub left : (items : List (Letter T)) × BoxHistory g.known.seen items
 
   one_of_them : (p : ℕ) (h : List (Note T)) (items : List (Letter T)) (m : Letter T) → BoxHistory h (m ∷ items) → m.sender ≡ p → of p (puts h) ≡ [] → ⊥
   one_of_them p h items m b is none = not_nil (of p (gets h)) m (of p items)
@@ -111,6 +124,9 @@ module _ {T : Type 0} where
         opened = ap (λ l. is_open (of m.sender l)) (sym got) ∙ next.1;
         numbered = λ p. subst (λ l. Numbered 0 (of p l)) seen (numbered_got _ (gets g.known.seen) items step.leaves.delivers p);
         below = pick (nat_le f.known.senders m.sender) refl;
+        own = ap (λ k. pass_notes k g.known.seen) (sym first) ∙ ap (pass_notes f.known.number) step.seen ∙ notes_here found f.known.number (Getting m)
+            ∙ ap (λ l. l ++ deed_note f.known.number (Getting m) ∷ []) step.finds.own ∙ sym step.mine;
+        left = (items, step.leaves);
       }
     where
       pick : (b : Bool) → nat_le f.known.senders m.sender ≡ b → m.sender < f.known.senders
@@ -118,12 +134,14 @@ module _ {T : Type 0} where
       pick false e = grind (arith, e)
 
   -- a receiver
-  pub first_receiver : (f : PassFront T) (senders : ℕ) → f.known.number ≡ 0 → f.known.mine ≡ [] → f.known.senders ≡ senders → IsReceiver f senders 0
-  first_receiver f senders pass mine all = record {
+  pub first_receiver : (f : PassFront T) (senders : ℕ) → f.known.number ≡ 0 → f.known.mine ≡ [] → f.known.seen ≡ [] → f.known.senders ≡ senders → IsReceiver f senders 0
+  first_receiver f senders pass mine seen all = record {
     pass = pass;
     all = all;
     numbered = λ p. subst (λ l. Numbered 0 (of p (gets l))) (sym mine) tt;
     counted = sym (none_shut senders) ∙ ap (λ l. shut_below senders (λ p. is_open (of p (gets l)))) (sym mine);
+    own = ap (pass_notes 0) seen ∙ sym mine;
+    left = ([], subst (λ h. BoxHistory h []) (sym seen) record { delivers = λ p. (refl, tt); own = tt });
   }
 
   -- an item leaves each sender as open as it was
@@ -141,6 +159,8 @@ module _ {T : Type 0} where
     numbered = t.numbered;
     counted = is.counted ∙ sym (shut_same senders (λ p. is_open (of p (gets f.known.mine))) (λ p. is_open (of p (gets g.known.mine)))
         (λ p. ap (λ l. is_open (of p l)) t.more ∙ opens_same (gets f.known.mine) m item t.opened p));
+    own = t.own;
+    left = t.left;
   }
 
   pub receiver_mark : (f g : PassFront T) (senders shut : ℕ) (m : Letter T) → Taken f g m → is_item m.content ≡ false → IsReceiver f senders shut → IsReceiver g senders (shut + 1)
@@ -153,6 +173,8 @@ module _ {T : Type 0} where
         t.opened
         (ap (λ l. is_open (of m.sender l)) t.more ∙ ap is_open (of-append m.sender (gets f.known.mine) (m ∷ []) ∙ ap (λ l. of m.sender (gets f.known.mine) ++ l) (of_yes m.sender m refl)) ∙ shut_snoc (of m.sender (gets f.known.mine)) m t.opened mark)
         (let b = t.below in let a = is.all in omega arith));
+    own = t.own;
+    left = t.left;
   }
 
   pub some_open : (f g : PassFront T) (senders shut : ℕ) (m : Letter T) → Taken f g m → IsReceiver f senders shut → shut < senders
@@ -176,6 +198,17 @@ module _ {T : Type 0} where
   pub mark_serves : (f g : PassFront T) (r : Receiving T) (m : Letter T) → receiving f ≡ r → Taken f g m → m.content ≡ None → OldestServes (receiving f) g (Some m) → GetServes r g (Shut m.sender)
   mark_serves f g r m is t e s = subst (λ (z : Receiving T). GetServes z g (Shut m.sender)) is
       (subst (λ l. OldestServes (receiving f) g (Some l)) (mark_is m (length (of m.sender (gets f.known.mine)) + 1) t.next e) s)
+
+  -- a receiver that finds nothing has seen all that was done
+  nothing_since : (f : PassFront T) (senders shut : ℕ) (found : List (Note T)) → IsReceiver f senders shut → Stood f.known found [] → f.known.seen ≡ found
+  nothing_since f senders shut found keeps s = let since = s.begins.0 in
+      let whole : f.known.seen ++ since ≡ found = s.begins.1 in
+      let none : since ≡ [] = none_since f.known.seen since keeps.left.0 keeps.left.1 (subst (λ h. BoxHistory h []) (sym whole) s.history)
+      (ap (pass_notes 0) whole ∙ ap (λ k. pass_notes k found) (sym keeps.pass) ∙ s.own ∙ sym keeps.own) in sym (append-nil f.known.seen) ∙ ap (λ k. f.known.seen ++ k) (sym none) ∙ whole
+
+  pub empty_get_serves : (f g : PassFront T) (r : Receiving T) (senders shut : ℕ) → receiving f ≡ r → IsReceiver f senders shut → OldestServes (receiving f) g None → EmptyGetServes r g
+  empty_get_serves f g r senders shut is keeps s = let same = nothing_since f senders shut s.1 keeps s.2 in
+      subst (λ (z : Receiving T). EmptyGetServes z g) is (s.0, subst (λ h. Stood f.known h []) (sym same) s.2, ap gets same ∙ s.3)
 
   pub ended_all : (f : PassFront T) (r : Receiving T) (senders shut : ℕ) → receiving f ≡ r → IsReceiver f senders shut → shut ≡ senders → AllShut r.senders r.got
   ended_all f r senders shut is keeps e = subst (λ (z : Receiving T). AllShut z.senders z.got) is

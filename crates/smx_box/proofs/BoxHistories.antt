@@ -1,7 +1,7 @@
 -- Histories of a box: who made which note, and one more note.
-use Rattle.std.proofs.Common.{cond, ◌≡◌, ◌≢◌, ◌==◌, ℕ, ◌+◌, Bool, true, false, eqb, eq-eqb, ne_eqb, List, [], ◌∷◌, ◌++◌, length, sym, refl, ap, ◌∙◌, subst, append_assoc, arith}
+use Rattle.std.proofs.Common.{cond, ◌≡◌, ◌≢◌, ◌==◌, ℕ, ◌+◌, Bool, true, false, eqb, eq-eqb, ne_eqb, List, [], ◌∷◌, ◌++◌, length, sym, refl, ap, ◌∙◌, subst, append_assoc, arith, length-append}
 use Rattle.std.proofs.lemmas.Bool.{eqb-true}
-use Rattle.std.proofs.lemmas.List.{append-nil}
+use Rattle.std.proofs.lemmas.List.{append-nil, nil_from_length}
 use Rattle.std.proofs.lemmas.List.Elements.{filter-append}
 use Rattle.smx_box.specs.declared.letter.Letter.{Letter}
 use Rattle.smx_box.specs.declared.letter.Note.{Note}
@@ -9,7 +9,7 @@ use Rattle.smx_box.specs.declared.letter.Deed.{Deed}
 use Rattle.smx_box.specs.declared.letter.Deed.TheVariants.{Putting, Getting}
 use Rattle.smx_box.specs.Letters.{of, is_open, Delivers}
 use Rattle.smx_box.specs.Boxes.{deed_note, pass_notes, letters_put, letters_got, puts, gets, IsOwnDeed, AreOwnDeeds, BoxHistory}
-use Rattle.smx_box.proofs.LetterLists.{of-append, delivers_more, delivers_less}
+use Rattle.smx_box.proofs.LetterLists.{of-append, of_yes, delivers_more, delivers_less}
 
 -- numbers that are one more are equal where the numbers are
 eqb-more : (b : Bool) (m p : ℕ) → eqb m p ≡ b → eqb (m + 1) (p + 1) ≡ b
@@ -81,3 +81,29 @@ module _ {T : Type 0} where
 
   pub notes_else : (j : ℕ) (h : List (Note T)) (k : ℕ) (d : Deed T) → k ≢ j → pass_notes j (h ++ deed_note k d ∷ []) ≡ pass_notes j h
   notes_else j h k d other = notes_more j h k d ∙ ap (λ b. pass_notes j h ++ cond b (deed_note k d ∷ []) []) (ne_eqb k j other) ∙ append-nil (pass_notes j h)
+
+  own_end : (h k : List (Note T)) → AreOwnDeeds (h ++ k) → AreOwnDeeds k
+  own_end [] k own = own
+  own_end (n ∷ h) k own = own_end h k own.1
+
+  no_deed : (d : Deed T) (k : List (Note T)) → letters_got d ++ gets k ≡ [] → ((p : ℕ) → length (of p (letters_put d ++ puts k)) ≡ 0) → ⊥
+  no_deed (Putting m) k none nothing = let more : length (of m.sender (m ∷ puts k)) ≡ 1 + length (of m.sender (puts k)) =
+      ap length (of-append m.sender (m ∷ []) (puts k) ∙ ap (λ l. l ++ of m.sender (puts k)) (of_yes m.sender m refl)) ∙ length-append (m ∷ []) (of m.sender (puts k)) in
+      let zero_of : length (of m.sender (m ∷ puts k)) ≡ 0 = nothing m.sender in omega arith
+  no_deed (Getting m) k none nothing = cc none
+
+  no_notes : (k : List (Note T)) → gets k ≡ [] → ((p : ℕ) → length (of p (puts k)) ≡ 0) → k ≡ []
+  no_notes [] none nothing = refl
+  no_notes (n ∷ k) none nothing = absurd (no_deed n.deed k none nothing)
+
+  -- where a history leaves nothing, and its end has no note of the receiver, that end is empty: what was put in it would be left
+  pub none_since : (h k : List (Note T)) (items : List (Letter T)) → BoxHistory h items → BoxHistory (h ++ k) [] → pass_notes 0 (h ++ k) ≡ pass_notes 0 h → k ≡ []
+  none_since h k items b all same =
+      let count : length (pass_notes 0 h) + length (pass_notes 0 k) ≡ length (pass_notes 0 h) = sym (length-append (pass_notes 0 h) (pass_notes 0 k)) ∙ ap length (sym (filter-append (λ (n : Note T). n.by == 0) h k) ∙ same) in
+      let none : pass_notes 0 k ≡ [] = nil_from_length (pass_notes 0 k) (omega (arith, count)) in
+      let got : gets k ≡ [] = own_gets k (own_end h k all.own) ∙ ap gets none in
+      let gots : gets (h ++ k) ≡ gets h = gets-append h k ∙ ap (λ l. gets h ++ l) got ∙ append-nil (gets h) in no_notes k got (λ p.
+      let now : of p (gets h) ≡ of p (puts h) ++ of p (puts k) = ap (of p) (sym gots ∙ sym (append-nil (gets (h ++ k)))) ∙ (all.delivers p).0 ∙ ap (of p) (puts-append h k) ∙ of-append p (puts h) (puts k) in
+      let then : of p (gets h) ++ of p items ≡ of p (puts h) = sym (of-append p (gets h) items) ∙ (b.delivers p).0 in
+      let a : length (of p (gets h)) ≡ length (of p (puts h)) + length (of p (puts k)) = ap length now ∙ length-append (of p (puts h)) (of p (puts k)) in
+      let c : length (of p (gets h)) + length (of p items) ≡ length (of p (puts h)) = sym (length-append (of p (gets h)) (of p items)) ∙ ap length then in omega (arith, a, c))

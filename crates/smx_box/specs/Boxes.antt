@@ -13,8 +13,12 @@ use Rattle.smx_box.specs.declared.fault.BoxFault.{BoxFault}
 use Rattle.smx_box.specs.declared.fault.BoxFault.TheVariants.{BadSize, NoMemory, Spent}
 use Rattle.smx_box.specs.Letters.{letter, of, is_open, Delivers}
 
+-- so many places a box has at most: one for each of 512 answers of each of 256 clients
+abbrev pub most_places : ℕ
+most_places = 131072
+
 abbrev pub AreSizes : ℕ → ℕ → Type 0
-AreSizes senders places = ((0 < senders) × (senders ≤ 256)) × ((0 < places) × (places ≤ 256))
+AreSizes senders places = ((0 < senders) × (senders ≤ 256)) × ((0 < places) × (places ≤ most_places))
 
 -- so many items a sender puts at most, so that its letters are 2^53 at most
 abbrev pub most_items : ℕ
@@ -61,11 +65,13 @@ module _ {T : Type 0} where
     pub own : AreOwnDeeds h
 
   -- A step of a pass finds this history, and the box with these letters: the history begins with all that the pass had seen,
-  -- has just the pass's own notes under its number, and for the receiver it has no letter of a sender that was not made
+  -- has just the pass's own notes under its number, and for the receiver it has no letter of a sender that was not made; and the box has
+  -- no more letters than places
   pub record Stood (v : Known T) (found : List (Note T)) (items : List (Letter T)) : Type 0 where
     pub begins : IsPrefix v.seen found
     pub own : pass_notes v.number found ≡ v.mine
     pub history : BoxHistory found items
+    pub room : length items ≤ v.places
     pub no_others : v.number ≡ 0 → (p : ℕ) → v.senders ≤ p → of p (puts found) ≡ []
 
   -- one step found this history, and the box with these letters, and it left the box with those
@@ -73,9 +79,11 @@ module _ {T : Type 0} where
     pub finds : Stood v found before
     pub number : w.number ≡ v.number
     pub senders : w.senders ≡ v.senders
+    pub places : (w.told ≡ v.told) × (w.places ≡ v.places)
     pub seen : w.seen ≡ found ++ new
     pub mine : w.mine ≡ v.mine ++ new
     pub leaves : BoxHistory w.seen after
+    pub room_left : length after ≤ w.places
 
   -- one step put the letter last
   abbrev pub Posts : Known T → Letter T → Known T → Type 0
@@ -112,11 +120,13 @@ pub record Receiving (T : Type 0) : Type 0 where
   pub front : PassFront T
 
 module _ {T : Type 0} where
-  -- one step put the letter; what the history says of this sender is what it put
+  -- one step put the letter; what the history says of this sender is what it put, and with the letter the box has no more letters than
+  -- places
   abbrev pub PutServes : Sending T → PassFront T → Letter T → Type 0
   PutServes s g m = (g.queue ≡ s.front.queue) × (found : List (Note T)) × (items : List (Letter T))
       × OneStep s.front.known g.known found (deed_note s.front.known.number (Putting m) ∷ []) items (items ++ m ∷ [])
       × (of s.sender (puts found) ≡ s.put)
+      × (length (items ++ m ∷ []) ≤ s.front.queue.places)
 
   -- one step found every place with a letter; nothing changed
   abbrev pub FullPutServes : Sending T → PassFront T → Type 0
@@ -125,12 +135,19 @@ module _ {T : Type 0} where
       × (of s.sender (puts found) ≡ s.put)
       × (length items ≡ s.front.queue.places)
 
-  -- one step got the oldest letter, or found none, and then nothing changed; what the history says was got is what the receiver got
+  -- one step got the oldest letter, of no more than places, or found none, and then nothing changed; what the history says was got is
+  -- what the receiver got
   abbrev pub OldestServes : Receiving T → PassFront T → Option (Letter T) → Type 0
   OldestServes r g (Some m) = (g.queue ≡ r.front.queue) × (found : List (Note T)) × (items : List (Letter T))
       × OneStep r.front.known g.known found (deed_note r.front.known.number (Getting m) ∷ []) (m ∷ items) items
       × (gets found ≡ r.got)
+      × (length (m ∷ items) ≤ r.front.queue.places)
   OldestServes r g None = (g ≡ r.front) × (found : List (Note T)) × Stood r.front.known found [] × (gets found ≡ r.got)
+
+  -- one step found no letter; nothing changed. The history that it found is what the receiver has seen: nobody else gets, so a letter
+  -- that was put since then would lie there
+  abbrev pub EmptyGetServes : Receiving T → PassFront T → Type 0
+  EmptyGetServes r g = (g ≡ r.front) × Stood r.front.known r.front.known.seen [] × (gets r.front.known.seen ≡ r.got)
 
   -- what a get hands out is the sender's next letter, which no closing mark came before
   abbrev pub Hands : List (Letter T) → List (Letter T) → Got T → Type 0
@@ -142,7 +159,7 @@ module _ {T : Type 0} where
   abbrev pub GetServes : Receiving T → PassFront T → Got T → Type 0
   GetServes r g (Item p n x) = OldestServes r g (Some (letter p n (Some x)))
   GetServes r g (Shut p) = OldestServes r g (Some (letter p (length (of p r.got) + 1) None))
-  GetServes r g Empty = OldestServes r g None
+  GetServes r g Empty = EmptyGetServes r g
 
   -- each sender stands at its index, the first at n, on the queue q, and put nothing
   abbrev pub StandFrom : ℕ → QueueId → List (Sending T) → Type 0

@@ -3,7 +3,7 @@ ghost use Rattle.std.specs.Prelude.{◌≡◌};
 ghost use Rattle.std.specs.Arc.{arc_value};
 ghost use Rattle.crossbeam_queue.specs.Passes.{IsPassOf, ruled_capacity};
 ghost use Rattle.smx_box.specs.Boxes.{OldestServes};
-ghost use Rattle.smx_box.specs.Private.Ends.{IsNextLetter, pass_front, sending, receiving, PostServes};
+ghost use Rattle.smx_box.specs.Private.Ends.{IsNextLetter, IsTold, pass_front, sending, receiving, PostServes};
 
 use crate::letter::{Known, Letter};
 use crate::rule::{Put, Queue, Taken};
@@ -23,18 +23,20 @@ impl<T: Drop> Model for End<T> {
     ghost use Rattle.std.specs.Arc.{arc_value};
     ghost use Rattle.crossbeam_queue.specs.Passes.{IsPassOf, ruled_capacity};
     ghost use Rattle.smx_box.specs.Boxes.{PassFront};
-    ghost use Rattle.smx_box.specs.Private.Ends.{pass_front};
+    ghost use Rattle.smx_box.specs.Private.Ends.{pass_front, IsTold};
 
     ghost Value = { PassFront T };
 
     ghost view = { λ e. pass_front (ruled_capacity (arc_value e.queue)) e.pass };
 
-    ghost invariant = { λ e. IsPassOf (arc_value e.queue) e.pass };
+    ghost invariant = { λ e. IsPassOf (arc_value e.queue) e.pass
+        × IsTold (pass_front (ruled_capacity (arc_value e.queue)) e.pass) };
 }
 
 impl<T: Drop> End<T> {
     pub(crate) fn new(queue: Arc<Queue<T>, Global>, pass: Pass<Letter<T>, Known<T>>) -> End<T>
-        requires { IsPassOf (arc_value queue) pass }
+        requires pass { IsPassOf (arc_value queue) pass }
+        requires told { IsTold (pass_front (ruled_capacity (arc_value queue)) pass) }
         ensures { result ≡ pass_front (ruled_capacity (arc_value queue)) pass }
     {
         End { queue, pass }

@@ -3,8 +3,8 @@
 /// Why a box isn't made.
 #[derive(Clone, Copy, Debug, PartialEq, Eq, thiserror::Error)]
 pub enum BoxFault {
-    /// There are to be none or more than 256 senders or places.
-    #[error("the numbers of senders and of places are 1 to 256")]
+    /// There are to be no senders or more than 256, or no places or more than 131,072.
+    #[error("a box has 1 to 256 senders and 1 to 131,072 places")]
     BadSize,
     /// The places could not be reserved.
     #[error("no memory for the places")]

@@ -25,11 +25,14 @@ pub struct Note<T> {
     pub deed: Deed<T>,
 }
 
-/// What a pass knows between two calls: its number, from 0, the senders that it made, a history that
-/// has been, and its own notes in that. No value of it is made.
+/// What a pass knows between two calls: its number, from 0, the senders that it made, whether it was
+/// told how many places the box has and how many these are, a history that has been, and its own notes
+/// in that. No value of it is made.
 pub struct Known<T> {
     pub number: u64,
     pub senders: u64,
+    pub told: bool,
+    pub places: u64,
     pub seen: LinkedList<Note<T>>,
     pub mine: LinkedList<Note<T>>,
 }

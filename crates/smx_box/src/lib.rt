@@ -13,4 +13,4 @@ mod sender;
 pub use boxed::Boxed;
 pub use fault::{BoxFault, Spent};
 pub use receiver::{Got, Receiver};
-pub use sender::{PutFault, Sender};
+pub use sender::{Closed, PutFault, Sender};

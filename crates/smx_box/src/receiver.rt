@@ -53,6 +53,7 @@ impl<T: Drop> Receiver<T> {
     pub(crate) fn new(end: End<T>, senders: usize) -> Receiver<T>
         requires number { end.known.number ≡ 0 }
         requires mine { end.known.mine ≡ [] }
+        requires seen { end.known.seen ≡ [] }
         requires senders { end.known.senders ≡ senders }
         ensures { result ≡ receiving end }
     {

@@ -1,5 +1,5 @@
-//! The rule of a box's queue, and the six steps that keep it: made, a pass split, a push that fits or
-//! finds no place, a pop that gives or finds nothing.
+//! The rule of a box's queue, and the steps that keep it: made, told how many places it has, a pass
+//! split, a push that fits or finds no place, a pop that gives or finds nothing.
 
 use crate::letter::{Known, Letter};
 use crossbeam_queue::RuledArrayQueue;
@@ -15,6 +15,36 @@ impl<T> Protocol<Letter<T>, Known<T>> for Delivery {
     ghost holds = { IsLeftBy };
 
     ghost first = { first_known };
+}
+
+// A letter that tells how many places there are joins, in a queue that is made and not told yet.
+pub(crate) struct Tell;
+
+impl<T> Outcome<Letter<T>, Known<T>> for Tell {
+    ghost use Rattle.smx_box.specs.Private.Rule.{Tells};
+
+    ghost then = { Tells };
+}
+
+impl<T> Lesson<Letter<T>, Known<T>> for Tell {
+    ghost use Rattle.smx_box.specs.Private.Rule.{FindsNone};
+
+    ghost fact = { FindsNone };
+}
+
+// It is taken.
+pub(crate) struct Told;
+
+impl<T> Outcome<Letter<T>, Known<T>> for Told {
+    ghost use Rattle.smx_box.specs.Private.Rule.{WasTold};
+
+    ghost then = { WasTold };
+}
+
+impl<T> Lesson<Letter<T>, Known<T>> for Told {
+    ghost use Rattle.smx_box.specs.Private.Rule.{FindsOne};
+
+    ghost fact = { FindsOne };
 }
 
 // The receiver's pass makes a sender's.

@@ -1,7 +1,7 @@
 //! The end of a box at which items are put.
-ghost use Rattle.std.specs.Prelude.{◌≡◌, ◌<◌, ◌+◌, ◌++◌, [], ◌∷◌, true, length, Some, None, IfOk, OnOk, IfErr, IsSome};
+ghost use Rattle.std.specs.Prelude.{◌≡◌, ◌<◌, ◌+◌, ◌++◌, [], ◌∷◌, true, length, Some, None, IfOk, IfErr, IsSome};
 ghost use Rattle.smx_box.specs.Letters.{letter, is_open, Numbered};
-ghost use Rattle.smx_box.specs.Boxes.{PassFront, most_items, PutServes, FullPutServes};
+ghost use Rattle.smx_box.specs.Boxes.{most_items, PutServes, FullPutServes};
 ghost use Rattle.smx_box.specs.Private.Ends.{IsFreshPass};
 
 use crate::end::End;
@@ -42,6 +42,20 @@ impl<T: Drop> Model for Sender<T> {
     ghost view = { λ s. sending s.sender s.end };
 
     ghost invariant = { λ s. IsSender s.end s.sender s.count };
+}
+
+/// What is left of a sender that put its closing mark: contracts see its pass. It is only let go.
+#[derive(Drop)]
+pub struct Closed<T: Drop> {
+    end: End<T>,
+}
+
+impl<T: Drop> Model for Closed<T> {
+    ghost use Rattle.smx_box.specs.Boxes.{PassFront};
+
+    ghost Value = { PassFront T };
+
+    ghost view = { λ c. c.end };
 }
 
 impl<T: Drop> Sender<T> {
@@ -103,9 +117,9 @@ impl<T: Drop> Sender<T> {
 
     /// Puts the closing mark, which takes one place, and ends the sender. Where the box is full the
     /// sender is handed back. It is never refused as spent.
-    pub fn shut<R: Wait>(self, rt: &R) -> Result<(), (Sender<T>, PutFault)>
-        ensures ok { OnOk result ((g : PassFront T)
-            × PutServes self g (letter self.sender (length self.put + 1) None)) }
+    pub fn shut<R: Wait>(self, rt: &R) -> Result<Closed<T>, (Sender<T>, PutFault)>
+        ensures ok { IfOk result (λ closed. PutServes self closed
+            (letter self.sender (length self.put + 1) None)) }
         ensures err { IfErr result (λ e. (e.0 ≡ self) × (e.1 ≡ PutFault.Full)) }
         ensures full { IfErr result (λ e. FullPutServes self e.0.front) }
     {
@@ -120,7 +134,7 @@ impl<T: Drop> Sender<T> {
             content: None,
         };
         match end.post(rt, mark) {
-            Ok(()) => Ok(()),
+            Ok(()) => Ok(Closed { end }),
             Err(_) => Err((Sender { end, sender, count }, PutFault::Full)),
         }
     }

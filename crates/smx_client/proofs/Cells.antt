@@ -1,5 +1,5 @@
 -- Cells of the turn's table.
-use Rattle.std.proofs.Common.{◌≡◌, ◌≢◌, ℕ, ◌+◌, Bool, true, false, List, [], ◌∷◌, ◌++◌, sym, ◌∙◌, ap, refl, subst, Result, Ok, Err, Option, None, IsSome, length, ◌≤◌}
+use Rattle.std.proofs.Common.{◌≡◌, ◌≢◌, ℕ, Bool, true, false, List, [], ◌∷◌, ◌++◌, sym, ◌∙◌, ap, refl, subst, Result, Option, None, IsSome, length, ◌≤◌}
 use Rattle.std.specs.Prelude.{if◌then◌else◌, ◌==◌}
 use Rattle.std.proofs.lemmas.Bool.{eq-eqb}
 use Rattle.std.specs.declared.snapshot.Snapshot.{Snapshot}
@@ -37,7 +37,7 @@ use Rattle.smx_frame.specs.Stream.{HasNone}
 use Rattle.smx_shared.specs.Views.{PortView}
 use Rattle.smx_client.specs.Scenes.{is_there}
 use Rattle.smx_client.specs.Sayings.{IsVerdict}
-use Rattle.smx_client.specs.Table.{Before, Phase, Opening, Written, MayCollect, Clear, Draining, MayRead, Deciding, MaySubmit, Unentered, Settled, Stopped, Clogged, Closing, Ending, Over, Failed, Exhausted, Wrong, step_of, phase_from, phase_of, go, from_opening, when_offered, when_written, halts, from_written, from_boxing, from_collecting, from_draining, from_clear, from_may_read, from_deciding, from_may_submit, from_entering, from_closing, after_reply, after_got, after_collect, after_read, after_act, after_bind, after_verdict, Faulted, EndsIn, Stands, IsAt, last_end}
+use Rattle.smx_client.specs.Table.{Before, Phase, Opening, Written, MayCollect, Clear, Draining, MayRead, Deciding, MaySubmit, Unentered, Settled, Stopped, Clogged, Closing, Ending, Over, Failed, Wrong, step_of, phase_from, phase_of, go, from_opening, when_offered, when_written, halts, from_written, from_boxing, from_collecting, from_draining, from_clear, from_may_read, from_deciding, from_may_submit, from_entering, from_closing, after_reply, after_got, after_collect, after_read, after_act, after_bind, after_verdict, Faulted, EndsIn, Stands, IsAt, last_end}
 
 from_push : (t : Before) (p : Phase) (ss : List step_of) (s : step_of) → phase_from t p (ss ++ s ∷ []) ≡ go t (phase_from t p ss) s
 from_push t p [] s = refl
@@ -73,13 +73,9 @@ module _ (t : Before) where
   unfolding go from_collecting
   clogs_collect n = refl
 
-  pub collects : (n : ℕ) (r : Snapshot (Result (Option Pdu) Spent)) (x : Option Pdu) → r.value ≡ Ok x → go t (MayCollect n) (Did (Collected n r)) ≡ MayCollect (n + 1)
+  pub collects : (n : ℕ) (r : Snapshot (Result (Option Pdu) Spent)) (x : Result (Option Pdu) Spent) → r.value ≡ x → go t (MayCollect n) (Did (Collected n r)) ≡ after_collect n x
   unfolding go from_collecting
-  collects n r x is = ap (λ o. if n == n then after_collect n o else Wrong) is ∙ ap (λ b. if b then MayCollect (n + 1) else Wrong) (eq-eqb n n refl)
-
-  pub collects_none : (n : ℕ) (r : Snapshot (Result (Option Pdu) Spent)) (e : Spent) → r.value ≡ Err e → go t (MayCollect n) (Did (Collected n r)) ≡ Exhausted
-  unfolding go from_collecting
-  collects_none n r e is = ap (λ o. if n == n then after_collect n o else Wrong) is ∙ ap (λ b. if b then Exhausted else Wrong) (eq-eqb n n refl)
+  collects n r x is = ap (λ o. if n == n then after_collect n o else Wrong) is ∙ ap (λ b. if b then after_collect n x else Wrong) (eq-eqb n n refl)
 
   puts_again : (b : Bool) (lane : ℕ) (reply : Reply) → b ≡ true → (if t.lanes == t.lanes then from_boxing b (Did (PutAgain lane reply)) else Wrong) ≡ after_reply Clear reply
   unfolding from_boxing

@@ -10,7 +10,7 @@ use Rattle.smx_client.specs.declared.reply.Parked.{Parked}
 use Rattle.smx_turns.specs.declared.mo_item.MoItem.{MoItem}
 use Rattle.smx_turns.proofs.Chains.{runs_none}
 use Rattle.smx_client.specs.declared.leaver.Leaving.{Leaving}
-use Rattle.smx_client.specs.Leaving.{Left, LeavesRest, rest_of, GivesItem, gets, get_of, is_put, is_answered}
+use Rattle.smx_client.specs.Leaving.{Left, answers_next, rest_of, GivesItem, gets, get_of, is_put, is_answered}
 
 gets_more : (es : List Leaving) (e : Leaving) → gets (es ++ e ∷ []) ≡ gets es + get_of e
 unfolding gets
@@ -37,7 +37,7 @@ left_first h h' w w' i i' x x' es none parked window inbox senders =
     (subst (λ o. Left (rest_of h o i' x') [] (rest_of h w i x)) (sym window)
     (subst (λ o. Left (rest_of h w o x') [] (rest_of h w i x)) (sym inbox)
     (subst (λ o. Left (rest_of h w i o) [] (rest_of h w i x)) (sym senders)
-    ∣ runs_none LeavesRest (rest_of h w i x) ∣₁))))
+    ∣ runs_none answers_next (rest_of h w i x) ∣₁))))
 
 pub gets_none : (es : List Leaving) → es ≡ [] → gets es ≡ 0
 unfolding gets

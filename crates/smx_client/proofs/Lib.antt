@@ -1,4 +1,4 @@
-pub mod Steps
+pub mod Breaking
 pub mod Fates
 pub mod Doings
 pub mod Starts
@@ -11,3 +11,5 @@ pub mod Replying
 pub mod Leavings
 pub mod Entering
 pub mod Coursing
+pub mod Serving
+pub mod Faults

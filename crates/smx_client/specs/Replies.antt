@@ -1,9 +1,9 @@
 -- Answers to messages, for the return boxes of the lanes.
-use Rattle.std.specs.Prelude.{◌≡◌, ◌==◌, ℕ, Bool, true, false, List, [], ◌∷◌, map, Option, Some, None, IsSome, slice_get, if◌then◌else◌}
+use Rattle.std.specs.Prelude.{◌≡◌, ◌==◌, ◌<◌, ℕ, Bool, true, false, List, [], ◌∷◌, length, map, Option, Some, None, IsSome, slice_get, if◌then◌else◌}
 use Rattle.smx_pdu.specs.declared.pdu.Pdu.{Pdu}
 use Rattle.smx_pdu.specs.declared.status.TheConstants.{ESME_RX_T_APPN}
 use Rattle.smx_box.specs.Boxes.{Sending}
-use Rattle.smx_turns.specs.Puts.{contents_in}
+use Rattle.smx_turns.specs.Puts.{AtIndex, Puts, FindsFull, FindsSpent, contents_in}
 use Rattle.smx_client.specs.declared.reply.Parked.{Parked}
 use Rattle.smx_client.specs.declared.reply.Reply.{Reply}
 use Rattle.smx_client.specs.declared.reply.Reply.TheVariants.{Taken, Full, Spent, Nobody}
@@ -30,6 +30,18 @@ is_answer_taken Nobody = false
 -- those that a return box took
 abbrev pub if_taken : Reply → List (Option Pdu) → List (Option Pdu)
 if_taken reply ps = if is_answer_taken reply then ps else []
+
+-- an answer for this lane: one step of its return box put it, or found each place taken, or the sender's numbers are spent; or the lane has no sender
+abbrev pub PutSo : ℕ → Pdu → Reply → List (Sending Pdu) → List (Sending Pdu) → Type 0
+PutSo lane answer Taken ss tt = AtIndex lane ss tt (λ x y. (n : ℕ) × Puts answer n x y)
+PutSo lane answer Full ss tt = AtIndex lane ss tt FindsFull
+PutSo lane answer Spent ss tt = AtIndex lane ss tt FindsSpent
+PutSo lane answer Nobody ss tt = ¬ (lane < length ss) × (tt ≡ ss)
+
+-- the same, where there is an answer
+abbrev pub AnswersSo : ℕ → List Pdu → Reply → List (Sending Pdu) → List (Sending Pdu) → Type 0
+AnswersSo lane [] reply ss tt = (reply ≡ Nobody) × (tt ≡ ss)
+AnswersSo lane (p ∷ ps) reply ss tt = PutSo lane p reply ss tt
 
 -- the answer waits then where its box refused it
 abbrev pub Parks : Reply → Option Parked → Type 0

@@ -1,11 +1,11 @@
 -- What a turn may change, of a worker.
-use Rattle.std.specs.Prelude.{ℕ, Bool, true, false, List, Option, Some, None, length}
-use Rattle.smx_link.specs.declared.link.Link.{Ghosts}
+use Rattle.std.specs.Prelude.{ℕ, Bool, true, false, List, Option, Some, None, Result, length}
+use Rattle.smx_link.specs.declared.link.Polled.{Polled}
+use Rattle.smx_link.specs.declared.link.LinkFault.{LinkFault}
 use Rattle.smx_turns.specs.declared.gate.Question.{Question}
 use Rattle.smx_turns.specs.declared.gate.Party.{Party}
 use Rattle.smx_turns.specs.declared.directory.Query.{Query}
-use Rattle.smx_client.specs.declared.worker.ClientWorker.{ClientWorker}
-use Rattle.smx_client.specs.Parts.{Parts, parts}
+use Rattle.smx_client.specs.Serving.{Serving, parts_of}
 use Rattle.smx_client.specs.Table.{Before, step_of}
 use Rattle.smx_client.specs.Turns.{Scene, scene, Leads}
 
@@ -13,18 +13,15 @@ abbrev pub is_there : {A : Type 0} → Option A → Bool
 is_there (Some x) = true
 is_there None = false
 
-module _ {L : Type 0} {g : Ghosts L} where
-  abbrev pub parts_of : ClientWorker L g → Parts
-  parts_of w = parts w.desk.now w.wire.said w.port w.session w.window w.inbox w.senders.items w.parked
-
+module _ {L : Type 0} where
   -- what the order of its next turn depends on
-  abbrev pub before : ClientWorker L g → Before
+  abbrev pub before : Serving L → Before
   before w = record { lanes = length w.port.fronts; stage = w.stage; settled = w.settled; parked = is_there w.parked }
 
-  abbrev pub scene_of : List Question → List Party → List Query → ClientWorker L g → Scene
-  scene_of asked told queries w = scene asked told queries w.events (parts_of w) w.wire.unsent (g.offered w.wire.link) (g.polls w.wire.link) (g.failures w.wire.link)
+  abbrev pub scene_of : (L → List ℕ) → (L → List (Result Polled LinkFault)) → (L → ℕ) → List Question → List Party → List Query → Serving L → Scene
+  scene_of offered polls failures asked told queries w = scene asked told queries w.events (parts_of w) w.wire.unsent (offered w.wire.link) (polls w.wire.link) (failures w.wire.link)
 
   -- steps of any turn, which ask and tell nobody
-  abbrev pub Moves : ClientWorker L g → List step_of → ClientWorker L g → List step_of → Type 0
-  Moves old ss new ss' = (n : ℕ) (asked : List Question) (told : List Party) (queries : List Query)
-      → Leads n (scene_of asked told queries old) ss (scene_of asked told queries new) ss'
+  abbrev pub Moves : (L → List ℕ) → (L → List (Result Polled LinkFault)) → (L → ℕ) → Serving L → List step_of → Serving L → List step_of → Type 0
+  Moves offered polls failures old ss new ss' = (n : ℕ) (asked : List Question) (told : List Party) (queries : List Query)
+      → Leads n (scene_of offered polls failures asked told queries old) ss (scene_of offered polls failures asked told queries new) ss'

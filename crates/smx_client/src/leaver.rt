@@ -1,11 +1,11 @@
 //! What becomes of a client's messages when it leaves.
-ghost use Rattle.std.specs.Prelude.{◌≡◌, ◌+◌, ◌++◌, ◌<◌, [], ◌∷◌, ℕ, length, None, true, false};
+ghost use Rattle.std.specs.Prelude.{◌≡◌, ◌+◌, ◌++◌, ◌<◌, [], ◌∷◌, length, None, true, false};
 ghost use Rattle.smx_pdu.specs.Command.{response_of};
-ghost use Rattle.smx_client.specs.Replies.{put_in, refused_up, on_lane};
-ghost use Rattle.smx_client.specs.Leaving.{Left, rest_of, when, item_refused, gets, is_answered, FoundNothing, IsEmptied, IsNothing};
+ghost use Rattle.smx_client.specs.Replies.{refused_up, PutSo, AnswersSo};
+ghost use Rattle.smx_client.specs.Leaving.{Left, rest_of, ItemAnswersSo, gets, is_answered, FoundNothing, IsEmptied, IsNothing};
 
-use crate::reply::Parked;
-use smx_box::{Got, Receiver, Sender, Spent};
+use crate::reply::{Parked, Reply};
+use smx_box::{Got, PutFault, Receiver, Sender, Spent};
 use smx_link::Link;
 use smx_pdu::status::ESME_RX_T_APPN;
 use smx_pdu::{Pdu, response_id};
@@ -33,33 +33,36 @@ pub struct Closed<L: Link + Drop> {
     pub closing: Trace<Leaving>,
 }
 
-/// What was done with messages that the client never answered; the last is whether the return box
-/// of the lane took the answer.
+/// What was done with messages that the client never answered; the last is what became of the
+/// answer.
 #[derive(Drop)]
 pub enum Leaving {
     /// The answer that waited was put.
-    Kept(bool),
+    Kept(Reply),
     /// A message that the client was sent, of this lane with the centre's number and command, was
     /// refused.
-    Row(usize, u32, u32, bool),
+    Row(usize, u32, u32, Reply),
     /// The box was asked for an item, which was refused.
-    Item(Snapshot<Result<Got<MoItem>, Spent>>, bool),
+    Item(Snapshot<Result<Got<MoItem>, Spent>>, Reply),
 }
 
-// Puts an answer once. True where the return box took it.
-fn put_once<R: Wait>(rt: &R, senders: &mut Vec<Sender<Pdu>>, lane: usize, answer: Pdu) -> bool
-    ensures count { length senders.new.items ≡ length senders.old.items }
-    ensures put { (k : ℕ) → k < length senders.old.items
-        → put_in senders.new.items k
-        ≡ put_in senders.old.items k ++ when result (on_lane k lane (answer ∷ [])) }
+// Puts an answer once, and drops it where it is refused.
+fn put_once<R: Wait>(rt: &R, senders: &mut Vec<Sender<Pdu>>, lane: usize, answer: Pdu) -> Reply
+    ensures { PutSo lane answer result senders.old.items senders.new.items }
 {
     if lane >= senders.len() {
-        return false;
+        return Reply::Nobody;
     }
-    put_at(rt, senders, lane, answer).is_ok()
+    match put_at(rt, senders, lane, answer) {
+        Ok(_) => Reply::Taken,
+        Err((_, fault)) => match fault {
+            PutFault::Full => Reply::Full,
+            PutFault::Spent => Reply::Spent,
+        },
+    }
 }
 
-// Refuses a message once. True where the return box took the answer.
+// Refuses a message once, where its command has a response.
 fn refuse_once<R: Wait>(
     rt: &R,
     alloc: Global,
@@ -67,34 +70,28 @@ fn refuse_once<R: Wait>(
     lane: usize,
     number: u32,
     command: u32,
-) -> bool
-    ensures count { length senders.new.items ≡ length senders.old.items }
-    ensures put { (k : ℕ) → k < length senders.old.items
-        → put_in senders.new.items k
-        ≡ put_in senders.old.items k
-        ++ when result (on_lane k lane (refused_up (response_of command) number)) }
+) -> Reply
+    ensures { AnswersSo lane (refused_up (response_of command) number) result
+        senders.old.items senders.new.items }
 {
     let Some(id) = response_id(command) else {
-        return false;
+        return Reply::Nobody;
     };
     let answer = Pdu::header_only(alloc, id, ESME_RX_T_APPN, number);
     put_once(rt, senders, lane, answer)
 }
 
-// Refuses what the box gave, where it is an item. True where the return box took the answer.
+// Refuses what the box gave, where it is an item.
 fn refuse_got<R: Wait>(
     rt: &R,
     alloc: Global,
     senders: &mut Vec<Sender<Pdu>>,
     got: Result<Got<MoItem>, Spent>,
-) -> bool
-    ensures count { length senders.new.items ≡ length senders.old.items }
-    ensures put { (k : ℕ) → k < length senders.old.items
-        → put_in senders.new.items k
-        ≡ put_in senders.old.items k ++ when result (item_refused k got) }
+) -> Reply
+    ensures { ItemAnswersSo got result senders.old.items senders.new.items }
 {
     let Ok(Got::Item { content: item, .. }) = got else {
-        return false;
+        return Reply::Nobody;
     };
     refuse_once(rt, alloc, senders, item.lane, item.number, item.pdu.command)
 }
@@ -176,9 +173,9 @@ impl Leaver {
         let Some(Parked { lane, answer }) = self.parked.take() else {
             return;
         };
-        let put = put_once(rt, &mut self.senders, lane, answer);
-        self.closing = self.closing.and(&Leaving::Kept(put));
-        self.answered |= put;
+        let reply = put_once(rt, &mut self.senders, lane, answer);
+        self.closing = self.closing.and(&Leaving::Kept(reply));
+        self.answered |= reply.is_taken();
     }
 
     // Refuses the message that was sent under the least number. False where none waits.
@@ -198,9 +195,11 @@ impl Leaver {
         let Some((lane, number, command)) = self.window.take_first() else {
             return false;
         };
-        let put = refuse_once(rt, self.alloc, &mut self.senders, lane, number, command);
-        self.closing = self.closing.and(&Leaving::Row(lane, number, command, put));
-        self.answered |= put;
+        let reply = refuse_once(rt, self.alloc, &mut self.senders, lane, number, command);
+        self.closing = self
+            .closing
+            .and(&Leaving::Row(lane, number, command, reply));
+        self.answered |= reply.is_taken();
         true
     }
 
@@ -223,9 +222,9 @@ impl Leaver {
         let got = self.inbox.get(rt);
         let found = Snapshot::of(&got);
         let nothing = is_nothing(&got);
-        let put = refuse_got(rt, self.alloc, &mut self.senders, got);
-        self.closing = self.closing.and(&Leaving::Item(found, put));
-        self.answered |= put;
+        let reply = refuse_got(rt, self.alloc, &mut self.senders, got);
+        self.closing = self.closing.and(&Leaving::Item(found, reply));
+        self.answered |= reply.is_taken();
         !nothing
     }
 

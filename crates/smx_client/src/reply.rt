@@ -2,7 +2,7 @@
 ghost use Rattle.std.specs.Prelude.{◌≡◌, ◌++◌, ◌<◌, [], ◌∷◌, ℕ, length, slice_get, IfErr, None};
 ghost use Rattle.smx_pdu.specs.declared.pdu.Pdu.{Pdu};
 ghost use Rattle.smx_pdu.specs.Command.{response_of};
-ghost use Rattle.smx_client.specs.Replies.{answer_up, refused_up, on_lane, if_taken, Parks, put_in, parked_on};
+ghost use Rattle.smx_client.specs.Replies.{answer_up, refused_up, on_lane, if_taken, is_answer_taken, Parks, put_in, parked_on};
 ghost use Rattle.smx_client.specs.Events.{settled_out, is_refused, lane_told, settled_told};
 ghost use Rattle.smx_client.specs.Table.{Phase, IsPart, after_reply, progress_of};
 
@@ -26,9 +26,9 @@ pub struct Parked {
 pub enum Reply {
     /// The return box of its lane took it.
     Taken,
-    /// The return box is full: the answer waits.
+    /// The return box is full: the answer waits, or is dropped where the client has left.
     Full,
-    /// The return box takes no more calls: the answer waits.
+    /// The return box takes no more calls: as above.
     Spent,
     /// There is nobody to answer.
     Nobody,
@@ -40,6 +40,12 @@ impl Reply {
         ensures { result ≡ is_refused self }
     {
         matches!(self, Reply::Full | Reply::Spent)
+    }
+
+    pub(crate) fn is_taken(self) -> bool
+        ensures { result ≡ is_answer_taken self }
+    {
+        self == Reply::Taken
     }
 
     // How far the turn comes by it: `None` where it goes on.

@@ -9,6 +9,7 @@ ghost use Rattle.smx_shared.specs.Ports.{HasAccepted};
 ghost use Rattle.smx_client.specs.declared.mark.Stage.{Stage};
 ghost use Rattle.smx_client.specs.Replies.{put_in, parked_on};
 ghost use Rattle.smx_client.specs.Events.{ins, outs, accepts, answers, held_list};
+ghost use Rattle.smx_client.specs.Breaking.{has_broken, IsBad};
 ghost use Rattle.smx_client.specs.Parts.{parts, Chain};
 ghost use Rattle.smx_client.specs.Stages.{has_ended};
 
@@ -25,6 +26,7 @@ use smx_shared::Port;
 use smx_trace::Trace;
 use smx_turns::{Fault, MoItem, Step, TurnEnd};
 use std::alloc::Global;
+use std::marker::Model;
 use std::snapshot::Snapshot;
 
 mod boxing;
@@ -71,18 +73,50 @@ pub struct ClientWorker<'d, L: Link + Drop> {
     ends: Trace<Result<TurnEnd, Fault>>,
     origin: Origin,
     events: Trace<Event>,
-    ghost heard_is: { wire.heard ≡ ins events ++ held_list held },
-    ghost run_is: { Chain
-        (parts desk.now [] origin.port.value Opened origin.window.value origin.inbox.value
-        origin.senders.value.items None)
-        events
-        (parts desk.now wire.said port session window inbox senders.items parked) },
-    ghost settled_is: { settled ≡ true → (held ≡ None) × HasNone 65536 wire.rest },
-    ghost open_is: { stage ≡ Stage.Open → has_ended (L.polls wire.link) ≡ true
-        → L.polls wire.link ≡ L.polls wire.start },
-    ghost drained_is: { stage ≡ Stage.Drained → has_ended (L.polls wire.link) ≡ true },
-    ghost closed_is: { stage ≡ Stage.Closed → session ≢ Ended
-        → (settled ≡ true) × (has_ended (L.polls wire.link) ≡ true) },
+}
+
+impl<'d, L: Link + Drop> Model for ClientWorker<'d, L> {
+    ghost use Rattle.smx_client.specs.Serving.{Serving, IsServing};
+
+    ghost Value = { Serving L };
+
+    ghost view = { λ w. record {
+      desk = w.desk.now;
+      port = w.port;
+      session = w.session;
+      inbox = w.inbox;
+      senders = w.senders.items;
+      window = w.window;
+      wire = w.wire;
+      held = w.held;
+      parked = w.parked;
+      settled = w.settled;
+      stage = w.stage;
+      turns = w.turns;
+      steps = w.steps;
+      ends = w.ends;
+      origin = w.origin;
+      events = w.events;
+    } };
+
+    ghost invariant = { λ w. IsServing L.polls (record {
+      desk = w.desk.now;
+      port = w.port;
+      session = w.session;
+      inbox = w.inbox;
+      senders = w.senders.items;
+      window = w.window;
+      wire = w.wire;
+      held = w.held;
+      parked = w.parked;
+      settled = w.settled;
+      stage = w.stage;
+      turns = w.turns;
+      steps = w.steps;
+      ends = w.ends;
+      origin = w.origin;
+      events = w.events;
+    }) };
 }
 
 impl<'d, L: Link + Drop> ClientWorker<'d, L> {
@@ -101,7 +135,7 @@ impl<'d, L: Link + Drop> ClientWorker<'d, L> {
         requires lanes { length senders.items ≡ length port.fronts }
         requires places { IsSize places }
         ensures port { IfOk result (λ w. (w.port ≡ port) × (w.origin.port.value ≡ port)) }
-        ensures desk { IfOk result (λ w. w.desk.now ≡ desk.now) }
+        ensures desk { IfOk result (λ w. w.desk ≡ desk.now) }
         ensures boxes { IfOk result
             (λ w. (w.origin.inbox.value ≡ inbox) × (w.origin.senders.value ≡ senders)) }
         ensures window { IfOk result
@@ -159,17 +193,18 @@ impl<'d, L: Link + Drop> ClientWorker<'d, L> {
         ensures accepts { ∥ ((all : List Accepted) → HasAccepted self.now.origin.port.value all
             → HasAccepted self.now.port (all ++ accepts self.now.events)) ∥₁ }
         ensures answers { (k : ℕ) → k < length self.now.origin.senders.value.items
-            → put_in self.now.senders.items k ++ parked_on k self.now.parked
+            → put_in self.now.senders k ++ parked_on k self.now.parked
             ≡ put_in self.now.origin.senders.value.items k ++ answers k self.now.events }
         ensures chain { Chain
-            (parts self.now.desk.now [] self.now.origin.port.value Opened
+            (parts self.now.desk [] self.now.origin.port.value Opened
             self.now.origin.window.value self.now.origin.inbox.value
             self.now.origin.senders.value.items None)
             self.now.events
-            (parts self.now.desk.now self.now.wire.said self.now.port self.now.session
-            self.now.window self.now.inbox self.now.senders.items self.now.parked) }
+            (parts self.now.desk self.now.wire.said self.now.port self.now.session
+            self.now.window self.now.inbox self.now.senders self.now.parked) }
         ensures settled { self.now.settled ≡ true
             → (self.now.held ≡ None) × HasNone 65536 self.now.wire.rest }
+        ensures broken { has_broken self.now.events ≡ true → IsBad self.now.wire }
         ensures opened { self.now.stage ≡ Stage.Open
             → has_ended (L.polls self.now.wire.link) ≡ true
             → L.polls self.now.wire.link ≡ L.polls self.now.wire.start }

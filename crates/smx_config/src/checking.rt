@@ -9,7 +9,7 @@ use crate::config::Config;
 use crate::fault::ConfigFault;
 use crate::file::FileFault;
 use crate::reading::read;
-use smx_text::{WriteFault, write_text};
+use smx_whole_text::{WriteFault, write_text};
 use std::alloc::{AllocError, Global};
 use std::io::Write;
 

@@ -2,7 +2,7 @@
 ghost use Rattle.std.specs.Prelude.{◌≡◌, ◌<◌, ◌≤◌, ℕ, List, length, IfOk, IsErrOf, IfSome, IsUtf8, string_bytes};
 ghost use Rattle.std.specs.Io.KnownBytes.{Consumes};
 
-use smx_text::{ReadFault, read_octets};
+use smx_whole_text::{ReadFault, read_octets};
 use std::alloc::Global;
 use std::io::Read;
 use thiserror::Error;

@@ -22,6 +22,6 @@ pub use config::Config;
 pub use fault::ConfigFault;
 pub use file::{FileFault, MAX_FILE, read_text};
 pub use reading::read;
-pub use smx_text::WriteFault;
+pub use smx_whole_text::WriteFault;
 pub use spelling::unread;
 pub use upstream::Upstream;

@@ -1,9 +1,8 @@
 //! The loopback centres.
 use crate::stream_peer::StreamPeer;
 use smx_centre::{Centre, Mode};
-use smx_config::{Config, Upstream};
 use smx_link::Polled;
-use smx_memory::{CentrePeer, Peer};
+use smx_memory_link::{CentrePeer, Peer};
 use std::alloc::Global;
 use std::io;
 use std::net::{Net, TcpListener, TcpStream};
@@ -12,55 +11,41 @@ use std::sync::atomic::{AtomicBool, Ordering};
 use std::thread::sleep;
 use std::time::Duration;
 
-/// Where the centres listen: the addresses, each once.
+/// Where somebody listens at a port that the system chooses, on this machine alone.
+pub(crate) const ANY_PORT: &str = "127.0.0.1:0";
+
+/// Where the centres listen, each at a port of its own.
 #[derive(Drop)]
 pub(crate) struct Centres {
     listeners: Vec<TcpListener>,
-    // For each upstream the index of its listener.
-    places: Vec<usize>,
-}
-
-fn first_with(upstreams: &[Upstream], address: &str) -> usize {
-    for (index, upstream) in upstreams.iter().enumerate() {
-        if upstream.address.as_str() == address {
-            return index;
-        }
-    }
-    upstreams.len()
 }
 
 impl Centres {
-    /// Listens at each upstream's address, once where two have the same.
-    pub(crate) fn listen<R>(rt: &R, alloc: Global, config: &Config) -> io::Result<Centres>
+    /// So many listen.
+    pub(crate) fn listen<R>(rt: &R, alloc: Global, count: usize) -> io::Result<Centres>
     where
         R: Net<Listener = TcpListener, Stream = TcpStream>,
     {
         let mut listeners = Vec::new(alloc);
-        let mut places: Vec<usize> = Vec::new(alloc);
-        for (index, upstream) in config.upstream.iter().enumerate() {
-            let address = upstream.address.as_str();
-            let first = first_with(config.upstream.as_slice(), address);
-            let place = match places.get(first) {
-                Some(place) if first < index => *place,
-                _ => {
-                    let listener = TcpListener::bind(rt, address)?;
-                    listener.set_nonblocking(true)?;
-                    listeners.push(listener)?;
-                    listeners.len().saturating_sub(1)
-                }
-            };
-            places.push(place)?;
+        for _ in 0..count {
+            let listener = TcpListener::bind(rt, ANY_PORT)?;
+            listener.set_nonblocking(true)?;
+            listeners.push(listener)?;
         }
-        Ok(Centres { listeners, places })
+        Ok(Centres { listeners })
     }
 
-    /// Serves one connection at the address of the upstream with this index, until it ends or the
-    /// demonstration is over.
-    pub(crate) fn serve<R: Clock>(&self, rt: &R, alloc: Global, index: usize, over: &AtomicBool) {
-        let Some(place) = self.places.get(index) else {
-            return;
+    /// Where the centre with this index listens.
+    pub(crate) fn address(&self, alloc: Global, index: usize) -> Option<String> {
+        let Ok(address) = self.listeners.get(index)?.local_addr() else {
+            return None;
         };
-        let Some(listener) = self.listeners.get(*place) else {
+        format!(in alloc; "{address}").ok()
+    }
+
+    /// Serves one connection to the centre with this index, until it ends or the demonstration is over.
+    pub(crate) fn serve<R: Clock>(&self, rt: &R, alloc: Global, index: usize, over: &AtomicBool) {
+        let Some(listener) = self.listeners.get(index) else {
             return;
         };
         for _ in 0..u64::MAX {

@@ -3,9 +3,10 @@
 #![tactic(auto)]
 
 mod centres;
+mod loopback;
 mod showing;
 mod stream_peer;
 mod visitors;
 
 pub use centres::answer_all;
-pub use showing::{NotShown, demo};
+pub use showing::{Demo, NotShown};

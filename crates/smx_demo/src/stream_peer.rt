@@ -1,6 +1,6 @@
 //! A connection as the other end of a link.
 use smx_link::{LinkFault, Polled};
-use smx_memory::Peer;
+use smx_memory_link::Peer;
 use std::io::{self, ErrorKind, Read, Write};
 use std::net::TcpStream;
 use std::time::Duration;

@@ -1,8 +1,8 @@
 //! The clients.
 use crate::stream_peer::StreamPeer;
-use smx_ask::ask;
 use smx_config::Account;
-use smx_memory::MemoryLink;
+use smx_demo_client::ask;
+use smx_memory_link::MemoryLink;
 use smx_session::Account as Login;
 use std::alloc::{AllocError, Global};
 use std::net::{Net, TcpListener, TcpStream};

@@ -1,68 +1,183 @@
--- Rows by their index, as the members show them.
-use Rattle.std.proofs.Common.{◌≡◌, ◌<◌, ◌≤◌, ◌+◌, ℕ, true, false, not, List, [], ◌∷◌, length, map, drop, get_or, set, refl, sym, ◌∙◌, ap, arith, Some, slice_get, ◌==◌, zero, suc, sum_by}
-use Rattle.std.specs.List.{AllByRecursion, remove}
-use Rattle.std.proofs.lemmas.Option.{slice_get_within, get_or_from_slice_get, slice_get-get_or}
-use Rattle.std.proofs.lemmas.Bool.{ne_eqb, eq-eqb}
-use Rattle.std.proofs.lemmas.List.Sums.{sum_by-set, sum_by-remove, sum_by-cons}
-use Rattle.std.proofs.Math.ListN.{get_or-map}
-use Rattle.std.proofs.lemmas.List.{map-set, length-map}
+-- Rows by their clients, as the members show them.
+use Rattle.std.proofs.Common.{◌≡◌, ◌<◌, ◌≤◌, ◌+◌, ◌==◌, ℕ, Bool, true, false, not, List, [], ◌∷◌, ◌++◌, length, map, drop, refl, sym, ◌∙◌, ap, arith, Option, Some, None, MatchOption, is_some, subst, slice_get, sum_by, inl, inr}
+use Rattle.std.specs.List.{AllByRecursion}
+use Rattle.std.specs.Bool.{then_some}
+use Rattle.std.specs.Option.{IsSome}
+use Rattle.std.specs.Map.{lookup, set_value, remove_entry}
+use Rattle.std.specs.Ordering.{nat_cmp, match_ordering}
+use Rattle.std.specs.Cmp.{unsigned_tied}
+use Rattle.std.specs.BTreeMap.{insert_entry, is_at}
+use Rattle.std.proofs.lemmas.Bool.{cases_Bool, ne_eqb, eq-eqb, eqb-true, eqb-false}
+use Rattle.std.proofs.lemmas.Bool.Decides.{nat_tests}
+use Rattle.std.proofs.lemmas.List.Sums.{sum_by-cons}
+use Rattle.std.proofs.lemmas.List.{map-append}
 use Rattle.smx_history.specs.Prefixes.{RiseAbove}
 use Rattle.smx_history.specs.Contents.{Member}
-use Rattle.smx_history.proofs.Updates.{with_row, without}
-use Rattle.smx_history.proofs.Members.{set_is_with_row, rise_at}
-use Rattle.smx_history.proofs.Keeping.{map-with_row, All-set_row, All-get_row}
+use Rattle.smx_history.specs.Replies.{member_with}
+use Rattle.smx_history.proofs.Updates.{new_row, with_row, without}
+use Rattle.smx_history.proofs.Keeping.{map-with_row}
 use Rattle.smx_history.proofs.RetireAgrees.{rise_part}
 use Rattle.smx_lane.specs.declared.roster.Row.{Row}
 use Rattle.smx_lane.specs.declared.roster.Roster.TheInside.{Inside}
-use Rattle.smx_lane.specs.Members.{waiting_of}
+use Rattle.smx_lane.specs.Members.{waiting_of, IsRowOf}
 use Rattle.smx_lane.specs.Roster.{member_in, KeepsRows}
 
--- the row at the index shows the member there
-pub row_shows : (rows : List Row) (i : ℕ) (row : Row) (m : Member) → row ≡ get_or rows i row → slice_get (map member_in rows) i ≡ Some m → member_in row ≡ m
-row_shows rows i row m is at =
-    ap member_in is ∙ sym (get_or-map member_in rows i row) ∙ get_or_from_slice_get (map member_in rows) i m (member_in row) at
+abbrev pub Entries : Type 0
+Entries = List (ℕ × Row)
 
--- a change of the row at the index, as the members show it
-pub changed_row : (f : Member → Member) (rows : List Row) (i : ℕ) (row new : Row) (m : Member) → row ≡ get_or rows i row → slice_get (map member_in rows) i ≡ Some m → RiseAbove 0 (map (λ m. m.client) (map member_in rows)) → member_in new ≡ f (member_in row) → map member_in (set rows i new) ≡ with_row m.client f (map member_in rows)
-changed_row f rows i row new m is at rise change =
-    let ms = map member_in rows in
-    let shows = row_shows rows i row m is at in
-    let there : get_or ms i m ≡ m = get_or_from_slice_get ms i m m at in
-    map-set member_in rows i new ∙ ap (set ms i) (change ∙ ap f (shows ∙ sym there))
-    ∙ set_is_with_row f ms m.client 0 i m rise (slice_get_within ms i m at) (ap (λ (x : Member). x.client) there)
+abbrev pub is_client : ℕ → ℕ → Bool
+is_client c k = is_at (nat_cmp c) k
 
--- the responses that wait, row by row
-pub waiting_rows : (rows : List Row) → waiting_of (map member_in rows) ≡ sum_by (λ (r : Row). length r.waiting.items) rows
-waiting_rows [] = refl
-waiting_rows (r ∷ rows) =
-    omega (arith, waiting_rows rows, sum_by-cons (λ (m : Member). length m.waiting) (member_in r) (map member_in rows), sum_by-cons (λ (x : Row). length x.waiting.items) r rows)
+swapped : (c k : ℕ) → (c == k) ≡ (k == c)
+swapped c k = grind (arith, nat_tests)
+
+-- a key is the client's where they are equal
+same_client : (c k : ℕ) → (k == c) ≡ is_client c k
+same_client c k = sym (swapped c k) ∙ sym (unsigned_tied c k)
+
+-- what a look-up finds is the client's member
+pub row_found : (c : ℕ) (es : Entries) (r : Row) → lookup (is_client c) es ≡ Some r → member_with c (map member_in es) ≡ Some (member_in (c, r))
+row_found c [] r found = cc
+row_found c (e ∷ es) r found = elim (cases_Bool (is_client c e.0)) [
+  | inl here ↦
+      let is : Some e.1 ≡ Some r = rw here at found in
+      let value : e.1 ≡ r = cc in
+      let test : (e.0 == c) ≡ true = same_client c e.0 ∙ here in
+      let key : e.0 ≡ c = eqb-true e.0 c test in
+      rw test (ap (λ (k : ℕ). Some (member_in (k, e.1))) key ∙ ap (λ (x : Row). Some (member_in (c, x))) value)
+  | inr other ↦
+      let test : (e.0 == c) ≡ false = same_client c e.0 ∙ other in
+      rw test (row_found c es r (rw other at found))
+]
+
+-- where it finds none there is no such member
+pub row_missing : (c : ℕ) (es : Entries) → lookup (is_client c) es ≡ None → member_with c (map member_in es) ≡ None
+row_missing c [] missing = refl
+row_missing c (e ∷ es) missing = elim (cases_Bool (is_client c e.0)) [
+  | inl here ↦ let found : Some e.1 ≡ None = rw here at missing in cc
+  | inr other ↦
+      let test : (e.0 == c) ≡ false = same_client c e.0 ∙ other in
+      rw test (row_missing c es (rw other at missing))
+]
+
+-- a member has its row
+pub row_there : (c : ℕ) (es : Entries) (m : Member) → member_with c (map member_in es) ≡ Some m → (r : Row) × (lookup (is_client c) es ≡ Some r) × (member_in (c, r) ≡ m)
+row_there c es m is = (elim (lookup (is_client c) es) as (λ o. lookup (is_client c) es ≡ o → (r : Row) × (lookup (is_client c) es ≡ Some r) × (member_in (c, r) ≡ m)) [
+  | None ↦ λ e. let missing = row_missing c es e in absurd cc
+  | Some r ↦ λ e. let found = row_found c es r e in (r, e, cc)
+]) refl
+
+-- the row that a look-up finds is this member's
+pub row_shows : (c : ℕ) (es : Entries) (r : Row) (m : Member) → lookup (is_client c) es ≡ Some r → member_with c (map member_in es) ≡ Some m → member_in (c, r) ≡ m
+row_shows c es r m found is = let shown = row_found c es r found in cc
+
+-- so the look-up finds it
+pub is_there : (c : ℕ) (es : Entries) (m : Member) → member_with c (map member_in es) ≡ Some m → IsSome (lookup (is_client c) es)
+is_there c es m is = ap is_some (row_there c es m is).1
+
+pub not_missing : (c : ℕ) (es : Entries) (m : Member) → member_with c (map member_in es) ≡ Some m → lookup (is_client c) es ≡ None → ⊥
+not_missing c es m is missing = let none = row_missing c es missing in cc
+
+-- the member that is found has the number
+pub client_is : (c : ℕ) (es : Entries) (m : Member) → member_with c (map member_in es) ≡ Some m → m.client ≡ c
+client_is c es m is = let row = row_there c es m is in sym (ap (λ (x : Member). x.client) row.2)
+
+-- numbers above c stay as they are
+with_row-above : (f : Member → Member) (ms : List Member) (c low : ℕ) → c ≤ low → RiseAbove low (map (λ m. m.client) ms) → with_row c f ms ≡ ms
+with_row-above f [] c low le rise = refl
+with_row-above f (m ∷ ms) c low le rise =
+    let other : (m.client == c) ≡ false = ne_eqb m.client c (λ e. omega (arith, rise.0)) in
+    rw other (ap (λ xs. m ∷ xs) (with_row-above f ms c m.client (omega (arith, rise.0)) rise.1))
+
+-- a change of the client's row, as the members show it
+pub changed_row : (f : Member → Member) (c low : ℕ) (es : Entries) (r new : Row) → lookup (is_client c) es ≡ Some r → RiseAbove low (map (λ m. m.client) (map member_in es)) → member_in (c, new) ≡ f (member_in (c, r)) → map member_in (set_value (is_client c) es new) ≡ with_row c f (map member_in es)
+changed_row f c low [] r new found rise change = cc
+changed_row f c low (e ∷ es) r new found rise change = elim (cases_Bool (is_client c e.0)) [
+  | inl here ↦
+      let is : Some e.1 ≡ Some r = rw here at found in
+      let value : e.1 ≡ r = cc in
+      let test : (e.0 == c) ≡ true = same_client c e.0 ∙ here in
+      let key : e.0 ≡ c = eqb-true e.0 c test in
+      let first : member_in (e.0, new) ≡ f (member_in e) = ap (λ (k : ℕ). member_in (k, new)) key ∙ change ∙ ap (λ (k : ℕ). f (member_in (k, r))) (sym key) ∙ ap (λ (x : Row). f (member_in (e.0, x))) (sym value) in
+      let rest = with_row-above f (map member_in es) c e.0 (omega (arith, key)) rise.1 in
+      rw (here, test) (ap (λ m. m ∷ map member_in es) first ∙ ap (λ ms. f (member_in e) ∷ ms) (sym rest))
+  | inr other ↦
+      let test : (e.0 == c) ≡ false = same_client c e.0 ∙ other in
+      rw (other, test) (ap (λ ms. member_in e ∷ ms) (changed_row f c e.0 es r new (rw other at found) rise.1 change))
+]
+
+-- the responses that wait, after a change of one row
+waiting-changed : (c : ℕ) (es : Entries) (r new : Row) → lookup (is_client c) es ≡ Some r → waiting_of (map member_in (set_value (is_client c) es new)) + length r.waiting.items ≡ waiting_of (map member_in es) + length new.waiting.items
+waiting-changed c [] r new found = cc
+waiting-changed c (e ∷ es) r new found = elim (cases_Bool (is_client c e.0)) [
+  | inl here ↦
+      let is : Some e.1 ≡ Some r = rw here at found in
+      let value : e.1 ≡ r = cc in
+      let w : Member → ℕ = λ m. length m.waiting in
+      let same : length e.1.waiting.items ≡ length r.waiting.items = ap (λ (x : Row). length x.waiting.items) value in
+      rw here (omega (arith, same, sum_by-cons w (member_in (e.0, new)) (map member_in es), sum_by-cons w (member_in e) (map member_in es)))
+  | inr other ↦
+      let w : Member → ℕ = λ m. length m.waiting in
+      let rest = waiting-changed c es r new (rw other at found) in
+      rw other (omega (arith, rest, sum_by-cons w (member_in e) (map member_in (set_value (is_client c) es new)), sum_by-cons w (member_in e) (map member_in es)))
+]
 
 -- the responses of one row are among those that wait
-pub row_waits : (rows : List Row) (i : ℕ) (row : Row) → row ≡ get_or rows i row → i < length rows → length row.waiting.items ≤ waiting_of (map member_in rows)
-row_waits rows i row is within =
-    let s = sum_by-remove (λ (r : Row). length r.waiting.items) rows i row within in
-    let e : length row.waiting.items ≡ length (get_or rows i row).waiting.items = ap (λ (r : Row). length r.waiting.items) is in
-    omega (arith, s, e, waiting_rows rows)
+pub row_waits : (c : ℕ) (es : Entries) (r : Row) → lookup (is_client c) es ≡ Some r → length r.waiting.items ≤ waiting_of (map member_in es)
+row_waits c [] r found = cc
+row_waits c (e ∷ es) r found = elim (cases_Bool (is_client c e.0)) [
+  | inl here ↦
+      let is : Some e.1 ≡ Some r = rw here at found in
+      let value : e.1 ≡ r = cc in
+      let same : length e.1.waiting.items ≡ length r.waiting.items = ap (λ (x : Row). length x.waiting.items) value in
+      omega (arith, same, sum_by-cons (λ (m : Member). length m.waiting) (member_in e) (map member_in es))
+  | inr other ↦ omega (arith, row_waits c es r (rw other at found), sum_by-cons (λ (m : Member). length m.waiting) (member_in e) (map member_in es))
+]
 
--- a change of one row that leaves its client and the places of its box
-pub KeepsRows-changed : (a b : Inside) (f : Member → Member) (i : ℕ) (row new : Row) (m : Member) → KeepsRows a
-    → ((x : Member) → (f x).client ≡ x.client) → row ≡ get_or a.rows.items i row → slice_get (map member_in a.rows.items) i ≡ Some m → member_in new ≡ f (member_in row)
-    → new.waiting.capacity ≡ row.waiting.capacity → b.places ≡ a.places → b.rows.items ≡ set a.rows.items i new
-    → b.waiting + length row.waiting.items ≡ a.waiting + length new.waiting.items → KeepsRows b
-KeepsRows-changed a b f i row new m keeps same is at change places same_places items count =
-    let rows = a.rows.items in
-    let within : i < length rows = omega (arith, slice_get_within (map member_in rows) i m at, length-map rows member_in) in
-    let box : ℕ → Row → Type 0 = λ n x. x.waiting.capacity ≡ n in
-    let old : row.waiting.capacity ≡ a.places = rw is (All-get_row (box a.places) rows i row within keeps.boxes) in
-    let s = sum_by-set (λ (r : Row). length r.waiting.items) rows i new row within in
-    let e : length row.waiting.items ≡ length (get_or rows i row).waiting.items = ap (λ (r : Row). length r.waiting.items) is in
-    let sums : waiting_of (map member_in (set rows i new)) + length row.waiting.items ≡ waiting_of (map member_in rows) + length new.waiting.items =
-    omega (arith, s, e, waiting_rows rows, waiting_rows (set rows i new)) in
-    let ms = changed_row f rows i row new m is at keeps.clients change in
+-- so it is with what holds of each row
+pub All-row : (P : ℕ × Row → Type 0) (c : ℕ) (es : Entries) (r : Row) → AllByRecursion P es → lookup (is_client c) es ≡ Some r → (k : ℕ) × P (k, r)
+All-row P c [] r all found = cc
+All-row P c (e ∷ es) r all found = elim (cases_Bool (is_client c e.0)) [
+  | inl here ↦
+      let is : Some e.1 ≡ Some r = rw here at found in
+      let value : e.1 ≡ r = cc in
+      (e.0, subst (λ (x : Row). P (e.0, x)) value all.0)
+  | inr other ↦ All-row P c es r all.1 (rw other at found)
+]
+
+All-set : (P : ℕ × Row → Type 0) (c : ℕ) (es : Entries) (new : Row) → ((k : ℕ) → P (k, new)) → AllByRecursion P es → AllByRecursion P (set_value (is_client c) es new)
+All-set P c [] new one all = tt
+All-set P c (e ∷ es) new one all = elim (cases_Bool (is_client c e.0)) [
+  | inl here ↦ rw here (one e.0, all.1)
+  | inr other ↦ rw other (all.0, All-set P c es new one all.1)
+]
+
+All-removed : (P : ℕ × Row → Type 0) (c : ℕ) (es : Entries) → AllByRecursion P es → AllByRecursion P (remove_entry (is_client c) es)
+All-removed P c [] all = tt
+All-removed P c (e ∷ es) all = elim (cases_Bool (is_client c e.0)) [
+  | inl here ↦ rw here all.1
+  | inr other ↦ rw other (all.0, All-removed P c es all.1)
+]
+
+pub All-added : (P : ℕ × Row → Type 0) (es : Entries) (e : ℕ × Row) → AllByRecursion P es → P e → AllByRecursion P (es ++ e ∷ [])
+All-added P [] e all one = (one, tt)
+All-added P (x ∷ es) e all one = (all.0, All-added P es e all.1 one)
+
+-- a change of one row that leaves the places of its box
+pub KeepsRows-changed : (a b : Inside) (f : Member → Member) (c : ℕ) (r new : Row) → KeepsRows a
+    → ((x : Member) → (f x).client ≡ x.client) → lookup (is_client c) a.rows.entries ≡ Some r → member_in (c, new) ≡ f (member_in (c, r))
+    → new.waiting.capacity ≡ r.waiting.capacity → b.places ≡ a.places → b.rows.entries ≡ set_value (is_client c) a.rows.entries new
+    → b.waiting + length r.waiting.items ≡ a.waiting + length new.waiting.items → KeepsRows b
+KeepsRows-changed a b f c r new keeps same found change places same_places entries count =
+    let es = a.rows.entries in
+    let box : ℕ → ℕ × Row → Type 0 = λ n e. e.1.waiting.capacity ≡ n in
+    let old = All-row (box a.places) c es r keeps.boxes found in
+    let sums = waiting-changed c es r new found in
+    let ms = changed_row f c 0 es r new found keeps.clients change in
     record {
-      boxes = rw (items, same_places) (All-set_row (box a.places) rows i new (places ∙ old) keeps.boxes);
-      clients = rw (items, ms, map-with_row (λ x. x.client) f m.client same (map member_in rows)) keeps.clients;
-      waiting = rw items (omega (arith, sums, count, keeps.waiting));
+      boxes = rw (entries, same_places) (All-set (box a.places) c es new (λ _. places ∙ old.1) keeps.boxes);
+      clients = rw (entries, ms, map-with_row (λ x. x.client) f c same (map member_in es)) keeps.clients;
+      waiting = rw entries (omega (arith, sums, count, keeps.waiting));
     }
 
 -- numbers above c leave all rows
@@ -73,54 +188,104 @@ without-above (m ∷ ms) c low h rise =
     let rest = without-above ms c m.client (omega (arith, rise.0)) rise.1 in
     rw (other, rest) refl
 
--- to remove a row is to leave the others
-removed_is_without : (ms : List Member) (i low : ℕ) (d : Member) → RiseAbove low (map (λ m. m.client) ms) → i < length ms → remove ms i ≡ without (get_or ms i d).client ms
-removed_is_without [] i low d rise within = absurd (omega arith)
-removed_is_without (m ∷ ms) zero low d rise within =
-    let here : (m.client == m.client) ≡ true = eq-eqb m.client m.client refl in
-    let rest = without-above ms m.client m.client (omega arith) rise.1 in
-    rw (here, rest) refl
-removed_is_without (m ∷ ms) (suc i) low d rise within =
-    let above = rise_at ms m.client i d rise.1 (omega arith) in
-    let other : (m.client == (get_or ms i d).client) ≡ false = ne_eqb m.client (get_or ms i d).client (λ e. omega (arith, above)) in
-    rw other (ap (λ xs. m ∷ xs) (removed_is_without ms i m.client d rise.1 (omega arith)))
+-- the rows without the client's, as the members show them
+pub removed_row : (c low : ℕ) (es : Entries) → RiseAbove low (map (λ m. m.client) (map member_in es)) → map member_in (remove_entry (is_client c) es) ≡ without c (map member_in es)
+removed_row c low [] rise = refl
+removed_row c low (e ∷ es) rise = elim (cases_Bool (is_client c e.0)) [
+  | inl here ↦
+      let test : (e.0 == c) ≡ true = same_client c e.0 ∙ here in
+      let key : e.0 ≡ c = eqb-true e.0 c test in
+      rw (here, test) (sym (without-above (map member_in es) c e.0 (omega (arith, key)) rise.1))
+  | inr other ↦
+      let test : (e.0 == c) ≡ false = same_client c e.0 ∙ other in
+      rw (other, test) (ap (λ ms. member_in e ∷ ms) (removed_row c e.0 es rise.1))
+]
 
-pub map-remove : {X Y : Type 0} (f : X → Y) (xs : List X) (i : ℕ) → map f (remove xs i) ≡ remove (map f xs) i
-map-remove f [] zero = refl
-map-remove f [] (suc i) = refl
-map-remove f (x ∷ xs) zero = refl
-map-remove f (x ∷ xs) (suc i) = ap (λ ys. f x ∷ ys) (map-remove f xs i)
+waiting-removed : (c : ℕ) (es : Entries) (r : Row) → lookup (is_client c) es ≡ Some r → waiting_of (map member_in (remove_entry (is_client c) es)) + length r.waiting.items ≡ waiting_of (map member_in es)
+waiting-removed c [] r found = cc
+waiting-removed c (e ∷ es) r found = elim (cases_Bool (is_client c e.0)) [
+  | inl here ↦
+      let is : Some e.1 ≡ Some r = rw here at found in
+      let value : e.1 ≡ r = cc in
+      let same : length e.1.waiting.items ≡ length r.waiting.items = ap (λ (x : Row). length x.waiting.items) value in
+      rw here (omega (arith, same, sum_by-cons (λ (m : Member). length m.waiting) (member_in e) (map member_in es)))
+  | inr other ↦
+      let w : Member → ℕ = λ m. length m.waiting in
+      let rest = waiting-removed c es r (rw other at found) in
+      rw other (omega (arith, rest, sum_by-cons w (member_in e) (map member_in (remove_entry (is_client c) es)), sum_by-cons w (member_in e) (map member_in es)))
+]
 
--- the rows without the one at the index, as the members show them
-pub removed_row : (rows : List Row) (i : ℕ) (m : Member) → slice_get (map member_in rows) i ≡ Some m → RiseAbove 0 (map (λ m. m.client) (map member_in rows)) → map member_in (remove rows i) ≡ without m.client (map member_in rows)
-removed_row rows i m at rise =
-    let ms = map member_in rows in
-    let there : get_or ms i m ≡ m = get_or_from_slice_get ms i m m at in
-    map-remove member_in rows i ∙ removed_is_without ms i 0 m rise (slice_get_within ms i m at)
-    ∙ ap (λ (x : Member). without x.client ms) there
+-- the roster without the client's row
+pub KeepsRows-removed : (a b : Inside) (c : ℕ) (r : Row) → KeepsRows a → lookup (is_client c) a.rows.entries ≡ Some r
+    → b.places ≡ a.places → b.rows.entries ≡ remove_entry (is_client c) a.rows.entries → b.waiting + length r.waiting.items ≡ a.waiting → KeepsRows b
+KeepsRows-removed a b c r keeps found same_places entries count =
+    let es = a.rows.entries in
+    let ms = map member_in es in
+    let sums = waiting-removed c es r found in
+    record {
+      boxes = rw (entries, same_places) (All-removed (λ (e : ℕ × Row). e.1.waiting.capacity ≡ a.places) c es keeps.boxes);
+      clients = rw (entries, removed_row c 0 es keeps.clients) (rise_part (λ (m : Member). m.client) (λ m. not (m.client == c)) 0 ms keeps.clients);
+      waiting = rw entries (omega (arith, sums, count, keeps.waiting));
+    }
+
+-- a client above all others comes last
+greater : (c k : ℕ) → k < c → (a b d : Entries) → match_ordering (nat_cmp c k) a b d ≡ d
+greater c k lt a b d = grind (arith, nat_tests)
+
+above : (c low : ℕ) (es : Entries) (r : Row) → RiseAbove low (map (λ m. m.client) (map member_in es ++ member_in (c, r) ∷ [])) → low < c
+above c low [] r rise = rise.0
+above c low (e ∷ es) r rise = omega (arith, rise.0, above c e.0 es r rise.1)
+
+pub added_row : (c low : ℕ) (es : Entries) (r : Row) (ms : List Member) → RiseAbove low (map (λ m. m.client) (map member_in es ++ ms)) → ms ≡ member_in (c, r) ∷ [] → insert_entry nat_cmp es c r ≡ es ++ (c, r) ∷ []
+added_row c low [] r ms rise is = refl
+added_row c low (e ∷ es) r ms rise is =
+    let lt : e.0 < c = above c e.0 es r (subst (λ (xs : List Member). RiseAbove e.0 (map (λ m. m.client) (map member_in es ++ xs))) is rise.1) in
+    greater c e.0 lt _ _ _ ∙ ap (λ xs. e ∷ xs) (added_row c e.0 es r ms rise.1 is)
+
+-- the new row, as the members show it
+pub added_shows : (by c : ℕ) (es : Entries) (r : Row) → RiseAbove 0 (map (λ m. m.client) (map member_in es ++ new_row by c ∷ [])) → member_in (c, r) ≡ new_row by c → map member_in (insert_entry nat_cmp es c r) ≡ map member_in es ++ new_row by c ∷ []
+added_shows by c es r rise is =
+    ap (map member_in) (added_row c 0 es r (new_row by c ∷ []) rise (ap (λ m. m ∷ []) (sym is)))
+    ∙ map-append member_in es ((c, r) ∷ []) ∙ ap (λ m. map member_in es ++ m ∷ []) is
+
+waiting-added : (by c : ℕ) (ms : List Member) → waiting_of (ms ++ new_row by c ∷ []) ≡ waiting_of ms
+waiting-added by c [] = refl
+waiting-added by c (m ∷ ms) =
+    omega (arith, waiting-added by c ms, sum_by-cons (λ (x : Member). length x.waiting) m ms, sum_by-cons (λ (x : Member). length x.waiting) m (ms ++ new_row by c ∷ []))
+
+-- the roster with one row more
+pub KeepsRows-added : (a b : Inside) (by c : ℕ) (r : Row) → KeepsRows a → RiseAbove 0 (map (λ m. m.client) (map member_in a.rows.entries ++ new_row by c ∷ [])) → member_in (c, r) ≡ new_row by c → r.waiting.capacity ≡ a.places
+    → b.places ≡ a.places → b.rows.entries ≡ insert_entry nat_cmp a.rows.entries c r → b.waiting ≡ a.waiting → KeepsRows b
+KeepsRows-added a b by c r keeps rise is places same_places entries count =
+    let es = a.rows.entries in
+    let last = added_row c 0 es r (new_row by c ∷ []) rise (ap (λ m. m ∷ []) (sym is)) in
+    let shows = added_shows by c es r rise is in
+    record {
+      boxes = rw (entries, last, same_places) (All-added (λ (e : ℕ × Row). e.1.waiting.capacity ≡ a.places) es (c, r) keeps.boxes places);
+      clients = rw (entries, shows) rise;
+      waiting = rw (entries, shows) (omega (arith, waiting-added by c (map member_in es), count, keeps.waiting));
+    }
+
+pub some_waits : (n : ℕ) → (n == 0) ≡ false → 0 < n
+some_waits n none = grind (arith, nat_tests)
+
+pub first_there : {X : Type 0} (xs : List X) → 0 < length xs → IsSome (slice_get xs 0)
+first_there [] lt = absurd (omega arith)
+first_there (x ∷ xs) lt = refl
+
+-- the box has its places
+pub box_places : (a : Inside) (c : ℕ) (r : Row) → KeepsRows a → lookup (is_client c) a.rows.entries ≡ Some r → r.waiting.capacity ≡ a.places
+box_places a c r keeps found = (All-row (λ (e : ℕ × Row). e.1.waiting.capacity ≡ a.places) c a.rows.entries r keeps.boxes found).1
 
 -- the first element and the rest
 pub front_is : {X : Type 0} (xs : List X) (x : X) → slice_get xs 0 ≡ Some x → xs ≡ x ∷ drop 1 xs
 front_is [] x h = cc
 front_is (y ∷ xs) x h = let same : y ≡ x = cc in ap (λ z. z ∷ xs) same
 
-All-remove_row : {X : Type 0} (P : X → Type 0) (xs : List X) (i : ℕ) → AllByRecursion P xs → AllByRecursion P (remove xs i)
-All-remove_row P [] zero all = tt
-All-remove_row P [] (suc i) all = tt
-All-remove_row P (x ∷ xs) zero all = all.1
-All-remove_row P (x ∷ xs) (suc i) all = (all.0, All-remove_row P xs i all.1)
+key_of : (c : ℕ) (es : Entries) (o : Option Row) → lookup (is_client c) es ≡ o → MatchOption (then_some (is_some o) c) (member_with c (map member_in es) ≡ None) (λ k. (m : Member) × IsRowOf (map member_in es) c k m)
+key_of c es None found = row_missing c es found
+key_of c es (Some r) found = (member_in (c, r), record { at = row_found c es r found; found = row_found c es r found; client_is = refl })
 
--- the roster without the row at the index
-pub KeepsRows-removed : (a b : Inside) (i : ℕ) (row : Row) → KeepsRows a → i < length a.rows.items → row ≡ get_or a.rows.items i row
-    → b.places ≡ a.places → b.rows.items ≡ remove a.rows.items i → b.waiting + length row.waiting.items ≡ a.waiting → KeepsRows b
-KeepsRows-removed a b i row keeps within is same_places items count =
-    let rows = a.rows.items in
-    let ms = map member_in rows in
-    let s = sum_by-remove (λ (r : Row). length r.waiting.items) rows i row within in
-    let e : length row.waiting.items ≡ length (get_or rows i row).waiting.items = ap (λ (r : Row). length r.waiting.items) is in
-    let at : slice_get ms i ≡ Some (member_in row) = slice_get-get_or ms i (member_in row) (omega (arith, length-map rows member_in, within)) ∙ ap Some (get_or-map member_in rows i row ∙ ap member_in (sym is)) in
-    record {
-      boxes = rw (items, same_places) (All-remove_row (λ (r : Row). r.waiting.capacity ≡ a.places) rows i keeps.boxes);
-      clients = rw (items, removed_row rows i (member_in row) at keeps.clients) (rise_part (λ (m : Member). m.client) (λ m. not (m.client == row.client)) 0 ms keeps.clients);
-      waiting = rw items (omega (arith, s, e, count, keeps.waiting, waiting_rows rows, waiting_rows (remove rows i)));
-    }
+-- the client's key, where it has a row
+pub found_key : (c : ℕ) (es : Entries) → MatchOption (then_some (is_some (lookup (is_client c) es)) c) (member_with c (map member_in es) ≡ None) (λ k. (m : Member) × IsRowOf (map member_in es) c k m)
+found_key c es = key_of c es (lookup (is_client c) es) refl

@@ -115,8 +115,8 @@ impl Lane {
         self.entries.last().copied()
     }
 
-    // Whether there is room for one more admit or accept, and all that may follow.
-    fn has_room(&self) -> bool
+    /// Whether there is room in the history for one more admit or accept, and all that may follow.
+    pub fn has_room(&self) -> bool
         ensures { result ≡ has_room self.now }
     {
         let used = self.entries.len()

@@ -1,5 +1,5 @@
 //! The clients that are admitted, and the boxes of their responses.
-ghost use Rattle.std.specs.Prelude.{◌≡◌, ◌≤◌, ◌<◌, ◌+◌, ◌-◌, ◌==◌, [], ◌∷◌, ◌++◌, length, map, drop, slice_get, OnOk, OnErr, MatchOption, Some, None};
+ghost use Rattle.std.specs.Prelude.{◌≡◌, ◌≤◌, ◌<◌, ◌+◌, ◌-◌, ◌==◌, [], ◌∷◌, ◌++◌, length, map, drop, OnOk, OnErr, MatchOption, Some, None};
 ghost use Rattle.smx_history.specs.Contents.{Member};
 ghost use Rattle.smx_history.specs.Prefixes.{RiseAbove};
 ghost use Rattle.smx_history.specs.Replies.{member_with};
@@ -9,13 +9,12 @@ ghost use Rattle.smx_lane.specs.Members.{IsRowOf, waiting_of};
 use circular_buffer::HeapCircularBuffer;
 use smx_history::Response;
 use std::alloc::{AllocError, Global};
-use std::collections::VecDeque;
+use std::collections::BTreeMap;
 use std::marker::Model;
 
-// A client, and the box of its responses.
+// What a client has, and the box of its responses.
 #[derive(Drop)]
 struct Row {
-    client: u64,
     by: u64,
     // The ordinal of its last accept, or 0.
     last: u64,
@@ -24,12 +23,12 @@ struct Row {
     waiting: HeapCircularBuffer<Response, Global>,
 }
 
-// The rows of the clients, by their numbers, each with a box of so many places.
+// The rows of the clients, by their numbers, each with a box of so many places. Whoever leaves moves no other's row.
 #[derive(Drop)]
 pub(crate) struct Roster {
     places: u32,
     alloc: Global,
-    rows: VecDeque<Row>,
+    rows: BTreeMap<u64, Row>,
     // How many responses wait in all boxes.
     waiting: usize,
 }
@@ -54,7 +53,7 @@ impl Roster {
         Roster {
             places,
             alloc,
-            rows: VecDeque::new(alloc),
+            rows: BTreeMap::new(alloc),
             waiting: 0,
         }
     }
@@ -78,47 +77,45 @@ impl Roster {
         self.waiting
     }
 
-    // The index of the client's row.
-    pub(crate) fn find(&self, client: u64) -> Option<usize>
+    // The number of the client, under which it has a row.
+    pub(crate) fn find(&self, client: u64) -> Option<u64>
         ensures { MatchOption result (member_with client self.now.members ≡ None)
             (λ i. (m : Member) × IsRowOf self.now.members client i m) }
     {
-        self.rows
-            .binary_search_by_key(&client, |row| row.client)
-            .ok()
+        self.rows.contains_key(&client).then_some(client)
     }
 
-    // How many requests of the client at the index were accepted and not collected.
-    pub(crate) fn pending(&self, at: usize) -> u32
-        requires { at < length self.now.members }
-        ensures { (m : Member) → slice_get self.now.members at ≡ Some m → result ≡ m.pending }
+    // How many requests of the client were accepted and not collected.
+    pub(crate) fn pending(&self, at: u64) -> u32
+        requires { (m : Member) × (member_with at self.now.members ≡ Some m) }
+        ensures { (m : Member) → member_with at self.now.members ≡ Some m → result ≡ m.pending }
     {
-        self.rows[at].pending
+        self.rows[&at].pending
     }
 
     // Who admitted the client at the index.
-    pub(crate) fn by(&self, at: usize) -> u64
-        requires { at < length self.now.members }
-        ensures { (m : Member) → slice_get self.now.members at ≡ Some m → result ≡ m.by }
+    pub(crate) fn by(&self, at: u64) -> u64
+        requires { (m : Member) × (member_with at self.now.members ≡ Some m) }
+        ensures { (m : Member) → member_with at self.now.members ≡ Some m → result ≡ m.by }
     {
-        self.rows[at].by
+        self.rows[&at].by
     }
 
-    // The ordinal of the last accept of the client at the index, or 0.
-    pub(crate) fn last(&self, at: usize) -> u64
-        requires { at < length self.now.members }
-        ensures { (m : Member) → slice_get self.now.members at ≡ Some m → result ≡ m.last }
+    // The ordinal of the last accept of the client, or 0.
+    pub(crate) fn last(&self, at: u64) -> u64
+        requires { (m : Member) × (member_with at self.now.members ≡ Some m) }
+        ensures { (m : Member) → member_with at self.now.members ≡ Some m → result ≡ m.last }
     {
-        self.rows[at].last
+        self.rows[&at].last
     }
 
-    // Whether the box of the client at the index is empty.
-    pub(crate) fn is_box_empty(&self, at: usize) -> bool
-        requires { at < length self.now.members }
-        ensures { (m : Member) → slice_get self.now.members at ≡ Some m
+    // Whether the box of the client is empty.
+    pub(crate) fn is_box_empty(&self, at: u64) -> bool
+        requires { (m : Member) × (member_with at self.now.members ≡ Some m) }
+        ensures { (m : Member) → member_with at self.now.members ≡ Some m
             → result ≡ (length m.waiting == 0) }
     {
-        self.rows[at].waiting.is_empty()
+        self.rows[&at].waiting.is_empty()
     }
 
     // Adds a client above all others, with an empty box.
@@ -129,40 +126,44 @@ impl Roster {
         ensures err { OnErr result (self.new ≡ self.old) }
     {
         let waiting = HeapCircularBuffer::with_capacity(self.alloc, self.places as usize)?;
-        self.rows.push_back(Row {
-            client,
+        let row = Row {
             by,
             last: 0,
             pending: 0,
             waiting,
-        })?;
+        };
+        self.rows.insert(client, row)?;
         Ok(())
     }
 
-    // Notes that a request of the client at the index was accepted.
-    pub(crate) fn note_accept(&mut self, at: usize, ordinal: u64)
-        requires { (m : Member) × (slice_get self.old.members at ≡ Some m) × (m.pending < 1000) }
-        ensures members { (m : Member) → slice_get self.old.members at ≡ Some m →
+    // Notes that a request of the client was accepted.
+    pub(crate) fn note_accept(&mut self, at: u64, ordinal: u64)
+        requires { (m : Member) × (member_with at self.old.members ≡ Some m) × (m.pending < 1000) }
+        ensures members { (m : Member) → member_with at self.old.members ≡ Some m →
             self.new.members ≡ with_row m.client
             (λ n. record n { last = ordinal; pending = n.pending + 1 }) self.old.members }
         ensures places { self.new.places ≡ self.old.places }
     {
-        let row = &mut self.rows[at];
+        let Some(row) = self.rows.get_mut(&at) else {
+            unreachable!()
+        };
         row.last = ordinal;
         row.pending += 1;
     }
 
-    // Puts a response into the box of the client at the index.
-    pub(crate) fn put(&mut self, at: usize, response: Response)
-        requires room { (m : Member) × (slice_get self.old.members at ≡ Some m)
+    // Puts a response into the box of the client.
+    pub(crate) fn put(&mut self, at: u64, response: Response)
+        requires room { (m : Member) × (member_with at self.old.members ≡ Some m)
             × (length m.waiting < self.old.places) }
         requires few { waiting_of self.old.members ≤ 1000000 }
-        ensures members { (m : Member) → slice_get self.old.members at ≡ Some m →
+        ensures members { (m : Member) → member_with at self.old.members ≡ Some m →
             self.new.members ≡ with_row m.client
             (λ n. record n { waiting = n.waiting ++ response ∷ [] }) self.old.members }
         ensures places { self.new.places ≡ self.old.places }
     {
-        let row = &mut self.rows[at];
+        let Some(row) = self.rows.get_mut(&at) else {
+            unreachable!()
+        };
         match row.waiting.try_push_back(response) {
             Ok(()) => {}
             Err(_) => unreachable!(),
@@ -170,13 +171,13 @@ impl Roster {
         self.waiting += 1;
     }
 
-    // Takes the oldest response out of the box of the client at the index.
-    pub(crate) fn get(&mut self, at: usize) -> Response
-        requires { (m : Member) × (slice_get self.old.members at ≡ Some m)
+    // Takes the oldest response out of the box of the client.
+    pub(crate) fn get(&mut self, at: u64) -> Response
+        requires { (m : Member) × (member_with at self.old.members ≡ Some m)
             × (0 < length m.waiting) × (1 ≤ m.pending) }
-        ensures oldest { (m : Member) → slice_get self.old.members at ≡ Some m
+        ensures oldest { (m : Member) → member_with at self.old.members ≡ Some m
             → m.waiting ≡ result ∷ drop 1 m.waiting }
-        ensures members { (m : Member) → slice_get self.old.members at ≡ Some m →
+        ensures members { (m : Member) → member_with at self.old.members ≡ Some m →
             self.new.members ≡ with_row m.client
             (λ n. record n {
               pending = n.pending - 1;
@@ -184,21 +185,23 @@ impl Roster {
             }) self.old.members }
         ensures places { self.new.places ≡ self.old.places }
     {
-        let row = &mut self.rows[at];
+        let Some(row) = self.rows.get_mut(&at) else {
+            unreachable!()
+        };
         let response = row.waiting.pop_front().unwrap();
         row.pending -= 1;
         self.waiting -= 1;
         response
     }
 
-    // Drops the row and the box of the client at the index.
-    pub(crate) fn remove(&mut self, at: usize)
-        requires { at < length self.old.members }
-        ensures members { (m : Member) → slice_get self.old.members at ≡ Some m
+    // Drops the row and the box of the client.
+    pub(crate) fn remove(&mut self, at: u64)
+        requires { (m : Member) × (member_with at self.old.members ≡ Some m) }
+        ensures members { (m : Member) → member_with at self.old.members ≡ Some m
             → self.new.members ≡ without m.client self.old.members }
         ensures places { self.new.places ≡ self.old.places }
     {
-        let row = self.rows.remove(at).unwrap();
+        let row = self.rows.remove(&at).unwrap();
         self.waiting -= row.waiting.len();
     }
 }

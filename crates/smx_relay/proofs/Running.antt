@@ -1,10 +1,11 @@
 -- A run, a line at a time.
-use Rattle.std.proofs.Common.{◌≡◌, ℕ, ◌+◌, List, [], ◌∷◌, ◌++◌, Option, Some, None, refl, sym, ap, subst, ◌∙◌, append_assoc}
+use Rattle.std.proofs.Common.{◌≡◌, ℕ, ◌+◌, List, [], ◌∷◌, ◌++◌, Option, Some, None, true, false, refl, sym, ap, subst, ◌∙◌, append_assoc}
 use Rattle.std.proofs.lemmas.List.{append-nil}
 use Rattle.smx_lines.specs.Texts.{bad_line}
 use Rattle.smx_lines.specs.Relay.{Relay, new_relay}
 use Rattle.smx_lines.specs.Turns.{Lines}
-use Rattle.smx_relay.specs.Runs.{Runs}
+use Rattle.smx_relay.specs.Runs.{Runs, RunsTo}
+use Rattle.smx_relay.specs.Sizes.{is_too_large}
 use Rattle.smx_lines.proofs.Lining.{some_line}
 
 pub runs_end : (n : ℕ) (s : Relay) → Runs n s [] [] None
@@ -65,3 +66,19 @@ so_far_part front octet back text n s lines all written e so_far =
     let whole = so_far_front n s lines all (written ++ text) so_far in
     let P : List ℕ → Type 0 = λ w. Runs 1 new_relay all w whole.1 in
     (back ++ whole.0, whole.1, subst P (ap (λ (t : List ℕ). (written ++ t) ++ whole.0) e ∙ simp append_assoc) whole.2)
+
+pub runs_to_start : (s : Relay) → RunsTo s [] [] s
+unfolding RunsTo
+runs_to_start s = (refl, refl)
+
+-- one line more, before which the run isn't too large
+pub runs_to_more : (s : Relay) (lines : List (List ℕ)) (out : List ℕ) (t : Relay) (line : List ℕ) (x : List ℕ × Relay) → RunsTo s lines out t → is_too_large t ≡ false → Lines t line (Some x) → RunsTo s (lines ++ line ∷ []) (out ++ x.0) x.1
+unfolding RunsTo
+runs_to_more s [] out t line x so_far small does =
+    let at : Lines s line (Some x) = subst (λ (r : Relay). Lines r line (Some x)) (sym so_far.1) does in
+    let fits : is_too_large s ≡ false = subst (λ (r : Relay). is_too_large r ≡ false) (sym so_far.1) small in
+    (x, at, fits, [], (refl, refl), ap (λ (o : List ℕ). o ++ x.0) so_far.0 ∙ sym (append-nil x.0))
+runs_to_more s (first ∷ lines) out t line x so_far small does =
+    let rest = so_far.3 in
+    let more = runs_to_more so_far.0.1 lines rest t line x so_far.4 small does in
+    (so_far.0, so_far.1, so_far.2, rest ++ x.0, more, ap (λ (o : List ℕ). o ++ x.0) so_far.5 ∙ append_assoc so_far.0.0 rest x.0)

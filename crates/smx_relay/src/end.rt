@@ -11,6 +11,9 @@ pub enum RunEnd {
     /// The line with this number, from 1 on, is bad, for this reason. The lines before it were run.
     #[error("line {0}: {1}")]
     BadLine(u64, Reason),
+    /// The line with this number was not run, since what the lines before it reserve is more than a run may.
+    #[error("line {0} is not run: what stands before it reserves more than 1 GB")]
+    TooLarge(u64),
     /// The script has more than 1,048,576 octets.
     #[error("the script has more than 1,048,576 octets")]
     TooLong,

@@ -7,9 +7,10 @@ ghost use Rattle.smx_lines.specs.States.{StandsFor};
 ghost use Rattle.smx_relay.specs.Ends.{Ends};
 
 use crate::end::RunEnd;
+use crate::size::is_too_large;
 use smx_lines::{State, bad_line, new_state, reason, run_line};
 use smx_script::lines_of;
-use smx_text::{ReadFault, read_octets, write_text};
+use smx_whole_text::{ReadFault, read_octets, write_text};
 use std::alloc::Global;
 use std::io::{Read, Write};
 
@@ -29,6 +30,9 @@ fn relay_lines<W: Write>(
         × Ends result script out }
 {
     for (i, line) in lines.iter().enumerate() {
+        if is_too_large(state) {
+            return RunEnd::TooLarge(i as u64 + 1);
+        }
         match run_line(alloc, state, line) {
             Ok(Some(text)) => match write_text(writer, &text) {
                 Ok(()) => {}
@@ -66,7 +70,8 @@ fn relay<W: Write>(alloc: Global, script: &[u8], writer: &mut W) -> RunEnd
 }
 
 /// Reads a script whole, and then writes what its lines print, up to and with the first bad line.
-/// Where writing fails or memory runs out, a front of that was written. The writer isn't flushed.
+/// Where writing fails, memory runs out or the run would be too large, a front of that was written. The
+/// writer isn't flushed.
 pub fn run<R: Read, W: Write>(alloc: Global, reader: &mut R, writer: &mut W) -> RunEnd
     ensures { IfSome (R.remaining reader.old) (λ script. (out : List ℕ)
         × Appends (W.contents writer.old) (W.contents writer.new) out × Ends result script out) }

@@ -3,6 +3,7 @@
 
 mod end;
 mod engine;
+mod size;
 
 pub use end::RunEnd;
 pub use engine::run;

@@ -1,7 +1,7 @@
 //! Whole texts and files, read and written.
 
 use smx_config::{FileFault, read_text, reject};
-use smx_text::{read_octets, write_text};
+use smx_whole_text::{read_octets, write_text};
 use std::alloc::{AllocError, Global};
 use std::io;
 use std::io::{ErrorKind, Write};

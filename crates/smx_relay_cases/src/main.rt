@@ -26,6 +26,7 @@ fn tell_case(alloc: Global, kind: &str, text: &str, out: &mut Vec<u8>) -> io::Re
         "relay, cut at each octet" => scripts::tell_cuts(alloc, text, out),
         "relay, readers that fail" => failing::tell_readers(alloc, text, out),
         "relay, writers that fail" => failing::tell_run_writers(alloc, text, out),
+        "relay, its last line" => scripts::tell_last(alloc, text, out),
         "lines of a script" => scripts::tell_lines(alloc, text, out),
         "whole texts" => files::tell_texts(alloc, text, out),
         "configurations, their lines" => checking::tell_changes(alloc, text, out),

@@ -10,7 +10,7 @@ use std::io::Write;
 const LONGEST: usize = 34;
 
 /// The octets of an output for which memory is taken first.
-const ROOM: usize = 4_096;
+const ROOM: usize = 16_384;
 
 // How often a line stands there, and the line: `times COUNT LINE` stands for so many.
 fn counted(line: &str) -> Option<(usize, &str)> {
@@ -54,6 +54,16 @@ pub fn tell_run(alloc: Global, text: &str, out: &mut Vec<u8>) -> io::Result<()> 
     let script = script_of(alloc, text)?;
     let end = run(alloc, &mut script.as_bytes(), out);
     tell_end(end, out)
+}
+
+/// How a run of the script ends where a line isn't run, and the last line that it prints.
+pub fn tell_last(alloc: Global, text: &str, out: &mut Vec<u8>) -> io::Result<()> {
+    let script = script_of(alloc, text)?;
+    let mut printed = Vec::with_capacity(alloc, ROOM)?;
+    let end = run(alloc, &mut script.as_bytes(), &mut printed);
+    tell_end(end, out)?;
+    let last = str::from_utf8(&printed).unwrap_or("").lines().last();
+    writeln!(out, "{}", last.unwrap_or("nothing"))
 }
 
 // How a run ends where a line isn't run.

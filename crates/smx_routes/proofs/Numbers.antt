@@ -48,11 +48,11 @@ module _ (f : ℕ → ℕ) (most : ℕ) (apart : (j k : ℕ) → j < k → k < m
       omega (arith, before, here, next)
 
 -- numbers close behind one another are different
-numbers_apart : (last j k : ℕ) → j < k → k < 257 → number_behind last j ≡ number_behind last k → ⊥
+numbers_apart : (last j k : ℕ) → j < k → k < 1_025 → number_behind last j ≡ number_behind last k → ⊥
 numbers_apart last j k less within same = omega arith
 
 -- where so many numbers wait, there are so many messages
-pub waiting-le-length : (last n : ℕ) (ws : List Waiting) → n ≤ 256 → ((k : ℕ) → k < n → waits (number_behind last k) ws ≡ true) → n ≤ length ws
+pub waiting-le-length : (last n : ℕ) (ws : List Waiting) → n ≤ 1_024 → ((k : ℕ) → k < n → waits (number_behind last k) ws ≡ true) → n ≤ length ws
 waiting-le-length last n ws few all =
-    let counted = all_wait (number_behind last) 257 (numbers_apart last) n ws (omega arith) all in
+    let counted = all_wait (number_behind last) 1_025 (numbers_apart last) n ws (omega arith) all in
     omega (arith, counted, count_by-le-length (λ (w : Waiting). is_among (number_behind last) n w.given) ws)

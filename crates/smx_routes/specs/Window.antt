@@ -13,7 +13,7 @@ pub record Window : Type 0 where
   pub waiting : List Waiting
 
 abbrev pub IsSize : ℕ → Type 0
-IsSize n = (1 ≤ n) × (n ≤ 256)
+IsSize n = (1 ≤ n) × (n ≤ 1_024)
 
 -- why a window isn't made: memory is asked for where its size is right
 abbrev pub IsWindowFault : ℕ → WindowFault → Type 0

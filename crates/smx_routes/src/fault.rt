@@ -3,8 +3,8 @@
 /// Why a window isn't made.
 #[derive(Clone, Copy, Debug, PartialEq, Eq, thiserror::Error)]
 pub enum WindowFault {
-    /// There are to be none or more than 256 places.
-    #[error("the number of places is 1 to 256")]
+    /// There are to be none or more than 1,024 places.
+    #[error("the number of places is 1 to 1,024")]
     BadSize,
     /// The places could not be reserved.
     #[error("no memory for the places")]

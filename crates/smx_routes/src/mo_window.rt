@@ -1,5 +1,5 @@
 //! The messages that a client was sent and has not answered.
-ghost use Rattle.std.specs.Prelude.{◌≡◌, ◌≤◌, ◌<◌, ◌+◌, ◌↔◌, [], ◌∷◌, ◌++◌, length, Some, None, IsTrue, IsErr, IfOk, IfErr, IfSome, IfNone, OnSome, OnErr, MatchOption};
+ghost use Rattle.std.specs.Prelude.{◌≡◌, ◌≢◌, ◌≤◌, ◌+◌, ◌↔◌, [], ◌∷◌, ◌++◌, length, Some, None, IsTrue, IsErr, IfOk, IfErr, IfSome, IfNone, OnSome, OnErr, MatchOption};
 ghost use Rattle.smx_pdu.specs.Command.{is_response_to};
 ghost use Rattle.smx_routes.specs.Window.{IsSize, IsWindowFault, greatest, waits, without, message_for, HaveDistinctNumbers, IsFirstFree, IsFirst};
 
@@ -58,7 +58,7 @@ fn answered(waiting: &[Waiting], number: u32, command: u32) -> Option<Waiting>
 }
 
 impl MoWindow {
-    /// A window of 1 to 256 places, all of which it reserves.
+    /// A window of 1 to 1,024 places, all of which it reserves.
     pub fn new(alloc: Global, places: u32) -> Result<MoWindow, WindowFault>
         ensures ok { IfOk result (λ window. IsSize places
             × (window ≡ record { places = places; last = 0; waiting = [] })) }
@@ -75,7 +75,7 @@ impl MoWindow {
             × (window ≡ record { places = places; last = last; waiting = [] })) }
         ensures err { IfErr result (IsWindowFault places) }
     {
-        if !(1..=256).contains(&places) {
+        if !(1..=1_024).contains(&places) {
             return Err(WindowFault::BadSize);
         }
         match Vec::with_capacity(alloc, places as usize) {
@@ -88,7 +88,7 @@ impl MoWindow {
         }
     }
 
-    /// How many messages it holds at most: 1 to 256.
+    /// How many messages it holds at most: 1 to 1,024.
     pub fn places(&self) -> u32
         ensures places { result ≡ self.now.places }
         ensures size { IsSize result }
@@ -118,9 +118,9 @@ impl MoWindow {
         self.waiting.iter().any(|message| message.given == number)
     }
 
-    // The number that is given next.
-    fn next(&self) -> u32
-        requires { length self.now.waiting < self.now.places }
+    /// The number that is given next.
+    pub fn next(&self) -> u32
+        requires { length self.now.waiting ≢ self.now.places }
         ensures next { IsFirstFree self.now result }
     {
         for passed in 0..self.places {
@@ -149,6 +149,20 @@ impl MoWindow {
             return Err(Full);
         }
         let given = self.next();
+        self.keep(given, lane, number, command);
+        Ok(given)
+    }
+
+    /// Takes a message in under the number that is given next, as `give` does.
+    pub fn keep(&mut self, given: u32, lane: usize, number: u32, command: u32)
+        requires room { length self.old.waiting ≢ self.old.places }
+        requires next { IsFirstFree self.old given }
+        ensures { self.new ≡ record self.old {
+          last = given;
+          waiting = self.old.waiting
+              ++ record { given = given; lane = lane; number = number; command = command } ∷ [];
+        } }
+    {
         self.last = given;
         self.waiting.push_reserved(Waiting {
             given,
@@ -156,7 +170,13 @@ impl MoWindow {
             number,
             command,
         });
-        Ok(given)
+    }
+
+    /// Lets all that waits go. Its numbers go on behind the last one given.
+    pub fn clear(&mut self)
+        ensures { self.new ≡ record self.old { waiting = [] } }
+    {
+        self.waiting.clear();
     }
 
     // Takes out what waits under the number.

@@ -6,6 +6,7 @@ use crate::notice::{Notice, Words};
 use crate::pace::Moment;
 use crate::queues::Queues;
 use crate::seats::{Gateway, Member};
+use crate::teller::Teller;
 use mio::net::{TcpListener, TcpStream};
 use mio::{Registry, Token};
 use smx_client::Desk;
@@ -24,6 +25,8 @@ pub(crate) struct Entrance {
     pub gateway: Gateway,
     // The system had no descriptor for a connection that waits.
     pub short: bool,
+    // Clients are let in.
+    pub is_open: bool,
 }
 
 // What came of waiting for a connection.
@@ -125,26 +128,27 @@ impl Gateway {
     }
 }
 
-fn refuse<R: Eprint>(rt: &R, moment: Moment<'_>, address: &str, words: Words) {
+fn refuse<R: Wait>(rt: &R, moment: Moment<'_>, address: &str, words: Words) {
     let Moment { teller, now, .. } = moment;
     let notice = Notice::Refused(address, words);
-    teller.refused.say(rt, now, notice);
+    teller.refused.say(rt, &teller.log, now, notice);
 }
 
-fn say_connected<R: Eprint>(rt: &R, moment: Moment<'_>, client: u64, address: &str) {
+fn say_connected<R: Wait>(rt: &R, moment: Moment<'_>, client: u64, address: &str) {
     let Moment { teller, now, .. } = moment;
     let notice = Notice::Client(client, address, "", Words::Said("connected"));
-    teller.came.say(rt, now, notice);
+    teller.came.say(rt, &teller.log, now, notice);
 }
 
 impl Entrance {
     // The next connection, or none for now. A want of descriptors is said once.
-    fn accept<R: Eprint>(&mut self, rt: &R) -> Option<(TcpStream, SocketAddr)> {
+    fn accept<R: Wait>(&mut self, rt: &R, teller: &Teller) -> Option<(TcpStream, SocketAddr)> {
         let next = next_of(&self.listener);
         let was_short = self.short;
         self.short = matches!(next, Next::Short);
         if self.short && !was_short {
-            let _ = eprintln!(rt; "{}", Notice::Plain("no connection can be accepted now"));
+            let notice = Notice::Plain("no connection can be accepted now");
+            teller.log.say(rt, notice);
         }
         match next {
             Next::Came(stream, address) => Some((stream, address)),
@@ -153,7 +157,7 @@ impl Entrance {
     }
 
     // Gives a connection a slot and enters its client; else closes it.
-    fn welcome<'d, R: Wait + Eprint>(
+    fn welcome<'d, R: Wait>(
         &mut self,
         rt: &R,
         registry: &Registry,
@@ -190,7 +194,7 @@ impl Entrance {
     // Lets those in who connect, where somebody does, or none could be accepted before; but near
     // the end nobody. Nothing is said of one for the words of whose address there is no memory: it
     // is closed.
-    pub fn let_in<'d, R: Wait + Eprint>(
+    pub fn let_in<'d, R: Wait>(
         &mut self,
         rt: &R,
         registry: &Registry,
@@ -200,11 +204,11 @@ impl Entrance {
         addresses: &mut Addresses,
         connects: bool,
     ) {
-        if moment.stopping || !(connects || self.short) {
+        if moment.stopping || !self.is_open || !(connects || self.short) {
             return;
         }
         for _ in 0..u64::MAX {
-            let Some((stream, address)) = self.accept(rt) else {
+            let Some((stream, address)) = self.accept(rt, moment.teller) else {
                 return;
             };
             if let Ok(address) = format!(in moment.alloc; "{address}") {

@@ -11,13 +11,13 @@ use crate::seats::Member;
 use smx_client::Desk;
 use smx_session::ClientState;
 use smx_slots::{Bell, ClientEnds, Guide, Slots};
-use smx_socket::{Flushed, Socket};
+use smx_socket::{Drained, Flushed, Socket};
 use smx_turns::RunEnd;
 use std::alloc::{AllocError, Global};
 use std::rc::Rc;
 use std::sync::Wait;
 
-/// How long the octets of a client that is gone may wait for its socket, in milliseconds.
+/// How long the socket of a client that is gone stays open, in milliseconds.
 const LINGER: u64 = 2_000;
 
 /// A client that is served.
@@ -47,7 +47,7 @@ fn kind_of(state: ClientState) -> Option<&'static str> {
 
 impl Guest<'_> {
     // Turns the worker until it is idle, at most so often; who is told of something is ready then.
-    fn turn<R: Wait + Eprint>(
+    fn turn<R: Wait>(
         &mut self,
         rt: &R,
         queues: &mut Queues,
@@ -87,7 +87,7 @@ impl Guest<'_> {
     }
 
     // Says why its client is gone.
-    fn say_gone<R: Eprint>(&self, rt: &R, moment: Moment<'_>, end: RunEnd) {
+    fn say_gone<R: Wait>(&self, rt: &R, moment: Moment<'_>, end: RunEnd) {
         let words = match end {
             RunEnd::Fault(fault) => Words::Fault(fault),
             _ if self.socket.has_ended() => Words::Said("closed its connection"),
@@ -96,11 +96,11 @@ impl Guest<'_> {
         };
         let notice = Notice::Client(self.client, self.address.as_str(), self.name, words);
         let Moment { teller, now, .. } = moment;
-        teller.gone.say(rt, now, notice);
+        teller.gone.say(rt, &teller.log, now, notice);
     }
 
     // Says as what its client is bound, and by which account, where it is and that wasn't said.
-    fn say_bound<R: Eprint>(&mut self, rt: &R, moment: Moment<'_>, state: ClientState) {
+    fn say_bound<R: Wait>(&mut self, rt: &R, moment: Moment<'_>, state: ClientState) {
         let Moment {
             alloc,
             teller,
@@ -121,18 +121,44 @@ impl Guest<'_> {
         };
         let words = Words::Bound(kind);
         let notice = Notice::Client(self.client, self.address.as_str(), self.name, words);
-        teller.bound.say(rt, now, notice);
+        teller.bound.say(rt, &teller.log, now, notice);
     }
 }
 
 /// The name of a client whose bind came behind so much else that it isn't kept.
 const UNNAMED: &str = "?";
 
-// The socket of a client that is gone, until all is written, or until this moment.
+// The socket of a client that is gone, until all is written and its peer has closed too, or until this
+// moment. Octets that nobody reads before a socket is closed make the system reset the connection, and
+// then the peer loses what it hasn't read yet; so what comes is dropped until it has read all.
 #[derive(Drop)]
 struct Lingering {
     socket: Rc<Socket>,
     until: u64,
+}
+
+// What becomes of such a socket.
+#[derive(Clone, Copy, PartialEq, Eq)]
+enum Parting {
+    // An event tells of it.
+    Waits,
+    // It may have more to read now.
+    Reads,
+    Over,
+}
+
+impl Lingering {
+    // Writes what waits, ends the writing side once nothing does, and reads once.
+    fn settle(&self, now: u64) -> Parting {
+        let flushed = self.socket.shut_write();
+        let drained = self.socket.drain();
+        match (flushed, drained) {
+            (Flushed::Failed, _) | (Flushed::All, Drained::Ended) => Parting::Over,
+            _ if now >= self.until => Parting::Over,
+            (_, Drained::More) => Parting::Reads,
+            (_, Drained::Nothing | Drained::Ended) => Parting::Waits,
+        }
+    }
 }
 
 // The socket that lingers at a slot, where one does.
@@ -143,16 +169,12 @@ fn lingering_at(lingering: &[Option<Lingering>], slot: usize) -> Option<&Socket>
     }
 }
 
-// Lets a socket go of which all that waited is written, or waited too long. True where it goes now.
-fn is_let_go(place: &mut Option<Lingering>, now: u64) -> bool {
-    let waits = match place {
-        Some(lingering) => lingering.socket.flush() == Flushed::Part && now < lingering.until,
-        None => return false,
-    };
-    if !waits {
-        *place = None;
+// What becomes of the socket that lingers at a slot. None waits where none does.
+fn parting_at(lingering: &[Option<Lingering>], slot: usize, now: u64) -> Parting {
+    match lingering.get(slot) {
+        Some(Some(lingering)) => lingering.settle(now),
+        _ => Parting::Waits,
     }
-    !waits
 }
 
 /// The clients that are served, each in its slot, and the sockets of those that are gone.
@@ -195,7 +217,7 @@ impl<'d> Guests<'d> {
     }
 
     // Turns the worker of the slot's client: how that ended. Idle where there is no client.
-    fn turn_worker<R: Wait + Eprint>(
+    fn turn_worker<R: Wait>(
         &mut self,
         rt: &R,
         moment: Moment<'_>,
@@ -212,7 +234,7 @@ impl<'d> Guests<'d> {
     }
 
     // The same, and lets the client go whose worker has ended. True where it has.
-    pub fn turn<R: Wait + Eprint>(
+    pub fn turn<R: Wait>(
         &mut self,
         rt: &R,
         moment: Moment<'_>,
@@ -224,12 +246,14 @@ impl<'d> Guests<'d> {
         let is_gone = matches!(end, RunEnd::Left | RunEnd::Fault(_));
         if is_gone {
             self.let_go(rt, moment, queues, addresses, slot, end);
+        } else {
+            self.settle(queues, slot, moment.now);
         }
         is_gone
     }
 
     // Lets the slot's client go, whose worker's last run ended so.
-    fn let_go<R: Wait + Eprint>(
+    fn let_go<R: Wait>(
         &mut self,
         rt: &R,
         moment: Moment<'_>,
@@ -243,11 +267,11 @@ impl<'d> Guests<'d> {
         };
         guest.say_gone(rt, moment, end);
         let (socket, ends) = guest.close(rt, queues, addresses);
-        self.part(slot, socket, ends, moment.now);
+        self.part(queues, slot, socket, ends, moment.now);
     }
 
     // Lets each client go.
-    pub fn dismiss<R: Wait + Eprint>(
+    pub fn dismiss<R: Wait>(
         &mut self,
         rt: &R,
         moment: Moment<'_>,
@@ -278,12 +302,15 @@ impl<'d> Guests<'d> {
         lingering_at(&self.lingering, slot)
     }
 
-    // The slot's client is gone: the slot is free once its socket has taken what waits.
-    fn part(&mut self, slot: usize, socket: Rc<Socket>, ends: ClientEnds, now: u64) {
-        if socket.flush() != Flushed::Part {
-            self.slots.give_back(slot, ends);
-            return;
-        }
+    // The slot's client is gone: the slot is free once its socket is.
+    fn part(
+        &mut self,
+        queues: &mut Queues,
+        slot: usize,
+        socket: Rc<Socket>,
+        ends: ClientEnds,
+        now: u64,
+    ) {
         self.slots.keep(slot, ends);
         if let Some(place) = self.lingering.get_mut(slot) {
             *place = Some(Lingering {
@@ -291,33 +318,53 @@ impl<'d> Guests<'d> {
                 until: now.saturating_add(LINGER),
             });
         }
+        self.settle(queues, slot, now);
     }
 
-    // Frees the slot of a client that is gone where what waited is written, or waited too long.
-    pub fn settle(&mut self, slot: usize, now: u64) {
-        let is_free = match self.lingering.get_mut(slot) {
-            Some(place) => is_let_go(place, now),
-            None => false,
-        };
-        if is_free {
-            self.slots.free(slot);
-        }
-    }
-
-    // The same of all slots.
-    pub fn settle_all(&mut self, now: u64) {
-        if self.is_lingering() {
-            for slot in 0..self.slots.count() {
-                self.settle(slot, now);
+    // Goes on with the socket of a client that is gone, where the slot has one, and frees the slot where
+    // that is over.
+    fn settle(&mut self, queues: &mut Queues, slot: usize, now: u64) {
+        match parting_at(&self.lingering, slot, now) {
+            Parting::Waits => {}
+            Parting::Reads => {
+                let party = queues.party(slot);
+                queues.ready.add(party);
+            }
+            Parting::Over => {
+                if let Some(place) = self.lingering.get_mut(slot) {
+                    *place = None;
+                }
+                self.slots.free(slot);
             }
         }
     }
 
-    // Whether a socket of a client that is gone has octets left.
+    // The same of all slots.
+    pub fn settle_all(&mut self, queues: &mut Queues, now: u64) {
+        if self.is_lingering() {
+            for slot in 0..self.slots.count() {
+                self.settle(queues, slot, now);
+            }
+        }
+    }
+
+    // Whether the socket of a client that is gone is open.
     pub fn is_lingering(&self) -> bool {
         for place in self.lingering.as_slice() {
             if place.is_some() {
                 return true;
+            }
+        }
+        false
+    }
+
+    // Whether the socket of a client that is gone has octets left to write.
+    pub fn is_writing(&self) -> bool {
+        for place in self.lingering.as_slice() {
+            if let Some(lingering) = place {
+                if lingering.socket.has_octets() {
+                    return true;
+                }
             }
         }
         false

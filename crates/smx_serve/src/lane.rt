@@ -2,6 +2,7 @@
 //! made of.
 
 use crate::addresses::Addresses;
+use crate::course::{Course, Way};
 use crate::guests::NACK;
 use crate::heard::bind_status;
 use crate::notice::Words;
@@ -17,7 +18,7 @@ use smx_slots::{Bell, Guide, LaneEnds};
 use smx_socket::Socket;
 use smx_turns::{Fault, RunEnd};
 use std::alloc::Global;
-use std::net::Net;
+use std::net::{Net, SocketAddr};
 use std::rc::Rc;
 use std::sync::Wait;
 
@@ -26,10 +27,10 @@ use std::sync::Wait;
 pub(crate) struct Lane {
     link: Option<Linked>,
     spare: Option<Spare>,
-    // From which moment on it is tried again, in milliseconds.
-    due: u64,
-    // How many addresses of its name could not be reached, one after another.
-    behind: usize,
+    // How its next link comes about.
+    course: Course,
+    // Since which moment what is queued here waits for a link, in milliseconds.
+    lost: Option<u64>,
 }
 
 // A worker beside its socket.
@@ -37,10 +38,11 @@ pub(crate) struct Lane {
 struct Linked {
     carrier: Carrier,
     socket: Rc<Socket>,
-    // When it began to connect, and whether its name has a further address.
+    // When it began to connect.
     begun: u64,
-    more: bool,
-    // Where its session stood after the last turn, and whether its worker has ended.
+    // Whether it was bound, where its session stood after the last turn, and whether its worker has
+    // ended.
+    was_bound: bool,
     state: UpstreamState,
     over: bool,
 }
@@ -67,6 +69,15 @@ pub(crate) struct Loss {
     pub words: Words,
     pub failed: usize,
     pub again: u64,
+}
+
+/// Why no link could be begun.
+#[derive(Drop)]
+pub(crate) enum Unlinked {
+    /// The system refused, or there was no memory.
+    Unreached,
+    /// Its name has no address, for this reason.
+    Unknown(String),
 }
 
 /// How often a worker is turned before the next one is.
@@ -112,9 +123,9 @@ impl Linked {
 }
 
 impl Linked {
-    // Whether another address of its name is tried at once, since this one could not be reached.
-    fn goes_on(&self, alloc: Global, end: RunEnd) -> bool {
-        self.more && end == RunEnd::Fault(Fault::Link) && !self.has_heard(alloc)
+    // Whether its address could not be reached, where its worker ended so.
+    fn is_unreached(&self, alloc: Global, end: RunEnd) -> bool {
+        end == RunEnd::Fault(Fault::Link) && !self.has_heard(alloc)
     }
 
     // Turns the worker until it is idle, at most so often; who is told of something is ready then.
@@ -127,7 +138,6 @@ impl Linked {
         now: u64,
     ) -> Turned {
         let before = self.socket.traffic();
-        let was_bound = self.state == UpstreamState::Bound;
         let mut bell = Bell::new(queues.lanes, &mut queues.ready, &addresses.roll);
         let mut guide = Guide::new(&mut addresses.routes, &addresses.roll);
         let (end, state) = self.carrier.run(rt, &mut bell, &mut guide, now, TURNS);
@@ -138,21 +148,29 @@ impl Linked {
             queues.unstall();
         }
         queues.was_turned(lane, end, moved);
-        Turned {
-            end,
-            newly_bound: state == UpstreamState::Bound && !was_bound,
-        }
+        let newly_bound = state == UpstreamState::Bound && !self.was_bound;
+        self.was_bound |= newly_bound;
+        Turned { end, newly_bound }
     }
 }
 
 impl Lane {
-    // Not connected yet.
-    pub fn new(drawer: Drawer, ends: LaneEnds) -> Lane {
+    // Not connected yet: it takes no requests until it is bound.
+    pub fn new<R: Wait>(rt: &R, alloc: Global, mut drawer: Drawer, ends: LaneEnds) -> Lane {
+        drawer.lower(rt);
         Lane {
             link: None,
             spare: Some(Spare { drawer, ends }),
-            due: 0,
-            behind: 0,
+            course: Course::new(alloc),
+            lost: None,
+        }
+    }
+
+    // Whether it takes requests.
+    pub fn is_bound(&self) -> bool {
+        match &self.link {
+            Some(linked) => linked.state == UpstreamState::Bound,
+            None => false,
         }
     }
 
@@ -188,10 +206,14 @@ impl Lane {
         lane: usize,
         now: u64,
     ) -> Option<Turned> {
-        match &mut self.link {
-            Some(linked) if !linked.over => { Some(linked.turn(rt, queues, addresses, lane, now)) },
-            _ => None,
+        let turned = match &mut self.link {
+            Some(linked) if !linked.over => linked.turn(rt, queues, addresses, lane, now),
+            _ => return None,
+        };
+        if turned.newly_bound {
+            self.lost = None;
         }
+        Some(turned)
     }
 
     // Whether its bind waits for an answer since so many milliseconds.
@@ -205,21 +227,24 @@ impl Lane {
         }
     }
 
-    // Parts from its link: what was said last is written, and what was taken and not answered
-    // fails. How many requests failed. It is tried again from this moment on.
-    pub fn part<R: Wait>(&mut self, rt: &R, due: u64) -> usize {
+    // Parts from its link at this moment: what was said last is written, and what was taken and not
+    // answered fails. How many requests failed. It is tried again at once.
+    pub fn part<R: Wait>(&mut self, rt: &R, now: u64) -> usize {
         let Some(linked) = self.link.take() else {
             return 0;
         };
         let Linked {
             carrier,
             socket,
+            was_bound,
             ..
         } = linked;
         socket.flush();
         let (drawer, ends, failed) = carrier.close(rt);
         self.spare = Some(Spare { drawer, ends });
-        self.due = due;
+        if was_bound {
+            self.lost = Some(now);
+        }
         failed
     }
 
@@ -232,21 +257,19 @@ impl Lane {
             now,
             ..
         } = moment;
-        let (words, goes_on, begun) = match &self.link {
+        let (words, is_unreached, begun) = match &self.link {
             Some(linked) => {
                 let words = linked.farewell(alloc, end);
-                (words, linked.goes_on(alloc, end), linked.begun)
+                (words, linked.is_unreached(alloc, end), linked.begun)
             }
             None => return None,
         };
-        if goes_on {
-            self.behind = self.behind.saturating_add(1);
-            self.part(rt, now);
+        let failed = self.part(rt, now);
+        if is_unreached && self.course.has_more() {
             return None;
         }
-        self.behind = 0;
         let due = now.max(begun.saturating_add(config.silence));
-        let failed = self.part(rt, due);
+        self.course.delay(due);
         Some(Loss {
             words,
             failed,
@@ -254,49 +277,105 @@ impl Lane {
         })
     }
 
-    // Begins to connect, where there is no link and it is time; its bind is the first that its
-    // worker writes. False where that could not be begun, and is tried again after the silence.
-    pub fn connect<R: Net>(
+    // Where its link was lost so long ago that no request waits longer, what is queued here fails: how
+    // many requests. A link that isn't bound by then is begun anew.
+    pub fn give_up_queued<R: Wait>(&mut self, rt: &R, now: u64, response_timer: u64) -> usize {
+        match self.lost {
+            Some(lost) if now >= lost.saturating_add(response_timer) => {}
+            _ => return 0,
+        }
+        self.part(rt, now);
+        self.lost = None;
+        match &mut self.spare {
+            Some(spare) => spare.drawer.give_up_queued(rt, now),
+            None => 0,
+        }
+    }
+
+    // Lets go what was noted of its lane, where that is so much. A worker does it of its own.
+    pub fn turn_over<R: Wait>(&mut self, rt: &R, least: usize) {
+        if let Some(spare) = &mut self.spare {
+            spare.drawer.turn_over(rt, least);
+        }
+    }
+
+    // Begins to connect to this address. False where that can't be begun.
+    fn link_to<R: Wait + Net>(
         &mut self,
         rt: &R,
         registry: &Registry,
         moment: Moment<'_>,
         upstream: &Upstream,
+        address: SocketAddr,
     ) -> bool {
-        let Moment { config, now, .. } = moment;
-        if now < self.due {
-            return true;
-        }
         let Some(spare) = self.spare.take() else {
-            return true;
+            return false;
         };
-        match link_to(rt, registry, moment, upstream, spare, self.behind) {
+        match link_to(rt, registry, moment, upstream, spare, address) {
             Ok(linked) => {
                 self.link = Some(linked);
                 true
             }
             Err(spare) => {
                 self.spare = Some(spare);
-                self.due = now.saturating_add(config.silence);
-                self.behind = 0;
                 false
             }
         }
     }
+
+    // Goes on towards a link, where there is none and it is time; its bind is the first that its
+    // worker writes. Where none can be begun it is tried again after the silence.
+    pub fn connect<R: Wait + Net>(
+        &mut self,
+        rt: &R,
+        registry: &Registry,
+        moment: Moment<'_>,
+        upstream: &Upstream,
+        lane: usize,
+    ) -> Result<(), Unlinked> {
+        let Moment { config, now, .. } = moment;
+        let due = now.saturating_add(config.silence);
+        for _ in 0..MOST {
+            if self.spare.is_none() {
+                return Ok(());
+            }
+            let address = match self
+                .course
+                .next(rt, moment, lane, upstream.address.as_str())
+            {
+                Way::Waits => return Ok(()),
+                Way::Unknown(reason) => {
+                    self.course.delay(due);
+                    return Err(Unlinked::Unknown(reason));
+                }
+                Way::To(address) => address,
+            };
+            let is_begun = self.link_to(rt, registry, moment, upstream, address);
+            if !is_begun && !self.course.has_more() {
+                self.course.delay(due);
+                return Err(Unlinked::Unreached);
+            }
+        }
+        Ok(())
+    }
 }
 
-// A worker over a new connection, or what it would have been made of.
-fn link_to<R: Net>(
+/// More addresses than a name has.
+const MOST: usize = 64;
+
+// A worker over a new connection to this address, or what it would have been made of.
+fn link_to<R: Wait + Net>(
     rt: &R,
     registry: &Registry,
     moment: Moment<'_>,
     upstream: &Upstream,
     spare: Spare,
-    behind: usize,
+    address: SocketAddr,
 ) -> Result<Linked, Spare> {
     let Moment {
         alloc,
         config,
+        response_timer,
         now,
         ..
     } = moment;
@@ -304,18 +383,26 @@ fn link_to<R: Net>(
     let Some(session) = session_of(alloc, upstream, config.silence, now) else {
         return Err(spare);
     };
-    let name = upstream.address.as_str();
-    let Some((socket, link, more)) = connect(rt, alloc, registry, name, behind, lane) else {
+    let Some((socket, link)) = connect(rt, alloc, registry, address, lane) else {
         return Err(spare);
     };
     let Spare { drawer, ends } = spare;
     let history = config.limits.history as usize;
-    match Carrier::new(alloc, drawer, session, ends, link, history) {
+    match Carrier::new(
+        rt,
+        alloc,
+        drawer,
+        session,
+        ends,
+        link,
+        history,
+        response_timer,
+    ) {
         Ok(carrier) => Ok(Linked {
             carrier,
             socket,
             begun: now,
-            more,
+            was_bound: false,
             state: UpstreamState::Binding,
             over: false,
         }),

@@ -2,12 +2,15 @@
 #![tactic(auto)]
 
 mod addresses;
+mod course;
 mod desk;
 mod entrance;
 mod guests;
 mod heard;
 mod lane;
 mod linking;
+mod log;
+mod lookup;
 mod notice;
 mod pace;
 mod parties;
@@ -21,6 +24,8 @@ mod teller;
 mod turning;
 mod upstreams;
 
+pub use log::Log;
+pub use lookup::{Lookups, is_name};
 pub use notice::Ended;
 pub use remote::Remote;
 pub use serve::Server;

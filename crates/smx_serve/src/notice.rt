@@ -17,6 +17,9 @@ pub enum Ended {
     /// There is no memory for the lanes or the boxes.
     #[error("no memory")]
     NoMemory,
+    /// The system gives no threads for what is read and written beside it.
+    #[error("the system gives no threads")]
+    NoThreads,
     /// The system gives no events any more, or no time.
     #[error("the system gives no events")]
     NoEvents,
@@ -38,6 +41,8 @@ pub(crate) enum Words {
     Status(u32),
     Fault(Fault),
     Unentered(EnterFault),
+    // So many requests that waited for a link of an upstream failed.
+    GivenUp(usize),
 }
 
 impl fmt::Display for Words {
@@ -48,6 +53,9 @@ impl fmt::Display for Words {
             Words::Status(status) => write!(f, "bind refused with status 0x{status:02x}"),
             Words::Fault(fault) => write!(f, "ended, {fault}"),
             Words::Unentered(fault) => write!(f, "{fault}"),
+            Words::GivenUp(failed) => {
+                write!(f, "has no link for long, {failed} queued requests failed")
+            }
         }
     }
 }
@@ -62,10 +70,15 @@ pub(crate) enum Notice<'a> {
     Lane(usize, &'a str, &'a str, Words),
     // Of an upstream, how many requests failed with it, and in how many milliseconds it is tried again.
     Lost(usize, &'a str, &'a str, Words, usize, u64),
+    // Of an upstream of which no address is known, why, and in how many milliseconds its name is
+    // looked up again.
+    Unknown(usize, &'a str, &'a str, &'a str, u64),
     // Of a client, its address, and its name, which is empty before it is bound.
     Client(u64, &'a str, &'a str, Words),
     // A connection from this address was closed at once.
     Refused(&'a str, Words),
+    // So many lines of a kind came too often.
+    More(u64, &'static str),
 }
 
 impl fmt::Display for Notice<'_> {
@@ -83,6 +96,16 @@ impl fmt::Display for Notice<'_> {
                     "{failed} requests failed; it is tried again in {again} ms"
                 )
             }
+            Notice::Unknown(lane, address, name, reason, again) => {
+                write!(
+                    f,
+                    "upstream {lane} {name} at {address}: the name isn't known"
+                )?;
+                if !reason.is_empty() {
+                    write!(f, " ({reason})")?;
+                }
+                write!(f, "; it is looked up again in {again} ms")
+            }
             Notice::Client(client, address, "", words) => {
                 write!(f, "client {client} at {address}: {words}")
             }
@@ -90,6 +113,7 @@ impl fmt::Display for Notice<'_> {
                 write!(f, "client {client} {name} at {address}: {words}")
             }
             Notice::Refused(address, words) => write!(f, "{address}: refused, {words}"),
+            Notice::More(count, kind) => write!(f, "{count} more lines left out: {kind}"),
         }
     }
 }

@@ -1,5 +1,6 @@
 //! The moments of the loop, and what is due at each.
 
+use crate::lookup::Lookups;
 use crate::teller::Teller;
 use smx_client::Desk;
 use smx_config::Config;
@@ -13,6 +14,10 @@ const PASSES: u64 = 16;
 /// How often each lane is turned in any case, in milliseconds.
 pub(crate) const TICK: u64 = 100;
 
+/// How long the lanes may take at the start, in milliseconds, until clients are let in of whom none
+/// is bound.
+pub(crate) const GRACE: u64 = 1_000;
+
 /// What holds at a moment: the settings, the milliseconds since the start, and whether the end is
 /// near; and by what lines are said.
 #[derive(Clone, Copy)]
@@ -21,6 +26,9 @@ pub(crate) struct Moment<'d> {
     pub config: &'d Config,
     pub desk: &'d Desk,
     pub teller: &'d Teller,
+    pub lookups: &'d Lookups,
+    // How long a request may be without an answer, in milliseconds.
+    pub response_timer: u64,
     pub now: u64,
     pub stopping: bool,
 }

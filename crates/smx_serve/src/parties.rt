@@ -50,7 +50,7 @@ pub(crate) fn are_idle<'a>(lanes: &'a [Lane], guests: &'a Guests, queues: &mut Q
 }
 
 // Turns a party's worker. True where a client is gone then.
-fn turn<R: Wait + Eprint>(
+fn turn<R: Wait>(
     rt: &R,
     moment: Moment<'_>,
     lanes: &mut [Lane],
@@ -70,7 +70,7 @@ fn turn<R: Wait + Eprint>(
 }
 
 /// Turns each that is ready once. True where a client is gone then.
-pub(crate) fn pass<R: Wait + Eprint>(
+pub(crate) fn pass<R: Wait>(
     rt: &R,
     moment: Moment<'_>,
     lanes: &mut [Lane],
@@ -98,31 +98,41 @@ fn note<'a>(lanes: &'a [Lane], guests: &'a Guests, event: &Event, party: usize) 
 }
 
 /// Heeds what the system says. True where it is that somebody connects.
-pub(crate) fn heed(
+pub(crate) fn heed<'a>(
     event: &Event,
-    now: u64,
-    lanes: &[Lane],
-    guests: &mut Guests,
+    lanes: &'a [Lane],
+    guests: &'a Guests,
     queues: &mut Queues,
 ) -> bool {
     let Token(party) = event.token();
-    if party == LISTENER || party == WAKER {
-        return party == LISTENER;
+    if party == LISTENER {
+        return true;
+    }
+    if party == WAKER {
+        queues.hurry();
+        return false;
     }
     note(lanes, guests, event, party);
-    if party >= lanes.len() {
-        guests.settle(party - lanes.len(), now);
-    }
     queues.ready.add(party);
     false
 }
 
-/// Whether no octet waits for a socket, and, where the lanes are to end, each worker of them has.
-pub(crate) fn are_settled(lanes: &[Lane], guests: &Guests, lanes_end: bool) -> bool {
+/// Whether no octet waits for a socket; where the lanes are to end, also whether each worker of them
+/// has, and where the clients are to close, whether each that is gone has.
+pub(crate) fn are_settled(
+    lanes: &[Lane],
+    guests: &Guests,
+    lanes_end: bool,
+    clients_close: bool,
+) -> bool {
     for lane in lanes {
         if !lane.is_settled(lanes_end) {
             return false;
         }
     }
-    !guests.is_lingering()
+    if clients_close {
+        !guests.is_lingering()
+    } else {
+        !guests.is_writing()
+    }
 }

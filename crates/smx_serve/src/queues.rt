@@ -14,6 +14,8 @@ pub(crate) struct Queues {
     dirty: Ready,
     // Those that can't go on: their peer doesn't read, or a return box is full.
     stalled: Vec<usize>,
+    // What is due at a tick is due at once.
+    hurried: bool,
     // How many of each there are.
     pub lanes: usize,
     pub slots: usize,
@@ -32,6 +34,7 @@ impl Queues {
             current,
             dirty,
             stalled,
+            hurried: false,
             lanes,
             slots,
         };
@@ -49,6 +52,16 @@ impl Queues {
         for lane in 0..self.lanes {
             self.ready.add(lane);
         }
+    }
+
+    /// What is due at a tick is due at once.
+    pub fn hurry(&mut self) {
+        self.hurried = true;
+    }
+
+    /// Whether that was said since this was asked.
+    pub fn take_hurry(&mut self) -> bool {
+        std::mem::take(&mut self.hurried)
     }
 
     /// Each slot is ready.

@@ -24,6 +24,11 @@ impl Remote {
     /// Asks it to stop: it unbinds, writes what waits and ends.
     pub fn stop(&self) {
         self.stopping.store(true, Ordering::SeqCst);
+        self.wake();
+    }
+
+    // Ends the loop's wait for events.
+    pub(crate) fn wake(&self) {
         let _ = self.waker.wake();
     }
 

@@ -6,18 +6,17 @@ ghost use Rattle.smx_turns.specs.declared.end.Fault.{Fault};
 ghost use Rattle.smx_client.specs.declared.mark.Stage.{Stage};
 ghost use Rattle.smx_session.specs.declared.upstream_state.UpstreamState.{UpstreamState};
 
+use smx_box::{Got, Receiver};
 use smx_client::{ClientWorker, Closed, Desk, run_client};
+use smx_pdu::Pdu;
 use smx_session::{ClientState, UpstreamSession, UpstreamState};
 use smx_shared::{Door, EnterFault, Exchange, Port, Tap};
 use smx_slots::{ClientEnds, LaneEnds};
 use smx_socket::SocketLink;
 use smx_turns::{Directory, Gate, RunEnd};
-use smx_upstream::{Closed as Ended, Parts, UpstreamWorker, run_upstream};
+use smx_upstream::{Closed as Ended, Parts, UpstreamWorker, give_up_queued, lose, run_upstream};
 use std::alloc::Global;
 use std::sync::{Arc, Wait};
-
-// A request that the centre has not answered after so many milliseconds is given up (SMPP 3.4, section 7.2).
-const RESPONSE_TIMER: u64 = 60_000;
 
 /// A lane's tap.
 #[derive(Drop)]
@@ -64,6 +63,33 @@ pub(crate) struct Carrier {
     ghost fits: { slice_get (arc_value at) worker.stand.tap.lane
         ≡ Some worker.stand.tap.front.lock },
     ghost goes_on: { over ≡ false → worker.held ≡ None },
+}
+
+impl Drawer {
+    // The lane takes no requests until a worker brings it up.
+    pub fn lower<R: Wait>(&mut self, rt: &R) {
+        let _ = lose(&mut self.tap, &self.at, rt);
+    }
+
+    // What is queued on the lane fails. How many requests that were.
+    pub fn give_up_queued<R: Wait>(&mut self, rt: &R, now: u64) -> usize {
+        give_up_queued(&mut self.tap, &self.at, rt, now).failed
+    }
+
+    // The lane lets go what was noted there, where that is so much.
+    pub fn turn_over<R: Wait>(&mut self, rt: &R, least: usize) {
+        let _ = self.tap.turn_over(&self.at, rt, least);
+    }
+}
+
+// Lets the answers go that wait in a return box.
+fn empty<R: Wait>(rt: &R, answers: &mut Receiver<Pdu>) {
+    for _ in 0..answers.places() {
+        match answers.get(rt) {
+            Ok(Got::Empty) | Err(_) => return,
+            Ok(_) => {}
+        }
+    }
 }
 
 impl Gateway {
@@ -163,27 +189,36 @@ impl<'d> Member<'d> {
 }
 
 impl Carrier {
-    // A worker for a lane. Where there is no memory for it the tap and the ends come back.
-    pub fn new(
+    // A worker for a lane, whose return box is emptied: what waits there answers messages of an
+    // earlier link. Where there is no memory for it the tap and the ends come back.
+    pub fn new<R: Wait>(
+        rt: &R,
         alloc: Global,
         drawer: Drawer,
         session: UpstreamSession,
         ends: LaneEnds,
         link: SocketLink,
         history: usize,
+        response_timer: u64,
     ) -> Result<Carrier, (Drawer, LaneEnds)>
         requires { session.state ≡ UpstreamState.Binding }
     {
         let Drawer { at, tap } = drawer;
-        let LaneEnds { answers, senders } = ends;
+        let LaneEnds {
+            mut answers,
+            senders,
+            owed,
+        } = ends;
+        empty(rt, &mut answers);
         let parts = Parts {
             link,
             tap,
             session,
             answers,
             senders,
+            owed,
         };
-        match UpstreamWorker::new(alloc, parts, history, RESPONSE_TIMER) {
+        match UpstreamWorker::new(alloc, parts, history, response_timer) {
             Ok(worker) => Ok(Carrier {
                 at,
                 worker,
@@ -194,26 +229,39 @@ impl Carrier {
                     tap,
                     answers,
                     senders,
+                    owed,
                     ..
                 } = parts;
-                Err((Drawer { at, tap }, LaneEnds { answers, senders }))
+                let ends = LaneEnds {
+                    answers,
+                    senders,
+                    owed,
+                };
+                Err((Drawer { at, tap }, ends))
             }
         }
     }
 
-    // Ends it: its lane goes down, and what was taken and not answered fails. The tap and the ends
-    // come back, and how many requests failed.
+    // Ends it: its lane goes down, what was taken and not answered fails, and no answer that waits for
+    // this link goes out. The tap and the ends come back, and how many requests failed.
     pub fn close<R: Wait>(self, rt: &R) -> (Drawer, LaneEnds, usize) {
         let Carrier { at, worker, .. } = self;
         let Ended {
             tap,
-            answers,
+            mut answers,
             senders,
+            owed,
             lost,
             ..
         } = worker.close(&at, rt);
+        empty(rt, &mut answers);
         let drawer = Drawer { at, tap };
-        (drawer, LaneEnds { answers, senders }, lost.failed)
+        let ends = LaneEnds {
+            answers,
+            senders,
+            owed,
+        };
+        (drawer, ends, lost.failed)
     }
 
     // Ends its session in order. False where it wasn't bound, or there was no memory: then nothing is

@@ -5,6 +5,8 @@ use crate::desk::desk_of;
 use crate::entrance::Entrance;
 use crate::guests::Guests;
 use crate::lane::Lane;
+use crate::log::Log;
+use crate::lookup::Lookups;
 use crate::notice::{Ended, Notice};
 use crate::pace::{Moment, Pace};
 use crate::parties::{LISTENER, WAKER};
@@ -25,11 +27,16 @@ use std::rt::Clock;
 use std::sync::{Arc, Wait};
 use std::time::Instant;
 
+/// How long a request may be without an answer, in milliseconds, where nothing else is said (SMPP 3.4,
+/// section 7.2).
+const RESPONSE_TIMER: u64 = 60_000;
+
 /// A proxy that isn't running yet.
 #[derive(Drop)]
 pub struct Server {
     poll: Poll,
-    remote: Arc<Remote>,
+    shared: Shared,
+    response_timer: u64,
 }
 
 // Where clients connect, watched.
@@ -52,18 +59,17 @@ where
 }
 
 // The same of a configuration's address; where nobody can listen there, that is said.
-fn announce<R>(rt: &R, poll: &Poll, config: &Config) -> Result<TcpListener, Ended>
+fn announce<R>(rt: &R, poll: &Poll, moment: Moment<'_>) -> Result<TcpListener, Ended>
 where
-    R: Net<Listener = std::net::TcpListener, Stream = TcpStream> + Eprint,
+    R: Wait + Net<Listener = std::net::TcpListener, Stream = TcpStream>,
 {
+    let Moment { config, teller, .. } = moment;
     let address = config.listen.as_str();
     match listen(rt, poll, address) {
         Some(listener) => Ok(listener),
         None => {
-            let _ = eprintln!(rt;
-                "{}",
-                Notice::Door("no connections can be awaited at", address)
-            );
+            let notice = Notice::Door("no connections can be awaited at", address);
+            teller.log.say(rt, notice);
             Err(Ended::NotListening)
         }
     }
@@ -106,7 +112,8 @@ fn boxes_of<R: Wait>(
 }
 
 // Each lane beside its boxes, not connected yet.
-fn lanes_of(
+fn lanes_of<R: Wait>(
+    rt: &R,
     alloc: Global,
     drawers: Vec<Drawer>,
     mut ends: Vec<LaneEnds>,
@@ -115,7 +122,7 @@ fn lanes_of(
     ends.reverse();
     for drawer in drawers {
         if let Some(ends) = ends.pop() {
-            lanes.push(Lane::new(drawer, ends))?;
+            lanes.push(Lane::new(rt, alloc, drawer, ends))?;
         }
     }
     Ok(lanes)
@@ -132,7 +139,7 @@ struct Wiring<'d> {
 fn wiring_of<'d, R: Wait>(rt: &R, alloc: Global, config: &Config) -> Result<Wiring<'d>, Ended> {
     let (gateway, drawers) = gateway_of(rt, alloc, config)?;
     let (ends, lane_ends) = boxes_of(rt, alloc, config)?;
-    let lanes = lanes_of(alloc, drawers, lane_ends)?;
+    let lanes = lanes_of(rt, alloc, drawers, lane_ends)?;
     let guests = Guests::new(alloc, Slots::new(alloc, ends)?)?;
     Ok(Wiring {
         gateway,
@@ -163,7 +170,7 @@ fn tables_of(alloc: Global, lanes: usize, slots: usize) -> Result<Tables, AllocE
 // The loop, which listens and is not connected yet.
 fn loop_of<'d, R>(rt: &R, pace: Pace<'d>, poll: Poll) -> Result<Loop<'d>, Ended>
 where
-    R: Wait + Net<Listener = std::net::TcpListener, Stream = TcpStream> + Eprint,
+    R: Wait + Net<Listener = std::net::TcpListener, Stream = TcpStream>,
 {
     let Moment { alloc, config, .. } = pace.moment;
     let Wiring {
@@ -171,7 +178,7 @@ where
         lanes,
         guests,
     } = wiring_of(rt, alloc, config)?;
-    let listener = announce(rt, &poll, config)?;
+    let listener = announce(rt, &poll, pace.moment)?;
     let Tables {
         events,
         queues,
@@ -181,6 +188,7 @@ where
         listener,
         gateway,
         short: false,
+        is_open: false,
     };
     Ok(Loop {
         pace,
@@ -194,6 +202,27 @@ where
     })
 }
 
+// What other threads have of a proxy: what stops it, what it says, and the look-ups of names.
+#[derive(Drop)]
+struct Shared {
+    remote: Arc<Remote>,
+    log: Arc<Log>,
+    lookups: Arc<Lookups>,
+}
+
+impl Shared {
+    fn new(alloc: Global, waker: Waker) -> Result<Shared, AllocError> {
+        let remote = Arc::new(alloc, Remote::new(waker))?;
+        let log = Arc::new(alloc, Log::new(alloc)?)?;
+        let lookups = Lookups::new(alloc, Arc::try_clone(&remote)?)?;
+        Ok(Shared {
+            remote,
+            log,
+            lookups: Arc::new(alloc, lookups)?,
+        })
+    }
+}
+
 impl Server {
     /// A proxy, and with it what stops it. None where the system has no descriptors or no memory.
     pub fn new<R: Net>(rt: &R, alloc: Global) -> Option<Server> {
@@ -203,58 +232,104 @@ impl Server {
         let Ok(waker) = Waker::new(poll.registry(), Token(WAKER)) else {
             return None;
         };
-        match Arc::new(alloc, Remote::new(waker)) {
-            Ok(remote) => Some(Server { poll, remote }),
+        match Shared::new(alloc, waker) {
+            Ok(shared) => Some(Server {
+                poll,
+                shared,
+                response_timer: RESPONSE_TIMER,
+            }),
             Err(_) => None,
+        }
+    }
+
+    /// The same, where a request that an upstream has not answered after so many milliseconds fails.
+    /// So does one that has waited as long for a link. It is 60,000 where this isn't said.
+    pub fn with_response_timer(self, milliseconds: u64) -> Server {
+        let Server { poll, shared, .. } = self;
+        Server {
+            poll,
+            shared,
+            response_timer: milliseconds,
         }
     }
 
     /// What stops it, for another thread. None where there is no memory.
     pub fn remote(&self) -> Option<Arc<Remote>> {
-        match Arc::try_clone(&self.remote) {
+        match Arc::try_clone(&self.shared.remote) {
             Ok(remote) => Some(remote),
             Err(_) => None,
         }
     }
 
+    /// What it says, one line an event, for a thread that writes it. Where nobody does, nothing waits
+    /// for it. None where there is no memory.
+    pub fn log(&self) -> Option<Arc<Log>> {
+        match Arc::try_clone(&self.shared.log) {
+            Ok(log) => Some(log),
+            Err(_) => None,
+        }
+    }
+
+    /// The look-ups of its upstreams' names, for threads that do them, one for each upstream that has a
+    /// name. None where there is no memory.
+    pub fn lookups(&self) -> Option<Arc<Lookups>> {
+        match Arc::try_clone(&self.shared.lookups) {
+            Ok(lookups) => Some(lookups),
+            Err(_) => None,
+        }
+    }
+
     /// Serves by this configuration until it is told to stop, on this thread alone. An upstream that
-    /// can't be reached, refuses the bind or ends is tried again after the configuration's silence. It
-    /// says one line an event on standard error.
+    /// can't be reached, refuses the bind or ends is tried again after the configuration's silence.
     pub fn serve<R>(self, rt: &R, alloc: Global, config: &Config) -> Ended
     where
-        R: Clock + Wait + Net<Listener = std::net::TcpListener, Stream = TcpStream> + Eprint,
+        R: Clock + Wait + Net<Listener = std::net::TcpListener, Stream = TcpStream>,
     {
+        let Server {
+            poll,
+            shared,
+            response_timer,
+        } = self;
+        let Shared {
+            remote,
+            log,
+            lookups,
+        } = shared;
         let Ok(desk) = desk_of(alloc, config) else {
             return Ended::NoMemory;
         };
-        let teller = Teller::new();
+        let teller = Teller::new(log);
         let moment = Moment {
             alloc,
             config,
             desk: &desk,
             teller: &teller,
+            lookups: &lookups,
+            response_timer,
             now: 0,
             stopping: false,
         };
-        match self.open(rt, moment) {
+        let ended = match open(rt, poll, moment, &remote) {
             Ok(ended) => ended,
             Err(ended) => ended,
-        }
-    }
-
-    // Makes the lanes and the boxes, listens, connects, and turns.
-    fn open<R>(self, rt: &R, moment: Moment<'_>) -> Result<Ended, Ended>
-    where
-        R: Clock + Wait + Net<Listener = std::net::TcpListener, Stream = TcpStream> + Eprint,
-    {
-        let Server { poll, remote } = self;
-        let config = moment.config;
-        let Ok(start) = Instant::now(rt) else {
-            return Err(Ended::NoEvents);
         };
-        let mut turning = loop_of(rt, Pace::new(moment, start), poll)?;
-        let _ = eprintln!(rt; "{}", Notice::Door("listening on", config.listen.as_str()));
-        remote.listen(port_of(&turning.entrance.listener));
-        Ok(turning.run(rt, &remote))
+        lookups.close(rt);
+        ended
     }
+}
+
+// Makes the lanes and the boxes, listens, connects, and turns.
+fn open<R>(rt: &R, poll: Poll, moment: Moment<'_>, remote: &Remote) -> Result<Ended, Ended>
+where
+    R: Clock + Wait + Net<Listener = std::net::TcpListener, Stream = TcpStream>,
+{
+    let Moment { config, teller, .. } = moment;
+    let Ok(start) = Instant::now(rt) else {
+        return Err(Ended::NoEvents);
+    };
+    let mut turning = loop_of(rt, Pace::new(moment, start), poll)?;
+    let notice = Notice::Door("listening on", config.listen.as_str());
+    teller.log.say(rt, notice);
+    remote.listen(port_of(&turning.entrance.listener));
+    Ok(turning.run(rt, remote))
 }

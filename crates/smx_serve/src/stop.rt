@@ -12,22 +12,23 @@ use std::sync::Wait;
 const PATIENCE: u64 = 2_000;
 
 impl<'d> Loop<'d> {
-    // Whether nobody is ready, nothing waits for a socket, and, where the lanes are to end, they
-    // have.
-    fn is_settled(&mut self, lanes_end: bool) -> bool {
+    // Whether nobody is ready, nothing waits for a socket, and, where the lanes are to end or the
+    // clients to close, they have.
+    fn is_settled(&mut self, lanes_end: bool, clients_close: bool) -> bool {
         are_idle(&self.lanes, &self.guests, &mut self.queues)
-            && are_settled(&self.lanes, &self.guests, lanes_end)
+            && are_settled(&self.lanes, &self.guests, lanes_end, clients_close)
     }
 
     // Turns whoever is ready, writes and waits until all is settled, at most so long.
-    fn settle<R: Wait + Clock + Net + Eprint>(
+    fn settle<R: Wait + Clock + Net>(
         &mut self,
         rt: &R,
         lanes_end: bool,
+        clients_close: bool,
     ) -> Result<(), Ended> {
         let until = self.pace.moment.now.saturating_add(PATIENCE);
         for _ in rt.forever() {
-            if self.pace.moment.now >= until || self.is_settled(lanes_end) {
+            if self.pace.moment.now >= until || self.is_settled(lanes_end, clients_close) {
                 return Ok(());
             }
             self.round(rt, 10)?;
@@ -35,25 +36,24 @@ impl<'d> Loop<'d> {
         unreachable!()
     }
 
-    // Writes what waits, and unbinds each lane that is bound.
-    fn end<R: Wait + Clock + Net + Eprint>(&mut self, rt: &R) -> Result<(), Ended> {
-        self.settle(rt, false)?;
+    // Writes what waits, unbinds each lane that is bound, and lets the clients read what was written.
+    fn end<R: Wait + Clock + Net>(&mut self, rt: &R) -> Result<(), Ended> {
+        self.settle(rt, false, false)?;
         let mut any = false;
         for lane in self.lanes.iter_mut() {
             any |= lane.stop();
         }
         if any {
             self.queues.add_lanes();
-            self.settle(rt, true)?;
         }
-        Ok(())
+        self.settle(rt, any, true)
     }
 
     /// Lets the clients go, writes what waits, unbinds upstream, and ends.
-    pub fn stop<R: Wait + Clock + Net + Eprint>(&mut self, rt: &R) -> Ended {
-        let _ = eprintln!(rt; "{}", Notice::Plain("stopping"));
+    pub fn stop<R: Wait + Clock + Net>(&mut self, rt: &R) -> Ended {
         self.pace.moment.stopping = true;
         let moment = self.pace.moment;
+        moment.teller.log.say(rt, Notice::Plain("stopping"));
         self.guests
             .dismiss(rt, moment, &mut self.queues, &mut self.addresses);
         match self.end(rt) {

@@ -1,7 +1,9 @@
 //! Lines that may come often: so many of a kind are said a second, and the others are counted.
 
+use crate::log::Log;
 use crate::notice::Notice;
 use std::cell::Cell;
+use std::sync::{Arc, Wait};
 
 /// The most lines of one kind in a second.
 const MOST: u64 = 20;
@@ -28,15 +30,14 @@ impl Meter {
     }
 
     // Says how many lines were left out, once their second is over.
-    fn settle<R: Eprint>(&self, rt: &R, now: u64) {
+    fn settle<R: Wait>(&self, rt: &R, log: &Log, now: u64) {
         let second = now / 1_000;
         if second == self.second.get() {
             return;
         }
         let count = self.left_out.get();
         if count > 0 {
-            let kind = self.kind;
-            let _ = eprintln!(rt; "{count} more lines left out: {kind}");
+            log.say(rt, Notice::More(count, self.kind));
         }
         self.second.set(second);
         self.said.set(0);
@@ -44,21 +45,22 @@ impl Meter {
     }
 
     // Says a line at this moment, in milliseconds, or leaves it out.
-    pub fn say<R: Eprint>(&self, rt: &R, now: u64, notice: Notice<'_>) {
-        self.settle(rt, now);
+    pub fn say<R: Wait>(&self, rt: &R, log: &Log, now: u64, notice: Notice<'_>) {
+        self.settle(rt, log, now);
         let said = self.said.get();
         if said >= MOST {
             self.left_out.set(self.left_out.get().saturating_add(1));
             return;
         }
         self.said.set(said + 1);
-        let _ = eprintln!(rt; "{notice}");
+        log.say(rt, notice);
     }
 }
 
-/// The kinds of lines that clients cause.
+/// Where lines are said, and the kinds of those that clients cause.
 #[derive(Drop)]
 pub(crate) struct Teller {
+    pub log: Arc<Log>,
     pub came: Meter,
     pub bound: Meter,
     pub gone: Meter,
@@ -66,8 +68,9 @@ pub(crate) struct Teller {
 }
 
 impl Teller {
-    pub fn new() -> Teller {
+    pub fn new(log: Arc<Log>) -> Teller {
         Teller {
+            log,
             came: Meter::new("clients connected"),
             bound: Meter::new("clients bound"),
             gone: Meter::new("clients gone"),
@@ -76,9 +79,9 @@ impl Teller {
     }
 
     // Says of each kind how many lines were left out, once their second is over.
-    pub fn settle<R: Eprint>(&self, rt: &R, now: u64) {
+    pub fn settle<R: Wait>(&self, rt: &R, now: u64) {
         for meter in [&self.came, &self.bound, &self.gone, &self.refused] {
-            meter.settle(rt, now);
+            meter.settle(rt, &self.log, now);
         }
     }
 }

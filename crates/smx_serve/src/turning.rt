@@ -6,7 +6,7 @@ use crate::guests::Guests;
 use crate::lane::Lane;
 use crate::linking::tend_all;
 use crate::notice::Ended;
-use crate::pace::{Pace, TICK};
+use crate::pace::{GRACE, Pace, TICK};
 use crate::parties::{are_idle, flush, heed, pass};
 use crate::queues::Queues;
 use crate::remote::Remote;
@@ -31,7 +31,7 @@ pub(crate) struct Loop<'d> {
 
 impl<'d> Loop<'d> {
     // Lets those in who connect, where somebody does, or none could be accepted before.
-    fn let_in<R: Wait + Eprint>(&mut self, rt: &R, connects: bool) {
+    fn let_in<R: Wait>(&mut self, rt: &R, connects: bool) {
         self.entrance.let_in(
             rt,
             self.poll.registry(),
@@ -43,19 +43,34 @@ impl<'d> Loop<'d> {
         );
     }
 
+    // Lets clients in from now on, where a lane is bound, or the lanes had time enough.
+    fn open<R: Wait>(&mut self, rt: &R) {
+        if self.entrance.is_open {
+            return;
+        }
+        let mut is_open = self.pace.moment.now >= GRACE;
+        for lane in self.lanes.as_slice() {
+            is_open |= lane.is_bound();
+        }
+        if is_open {
+            self.entrance.is_open = true;
+            self.let_in(rt, true);
+        }
+    }
+
     // Connects each lane that has no link, and turns each; and what hangs is tried again.
-    fn tick<R: Wait + Net + Eprint>(&mut self, rt: &R) {
+    fn tick<R: Wait + Net>(&mut self, rt: &R) {
         let moment = self.pace.moment;
         let registry = self.poll.registry();
         tend_all(rt, registry, moment, &mut self.lanes, &mut self.queues);
         self.queues.unstall();
         moment.teller.settle(rt, moment.now);
-        self.guests.settle_all(moment.now);
+        self.guests.settle_all(&mut self.queues, moment.now);
         self.let_in(rt, false);
     }
 
     // Turns each that is ready once.
-    fn pass<R: Wait + Eprint>(&mut self, rt: &R) {
+    fn pass<R: Wait>(&mut self, rt: &R) {
         let is_gone = pass(
             rt,
             self.pace.moment,
@@ -70,15 +85,14 @@ impl<'d> Loop<'d> {
     }
 
     // Waits for events, at most so many milliseconds.
-    fn wait<R: Wait + Eprint>(&mut self, rt: &R, timeout: u64) -> Result<(), Ended> {
+    fn wait<R: Wait>(&mut self, rt: &R, timeout: u64) -> Result<(), Ended> {
         let time = Some(Duration::from_millis(timeout));
         if self.poll.poll(&mut self.events, time).is_err() {
             return Err(Ended::NoEvents);
         }
-        let now = self.pace.moment.now;
         let mut connects = false;
         for event in self.events.iter() {
-            connects |= heed(event, now, &self.lanes, &mut self.guests, &mut self.queues);
+            connects |= heed(event, &self.lanes, &self.guests, &mut self.queues);
         }
         if connects {
             self.let_in(rt, true);
@@ -88,14 +102,12 @@ impl<'d> Loop<'d> {
 
     /// Reads the clock and does what is due then, and makes one pass, or, where nobody is ready,
     /// waits at most so many milliseconds.
-    pub fn round<R: Wait + Clock + Net + Eprint>(
-        &mut self,
-        rt: &R,
-        timeout: u64,
-    ) -> Result<(), Ended> {
-        if self.pace.look(rt) {
+    pub fn round<R: Wait + Clock + Net>(&mut self, rt: &R, timeout: u64) -> Result<(), Ended> {
+        let is_due = self.pace.look(rt);
+        if self.queues.take_hurry() || is_due {
             self.tick(rt);
         }
+        self.open(rt);
         if are_idle(&self.lanes, &self.guests, &mut self.queues) {
             return self.wait(rt, timeout);
         }
@@ -108,7 +120,7 @@ impl<'d> Loop<'d> {
     }
 
     /// Connects each lane, and goes on until it is told to stop.
-    pub fn run<R: Wait + Clock + Net + Eprint>(&mut self, rt: &R, remote: &Remote) -> Ended {
+    pub fn run<R: Wait + Clock + Net>(&mut self, rt: &R, remote: &Remote) -> Ended {
         self.tick(rt);
         for _ in rt.forever() {
             if remote.is_stopping() {

@@ -12,7 +12,7 @@ use smx_session::UpstreamSession;
 use smx_shared::{Exchange, Tap};
 use smx_socket::{Socket, SocketLink};
 use std::alloc::{AllocError, Global};
-use std::net::{Net, SocketAddr, ToSocketAddrs};
+use std::net::{Net, SocketAddr};
 use std::rc::Rc;
 use std::sync::Arc;
 
@@ -64,39 +64,16 @@ pub(crate) fn session_of(
     Some(UpstreamSession::new(alloc, system_id, password, silence, now))
 }
 
-// The address of this name that stands behind so many others, and whether one stands behind it. A
-// name is looked up anew each time, which may wait.
-fn address_of<R: Net>(rt: &R, name: &str, behind: usize) -> Option<(SocketAddr, bool)> {
-    let Ok(addresses) = name.to_socket_addrs(rt) else {
-        return None;
-    };
-    let mut at: usize = 0;
-    let mut found = None;
-    for address in addresses {
-        if at == behind {
-            found = Some((address, false));
-        } else if let Some((first, _)) = found {
-            return Some((first, true));
-        }
-        at = at.saturating_add(1);
-    }
-    found
-}
-
-// A connection that is begun, which the loop knows by this lane, and whether its name has a further
-// address. It waits for nothing but the look-up of the name.
+// A connection to this address that is begun, which the loop knows by this lane. It waits for nothing.
 pub(crate) fn connect<R: Net>(
     rt: &R,
     alloc: Global,
     registry: &Registry,
-    name: &str,
-    behind: usize,
+    address: SocketAddr,
     lane: usize,
-) -> Option<(Rc<Socket>, SocketLink, bool)> {
-    let (address, more) = address_of(rt, name, behind)?;
+) -> Option<(Rc<Socket>, SocketLink)> {
     let Ok(stream) = mio::net::TcpStream::connect(rt, address) else {
         return None;
     };
-    let (socket, link) = wire(alloc, registry, stream, lane)?;
-    Some((socket, link, more))
+    wire(alloc, registry, stream, lane)
 }

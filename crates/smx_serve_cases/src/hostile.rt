@@ -1,6 +1,6 @@
 //! Hostile peers of a proxy over loopback. Beside each stands an honest client that was bound before, and
 //! has each of its requests answered once.
-mod caller;
+pub(crate) mod caller;
 mod centre;
 mod crowd;
 mod greedy;

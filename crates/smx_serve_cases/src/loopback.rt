@@ -9,10 +9,10 @@ use std::test::Fail;
 use std::thread;
 
 // The bind of the account alpha as transceiver, and its answer (SMPP 3.4, sections 4.1.5 and 4.1.6).
-const BIND: &[u8] =
+pub(crate) const BIND: &[u8] =
     b"\x00\x00\x00\x1d\x00\x00\x00\x09\x00\x00\x00\x00\x00\x00\x00\x01alpha\x00p\x00\x00\x34\x00\x00\x00";
 
-const BOUND: &[u8] =
+pub(crate) const BOUND: &[u8] =
     b"\x00\x00\x00\x19\x80\x00\x00\x09\x00\x00\x00\x00\x00\x00\x00\x01smx\x00\x02\x10\x00\x01\x34";
 
 // A submit_sm of the client with number 7, the same upstream with number 1, and both responses.
@@ -38,9 +38,11 @@ const TAKEN: &[u8] = b"\x00\x00\x00\x11\x80\x00\x00\x05\x00\x00\x00\x00\x00\x00\
 
 const TAKEN_UP: &[u8] = b"\x00\x00\x00\x11\x80\x00\x00\x05\x00\x00\x00\x00\x00\x00\x00\x03\x00";
 
-const UNBIND: &[u8] = b"\x00\x00\x00\x10\x00\x00\x00\x06\x00\x00\x00\x00\x00\x00\x00\x08";
+pub(crate) const UNBIND: &[u8] =
+    b"\x00\x00\x00\x10\x00\x00\x00\x06\x00\x00\x00\x00\x00\x00\x00\x08";
 
-const UNBOUND: &[u8] = b"\x00\x00\x00\x10\x80\x00\x00\x06\x00\x00\x00\x00\x00\x00\x00\x08";
+pub(crate) const UNBOUND: &[u8] =
+    b"\x00\x00\x00\x10\x80\x00\x00\x06\x00\x00\x00\x00\x00\x00\x00\x08";
 
 // The proxy's own unbind (section 4.2), and the centre's answer.
 const OWN_UNBIND: &[u8] = b"\x00\x00\x00\x10\x00\x00\x00\x06\x00\x00\x00\x00\x7f\xff\xff\xff";
@@ -94,7 +96,7 @@ fn play(rt: &impl Abort, client: &mut TcpStream, up: &mut TcpStream, steps: &[St
 }
 
 // The walk and the stop, and the links that they went over.
-fn walk<R: Net<Stream = TcpStream> + Abort>(
+pub(crate) fn walk<R: Net<Stream = TcpStream> + Abort>(
     rt: &R,
     alloc: Global,
     centre: &TcpListener,

@@ -1,5 +1,6 @@
 use smx_config::read;
-use smx_demo::demo;
+use smx_demo::Demo;
+use smx_serve::Server;
 use std::alloc::Global;
 use std::io;
 use std::net::TcpListener;
@@ -46,7 +47,9 @@ fn each_account_is_answered(rt: HostRuntime) -> Result<(), Fail> {
     let centre = free_address(&rt)?;
     let text = text_of(rt.alloc(), listen.as_str(), centre.as_str())?;
     let config = read(rt.alloc(), text.as_str())?;
-    let counts = demo(&rt, rt.alloc(), &config)?;
+    let demo = Demo::new(&rt, rt.alloc(), config)?;
+    let server = Server::new(&rt, rt.alloc()).expect(&rt, "no server");
+    let counts = demo.run(&rt, server)?;
     let wanted = [10u32, 10];
     assert_eq!(rt; counts.as_slice(), wanted.as_slice());
     Ok(())

@@ -14,7 +14,8 @@ use Rattle.smx_lane.specs.declared.call.Call.{Call}
 use Rattle.smx_lane.specs.declared.call.Reply.{Reply}
 use Rattle.smx_lane.specs.Calls.{IsReply}
 use Rattle.smx_shared.specs.Serving.{OneHold, CallServes, SplitServes, SplitFails}
-use Rattle.smx_shared.specs.Steps.{IsMade, notes_for}
+use Rattle.smx_shared.specs.Steps.{IsMade, hold_notes, own_notes}
+use Rattle.smx_shared.specs.Roomy.{lane_met, shifts_before}
 
 one_hold : (f g : Front Note Limits) (h : Hold Content Note Limits) (w : Content) (new : List Note) → Finds writer limits_of suits f h
     → w.limits ≡ h.value.limits → AgreesWith (h.found ++ new) w → Serves writer f g h.found new → OneHold f g h.found new h.value
@@ -37,29 +38,29 @@ served_split f g h found is =
 
 -- a lane on which the holder made a call may be put back
 pub made_may : (h : Hold Content Note Limits) (w : Content) (c : Call) (r : Reply) → IsMade h.number h.value c r w → h.value.limits ≡ h.lock.fixed → AgreesWith h.found h.value
-    → MayLeave writer limits_of suits (holding h w) (notes_for h.value c r)
+    → MayLeave writer limits_of suits (holding h w) (hold_notes h.number h.value c r)
 made_may h w c r m limits agrees = record { own = m.writers; agrees = m.goes_on h.found agrees; fixed = m.limits ∙ limits }
 
 -- and once it is back the call was served
 pub made_serves : (f g : Front Note Limits) (h : Hold Content Note Limits) (w : Content) (call : ℕ → Call) (r : Reply) → Finds writer limits_of suits f h
-    → IsMade h.number h.value (call h.number) r w → g ≡ after_hold (holding h w) (notes_for h.value (call h.number) r) → CallServes f g (call f.number) r
+    → IsMade h.number h.value (call h.number) r w → g ≡ after_hold (holding h w) (hold_notes h.number h.value (call h.number) r) → CallServes f g (call f.number) r
 made_serves f g h w call r found m after =
-    let own = notes_for h.value (call h.number) r in
+    let own = own_notes h.value (call h.number) r in
     let agrees = m.goes_on h.found found.agrees in
-    let hold = served f g h w own found m.limits agrees after in
+    let hold = served f g h w (hold_notes h.number h.value (call h.number) r) found m.limits agrees after in
     record {
       found = h.found;
       own = own;
       old = h.value;
       new = w;
-      hold = hold;
-      told = subst (λ k. IsReply h.value (call k) r own w) found.number m.told;
+      hold = subst (λ k. OneHold f g h.found (shifts_before k h.value (call k) ++ own) h.value) found.number hold;
+      told = subst (λ k. IsReply (lane_met h.value (call k)) (call k) r own w) found.number m.told;
       left = subst (λ l. AgreesWith l w) (sym hold.serves.seen) agrees;
     }
 
 -- the same of a seat that ran the call
 pub ran_serves : (f g : Front Note Limits) (call : ℕ → Call) {A : Type 0} (reply : A → Reply) (a : A)
-    → Runs writer limits_of suits f g (λ by old a new. IsMade by old (call by) (reply a) new) (λ by old a. notes_for old (call by) (reply a)) a
+    → Runs writer limits_of suits f g (λ by old a new. IsMade by old (call by) (reply a) new) (λ by old a. hold_notes by old (call by) (reply a)) a
     → CallServes f g (call f.number) (reply a)
 ran_serves f g call reply a ran = made_serves f g ran.0 ran.1 call (reply a) ran.2 ran.3 ran.4
 

@@ -1,5 +1,5 @@
 -- What the calls of a tap let its caller know.
-use Rattle.std.proofs.Common.{◌≡◌, ℕ, Option, Some, None, List, [], ◌∷◌, ◌++◌, Result, Ok, Err, refl, sym, ◌∙◌, ap, subst, inl, inr}
+use Rattle.std.proofs.Common.{◌≡◌, ℕ, Bool, true, false, Option, Some, None, List, [], ◌∷◌, ◌++◌, Result, Ok, Err, refl, sym, ◌∙◌, ap, subst, inl, inr}
 use Rattle.std.proofs.lemmas.List.{append-nil}
 use Rattle.std.proofs.lemmas.List.Elements.{filter_map-append}
 use Rattle.smx_pdu.specs.declared.pdu.Pdu.{Pdu}
@@ -30,6 +30,7 @@ use Rattle.smx_shared.specs.declared.fault.ExpiryFault as expiry_fault
 use Rattle.smx_shared.specs.declared.fault.ExpiryFault.TheVariants as expires
 use Rattle.smx_shared.specs.declared.fault.UpFault as up_fault
 use Rattle.smx_shared.specs.declared.fault.UpFault.TheVariants as ups
+use Rattle.smx_shared.specs.Roomy.{finds_full, shifts_where}
 use Rattle.smx_shared.specs.Serving.{OneHold, CallServes, Takes, TriesTake, Brings, Turns, TurnServes, StaysServes, GoesDown, Fails, Expires, ComesUp}
 use Rattle.std.specs.Option.{option_map}
 use Rattle.smx_history.specs.declared.entry.Entry.{Entry}
@@ -47,9 +48,16 @@ spent_same f g s = elim s [
   | inr e ↦ same f g (ap (λ z. z.mine) e)
 ]
 
+-- a shift is no note of a request
+shifts_known : (b : Bool) (by : ℕ) (ns : List Note) → known_of (shifts_where b by ++ ns) ≡ known_of ns
+shifts_known true by ns = refl
+shifts_known false by ns = refl
+
 -- what a call noted is known
 called : (f g : Front Note Limits) (c : Call) (r : Reply) (ns : List Note) → (h : CallServes f g c r) → h.own ≡ ns → known_of g.mine ≡ known_of f.mine ++ known_of ns
-called f g c r ns h is = more f g ns (h.hold.serves.mine ∙ ap (λ own. f.mine ++ own) is)
+called f g c r ns h is =
+    let full = finds_full h.old c in
+    more f g (shifts_where full f.number ++ ns) (h.hold.serves.mine ∙ ap (λ own. f.mine ++ (shifts_where full f.number ++ own)) is) ∙ ap (λ k. known_of f.mine ++ k) (shifts_known full f.number ns)
 
 pub takes_known : (f g : Front Note Limits) (now : ℕ) (r : Result Sent take_fault.TakeFault) → Takes f g now r → known_of g.mine ≡ known_of f.mine ++ known_by_take r
 takes_known f g now (Ok sent) h = called f g _ _ _ h h.told.2

@@ -6,6 +6,7 @@ mod Submitting
 pub mod PortInvariants
 pub mod Leaving
 pub mod Rounds
+pub mod Roomy
 pub mod Calls
 pub mod Entering
 pub mod Making

@@ -248,10 +248,10 @@ row_there f g c found own v hold member none =
     let here : is_retired c es ≡ false = stays_own es c f.number hold.agrees.legal.rules.membership hold.agrees.legal.rules.standing admitted (ap (is_retired c) mine ∙ member.stays) in
     both_ways (is_present c found) (absent found v c hold.agrees none) (is_present-any found c ∙ present_in es c f.number admitted here)
 
--- so a request of the client isn't refused for want of one
-pub has_row : (f g : Front Note Limits) (c : ℕ) (found own : List Note) (v : Content) → OneHold f g found own v → IsMemberBy c f → accept_refusal v c ≡ Some NotAdmitted → ⊥
-has_row f g c found own v hold member refused = has_row_at (member_with c v.members) refl refused
+-- so a request of the client isn't refused for want of one, by a lane with the same rows
+pub has_row : (f g : Front Note Limits) (c : ℕ) (found own : List Note) (v met : Content) → met.members ≡ v.members → OneHold f g found own v → IsMemberBy c f → accept_refusal met c ≡ Some NotAdmitted → ⊥
+has_row f g c found own v met same hold member refused = has_row_at (member_with c v.members) refl (subst (λ ms. refusal_for met (member_with c ms) ≡ Some NotAdmitted) same refused)
   where
-    has_row_at : (o : Option Member) → member_with c v.members ≡ o → refusal_for v o ≡ Some NotAdmitted → ⊥
-    has_row_at (Some m) e r = not_admitted v m r
+    has_row_at : (o : Option Member) → member_with c v.members ≡ o → refusal_for met o ≡ Some NotAdmitted → ⊥
+    has_row_at (Some m) e r = not_admitted met m r
     has_row_at None e r = row_there f g c found own v hold member e

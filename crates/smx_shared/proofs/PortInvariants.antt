@@ -1,5 +1,5 @@
 -- What a port keeps, when notes are added to its fronts.
-use Rattle.std.proofs.Common.{◌≡◌, ◌≢◌, ◌<◌, ◌≤◌, ◌+◌, ◌==◌, ◌^◌, ◌||◌, ◌&&◌, ℕ, Bool, true, false, List, [], ◌∷◌, ◌++◌, length, set, slice_get, Option, Some, None, Ok, Err, Result, refl, sym, ◌∙◌, ap, subst, arith, inl, inr, length-append, if◌then◌else◌}
+use Rattle.std.proofs.Common.{◌≡◌, ◌≢◌, ◌<◌, ◌≤◌, ◌+◌, ◌==◌, ◌^◌, ◌||◌, ◌&&◌, ℕ, Bool, true, false, List, [], ◌∷◌, ◌++◌, length, set, slice_get, Option, Some, None, Ok, Err, Result, refl, sym, ◌∙◌, ap, subst, arith, inl, inr, length-append, append_assoc, if◌then◌else◌}
 use Rattle.std.specs.List.{AllByRecursion}
 use Rattle.std.proofs.lemmas.List.{append-nil, length-set}
 use Rattle.std.proofs.lemmas.List.Elements.{filter_map-append}
@@ -24,6 +24,7 @@ use Rattle.smx_shared.specs.Ports.{IsMemberBy, IsPort, HasAccepted}
 use Rattle.smx_shared.specs.Steps.{IsBelow}
 use Rattle.smx_lane.specs.declared.call.Call.{Call}
 use Rattle.smx_lane.specs.declared.call.Reply.{Reply}
+use Rattle.smx_shared.specs.Roomy.{shifts_before}
 use Rattle.smx_shared.specs.Serving.{CallServes, CollectServes, Waited, Tried}
 use Rattle.smx_pdu.specs.declared.pdu.Pdu.{Pdu}
 use Rattle.smx_lock.specs.declared.faults.Spent as spent
@@ -38,6 +39,31 @@ pub record Grows (c n : ℕ) (named : List Accepted) (old new : List (Front Note
       × (requests ns ≡ requests_on k c n named)
   pub within : AllByRecursion (λ a. a.lane < length old) named
 
+entries_more : (a b : List Note) → entries_of (a ++ b) ≡ entries_of a ++ entries_of b
+entries_more a b = entries_of-append a b
+
+none_both : (a b : Bool) → a ≡ false → b ≡ false → (a || b) ≡ false
+none_both true b h g = cc
+none_both false b h g = g
+
+-- first no accept, and then those that stand here
+pub grows_then : (c n : ℕ) (named : List Accepted) (a b d : List (Front Note Limits)) → Grows c n [] a b → Grows c n named b d → Grows c n named a d
+grows_then c n named a b d s w = record {
+  count = w.count ∙ s.count;
+  each = λ k g at.
+      let u = w.each k g at in
+      let t = s.each k u.0 u.2 in (
+        t.0,
+        t.1 ++ u.1,
+        t.2,
+        u.3 ∙ t.3,
+        u.4 ∙ ap (λ m. m ++ u.1) t.4 ∙ append_assoc t.0.mine t.1 u.1,
+        ap (is_retired c) (entries_more t.1 u.1) ∙ list_any-append (λ e. is_retire e.kind && (e.client == c)) (entries_of t.1) (entries_of u.1) ∙ none_both _ _ t.5 u.5,
+        filter_map-append (λ m. request_in m.event) t.1 u.1 ∙ ap (λ rs. rs ++ requests u.1) t.6 ∙ u.6,
+      );
+  within = subst (λ z. AllByRecursion (λ (x : Accepted). x.lane < z) named) s.count w.within;
+}
+
 -- the fronts have the same notes
 pub record SameNotes (old new : List (Front Note Limits)) : Type 0 where
   pub count : length new ≡ length old
@@ -50,27 +76,8 @@ same_grows c n old new s = record {
   within = tt;
 }
 
-pub same_then : (c n : ℕ) (named : List Accepted) (a b d : List (Front Note Limits)) → SameNotes a b → Grows c n named b d → Grows c n named a d
-same_then c n named a b d s w = record {
-  count = w.count ∙ s.count;
-  each = λ k g at.
-      let u = w.each k g at in
-      let t = s.each k u.0 u.2 in
-      (t.0, u.1, t.1, u.3 ∙ t.2, u.4 ∙ ap (λ m. m ++ u.1) t.3, u.5, u.6);
-  within = subst (λ z. AllByRecursion (λ (x : Accepted). x.lane < z) named) s.count w.within;
-}
-
-pub same_both : (a b d : List (Front Note Limits)) → SameNotes a b → SameNotes b d → SameNotes a d
-same_both a b d s w = record {
-  count = w.count ∙ s.count;
-  each = λ k g at.
-      let u = w.each k g at in
-      let t = s.each k u.0 u.1 in
-      (t.0, t.1, u.2 ∙ t.2, u.3 ∙ t.3);
-}
-
--- a call with no note leaves the seat's own as they were
-pub stays_mine : (f g : Front Note Limits) (c : Call) (r : Reply) → (h : CallServes f g c r) → h.own ≡ [] → g.mine ≡ f.mine
+-- a hold with no note leaves the seat's own as they were
+pub stays_mine : (f g : Front Note Limits) (c : Call) (r : Reply) → (h : CallServes f g c r) → shifts_before f.number h.old c ++ h.own ≡ [] → g.mine ≡ f.mine
 stays_mine f g c r h none = h.hold.serves.mine ∙ ap (λ own. f.mine ++ own) none ∙ append-nil f.mine
 
 -- one front has more notes
@@ -87,13 +94,6 @@ lane_grows c n lane named old new f g ns at is number mine stays own others with
   ];
   within = within;
 }
-
-entries_more : (a b : List Note) → entries_of (a ++ b) ≡ entries_of a ++ entries_of b
-entries_more a b = entries_of-append a b
-
-none_both : (a b : Bool) → a ≡ false → b ≡ false → (a || b) ≡ false
-none_both true b h g = cc
-none_both false b h g = g
 
 pub member_more : (c : ℕ) (f g : Front Note Limits) (ns : List Note) → IsMemberBy c f → g.number ≡ f.number → g.mine ≡ f.mine ++ ns → is_retired c (entries_of ns) ≡ false → IsMemberBy c g
 member_more c f g ns m number mine stays =
@@ -163,17 +163,6 @@ accepted_quiet v all new has grows =
 -- where nothing was accepted nothing joins the list
 pub accepted_none : (v : PortView) (all : List Accepted) → HasAccepted v all → HasAccepted v (all ++ [])
 accepted_none v all has = subst (HasAccepted v) (sym (append-nil all)) has
-
-pub accepted_same : (v : PortView) (all : List Accepted) (new : List (Front Note Limits)) → HasAccepted v all → SameNotes v.fronts new
-    → HasAccepted (record { client = v.client; first = v.first; next = v.next; fronts = new }) (all ++ [])
-accepted_same v all new has same =
-    accepted_none (record { client = v.client; first = v.first; next = v.next; fronts = new }) all (accepted_quiet v all new has (same_grows v.client v.next v.fronts new same))
-
-pub port_same : (v : PortView) (new : List (Front Note Limits)) → IsPort v → SameNotes v.fronts new → IsPort (record { client = v.client; first = v.first; next = v.next; fronts = new })
-port_same v new port same =
-    let zero : v.next + length {A = Accepted} [] ≡ v.next = omega arith in
-    subst (λ n. IsPort (record { client = v.client; first = v.first; next = n; fronts = new })) zero
-    (port_grows v [] new port (same_grows v.client v.next v.fronts new same) (omega (arith, port.ordinals.1)))
 
 pub spent_same : (f g : Front Note Limits) → IsSpent f g → (g.number ≡ f.number) × (g.mine ≡ f.mine)
 spent_same f g s = elim s [

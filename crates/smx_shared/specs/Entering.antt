@@ -1,15 +1,17 @@
 -- How a client enters, lane by lane.
-use Rattle.std.specs.Prelude.{◌≡◌, ◌⊎◌, ◌+◌, ◌<◌, ◌≤◌, ◌^◌, ℕ, List, [], ◌∷◌, length, Ok, Err, Option, Some, None}
+use Rattle.std.specs.Prelude.{◌≡◌, ◌⊎◌, ◌+◌, ◌<◌, ◌≤◌, ◌^◌, ℕ, List, [], ◌∷◌, ◌++◌, length, Ok, Err, Option, Some, None}
 use mathlib.Core.List.{IsPrefix}
 use Rattle.smx_lock.specs.Fronts.{Front, IsSpent}
 use Rattle.smx_history.specs.declared.limits.Limits.{Limits}
 use Rattle.smx_history.specs.declared.note.Note.{Note}
 use Rattle.smx_history.specs.declared.note.Event.TheVariants as event
 use Rattle.smx_history.specs.History.{note}
+use Rattle.smx_lane.specs.declared.call.Call.TheVariants as call
 use Rattle.smx_history.specs.declared.reply.AdmitFault.TheVariants as admit
 use Rattle.smx_shared.specs.declared.fault.EnterFault.{EnterFault}
 use Rattle.smx_shared.specs.declared.fault.EnterFault.TheVariants.{Exhausted, Spent, HistoryFull, NoMemory, Known}
 use Rattle.smx_shared.specs.Views.{DoorView, PortView, DepartedView, locks_of}
+use Rattle.smx_shared.specs.Roomy.{IsCrowded, shifts_before}
 use Rattle.smx_shared.specs.Serving.{SplitServes, SplitFails, AdmitServes}
 use Rattle.smx_shared.specs.Submits.{OnLane}
 use Rattle.smx_shared.specs.Leaving.{LeavesBelow}
@@ -21,11 +23,11 @@ pub record IsDoor (v : DoorView) : Type 0 where
   pub next : (0 < v.next) × (v.next ≤ 2 ^ 62 + 1)
   pub ordinal : (0 < v.ordinal) × (v.ordinal ≤ 2 ^ 62)
 
--- one hold of the door's seat made a seat, and one hold of that admitted the client: it has seen what the door had, and its own notes are the admit
+-- one hold of the door's seat made a seat, and one hold of that admitted the client: it has seen what the door had, and its own notes are the admit, after a shift where the history was found full
 pub record Enters (c : ℕ) (f g p : Front Note Limits) : Type 0 where
   pub served : (s : Front Note Limits) × SplitServes f g s × AdmitServes s p c (Ok tt)
   pub begins : IsPrefix f.seen p.seen
-  pub mine : p.mine ≡ note p.number (event.Admit c) ∷ []
+  pub mine : p.mine ≡ shifts_before p.number served.2.old (call.Admit p.number c) ++ note p.number (event.Admit c) ∷ []
   pub lock : p.lock ≡ f.lock
 
 -- the client entered each lane below `to`
@@ -36,7 +38,7 @@ Entered to c old new made = Makes (λ k f g p. Enters c f g p) to old new made
 abbrev pub IsRefusal : ℕ → EnterFault → Front Note Limits → Front Note Limits → Type 0
 IsRefusal c Exhausted s p = ⊥
 IsRefusal c Spent s p = IsSpent s p
-IsRefusal c HistoryFull s p = AdmitServes s p c (Err admit.HistoryFull)
+IsRefusal c HistoryFull s p = (h : AdmitServes s p c (Err admit.HistoryFull)) × IsCrowded h.old
 IsRefusal c NoMemory s p = AdmitServes s p c (Err admit.NoMemory)
 IsRefusal c Known s p = AdmitServes s p c (Err admit.Known)
 

@@ -1,4 +1,5 @@
 pub mod Views
+pub mod Roomy
 pub mod Serving
 pub mod Taps
 pub mod Offers

@@ -1,5 +1,5 @@
 -- One hold of a lane's lock serves one call.
-use Rattle.std.specs.Prelude.{◌≡◌, ◌⊎◌, ◌+◌, ◌<◌, ◌≤◌, length, ℕ, List, [], ◌∷◌, Option, Some, None, Result, Ok, Err}
+use Rattle.std.specs.Prelude.{◌≡◌, ◌⊎◌, ◌+◌, ◌<◌, ◌≤◌, length, ℕ, List, [], ◌∷◌, ◌++◌, Option, Some, None, Result, Ok, Err}
 use Rattle.std.specs.Option.{option_map}
 use Rattle.smx_ticket_core.specs.Machine.{most}
 use Rattle.smx_lock.specs.Rule.{notes_of}
@@ -45,6 +45,7 @@ use Rattle.smx_lane.specs.declared.call.Call.TheVariants as call
 use Rattle.smx_lane.specs.declared.call.Reply.{Reply}
 use Rattle.smx_lane.specs.declared.call.Reply.TheVariants as reply
 use Rattle.smx_lane.specs.Calls.{IsReply}
+use Rattle.smx_shared.specs.Roomy.{lane_met, shifts_before}
 
 -- one hold found this history and left these notes, in a lane that held v, and what was left is legal
 pub record OneHold (f g : Front Note Limits) (found new : List Note) (v : Content) : Type 0 where
@@ -53,14 +54,15 @@ pub record OneHold (f g : Front Note Limits) (found new : List Note) (v : Conten
   pub limits : v.limits ≡ f.lock.fixed
   pub legal : IsLegal f.lock.fixed (marks_of g.seen)
 
--- one hold of the lane's lock stood between the fronts: the lane that it found gave this reply to the call, and what was left agrees with what is seen now
+-- one hold of the lane's lock stood between the fronts: the lane that it found, turned over first where the call found its history full, gave this reply to the call, and what was left agrees with what is seen now
 pub record CallServes (f g : Front Note Limits) (call : Call) (reply : Reply) : Type 0 where
   pub found : List Note
+  -- the notes of the call itself
   pub own : List Note
   pub old : Content
   pub new : Content
-  pub hold : OneHold f g found own old
-  pub told : IsReply old call reply own new
+  pub hold : OneHold f g found (shifts_before f.number old call ++ own) old
+  pub told : IsReply (lane_met old call) call reply own new
   pub left : AgreesWith g.seen new
 
 abbrev pub TakeServes : Front Note Limits → Front Note Limits → ℕ → Result Sent TakeRefusal → Type 0

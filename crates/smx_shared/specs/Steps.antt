@@ -1,6 +1,6 @@
 -- What private functions ask and promise: the notes of one hold, and a turn of one lane. No contract
 -- of a public function cites this file.
-use Rattle.std.specs.Prelude.{◌≡◌, ◌<◌, ℕ, List, [], ◌∷◌, Option, Some, None, Ok, slice_get, All}
+use Rattle.std.specs.Prelude.{◌≡◌, ◌<◌, ℕ, Bool, List, [], ◌∷◌, ◌++◌, Option, Some, None, Ok, slice_get, All}
 use Rattle.std.specs.List.{AllByRecursion}
 use Rattle.smx_lock.specs.Fronts.{Front, Hold, Finds}
 use Rattle.smx_history.specs.declared.limits.Limits.{Limits}
@@ -25,6 +25,7 @@ use Rattle.smx_lane.specs.Calls.{IsReply, GoesOn, Keeps}
 use Rattle.smx_lane.specs.Kept.{writer, limits_of, suits}
 use Rattle.smx_shared.specs.declared.offer.Offer.{Offer}
 use Rattle.smx_shared.specs.Ports.{IsMemberBy}
+use Rattle.smx_shared.specs.Roomy.{lane_met, shifts_before, shifts_where}
 
 abbrev pub answer_notes : ℕ → Pdu → Option Place → List Note
 answer_notes by p (Some q) = note by (event.Answer q.client q.ordinal p) ∷ []
@@ -58,11 +59,19 @@ notes_for old (call.FailExpired by now age) (reply.Expired (Ok _)) = fail_notes 
 notes_for old (call.Up by) (reply.CameUp (Ok _)) = note by event.Up ∷ []
 notes_for old _ _ = []
 
--- the seat with this number made the call: the reply, its notes, and what the lane holds then
+-- the notes of a call on the lane that it meets
+abbrev pub own_notes : Content → Call → Reply → List Note
+own_notes old call reply = notes_for (lane_met old call) call reply
+
+-- the notes of the hold in which the seat with this number makes the call
+abbrev pub hold_notes : ℕ → Content → Call → Reply → List Note
+hold_notes by old call reply = shifts_before by old call ++ own_notes old call reply
+
+-- the seat with this number made the call: the reply, the notes of the hold, and what the lane holds then
 pub record IsMade (by : ℕ) (old : Content) (call : Call) (reply : Reply) (new : Content) : Type 0 where
-  pub told : IsReply old call reply (notes_for old call reply) new
-  pub goes_on : GoesOn old (notes_for old call reply) new
-  pub writers : All (λ n. writer n ≡ by) (notes_for old call reply)
+  pub told : IsReply (lane_met old call) call reply (own_notes old call reply) new
+  pub goes_on : GoesOn old (hold_notes by old call reply) new
+  pub writers : All (λ n. writer n ≡ by) (hold_notes by old call reply)
   pub limits : new.limits ≡ old.limits
 
 -- whatever the seat finds in a hold, the call keeps to its condition there
@@ -82,7 +91,10 @@ abbrev pub LeadUpTo : Request → List (Front Note Limits) → Type 0
 LeadUpTo r fronts = (k : ℕ) (f : Front Note Limits) → slice_get fronts k ≡ Some f
     → IsMemberBy r.client f × IsBelow r.ordinal f
 
--- each seat's own notes are the client's admit
+-- the seat's own notes are the client's admit, after a shift or not
+abbrev pub HasAdmitted : ℕ → Front Note Limits → Type 0
+HasAdmitted c f = (shifted : Bool) × (f.mine ≡ shifts_where shifted f.number ++ note f.number (event.Admit c) ∷ [])
+
+-- so are those of each seat
 abbrev pub HaveAdmitted : ℕ → List (Front Note Limits) → Type 0
-HaveAdmitted c fronts = (k : ℕ) (f : Front Note Limits) → slice_get fronts k ≡ Some f
-    → f.mine ≡ note f.number (event.Admit c) ∷ []
+HaveAdmitted c fronts = (k : ℕ) (f : Front Note Limits) → slice_get fronts k ≡ Some f → HasAdmitted c f

@@ -5,22 +5,23 @@ use Rattle.smx_history.specs.declared.limits.Limits.{Limits}
 use Rattle.smx_history.specs.declared.note.Note.{Note}
 use Rattle.smx_history.specs.declared.request.Request.{Request}
 use Rattle.smx_history.specs.declared.reply.Refusal.{Refusal}
-use Rattle.smx_history.specs.declared.reply.Refusal.TheVariants.{NotAdmitted}
+use Rattle.smx_history.specs.declared.reply.Refusal.TheVariants.{NotAdmitted, HistoryFull}
 use Rattle.smx_history.specs.Ring.{ring}
 use Rattle.smx_shared.specs.declared.offer.Offer.{Offer}
 use Rattle.smx_shared.specs.declared.fault.SubmitFault.{SubmitFault}
 use Rattle.smx_shared.specs.declared.fault.SubmitFault.TheVariants as fault
 use Rattle.smx_shared.specs.Views.{PortView}
 use Rattle.smx_shared.specs.Offers.{request_for}
+use Rattle.smx_shared.specs.Roomy.{IsCrowded}
 use Rattle.smx_shared.specs.Serving.{AcceptServes}
 
 -- on one lane this became of the front, and the others are as they were
 abbrev pub OnLane : ℕ → List (Front Note Limits) → List (Front Note Limits) → (Front Note Limits → Front Note Limits → Type 0) → Type 0
 OnLane lane old new P = (f : Front Note Limits) × (g : Front Note Limits) × (slice_get old lane ≡ Some f) × (new ≡ set old lane g) × (g.lock ≡ f.lock) × P f g
 
--- one hold found the lane full for the client, of its requests, of requests or of entries, or down
+-- one hold found the lane full for the client, of its requests, of requests or, by what it holds itself, of entries, or down
 abbrev pub FullServes : Request → Front Note Limits → Front Note Limits → Type 0
-FullServes r f g = (e : Refusal) × AcceptServes f g r (Err (r, e)) × (e ≢ NotAdmitted)
+FullServes r f g = (e : Refusal) × (h : AcceptServes f g r (Err (r, e))) × (e ≢ NotAdmitted) × (e ≡ HistoryFull → IsCrowded h.old)
 
 -- each of these lanes, one after the other, was found full, and the others are as they were
 abbrev pub FoundFull : List ℕ → Request → List (Front Note Limits) → List (Front Note Limits) → Type 0

@@ -37,9 +37,11 @@ impl Model for Door {
 
 impl Door {
     /// Enters the next client: its port has a seat on every lane. It may wait at each lane, twice:
-    /// the door's seat makes the new one, which admits the client. At a refusal after the first the
-    /// client is retired again on the lanes that it entered, which may wait once more, but for those
-    /// whose tickets are spent, and its seats come back.
+    /// the door's seat makes the new one, which admits the client, and turns the lane over before
+    /// where its history is full. So `HistoryFull` comes only where what a lane holds takes all the
+    /// room of its history. At a refusal after the first the client is retired again on the lanes
+    /// that it entered, which may wait once more, but for those whose tickets are spent, and its
+    /// seats come back.
     pub fn enter<R: Wait>(&mut self, at: &Exchange, rt: &R) -> Result<Port, (EnterFault, Departed)>
         requires { locks_of self.old.fronts ≡ at.now }
         ensures ok { IfOk result (Admits self.old self.new) }

@@ -29,7 +29,7 @@ pub enum EnterFault {
     /// Every ticket of a lane was drawn, or it has 2^62 seats.
     #[error("every ticket or seat was given out")]
     Spent,
-    /// A lane has no room for what may follow of one more client.
+    /// A lane has no room for what may follow of one more client: what it holds takes all.
     #[error("the history is full")]
     HistoryFull,
     /// The seats' list, or the client's row or box on a lane, could not be made.

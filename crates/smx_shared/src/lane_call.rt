@@ -1,6 +1,10 @@
 //! The calls of a lane, each a type of its own: what a hold of the lane's lock may do.
+ghost use Rattle.std.specs.Prelude.{◌≡◌, not};
+ghost use Rattle.smx_history.specs.Replies.{has_room};
+ghost use Rattle.smx_lane.specs.Calls.{GoesOn};
 ghost use Rattle.smx_lane.specs.declared.call.Call.TheVariants as call;
 ghost use Rattle.smx_lane.specs.declared.call.Reply.TheVariants as reply;
+ghost use Rattle.smx_shared.specs.Roomy.{turned_where, shifts_where};
 
 use smx_history::{
     AlreadyDown, Answered, Entry, FailRefusal, Failed, NoneExpired, Note, Refusal, Request,
@@ -40,7 +44,7 @@ pub(crate) struct Calling<C: LaneCall> {
 
 impl<C: LaneCall> CriticalSection<Lane, Note> for Calling<C> {
     ghost use Rattle.smx_lane.specs.Calls.{Keeps};
-    ghost use Rattle.smx_shared.specs.Steps.{IsMade, notes_for};
+    ghost use Rattle.smx_shared.specs.Steps.{IsMade, hold_notes};
 
     type Answer = C::Answer;
 
@@ -48,11 +52,21 @@ impl<C: LaneCall> CriticalSection<Lane, Note> for Calling<C> {
 
     ghost does = { λ s by old answer new. IsMade by old (C.call s.made by) (C.reply answer) new };
 
-    ghost notes = { λ s by old answer. notes_for old (C.call s.made by) (C.reply answer) };
+    ghost notes = { λ s by old answer. hold_notes by old (C.call s.made by) (C.reply answer) };
 
     fn run(self, value: &mut Lane, number: u64) -> C::Answer {
         let Calling { made } = self;
         made.make(value, number)
+    }
+}
+
+// Turns the lane over where its history is full, for a call that wants room there.
+fn make_room(lane: &mut Lane, by: u64)
+    ensures met { lane.new ≡ turned_where (not (has_room lane.old)) lane.old }
+    ensures agrees { GoesOn lane.old (shifts_where (not (has_room lane.old)) by) lane.new }
+{
+    if !lane.has_room() {
+        lane.let_go(by);
     }
 }
 
@@ -69,6 +83,7 @@ impl LaneCall for Admitting {
     ghost reply = { reply.Admitted };
 
     fn make(self, lane: &mut Lane, by: u64) -> Result<(), AdmitFault> {
+        make_room(lane, by);
         lane.admit(by, self.client)
     }
 }
@@ -86,6 +101,7 @@ impl LaneCall for Accepting {
     ghost reply = { reply.Accepted };
 
     fn make(self, lane: &mut Lane, by: u64) -> Result<(), (Request, Refusal)> {
+        make_room(lane, by);
         lane.accept(by, self.request)
     }
 }

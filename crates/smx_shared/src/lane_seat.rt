@@ -28,7 +28,6 @@ impl Model for LaneSeat {
 
 impl LaneSeat {
     // Makes the call in one hold, for which it may wait.
-    #[tactic(auto, using(crate::proofs::Holding::ran_serves))]
     pub(crate) fn hold<R: Wait, C: LaneCall>(
         &mut self,
         rt: &R,
@@ -49,7 +48,6 @@ impl LaneSeat {
     }
 
     // The same without waiting.
-    #[tactic(auto, using(crate::proofs::Holding::ran_serves))]
     pub(crate) fn try_hold<C: LaneCall>(
         &mut self,
         lock: &TicketLock<Lane>,

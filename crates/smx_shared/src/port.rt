@@ -95,8 +95,9 @@ impl Port {
     }
 
     /// Hands a request to the first lane that has room for it, and answers which: lane
-    /// `(n - 1) % lanes` first for ordinal n, then the following ones in a ring. It may wait at
-    /// each lane.
+    /// `(n - 1) % lanes` first for ordinal n, then the following ones in a ring. A lane whose history
+    /// is full is turned over first, so it is full for its history only where what it holds takes
+    /// all the room. It may wait at each lane.
     pub fn submit<R: Wait>(
         &mut self,
         at: &Exchange,

@@ -85,8 +85,9 @@ impl Tap {
 
     /// Hands out what all callers of the lane noted since its last shift, where that is `least`
     /// entries or more; else it answers `None`, and nothing changed. The lane then goes on with no
-    /// entries, so that it never ends for a full history where its tap's owner calls this often
-    /// enough. The lane's requests, its window, its responses and its clients stay.
+    /// entries. Doors and ports turn a lane over whose history is full, and let go what it has
+    /// stored: whoever wants each entry calls this often enough. The lane's requests, its window,
+    /// its responses and its clients stay.
     ///
     /// It takes memory for one new list, of as many places as the limits' `history`; the old list is
     /// handed out by move. It may wait.

@@ -1,9 +1,8 @@
 //! A link over a socket.
-ghost use Rattle.std.specs.Prelude.{◌≡◌, ◌+◌, true, false};
 
+use crate::connection::Answers;
 use crate::socket::Socket;
 use smx_link::{Link, LinkFault, Polled};
-use smx_trace::Trace;
 use std::rc::Rc;
 
 /// A peer's octets over a socket. What is written goes out when the socket is flushed, so that all
@@ -12,11 +11,7 @@ use std::rc::Rc;
 #[derive(Drop)]
 pub struct SocketLink {
     socket: Rc<Socket>,
-    failures: u64,
-    given: Trace<u8>,
-    taken: Trace<u8>,
-    offered: Trace<u8>,
-    polls: Trace<Result<Polled, LinkFault>>,
+    answers: Answers,
 }
 
 impl SocketLink {
@@ -24,70 +19,31 @@ impl SocketLink {
     pub fn new(socket: Rc<Socket>) -> SocketLink {
         SocketLink {
             socket,
-            failures: 0,
-            given: Trace::new(),
-            taken: Trace::new(),
-            offered: Trace::new(),
-            polls: Trace::new(),
+            answers: Answers::new(),
         }
-    }
-
-    // Counts a fault. False where the count can't rise, and the fault is told no more.
-    fn count_fault(&mut self) -> bool
-        ensures risen { result ≡ true → self.new
-            ≡ record self.old { failures = self.old.failures + 1 } }
-        ensures last { result ≡ false → self.new ≡ self.old }
-    {
-        if self.failures == u64::MAX {
-            return false;
-        }
-        self.failures += 1;
-        true
     }
 }
 
 impl Link for SocketLink {
-    ghost given = { λ l. l.given };
+    ghost given = { λ l. l.answers.given };
 
-    ghost taken = { λ l. l.taken };
+    ghost taken = { λ l. l.answers.taken };
 
-    ghost offered = { λ l. l.offered };
+    ghost offered = { λ l. l.answers.offered };
 
-    ghost polls = { λ l. l.polls };
+    ghost polls = { λ l. l.answers.polls };
 
-    ghost failures = { λ l. l.failures };
+    ghost failures = { λ l. l.answers.failures };
 
     fn poll_read(&mut self, buffer: &mut [u8]) -> Result<Polled, LinkFault> {
-        let mut answer = self.socket.poll_read(buffer);
-        if answer.is_err() && !self.count_fault() {
-            answer = Ok(Polled::End);
-        }
-        if let Ok(Polled::Octets(count)) = answer {
-            self.given.extend(&buffer[..count]);
-        }
-        if !buffer.is_empty() {
-            self.polls = self.polls.and(&answer);
-        }
-        answer
+        self.socket.poll_read(buffer, &mut self.answers)
     }
 
     fn write(&mut self, octets: &[u8]) -> Result<usize, LinkFault> {
-        self.offered.extend(octets);
-        match self.socket.write(octets) {
-            Ok(count) => {
-                self.taken.extend(&octets[..count]);
-                Ok(count)
-            }
-            Err(fault) => {
-                if self.count_fault() {
-                    return Err(fault);
-                }
-                Ok(0)
-            }
-        }
+        self.socket.write(octets, &mut self.answers)
     }
 
     fn faults(&self) -> u64 {
-        self.failures
+        self.answers.failures()
     }
 }

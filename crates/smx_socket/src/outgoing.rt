@@ -1,6 +1,7 @@
 //! Octets on their way out.
-ghost use Rattle.std.specs.Prelude.{◌≡◌, ◌≤◌, ◌<◌, ◌++◌, ◌↔◌, [], take, drop, length, IsTrue, IfOk};
+ghost use Rattle.std.specs.Prelude.{◌≡◌, ◌≤◌, ◌<◌, ◌++◌, ◌↔◌, ◌⊎◌, [], take, drop, length, IsTrue, IfOk};
 
+use smx_frame::compact;
 use std::alloc::{AllocError, Global};
 use std::marker::Model;
 
@@ -16,13 +17,14 @@ pub struct Outgoing {
 }
 
 impl Model for Outgoing {
-    ghost use Rattle.std.specs.Prelude.{ℕ, List, ◌≤◌, drop, vec_len};
+    ghost use Rattle.std.specs.Prelude.{ℕ, List, ◌≤◌, drop, vec_len, vec_capacity};
 
     ghost Value = { List ℕ };
 
     ghost view = { λ o. drop o.gone o.octets.items };
 
-    ghost invariant = { λ o. (o.gone ≤ vec_len o.octets) × (vec_len o.octets ≤ 65536) };
+    ghost invariant = { λ o. (o.gone ≤ vec_len o.octets) × (vec_len o.octets ≤ 65536)
+        × (65536 ≤ vec_capacity o.octets) };
 }
 
 impl Outgoing {
@@ -50,25 +52,14 @@ impl Outgoing {
         self.waiting().is_empty()
     }
 
-    // Moves what waits to the front, where no more waits than has gone: so no octet moves more often
-    // than an octet has gone for it.
-    fn compact(&mut self)
-        ensures { self.new ≡ self.old }
-    {
-        let left = self.octets.len() - self.gone;
-        if left <= self.gone {
-            self.octets.copy_within(self.gone.., 0);
-            self.octets.truncate(left);
-            self.gone = 0;
-        }
-    }
-
-    /// Takes octets from the first on, as many as there is room for.
+    /// Takes octets from the first on, as many as there is room for: all of them, or so many that
+    /// more than 32,768 wait.
     pub fn accept(&mut self, octets: &[u8]) -> usize
         ensures within { result ≤ length octets.now }
         ensures waits { self.new ≡ self.old ++ take result octets.now }
+        ensures full { (result ≡ length octets.now) ⊎ (32768 < length self.new) }
     {
-        self.compact();
+        compact(&mut self.octets, &mut self.gone);
         let count = octets.len().min(MOST - self.octets.len());
         match self.octets.extend_from_slice(&octets[..count]) {
             Ok(()) => count,

@@ -2,8 +2,8 @@
 
 use smx_pdu::Pdu;
 
-/// A message of the centre, for the client with this number, from the lane and with the centre's
-/// number.
+/// A message of the centre, for the client with this number, from the lane and with the number that
+/// the lane's worker gave it.
 #[derive(Debug, Drop)]
 pub struct MoItem {
     pub client: u64,

@@ -12,15 +12,15 @@ use Rattle.smx_turns.specs.declared.end.Fault.TheVariants as fault
 use Rattle.smx_turns.specs.declared.step.Step.{Step}
 use Rattle.smx_turns.specs.declared.step.Step.TheVariants.{Asked, Read, Marked, Did}
 use Rattle.smx_upstream.specs.declared.mark.Mark.{Mark}
-use Rattle.smx_upstream.specs.declared.mark.Mark.TheVariants.{Offered, Full, Part}
+use Rattle.smx_upstream.specs.declared.mark.Mark.TheVariants.{Offered, WriteFailed, Full, Part}
 use Rattle.smx_upstream.specs.declared.event.Event.{Event}
-use Rattle.smx_upstream.specs.declared.event.Event.TheVariants.{Opened, Looked, Expired, Young, Shifted, Sought, Decided, Took, Broke}
+use Rattle.smx_upstream.specs.declared.event.Event.TheVariants.{Opened, Looked, Expired, Shifted, Sought, Decided, Took, Broke}
 use Rattle.smx_upstream.specs.declared.event.Fate.{Fate}
 use Rattle.smx_upstream.specs.declared.event.Fate.TheVariants as fate
 use Rattle.smx_upstream.specs.Ending.{is_last}
 use Rattle.smx_upstream.specs.Events.{kept_by}
 use Rattle.smx_upstream.specs.Spent.{is_spent_fate, is_spent_expiry, is_spent_shift, is_spent_get, is_spent_take}
-use Rattle.smx_upstream.specs.Phases.{Phase, Before, some_wait, Opening, Ready, Written, Clogged, Watched, Swept, Clear, Sated, Brimming, MayRead, Deciding, Closing, Settled, MayTake, HasTried, Stopped, Refrained, Gone, Drained, Exhausted, Wrong, go, from_opening, from_ready, from_written, from_watched, from_swept, from_clear, from_sated, from_may_read, from_deciding, from_closing, from_settled, from_may_take, phase_from, phase_of, unless_spent, at_moment, if_so, after_offer, unless_left, when_looked, when_kept, when_decided, when_part, when_full, when_read, when_may_read, when_may_take, end_of, quiet_end, Waits, IsOver, IsTurnEnd, IsTurn, EndsEarly, IsPart, Faulted, MayWant}
+use Rattle.smx_upstream.specs.Phases.{Phase, Before, some_wait, Opening, Ready, Written, Clogged, Watched, Swept, Clear, Sated, Brimming, MayRead, Failed, Deciding, Closing, Settled, MayTake, HasTried, Stopped, Refrained, Gone, Drained, Wrong, go, from_opening, from_ready, from_written, from_watched, from_swept, from_clear, from_sated, from_may_read, from_deciding, from_closing, from_settled, from_may_take, phase_from, phase_of, unless_spent, at_moment, if_so, after_offer, unless_left, when_looked, when_kept, when_decided, when_part, when_full, when_read, when_may_read, when_may_take, end_of, quiet_end, Waits, IsOver, IsTurnEnd, IsTurn, EndsEarly, IsPart, LeadsTo, Faulted, MayWant}
 
 phase_append : (t : Before) (p : Phase) (xs ys : List (Step Mark Event)) → phase_from t p (xs ++ ys) ≡ phase_from t (phase_from t p xs) ys
 unfolding phase_from
@@ -45,14 +45,15 @@ itself : (b : Bool) (p : Phase) → if_so b b p ≡ p
 itself true p = refl
 itself false p = refl
 
+-- octets wait just where not all was taken
+pub clear_so : (c : Bool) (xs : List ℕ) → (IsTrue c ↔ (xs ≡ [])) → not c ≡ some_wait xs
+clear_so true xs h = sym (ap some_wait (h.0 refl))
+clear_so false [] h = absurd (true≢false (sym (h.1 refl)))
+clear_so false (x ∷ xs) h = refl
+
 -- whether octets wait is said so
 pub said_so : (b clear : Bool) (unsent : List ℕ) (p : Phase) → b ≡ some_wait unsent → (IsTrue clear ↔ (unsent ≡ [])) → if_so (not clear) b p ≡ p
-said_so b clear unsent p is tells = ap (λ x. if_so (not clear) x p) (is ∙ wait clear unsent tells) ∙ itself (not clear) p
-  where
-    wait : (c : Bool) (xs : List ℕ) → (IsTrue c ↔ (xs ≡ [])) → some_wait xs ≡ not c
-    wait true xs h = ap some_wait (h.0 refl)
-    wait false [] h = absurd (true≢false (sym (h.1 refl)))
-    wait false (x ∷ xs) h = refl
+said_so b clear unsent p is tells = ap (λ x. if_so (not clear) x p) (is ∙ sym (clear_so clear unsent tells)) ∙ itself (not clear) p
 
 pub at_its_moment : (t : Before) (now : ℕ) (p : Phase) → t.now ≡ now → at_moment t now p ≡ p
 at_its_moment t now p same = ap (λ b. if b then p else Wrong) (eq-eqb now t.now (sym same))
@@ -64,6 +65,14 @@ cell_offered t waited left = refl
 pub cell_closed : (t : Before) (waited left : Bool) → go t Closing (Marked (Offered waited left)) ≡ unless_left left
 unfolding go from_closing
 cell_closed t waited left = refl
+
+pub cell_unwritten : (t : Before) → go t Ready (Marked WriteFailed) ≡ Failed
+unfolding go from_ready
+cell_unwritten t = refl
+
+pub cell_unclosed : (t : Before) → go t Closing (Marked WriteFailed) ≡ Failed
+unfolding go from_closing
+cell_unclosed t = refl
 
 pub cell_looked : (t : Before) (left : Bool) (now : _) (due : _) (silent : Bool) → go t (Written left) (Did (Looked now due silent)) ≡ at_moment t now (when_looked left silent)
 unfolding go from_written
@@ -77,17 +86,13 @@ pub cell_expired : (t : Before) (left : Bool) (lane : _) (r : _) → go t (Watch
 unfolding go from_watched
 cell_expired t left lane r = refl
 
-pub cell_young : (t : Before) (left : Bool) → go t (Swept left) (Did Young) ≡ when_kept left
-unfolding go from_swept
-cell_young t left = refl
-
 pub cell_shifted : (t : Before) (left : Bool) (least : _) (r : _) → go t (Swept left) (Did (Shifted least r)) ≡ unless_spent (is_spent_shift r.value) (when_kept left)
 unfolding go from_swept
 cell_shifted t left least r = refl
 
-pub cell_sought : (t : Before) (r : _) → go t Clear (Did (Sought r)) ≡ unless_spent (is_spent_get r.value) Sated
+pub cell_sought : (t : Before) (r : _) (under : _) → go t Clear (Did (Sought r under)) ≡ unless_spent (is_spent_get r.value) Sated
 unfolding go from_clear
-cell_sought t r = refl
+cell_sought t r under = refl
 
 pub cell_full : (t : Before) → go t Sated (Marked Full) ≡ Brimming
 unfolding go from_sated
@@ -133,8 +138,9 @@ kept_spent p (fate.Lane lane a) = refl
 kept_spent p fate.LaneSpent = refl
 kept_spent p fate.Unread = refl
 kept_spent p (fate.Unrouted found) = refl
-kept_spent p (fate.Put place n) = refl
+kept_spent p (fate.Put place n given) = refl
 kept_spent p (fate.Full place) = refl
+kept_spent p (fate.Crowded place) = refl
 kept_spent p (fate.BoxSpent place) = refl
 
 abbrev pub fault_or : {A : Type 0} → Result A Fault → Fault
@@ -175,6 +181,10 @@ ends_left false = record { allowed = λ bound quiet. tt; early = refl }
 pub part_err : (q : Phase) (r : Result (Option TurnEnd) Fault) (e : Fault) (p : Phase) → IsErr r → IsErrAnd r (λ (y : Fault). y ≡ e) → Faulted e p → IsPart q r p
 part_err q (Ok end) e p is same f = absurd (true≢false (sym is))
 part_err q (Err y) e p is same f = subst (λ (x : Fault). Faulted x p) (sym same) f
+
+pub leads_err : {A : Type 0} (next : A → Phase) (r : Result A Fault) (e : Fault) (p : Phase) → IsErr r → IsErrAnd r (λ (y : Fault). y ≡ e) → Faulted e p → LeadsTo r next p
+leads_err next (Ok x) e p is same f = absurd (true≢false (sym is))
+leads_err next (Err y) e p is same f = subst (λ (x : Fault). Faulted x p) (sym same) f
 
 pub over_at : (bound quiet : Bool) (e : TurnEnd) (p : Phase) → e ≡ Done → IsTurnEnd bound quiet e p → IsOver p
 over_at bound quiet e p same h = subst (λ (x : TurnEnd). IsTurnEnd bound quiet x p) same h

@@ -1,6 +1,5 @@
 -- One event more, and what a worker keeps.
-use Rattle.std.proofs.Common.{◌≡◌, ℕ, List, [], ◌∷◌, ◌++◌, Bool, true, false, ◌||◌, true≢false, Some, None, Result, Ok, Err, IfOk, IsOk, sym, ◌∙◌, ap, refl, subst, append_assoc, ◌⊎◌, ⊎_elim}
-use Rattle.std.proofs.lemmas.List.{append-nil}
+use Rattle.std.proofs.Common.{◌≡◌, ◌≢◌, ◌<◌, length, is_some, ℕ, List, [], ◌∷◌, ◌++◌, Bool, true, false, ◌||◌, true≢false, Option, IfSome, Some, None, Result, Ok, Err, IfOk, IsOk, sym, ◌∙◌, ap, refl, subst, append_assoc, ◌⊎◌, ⊎_elim}
 use Rattle.std.proofs.lemmas.List.Folds.{list_any-append}
 use Rattle.std.specs.List.{flat_map, list_any}
 use Rattle.smx_pdu.specs.declared.pdu.Pdu.{Pdu}
@@ -13,26 +12,31 @@ use Rattle.smx_link.specs.Wiring.{Wiring}
 use Rattle.smx_frame.specs.declared.fault.FrameFault.{FrameFault}
 use Rattle.smx_frame.specs.declared.fault.FrameFault.TheVariants.{NoMemory}
 use Rattle.smx_frame.specs.Stream.{fault_at}
+use Rattle.smx_routes.specs.Window.{Window}
 use Rattle.smx_turns.specs.declared.gate.Point.{Point}
+use Rattle.smx_turns.specs.declared.gate.Question.{Question}
+use Rattle.smx_turns.specs.declared.gate.Party.{Party}
+use Rattle.smx_turns.specs.declared.directory.Query.{Query}
+use Rattle.smx_turns.specs.Steps.{side}
 use Rattle.smx_turns.specs.declared.mo_item.MoItem.{MoItem}
 use Rattle.smx_turns.specs.declared.step.Step.{Step}
 use Rattle.smx_turns.specs.declared.step.Step.TheVariants.{Asked, Read, Marked, Did}
-use Rattle.smx_turns.specs.Steps.{Side}
 use Rattle.smx_turns.specs.Runs.{Runs}
-use Rattle.smx_turns.proofs.Chains.{pushed, chain_push, chain_first}
-use Rattle.smx_turns.proofs.Logged.{turned_none, turned_did, turned_step}
+use Rattle.smx_turns.proofs.Chains.{pushed, chain_push, chain_first, runs_none, runs_push}
+use Rattle.smx_turns.proofs.Logged.{turned_none, turned_did, turned_mark, turned_read, turned_ask}
 use Rattle.smx_link.specs.declared.link.Polled.{Polled}
 use Rattle.smx_link.specs.declared.link.LinkFault.{LinkFault}
 use Rattle.smx_upstream.specs.declared.age.Age.{Age}
 use Rattle.smx_upstream.specs.declared.mark.Mark.{Mark}
 use Rattle.smx_upstream.specs.declared.event.Event.{Event}
+use Rattle.smx_upstream.specs.declared.event.Event.TheVariants.{Began, Opened, Looked, Expired, Shifted, Sought, Decided, Took, Broke, Unbound}
 use Rattle.smx_upstream.specs.declared.event.Fate.{Fate}
 use Rattle.smx_upstream.specs.declared.event.Fate.TheVariants as fate
-use Rattle.smx_upstream.specs.Ending.{event_ends, has_ended}
+use Rattle.smx_upstream.specs.Ending.{event_ends, has_ended, event_breaks, has_broken, is_last}
 use Rattle.smx_upstream.specs.Events.{ins, outs, in_of, out_of, those, tell_of, find_of, unless_kept, kept_by}
-use Rattle.smx_upstream.specs.Ages.{noted_more, age_after_shift, fate_notes, fate_shifts}
-use Rattle.smx_upstream.specs.Standing.{Stand, Does, Gets, stand}
-use Rattle.smx_upstream.specs.Working.{Working, IsWorker, LeadsOn, ChangesSide}
+use Rattle.smx_upstream.specs.Standing.{Stand, Does, Gets, HoldNone, stand}
+use Rattle.smx_upstream.specs.Writing.{Writes, Marks, Sends, writing, has_link_ended, is_end_answer}
+use Rattle.smx_upstream.specs.Working.{Working, IsWorker, Scene, Changes, LeadsOn, is_bad_front}
 
 ins_push : (es es' : List Event) (e : Event) → es' ≡ es ++ e ∷ [] → ins es' ≡ ins es ++ in_of e
 unfolding ins
@@ -58,61 +62,141 @@ ended_push : (es es' : List Event) (e : Event) → es' ≡ es ++ e ∷ [] → ha
 unfolding has_ended
 ended_push es es' e grown = ap (list_any event_ends) grown ∙ list_any-append event_ends es (e ∷ []) ∙ ap (λ b. list_any event_ends es || b) (or_false (event_ends e))
 
+broke_push : (es es' : List Event) (e : Event) → es' ≡ es ++ e ∷ [] → has_broken es' ≡ (has_broken es || event_breaks e)
+unfolding has_broken
+broke_push es es' e grown = ap (list_any event_breaks) grown ∙ list_any-append event_breaks es (e ∷ []) ∙ ap (λ b. list_any event_breaks es || b) (or_false (event_breaks e))
+
+-- an event leaves the front as it was, or answered the bad length there
+pub record FrontKept (e : Event) (rest rest' : List ℕ) : Type 0 where
+  pub same : event_breaks e ≡ false → rest' ≡ rest
+  pub bad : event_breaks e ≡ true → is_bad_front rest' ≡ true
+
+pub front_same : {e : Event} {rest rest' : List ℕ} → event_breaks e ≡ false → rest' ≡ rest → FrontKept e rest rest'
+front_same unbroken same = record { same = λ _. same; bad = λ breaks. absurd (true≢false (sym breaks ∙ unbroken)) }
+
+front_kept : (es es' : List Event) (e : Event) (rest rest' : List ℕ) → es' ≡ es ++ e ∷ [] → (has_broken es ≡ true → is_bad_front rest ≡ true) → FrontKept e rest rest' → has_broken es' ≡ true → is_bad_front rest' ≡ true
+front_kept es es' e rest rest' grown was front h = by_case (event_breaks e) refl
+  where
+    by_case : (b : Bool) → event_breaks e ≡ b → is_bad_front rest' ≡ true
+    by_case true is = front.bad is
+    by_case false is = ap is_bad_front (front.same is) ∙ was (sym (or_false (has_broken es)) ∙ ap (λ b. has_broken es || b) (sym is) ∙ sym (broke_push es es' e grown) ∙ h)
+
+breaks_ends : (es : List Event) → has_broken es ≡ true → has_ended es ≡ true
+unfolding has_broken has_ended
+breaks_ends [] h = h
+breaks_ends (e ∷ es) h = first e (list_any event_breaks es) (list_any event_ends es) (breaks_ends es) h
+  where
+    rest_ends : (a b x : Bool) → (a ≡ true → b ≡ true) → a ≡ true → (x || b) ≡ true
+    rest_ends a b true more h = refl
+    rest_ends a b false more h = more h
+
+    first : (e : Event) (a b : Bool) → (a ≡ true → b ≡ true) → (event_breaks e || a) ≡ true → (event_ends e || b) ≡ true
+    first Broke a b more h = refl
+    first (Began p) a b more h = more h
+    first (Opened n) a b more h = more h
+    first (Looked now due silent) a b more h = more h
+    first (Expired lane r) a b more h = more h
+    first (Shifted least r) a b more h = more h
+    first (Sought r under) a b more h = more h
+    first (Decided p now x f) a b more h = rest_ends a b (is_last x.value f) more h
+    first (Took r) a b more h = more h
+    first (Unbound p) a b more h = more h
+
+-- where PDUs are decided still, no bad length was answered
+pub none_broken : {L : Type 0} {A : Type 0} (w : Working L) → IsWorker w → w.ending ≡ false → has_broken w.events ≡ true → A
+none_broken w was on broke = absurd (true≢false (sym (breaks_ends w.events broke) ∙ sym was.over ∙ on))
+
 -- a worker that did one thing more
 pub did : {L : Type 0} (w w' : Working L) (e : Event) → IsWorker w → w'.events ≡ w.events ++ e ∷ [] → w'.wire.heard ≡ w.wire.heard → in_of e ++ those w'.held ≡ those w.held
-    → w'.wire.said ≡ w.wire.said ++ out_of e → w'.first ≡ w.first → Does w.stand e w'.stand → (w'.ending ≡ false → w'.wire.failed ≡ None) → w'.ending ≡ (w.ending || event_ends e) → IsWorker w'
-did w w' e was grown heard settled said first does on last = record {
+    → w'.wire.said ≡ w.wire.said ++ out_of e → w'.first ≡ w.first → Does w.stand e w'.stand → (w'.ending ≡ false → w'.wire.failed ≡ None) → w'.ending ≡ (w.ending || event_ends e) → FrontKept e w.wire.rest w'.wire.rest → IsWorker w'
+did w w' e was grown heard settled said first does on last front = record {
   heard = heard ∙ was.heard ∙ ap (λ l. ins w.events ++ l) (sym settled) ∙ sym (append_assoc (ins w.events) (in_of e) (those w'.held))
       ∙ ap (λ l. l ++ those w'.held) (sym (ins_push w.events w'.events e grown));
   said = said ∙ ap (λ l. l ++ out_of e) was.said ∙ sym (outs_push w.events w'.events e grown);
   runs = chain_push Does w'.first w.stand w'.stand w.events w'.events e grown does (subst_first w.first w'.first (sym first) was.runs);
+  none_owed = subst (λ (s : Stand). HoldNone s.owed) (sym first) was.none_owed;
   over = last ∙ ap (λ b. b || event_ends e) was.over ∙ sym (ended_push w.events w'.events e grown);
   goes_on = on;
+  broke = front_kept w.events w'.events e w.wire.rest w'.wire.rest grown was.broke front;
 }
   where
     subst_first : (a b : Stand) → a ≡ b → ∥ Runs Does a w.events w.stand ∥₁ → ∥ Runs Does b w.events w.stand ∥₁
     subst_first a b same r = subst (λ (x : Stand). ∥ Runs Does x w.events w.stand ∥₁) same r
 
+pub some_of : {A : Type 0} (P : A → Type 0) (o : Option A) (x : A) → o ≡ Some x → IfSome o P → P x
+some_of P o x is h = subst (λ y. IfSome y P) is h
+
+-- a worker that decides PDUs still, and did no more than read or hear
+pub on_hearing : {L : Type 0} (w w' : Working L) → IsWorker w → w.ending ≡ false → w' ≡ record w { wire = w'.wire; held = w'.held } → w'.wire.heard ≡ ins w.events ++ those w'.held
+    → w'.wire.said ≡ w.wire.said → w'.wire.failed ≡ None → IsWorker w'
+on_hearing w w' was on same heard said fine = subst IsWorker (sym same) (record {
+  heard = heard;
+  said = said ∙ was.said;
+  runs = was.runs;
+  none_owed = was.none_owed;
+  over = was.over;
+  goes_on = λ _. fine;
+  broke = λ h. none_broken w was on h;
+})
+
 -- a new worker
 pub began : {L : Type 0} (w : Working L) (e : Event) (p : Pdu) → w.events ≡ e ∷ [] → w.wire.heard ≡ [] → w.held ≡ None → in_of e ≡ [] → out_of e ≡ p ∷ [] → w.wire.said ≡ p ∷ []
-    → w.first ≡ w.stand → Does w.first e w.stand → w.wire.failed ≡ None → w.ending ≡ event_ends e → IsWorker w
-unfolding ins outs has_ended
-began w e p one heard held nothing sends said first does on last = record {
+    → w.first ≡ w.stand → HoldNone w.first.owed → Does w.first e w.stand → w.wire.failed ≡ None → w.ending ≡ event_ends e → event_breaks e ≡ false → IsWorker w
+unfolding ins outs has_ended has_broken
+began w e p one heard held nothing sends said first none does on last unbroken = record {
   heard = heard ∙ sym (ap (λ l. flat_map in_of l ++ those w.held) one ∙ ap (λ l. (l ++ []) ++ those w.held) nothing ∙ ap those held);
   said = said ∙ sym (ap (flat_map out_of) one ∙ ap (λ l. l ++ []) sends);
   runs = chain_first Does w.first w.first w.stand [] w.events e refl refl one does;
+  none_owed = none;
   over = last ∙ goes_on (event_ends e) ∙ sym (ap (list_any event_ends) one);
   goes_on = λ _. on;
+  broke = λ h. absurd (true≢false (sym h ∙ ap (list_any event_breaks) one ∙ or_false (event_breaks e) ∙ unbroken));
 }
 
+pub sides_same : {q q' : List Question} {d d' : List Party} {f f' : List Query} {es es' : List Event} {s s' : Stand} {p p' : List (Result Polled LinkFault)} → q ≡ q' → d ≡ d' → f ≡ f' → es ≡ es' → s ≡ s' → p ≡ p'
+    → side q d f es s p ≡ side q' d' f' es' s' p'
+sides_same a b c d e f = cc
+
+-- the same octets by other names
+pub writes_same : {u u' o o' : List ℕ} {e e' : Bool} → u ≡ u' → o ≡ o' → e ≡ e' → writing u o e ≡ writing u' o' e'
+writes_same u o e = cc
+
+-- a read's answer is its link's last
+pub ended_by : (rs : List (Result Polled LinkFault)) (r : Result Polled LinkFault) → has_link_ended (rs ++ r ∷ []) ≡ is_end_answer r
+unfolding has_link_ended
+ended_by [] r = refl
+ended_by (x ∷ []) r = refl
+ended_by (x ∷ y ∷ ys) r = ended_by (y ∷ ys) r
+
 -- a turn with one thing more
-pub goes_did : (n : ℕ) (a b : Side Stand Event) (ss ss' : List (Step Mark Event)) (e : Event) → ss' ≡ ss ++ Did e ∷ [] → b.asked ≡ a.asked → b.told ≡ a.told ++ tell_of e
-    → b.queries ≡ a.queries ++ find_of e → b.events ≡ a.events ++ e ∷ [] → Does a.stand e b.stand → b.polls ≡ a.polls → LeadsOn n a b ss ss'
-goes_did n a b ss ss' e grown asked told queried more does polls = λ start t. turned_did Does tell_of find_of n start a b ss ss' e grown asked told queried more does polls t
+pub goes_did : (n : ℕ) (a b : Scene) (ss ss' : List (Step Mark Event)) (e : Event) → ss' ≡ ss ++ Did e ∷ [] → b.side.asked ≡ a.side.asked → b.side.told ≡ a.side.told ++ tell_of e
+    → b.side.queries ≡ a.side.queries ++ find_of e → b.side.events ≡ a.side.events ++ e ∷ [] → Does a.side.stand e b.side.stand → b.side.polls ≡ a.side.polls → Sends a.writing e b.writing → LeadsOn n a b ss ss'
+goes_did n a b ss ss' e grown asked told queried more does polls sends = λ start t. record {
+  turned = turned_did Does tell_of find_of n start.side a.side b.side ss ss' e grown asked told queried more does polls t.turned;
+  written = runs_push Writes start.writing a.writing b.writing ss ss' (Did e) grown sends t.written;
+}
 
-pub goes_mark : (n : ℕ) (a b : Side Stand Event) (ss ss' : List (Step Mark Event)) (m : Mark) → ss' ≡ ss ++ Marked m ∷ [] → b.asked ≡ a.asked → b.told ≡ a.told → b.queries ≡ a.queries
-    → b.events ≡ a.events → b.stand ≡ a.stand → b.polls ≡ a.polls → LeadsOn n a b ss ss'
-unfolding Runs
-goes_mark n a b ss ss' m grown q d f e s p = λ start t. turned_step Does tell_of find_of n start a b ss ss' (Marked m) grown (q ∙ sym (append-nil a.asked)) (d ∙ sym (append-nil a.told)) (f ∙ sym (append-nil a.queries))
-    (e ∙ sym (append-nil a.events)) s (p ∙ sym (append-nil a.polls)) t
+pub goes_mark : (n : ℕ) (a b : Scene) (ss ss' : List (Step Mark Event)) (m : Mark) → ss' ≡ ss ++ Marked m ∷ [] → b.side ≡ a.side → Marks a.writing m b.writing → LeadsOn n a b ss ss'
+goes_mark n a b ss ss' m grown same marks = λ start t. record {
+  turned = turned_mark Does tell_of find_of n start.side a.side b.side ss ss' m grown same t.turned;
+  written = runs_push Writes start.writing a.writing b.writing ss ss' (Marked m) grown marks t.written;
+}
 
-pub goes_read : (n : ℕ) (a b : Side Stand Event) (ss ss' : List (Step Mark Event)) (r : Result Polled LinkFault) → ss' ≡ ss ++ Read r ∷ [] → b.asked ≡ a.asked → b.told ≡ a.told → b.queries ≡ a.queries
-    → b.events ≡ a.events → b.stand ≡ a.stand → b.polls ≡ a.polls ++ r ∷ [] → LeadsOn n a b ss ss'
-unfolding Runs
-goes_read n a b ss ss' r grown q d f e s p = λ start t. turned_step Does tell_of find_of n start a b ss ss' (Read r) grown (q ∙ sym (append-nil a.asked)) (d ∙ sym (append-nil a.told)) (f ∙ sym (append-nil a.queries))
-    (e ∙ sym (append-nil a.events)) s p t
+pub goes_read : (n : ℕ) (a b : Scene) (ss ss' : List (Step Mark Event)) (r : Result Polled LinkFault) → ss' ≡ ss ++ Read r ∷ [] → b.side ≡ record a.side { polls = a.side.polls ++ r ∷ [] }
+    → b.writing ≡ record a.writing { ended = is_end_answer r } → LeadsOn n a b ss ss'
+goes_read n a b ss ss' r grown same reads = λ start t. record {
+  turned = turned_read Does tell_of find_of n start.side a.side b.side ss ss' r grown same t.turned;
+  written = runs_push Writes start.writing a.writing b.writing ss ss' (Read r) grown reads t.written;
+}
 
-pub goes_ask : (n : ℕ) (a b : Side Stand Event) (ss ss' : List (Step Mark Event)) (p : Point) (answer : Bool) → ss' ≡ ss ++ Asked p answer ∷ []
-    → b.asked ≡ a.asked ++ record { point = p; turn = n; answer = answer } ∷ [] → b.told ≡ a.told → b.queries ≡ a.queries → b.events ≡ a.events → b.stand ≡ a.stand → b.polls ≡ a.polls → LeadsOn n a b ss ss'
-unfolding Runs
-goes_ask n a b ss ss' p answer grown q d f e s l = λ start t. turned_step Does tell_of find_of n start a b ss ss' (Asked p answer) grown q (d ∙ sym (append-nil a.told)) (f ∙ sym (append-nil a.queries))
-    (e ∙ sym (append-nil a.events)) s (l ∙ sym (append-nil a.polls)) t
+pub goes_ask : (n : ℕ) (a b : Scene) (ss ss' : List (Step Mark Event)) (p : Point) (answer : Bool) → ss' ≡ ss ++ Asked p answer ∷ []
+    → b.side ≡ record a.side { asked = a.side.asked ++ record { point = p; turn = n; answer = answer } ∷ [] } → length a.writing.unsent < 65536 → b.writing ≡ a.writing → LeadsOn n a b ss ss'
+goes_ask n a b ss ss' p answer grown same few kept = λ start t. record {
+  turned = turned_ask Does tell_of find_of n start.side a.side b.side ss ss' p answer grown same t.turned;
+  written = runs_push Writes start.writing a.writing b.writing ss ss' (Asked p answer) grown (few, kept) t.written;
+}
 
-pub goes_same : (n : ℕ) (a b : Side Stand Event) (ss ss' : List (Step Mark Event)) → ss' ≡ ss → b ≡ a → LeadsOn n a b ss ss'
-goes_same n a b ss ss' kept same = λ start t. subst (λ (x : Side Stand Event). ChangesSide n start x ss') (sym same)
-    (subst (λ (l : List (Step Mark Event)). ChangesSide n start a l) (sym kept) t)
-
-pub goes_then : (n : ℕ) (a b c : Side Stand Event) (ss ss' ss'' : List (Step Mark Event)) → LeadsOn n a b ss ss' → LeadsOn n b c ss' ss'' → LeadsOn n a c ss ss''
+pub goes_then : (n : ℕ) (a b c : Scene) (ss ss' ss'' : List (Step Mark Event)) → LeadsOn n a b ss ss' → LeadsOn n b c ss' ss'' → LeadsOn n a c ss ss''
 goes_then n a b c ss ss' ss'' f g = λ start t. g start (f start t)
 
 -- a PDU is decided, or waits
@@ -123,44 +207,43 @@ kept_or_in p (fate.Lane lane a) = refl
 kept_or_in p fate.LaneSpent = refl
 kept_or_in p fate.Unread = refl
 kept_or_in p (fate.Unrouted found) = refl
-kept_or_in p (fate.Put place n) = refl
+kept_or_in p (fate.Put place n given) = refl
 kept_or_in p (fate.Full place) = refl
+kept_or_in p (fate.Crowded place) = refl
 kept_or_in p (fate.BoxSpent place) = refl
-
--- the age after a PDU was decided
-pub aged : (f : Fate) (a b c : Age) (shifted : Bool) (notes : ℕ) → c ≡ noted_more notes b → b ≡ age_after_shift shifted a → notes ≡ fate_notes f → shifted ≡ fate_shifts f
-    → c ≡ noted_more (fate_notes f) (age_after_shift (fate_shifts f) a)
-aged f a b c shifted notes more after n s =
-    more ∙ ap (λ (k : ℕ). noted_more k b) n ∙ ap (noted_more (fate_notes f)) (after ∙ ap (λ (x : Bool). age_after_shift x a) s)
 
 -- what the contract of a get says
 pub gets_from : (a b : Receiving Pdu) (r : Result (Got Pdu) Spent) → IfOk r (Hands a.got b.got) → IfOk r (GetServes a b.front) → IsOk r → Gets a b r
 gets_from a b (Ok found) h s e = (s, h)
 gets_from a b (Err fault) h s e = absurd (true≢false (sym e))
 
-pub stands_same : {u u' : Upstream} {t t' : TapView} {a a' : Receiving Pdu} {ss ss' : List (Sending MoItem)} {b b' : Age} → u' ≡ u → t' ≡ t → a' ≡ a → ss' ≡ ss → b' ≡ b
-    → stand u' t' a' ss' b' ≡ stand u t a ss b
-stands_same d e f g h = cc
+pub stands_same : {u u' : Upstream} {t t' : TapView} {a a' : Receiving Pdu} {ss ss' : List (Sending MoItem)} {o o' : List Window} {b b' : Age} → u' ≡ u → t' ≡ t → a' ≡ a → ss' ≡ ss → o' ≡ o → b' ≡ b
+    → stand u' t' a' ss' o' b' ≡ stand u t a ss o b
+stands_same d e f g h i = cc
+
+-- a bad length that was met stands at the front
+pub bad_front : {L : Type 0} (old new : Wiring L) (e : FrameFault) → ((e ≡ NoMemory) × (new ≡ old)) ⊎ ((fault_at 65536 old.rest ≡ Some e) × (new ≡ record old { failed = Some e })) → e ≢ NoMemory → is_bad_front new.rest ≡ true
+bad_front {L = L} old new e found other = ⊎_elim (λ p. absurd (other p.0)) (λ p. ap (λ (w : Wiring L). is_bad_front w.rest) p.1 ∙ ap is_some p.0) found
 
 -- a bad length leaves what was heard and what was said
 pub bad_heard : {L : Type 0} (old new : Wiring L) (e : FrameFault) → ((e ≡ NoMemory) × (new ≡ old)) ⊎ ((fault_at 65536 old.rest ≡ Some e) × (new ≡ record old { failed = Some e })) → new.heard ≡ old.heard
 bad_heard old new e h = ⊎_elim (λ x. ap (λ w. w.heard) x.1) (λ x. ap (λ w. w.heard) x.1) h
 
--- the same sides by other names
-pub goes_from : (n : ℕ) (a a' b : Side Stand Event) (ss ss' : List (Step Mark Event)) → a' ≡ a → LeadsOn n a' b ss ss' → LeadsOn n a b ss ss'
-goes_from n a a' b ss ss' same f = subst (λ (x : Side Stand Event). LeadsOn n x b ss ss') same f
+-- the same scenes by other names
+pub goes_from : (n : ℕ) (a a' b : Scene) (ss ss' : List (Step Mark Event)) → a' ≡ a → LeadsOn n a' b ss ss' → LeadsOn n a b ss ss'
+goes_from n a a' b ss ss' same f = subst (λ (x : Scene). LeadsOn n x b ss ss') same f
 
-pub goes_to : (n : ℕ) (a b b' : Side Stand Event) (ss ss' : List (Step Mark Event)) → b' ≡ b → LeadsOn n a b ss ss' → LeadsOn n a b' ss ss'
-goes_to n a b b' ss ss' same f = subst (λ (x : Side Stand Event). LeadsOn n a x ss ss') (sym same) f
+pub goes_to : (n : ℕ) (a b b' : Scene) (ss ss' : List (Step Mark Event)) → b' ≡ b → LeadsOn n a b ss ss' → LeadsOn n a b' ss ss'
+goes_to n a b b' ss ss' same f = subst (λ (x : Scene). LeadsOn n a x ss ss') (sym same) f
 
 -- the first steps of a turn are all its steps
-pub goes_first : (n : ℕ) (a b : Side Stand Event) (ss ss' : List (Step Mark Event)) → ss ≡ [] → LeadsOn n a b ss ss' → ChangesSide n a b ss'
-goes_first n a b ss ss' none f = f a (subst (λ (l : List (Step Mark Event)). ChangesSide n a a l) (sym none) (turned_none Does tell_of find_of n a))
+pub goes_first : (n : ℕ) (a b : Scene) (ss ss' : List (Step Mark Event)) → ss ≡ [] → LeadsOn n a b ss ss' → Changes n a b ss'
+goes_first n a b ss ss' none f = f a (subst (λ (l : List (Step Mark Event)). Changes n a a l) (sym none) (record { turned = turned_none Does tell_of find_of n a.side; written = runs_none Writes a.writing }))
 
 -- the same turn by other names
-pub turns_as : (n n' : ℕ) (a a' b b' : Side Stand Event) (ss ss' : List (Step Mark Event)) → n' ≡ n → a ≡ a' → b' ≡ b → ss' ≡ ss → ChangesSide n a b ss → ChangesSide n' a' b' ss'
-turns_as n n' a a' b b' ss ss' d e f g t = subst (λ (k : ℕ). ChangesSide k a' b' ss') (sym d) (subst (λ (x : Side Stand Event). ChangesSide n x b' ss') e
-    (subst (λ (x : Side Stand Event). ChangesSide n a x ss') (sym f) (subst (λ (l : List (Step Mark Event)). ChangesSide n a b l) (sym g) t)))
+pub turns_as : (n n' : ℕ) (a a' b b' : Scene) (ss ss' : List (Step Mark Event)) → n' ≡ n → a ≡ a' → b' ≡ b → ss' ≡ ss → Changes n a b ss → Changes n' a' b' ss'
+turns_as n n' a a' b b' ss ss' d e f g t = subst (λ (k : ℕ). Changes k a' b' ss') (sym d) (subst (λ (x : Scene). Changes n x b' ss') e
+    (subst (λ (x : Scene). Changes n a x ss') (sym f) (subst (λ (l : List (Step Mark Event)). Changes n a b l) (sym g) t)))
 
-pub goes_at : (n n' : ℕ) (a b : Side Stand Event) (ss ss' : List (Step Mark Event)) → n' ≡ n → LeadsOn n a b ss ss' → LeadsOn n' a b ss ss'
+pub goes_at : (n n' : ℕ) (a b : Scene) (ss ss' : List (Step Mark Event)) → n' ≡ n → LeadsOn n a b ss ss' → LeadsOn n' a b ss ss'
 goes_at n n' a b ss ss' same f = subst (λ (k : ℕ). LeadsOn k a b ss ss') (sym same) f

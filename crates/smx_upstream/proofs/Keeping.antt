@@ -55,7 +55,7 @@ answer_note f g p (answered.Queued c) h = answers_known f g p (Ok (answered.Queu
 answer_note f g p answered.Late h = answers_known f g p (Ok answered.Late) h
 answer_note f g p (answered.Unknown back) h = answers_known f g p (Ok (answered.Unknown back)) h
 
-rise_note : (f g : Front Note Limits) (x : Rise) → Rises f g x → known_of g.mine ≡ known_of f.mine
+pub rise_note : (f g : Front Note Limits) (x : Rise) → Rises f g x → known_of g.mine ≡ known_of f.mine
 rise_note f g (rise.Asked said) h = up_known f g said h.0
 rise_note f g (rise.Renewed es said) h = up_known h.1 g said h.4 ∙ turn_known h.0 h.1 1 es h.3 ∙ up_known f h.0 (Err (ups.Refused refusal.HistoryFull)) h.2
 
@@ -67,8 +67,9 @@ fate_note p a (fate.Lane at r) t ss t' ss' b = answer_note t.front t'.front p r.
 fate_note p a fate.LaneSpent t ss t' ss' b = nothing _ _ (⊎_elim (λ e. ap (λ x. known_of x.mine) e) (λ e. ap (λ x. known_of x.mine) e) b.1)
 fate_note p a fate.Unread t ss t' ss' b = nothing _ _ (ap (λ x. known_of x.front.mine) b.2)
 fate_note p a (fate.Unrouted found) t ss t' ss' b = nothing _ _ (ap (λ x. known_of x.front.mine) b.3)
-fate_note p a (fate.Put place n) t ss t' ss' b = nothing _ _ (ap (λ x. known_of x.front.mine) b.3)
+fate_note p a (fate.Put place n given) t ss t' ss' b = nothing _ _ (ap (λ x. known_of x.front.mine) b.3)
 fate_note p a (fate.Full place) t ss t' ss' b = nothing _ _ (ap (λ x. known_of x.front.mine) b.3)
+fate_note p a (fate.Crowded place) t ss t' ss' b = nothing _ _ (ap (λ x. known_of x.front.mine) b.2)
 fate_note p a (fate.BoxSpent place) t ss t' ss' b = nothing _ _ (ap (λ x. known_of x.front.mine) b.3)
 
 shift_note : (f g : Front Note Limits) (least : ℕ) (r : Result (Option (Vec Entry Global)) TurnFault)
@@ -82,31 +83,30 @@ note_step s t (event.Began p) d = nothing _ _ (ap (λ x. known_of x.tap.front.mi
 note_step s t (event.Opened n) d = nothing _ _ (ap (λ x. known_of x.tap.front.mine) d.1)
 note_step s t (event.Looked now due silent) d = nothing _ _ (ap (λ x. known_of x.tap.front.mine) d.2)
 note_step s t (event.Expired lane r) d = nothing _ _ (expiry_known s.tap.front t.tap.front s.session.latest s.age.response_timer r.value d.1)
-note_step s t event.Young d = nothing _ _ (ap (λ x. known_of x.tap.front.mine) d.1)
 note_step s t (event.Shifted least r) d = nothing _ _ (shift_note s.tap.front t.tap.front least r.value d.1)
-note_step s t (event.Sought r) d = nothing _ _ (ap (λ x. known_of x.tap.front.mine) d.1)
+note_step s t (event.Sought r under) d = nothing _ _ (ap (λ x. known_of x.tap.front.mine) d.2)
 note_step s t (event.Decided p now a f) d = fate_note p.value a.value f s.tap s.senders t.tap t.senders d.1
-note_step s t (event.Took r) d = takes_known s.tap.front t.tap.front s.session.latest r.value d.0
+note_step s t (event.Took r) d = takes_known s.tap.front t.tap.front s.session.latest r.value d.1
 note_step s t event.Broke d = nothing _ _ (ap (λ x. known_of x.tap.front.mine) d)
 note_step s t (event.Unbound p) d = nothing _ _ (ap (λ x. known_of x.tap.front.mine) d.1)
 
 -- the tap's seen
-self : {A : Type 0} (xs ys : List A) → ys ≡ xs → IsPrefix xs ys
+pub self : {A : Type 0} (xs ys : List A) → ys ≡ xs → IsPrefix xs ys
 self xs ys e = ([], append-nil xs ∙ sym e)
 
-longer : {A : Type 0} (xs ys zs : List A) → IsPrefix xs ys → IsPrefix ys zs → IsPrefix xs zs
+pub longer : {A : Type 0} (xs ys zs : List A) → IsPrefix xs ys → IsPrefix ys zs → IsPrefix xs zs
 longer xs ys zs p q = (p.0 ++ q.0, sym (append_assoc xs p.0 q.0) ∙ ap (λ w. w ++ q.0) p.1 ∙ q.1)
 
-served_seen : (f g : Front Note Limits) (found new : List Note) → Serves writer f g found new → IsPrefix f.seen g.seen
+pub served_seen : (f g : Front Note Limits) (found new : List Note) → Serves writer f g found new → IsPrefix f.seen g.seen
 served_seen f g found new h = longer f.seen found g.seen h.begins (new, sym h.seen)
 
-spent_seen : (f g : Front Note Limits) → IsSpent f g → IsPrefix f.seen g.seen
+pub spent_seen : (f g : Front Note Limits) → IsSpent f g → IsPrefix f.seen g.seen
 spent_seen f g h = self _ _ (⊎_elim (λ e. ap (λ x. x.seen) e) (λ e. ap (λ x. x.seen) e) h)
 
 answer_seen : (f g : Front Note Limits) (p : Pdu) (x : Answered) → AnswerServes f g p x → IsPrefix f.seen g.seen
 answer_seen f g p x h = served_seen f g h.found h.own h.hold.serves
 
-take_seen : (f g : Front Note Limits) (now : ℕ) (r : Result Sent TakeFault) → Takes f g now r → IsPrefix f.seen g.seen
+pub take_seen : (f g : Front Note Limits) (now : ℕ) (r : Result Sent TakeFault) → Takes f g now r → IsPrefix f.seen g.seen
 take_seen f g now (Ok sent) h = served_seen f g h.found h.own h.hold.serves
 take_seen f g now (Err (takes.Refused e)) h = served_seen f g h.found h.own h.hold.serves
 take_seen f g now (Err takes.Spent) h = spent_seen f g h
@@ -132,7 +132,7 @@ turned_seen : (f g : Front Note Limits) (least : ℕ) (r : Result (Option (Vec E
 turned_seen f g least (Ok o) h = shift_seen f g least (Ok o) h
 turned_seen f g least (Err e) h = shift_seen f g least (Err e) h
 
-rise_seen : (f g : Front Note Limits) (x : Rise) → Rises f g x → IsPrefix f.seen g.seen
+pub rise_seen : (f g : Front Note Limits) (x : Rise) → Rises f g x → IsPrefix f.seen g.seen
 rise_seen f g (rise.Asked said) h = up_seen f g said h.0
 rise_seen f g (rise.Renewed es said) h = longer _ _ _ (up_seen f h.0 (Err (ups.Refused refusal.HistoryFull)) h.2) (longer _ _ _ (turned_seen h.0 h.1 1 es h.3) (up_seen h.1 g said h.4))
 
@@ -143,8 +143,9 @@ fate_seen p a (fate.Lane at r) t ss t' ss' b = answer_seen t.front t'.front p r.
 fate_seen p a fate.LaneSpent t ss t' ss' b = spent_seen t.front t'.front b.1
 fate_seen p a fate.Unread t ss t' ss' b = self _ _ (ap (λ x. x.front.seen) b.2)
 fate_seen p a (fate.Unrouted found) t ss t' ss' b = self _ _ (ap (λ x. x.front.seen) b.3)
-fate_seen p a (fate.Put place n) t ss t' ss' b = self _ _ (ap (λ x. x.front.seen) b.3)
+fate_seen p a (fate.Put place n given) t ss t' ss' b = self _ _ (ap (λ x. x.front.seen) b.3)
 fate_seen p a (fate.Full place) t ss t' ss' b = self _ _ (ap (λ x. x.front.seen) b.3)
+fate_seen p a (fate.Crowded place) t ss t' ss' b = self _ _ (ap (λ x. x.front.seen) b.2)
 fate_seen p a (fate.BoxSpent place) t ss t' ss' b = self _ _ (ap (λ x. x.front.seen) b.3)
 
 seen_step : (s t : Stand) (e : Event) → Does s e t → IsPrefix s.tap.front.seen t.tap.front.seen
@@ -152,11 +153,10 @@ seen_step s t (event.Began p) d = self _ _ (ap (λ x. x.tap.front.seen) d.1)
 seen_step s t (event.Opened n) d = self _ _ (ap (λ x. x.tap.front.seen) d.1)
 seen_step s t (event.Looked now due silent) d = self _ _ (ap (λ x. x.tap.front.seen) d.2)
 seen_step s t (event.Expired lane r) d = expiry_seen s.tap.front t.tap.front s.session.latest s.age.response_timer r.value d.1
-seen_step s t event.Young d = self _ _ (ap (λ x. x.tap.front.seen) d.1)
 seen_step s t (event.Shifted least r) d = shift_seen s.tap.front t.tap.front least r.value d.1
-seen_step s t (event.Sought r) d = self _ _ (ap (λ x. x.tap.front.seen) d.1)
+seen_step s t (event.Sought r under) d = self _ _ (ap (λ x. x.tap.front.seen) d.2)
 seen_step s t (event.Decided p now a f) d = fate_seen p.value a.value f s.tap s.senders t.tap t.senders d.1
-seen_step s t (event.Took r) d = take_seen s.tap.front t.tap.front s.session.latest r.value d.0
+seen_step s t (event.Took r) d = take_seen s.tap.front t.tap.front s.session.latest r.value d.1
 seen_step s t event.Broke d = self _ _ (ap (λ x. x.tap.front.seen) d)
 seen_step s t (event.Unbound p) d = self _ _ (ap (λ x. x.tap.front.seen) d.1)
 
@@ -168,8 +168,9 @@ fate_lane p a (fate.Lane at r) t ss t' ss' b = b.3
 fate_lane p a fate.LaneSpent t ss t' ss' b = b.2
 fate_lane p a fate.Unread t ss t' ss' b = ap (λ x. x.lane) b.2
 fate_lane p a (fate.Unrouted found) t ss t' ss' b = ap (λ x. x.lane) b.3
-fate_lane p a (fate.Put place n) t ss t' ss' b = ap (λ x. x.lane) b.3
+fate_lane p a (fate.Put place n given) t ss t' ss' b = ap (λ x. x.lane) b.3
 fate_lane p a (fate.Full place) t ss t' ss' b = ap (λ x. x.lane) b.3
+fate_lane p a (fate.Crowded place) t ss t' ss' b = ap (λ x. x.lane) b.2
 fate_lane p a (fate.BoxSpent place) t ss t' ss' b = ap (λ x. x.lane) b.3
 
 lane_step : (s t : Stand) (e : Event) → Does s e t → t.tap.lane ≡ s.tap.lane
@@ -177,11 +178,10 @@ lane_step s t (event.Began p) d = ap (λ x. x.tap.lane) d.1
 lane_step s t (event.Opened n) d = ap (λ x. x.tap.lane) d.1
 lane_step s t (event.Looked now due silent) d = ap (λ x. x.tap.lane) d.2
 lane_step s t (event.Expired lane r) d = d.2
-lane_step s t event.Young d = ap (λ x. x.tap.lane) d.1
 lane_step s t (event.Shifted least r) d = d.2
-lane_step s t (event.Sought r) d = ap (λ x. x.tap.lane) d.1
+lane_step s t (event.Sought r under) d = ap (λ x. x.tap.lane) d.2
 lane_step s t (event.Decided p now a f) d = fate_lane p.value a.value f s.tap s.senders t.tap t.senders d.1
-lane_step s t (event.Took r) d = d.1
+lane_step s t (event.Took r) d = d.2
 lane_step s t event.Broke d = ap (λ x. x.tap.lane) d
 lane_step s t (event.Unbound p) d = ap (λ x. x.tap.lane) d.1
 
@@ -211,8 +211,9 @@ fate_puts slot p a (fate.Lane at r) t ss t' ss' b = nothing _ _ (ap (λ x. conte
 fate_puts slot p a fate.LaneSpent t ss t' ss' b = nothing _ _ (ap (λ x. contents_in (slice_get x slot)) b.3)
 fate_puts slot p a fate.Unread t ss t' ss' b = nothing _ _ (ap (λ x. contents_in (slice_get x slot)) b.3)
 fate_puts slot p a (fate.Unrouted found) t ss t' ss' b = nothing _ _ (ap (λ x. contents_in (slice_get x slot)) b.4)
-fate_puts slot p a (fate.Put place n) t ss t' ss' b = put_here slot place.slot (item_for t.lane place p) n ss ss' b.2
+fate_puts slot p a (fate.Put place n given) t ss t' ss' b = put_here slot place.slot (item_for t.lane place given p) n ss ss' b.2
 fate_puts slot p a (fate.Full place) t ss t' ss' b = nothing _ _ (same_put slot place.slot ss ss' (b.2.0, b.2.1, b.2.2, b.2.3, b.2.4.put))
+fate_puts slot p a (fate.Crowded place) t ss t' ss' b = nothing _ _ (ap (λ x. contents_in (slice_get x slot)) b.3)
 fate_puts slot p a (fate.BoxSpent place) t ss t' ss' b = nothing _ _ (same_put slot place.slot ss ss' (b.2.0, b.2.1, b.2.2, b.2.3, b.2.4.put))
 
 put_step : (slot : ℕ) (s t : Stand) (e : Event) → Does s e t → contents_in (slice_get t.senders slot) ≡ contents_in (slice_get s.senders slot) ++ put_by slot s.tap.lane e
@@ -220,11 +221,10 @@ put_step slot s t (event.Began p) d = nothing _ _ (ap (λ x. contents_in (slice_
 put_step slot s t (event.Opened n) d = nothing _ _ (ap (λ x. contents_in (slice_get x.senders slot)) d.1)
 put_step slot s t (event.Looked now due silent) d = nothing _ _ (ap (λ x. contents_in (slice_get x.senders slot)) d.2)
 put_step slot s t (event.Expired lane r) d = nothing _ _ (ap (λ x. contents_in (slice_get x.senders slot)) d.3)
-put_step slot s t event.Young d = nothing _ _ (ap (λ x. contents_in (slice_get x.senders slot)) d.1)
 put_step slot s t (event.Shifted least r) d = nothing _ _ (ap (λ x. contents_in (slice_get x.senders slot)) d.3)
-put_step slot s t (event.Sought r) d = nothing _ _ (ap (λ x. contents_in (slice_get x.senders slot)) d.1)
+put_step slot s t (event.Sought r under) d = nothing _ _ (ap (λ x. contents_in (slice_get x.senders slot)) d.2)
 put_step slot s t (event.Decided p now a f) d = fate_puts slot p.value a.value f s.tap s.senders t.tap t.senders d.1
-put_step slot s t (event.Took r) d = nothing _ _ (ap (λ x. contents_in (slice_get x.senders slot)) d.2)
+put_step slot s t (event.Took r) d = nothing _ _ (ap (λ x. contents_in (slice_get x.senders slot)) d.3)
 put_step slot s t event.Broke d = nothing _ _ (ap (λ x. contents_in (slice_get x.senders slot)) d)
 put_step slot s t (event.Unbound p) d = nothing _ _ (ap (λ x. contents_in (slice_get x.senders slot)) d.1)
 

@@ -2,3 +2,6 @@ pub mod Eventful
 pub mod Cells
 pub mod Keeping
 pub mod Clocking
+pub mod Owed
+pub mod Binding
+pub mod Emptied

@@ -23,7 +23,7 @@ use Rattle.smx_shared.specs.declared.fault.ExpiryFault.{ExpiryFault}
 use Rattle.smx_history.specs.declared.reply.Answered.{Answered}
 use Rattle.smx_history.specs.declared.reply.Answered.TheVariants as answered
 use Rattle.smx_upstream.specs.declared.event.Event.{Event}
-use Rattle.smx_upstream.specs.declared.event.Event.TheVariants.{Began, Opened, Looked, Expired, Young, Shifted, Sought, Decided, Took, Broke, Unbound}
+use Rattle.smx_upstream.specs.declared.event.Event.TheVariants.{Began, Opened, Looked, Expired, Shifted, Sought, Decided, Took, Broke, Unbound}
 use Rattle.smx_upstream.specs.declared.event.Fate.{Fate}
 use Rattle.smx_upstream.specs.declared.event.Fate.TheVariants as fate
 
@@ -39,15 +39,19 @@ abbrev pub taken_out : Result Sent TakeFault → List Pdu
 taken_out (Ok s) = face_up s ∷ []
 taken_out (Err e) = []
 
--- an answer of a client to a message goes upstream as it was put
-abbrev pub found_out : Got Pdu → List Pdu
-found_out (got.Item k n p) = p ∷ []
-found_out (got.Shut k) = []
-found_out got.Empty = []
+-- an answer of a client to a message of this link goes upstream under the centre's number, and any other is dropped
+abbrev pub answer_out : Pdu → Option ℕ → List Pdu
+answer_out p (Some number) = record p { number = number } ∷ []
+answer_out p None = []
 
-abbrev pub got_out : Result (Got Pdu) Spent → List Pdu
-got_out (Ok found) = found_out found
-got_out (Err e) = []
+abbrev pub found_out : Got Pdu → Option ℕ → List Pdu
+found_out (got.Item k n p) under = answer_out p under
+found_out (got.Shut k) under = []
+found_out got.Empty under = []
+
+abbrev pub got_out : Result (Got Pdu) Spent → Option ℕ → List Pdu
+got_out (Ok found) under = found_out found under
+got_out (Err e) under = []
 
 -- what the session's act sends
 abbrev pub act_out : UpAct → List Pdu
@@ -68,8 +72,9 @@ fate_out p (fate.Lane lane a) = []
 fate_out p fate.LaneSpent = []
 fate_out p fate.Unread = refusal p.command ESME_RINVCMDLEN p.number ∷ []
 fate_out p (fate.Unrouted found) = refusal p.command ESME_RX_T_APPN p.number ∷ []
-fate_out p (fate.Put place n) = []
+fate_out p (fate.Put place n given) = []
 fate_out p (fate.Full place) = refusal p.command ESME_RMSGQFUL p.number ∷ []
+fate_out p (fate.Crowded place) = refusal p.command ESME_RMSGQFUL p.number ∷ []
 fate_out p (fate.BoxSpent place) = []
 
 -- the PDUs that an event sends
@@ -78,9 +83,8 @@ out_of (Began p) = p.value ∷ []
 out_of (Opened n) = []
 out_of (Looked now due silent) = those due.value
 out_of (Expired lane r) = []
-out_of Young = []
 out_of (Shifted least r) = []
-out_of (Sought r) = got_out r.value
+out_of (Sought r under) = got_out r.value under
 out_of (Decided p now a f) = act_out a.value ++ fate_out p.value f
 out_of (Took r) = taken_out r.value
 out_of Broke = nack_of_undecoded ∷ []
@@ -94,8 +98,9 @@ kept_by p (fate.Lane lane a) = None
 kept_by p fate.LaneSpent = Some p
 kept_by p fate.Unread = None
 kept_by p (fate.Unrouted found) = None
-kept_by p (fate.Put place n) = None
+kept_by p (fate.Put place n given) = None
 kept_by p (fate.Full place) = None
+kept_by p (fate.Crowded place) = None
 kept_by p (fate.BoxSpent place) = Some p
 
 abbrev pub unless_kept : Pdu → Option Pdu → List Pdu
@@ -108,9 +113,8 @@ in_of (Began p) = []
 in_of (Opened n) = []
 in_of (Looked now due silent) = []
 in_of (Expired lane r) = []
-in_of Young = []
 in_of (Shifted least r) = []
-in_of (Sought r) = []
+in_of (Sought r under) = []
 in_of (Decided p now a f) = unless_kept p.value (kept_by p.value f)
 in_of (Took r) = []
 in_of Broke = []
@@ -137,8 +141,9 @@ fate_finds p (fate.Lane lane a) = []
 fate_finds p fate.LaneSpent = []
 fate_finds p fate.Unread = []
 fate_finds p (fate.Unrouted found) = Found (read_of (destination_at p.body)) found ∷ []
-fate_finds p (fate.Put place n) = Found (read_of (destination_at p.body)) (Some place) ∷ []
+fate_finds p (fate.Put place n given) = Found (read_of (destination_at p.body)) (Some place) ∷ []
 fate_finds p (fate.Full place) = Found (read_of (destination_at p.body)) (Some place) ∷ []
+fate_finds p (fate.Crowded place) = Found (read_of (destination_at p.body)) (Some place) ∷ []
 fate_finds p (fate.BoxSpent place) = Found (read_of (destination_at p.body)) (Some place) ∷ []
 
 abbrev pub find_of : Event → List Query
@@ -146,9 +151,8 @@ find_of (Began p) = []
 find_of (Opened n) = []
 find_of (Looked now due silent) = []
 find_of (Expired lane r) = []
-find_of Young = []
 find_of (Shifted least r) = []
-find_of (Sought r) = []
+find_of (Sought r under) = []
 find_of (Decided p now a f) = fate_finds p.value f
 find_of (Took r) = []
 find_of Broke = []
@@ -168,8 +172,9 @@ fate_tells (fate.Lane lane a) = answer_tells lane a.value
 fate_tells fate.LaneSpent = []
 fate_tells fate.Unread = []
 fate_tells (fate.Unrouted found) = []
-fate_tells (fate.Put place n) = Slot place.slot ∷ []
+fate_tells (fate.Put place n given) = Slot place.slot ∷ []
 fate_tells (fate.Full place) = []
+fate_tells (fate.Crowded place) = []
 fate_tells (fate.BoxSpent place) = []
 
 -- who is to hear that its request was given up
@@ -187,9 +192,8 @@ tell_of (Began p) = []
 tell_of (Opened n) = []
 tell_of (Looked now due silent) = []
 tell_of (Expired lane r) = expiry_tells lane r.value
-tell_of Young = []
 tell_of (Shifted least r) = []
-tell_of (Sought r) = []
+tell_of (Sought r under) = []
 tell_of (Decided p now a f) = fate_tells f
 tell_of (Took r) = []
 tell_of Broke = []

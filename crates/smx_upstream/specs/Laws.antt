@@ -27,8 +27,9 @@ fate_known p (fate.Up rise) = []
 fate_known p fate.LaneSpent = []
 fate_known p fate.Unread = []
 fate_known p (fate.Unrouted found) = []
-fate_known p (fate.Put place n) = []
+fate_known p (fate.Put place n given) = []
 fate_known p (fate.Full place) = []
+fate_known p (fate.Crowded place) = []
 fate_known p (fate.BoxSpent place) = []
 
 -- what an event added to the tap's notes, as far as the worker knows
@@ -37,9 +38,8 @@ known_by (event.Began p) = []
 known_by (event.Opened n) = []
 known_by (event.Looked now due silent) = []
 known_by (event.Expired lane r) = []
-known_by event.Young = []
 known_by (event.Shifted least r) = []
-known_by (event.Sought r) = []
+known_by (event.Sought r under) = []
 known_by (event.Decided p now a f) = fate_known p.value f
 known_by (event.Took r) = known_by_take r.value
 known_by event.Broke = []
@@ -49,7 +49,7 @@ unfoldable pub knowns : List Event → List Known
 knowns es = flat_map known_by es
 
 abbrev pub fate_put : ℕ → ℕ → Pdu → Fate → List (Option MoItem)
-fate_put slot lane p (fate.Put place n) = if place.slot == slot then Some (item_for lane place p) ∷ [] else []
+fate_put slot lane p (fate.Put place n given) = if place.slot == slot then Some (item_for lane place given p) ∷ [] else []
 fate_put slot lane p fate.Own = []
 fate_put slot lane p (fate.Up rise) = []
 fate_put slot lane p (fate.Lane at r) = []
@@ -57,6 +57,7 @@ fate_put slot lane p fate.LaneSpent = []
 fate_put slot lane p fate.Unread = []
 fate_put slot lane p (fate.Unrouted found) = []
 fate_put slot lane p (fate.Full place) = []
+fate_put slot lane p (fate.Crowded place) = []
 fate_put slot lane p (fate.BoxSpent place) = []
 
 -- what an event put by the sender of this slot
@@ -65,9 +66,8 @@ put_by slot lane (event.Began p) = []
 put_by slot lane (event.Opened n) = []
 put_by slot lane (event.Looked now due silent) = []
 put_by slot lane (event.Expired at r) = []
-put_by slot lane event.Young = []
 put_by slot lane (event.Shifted least r) = []
-put_by slot lane (event.Sought r) = []
+put_by slot lane (event.Sought r under) = []
 put_by slot lane (event.Decided p now a f) = fate_put slot lane p.value f
 put_by slot lane (event.Took r) = []
 put_by slot lane event.Broke = []

@@ -5,8 +5,11 @@ pub mod Rising
 pub mod Ending
 pub mod Ages
 pub mod Standing
-pub mod Working
 pub mod Phases
+pub mod Writing
+pub mod Working
 pub mod Timing
 pub mod Laws
 pub mod Losing
+pub mod Owing
+pub mod Abandoning

@@ -20,9 +20,9 @@ use Rattle.smx_upstream.specs.declared.turning.Next.TheVariants as next
 use Rattle.smx_upstream.specs.declared.turning.Progress.{Progress}
 use Rattle.smx_upstream.specs.declared.turning.Progress.TheVariants as progress
 use Rattle.smx_upstream.specs.declared.mark.Mark.{Mark}
-use Rattle.smx_upstream.specs.declared.mark.Mark.TheVariants.{Offered, Full, Part}
+use Rattle.smx_upstream.specs.declared.mark.Mark.TheVariants.{Offered, WriteFailed, Full, Part}
 use Rattle.smx_upstream.specs.declared.event.Event.{Event}
-use Rattle.smx_upstream.specs.declared.event.Event.TheVariants.{Opened, Looked, Expired, Young, Shifted, Sought, Decided, Took, Broke}
+use Rattle.smx_upstream.specs.declared.event.Event.TheVariants.{Opened, Looked, Expired, Shifted, Sought, Decided, Took, Broke}
 
 -- where a turn stands
 pub data Phase : Type 0 where
@@ -38,7 +38,7 @@ pub data Phase : Type 0 where
   Watched : Bool → Phase
   -- at most one request was given up; whether octets are left
   Swept : Bool → Phase
-  -- the lane was turned over, or it was too early; no octets are left
+  -- the lane was asked to turn over; no octets are left
   Clear : Phase
   -- the return box was held
   Sated : Phase
@@ -46,7 +46,7 @@ pub data Phase : Type 0 where
   Brimming : Phase
   -- the gate said yes to a read
   MayRead : Phase
-  -- the read failed
+  -- a read or a write failed
   Failed : Phase
   -- PDUs are decided; whether the link has ended
   Deciding : Bool → Phase
@@ -157,6 +157,7 @@ from_opening _ = Wrong
 
 unfoldable pub from_ready : Before → Step Mark Event → Phase
 from_ready t (Marked (Offered waited left)) = if_so waited t.waited (after_offer t.ending left)
+from_ready t (Marked WriteFailed) = Failed
 from_ready t _ = Wrong
 
 unfoldable pub from_written : Before → Bool → Step Mark Event → Phase
@@ -168,12 +169,11 @@ from_watched left (Did (Expired lane r)) = unless_spent (is_spent_expiry r.value
 from_watched left _ = Wrong
 
 unfoldable pub from_swept : Bool → Step Mark Event → Phase
-from_swept left (Did Young) = when_kept left
 from_swept left (Did (Shifted least r)) = unless_spent (is_spent_shift r.value) (when_kept left)
 from_swept left _ = Wrong
 
 unfoldable pub from_clear : Step Mark Event → Phase
-from_clear (Did (Sought r)) = unless_spent (is_spent_get r.value) Sated
+from_clear (Did (Sought r under)) = unless_spent (is_spent_get r.value) Sated
 from_clear _ = Wrong
 
 unfoldable pub from_sated : Step Mark Event → Phase
@@ -194,6 +194,7 @@ from_deciding t ended _ = Wrong
 
 unfoldable pub from_closing : Step Mark Event → Phase
 from_closing (Marked (Offered waited left)) = unless_left left
+from_closing (Marked WriteFailed) = Failed
 from_closing _ = Wrong
 
 unfoldable pub from_settled : Step Mark Event → Phase
@@ -227,11 +228,9 @@ phase_from t p (s ∷ ss) = phase_from t (go t p s) ss
 unfoldable pub phase_of : Before → List (Step Mark Event) → Phase
 phase_of t ss = phase_from t Opening ss
 
--- the link may fail there
+-- the link failed there
 abbrev pub MayFail : Phase → Type 0
-MayFail Ready = Unit {0}
 MayFail Failed = Unit {0}
-MayFail Closing = Unit {0}
 MayFail _ = ⊥
 
 -- memory may be wanted there

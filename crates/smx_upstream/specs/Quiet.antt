@@ -11,13 +11,14 @@ use Rattle.smx_shared.specs.declared.fault.TakeFault.{TakeFault}
 use Rattle.smx_turns.specs.Steps.{are_quiet}
 use Rattle.smx_turns.specs.declared.step.Step.{Step}
 use Rattle.smx_upstream.specs.declared.mark.Mark.{Mark}
-use Rattle.smx_upstream.specs.declared.mark.Mark.TheVariants.{Offered, Full, Part}
+use Rattle.smx_upstream.specs.declared.mark.Mark.TheVariants.{Offered, WriteFailed, Full, Part}
 use Rattle.smx_upstream.specs.declared.event.Event.{Event}
-use Rattle.smx_upstream.specs.declared.event.Event.TheVariants.{Began, Opened, Looked, Expired, Young, Shifted, Sought, Decided, Took, Broke, Unbound}
+use Rattle.smx_upstream.specs.declared.event.Event.TheVariants.{Began, Opened, Looked, Expired, Shifted, Sought, Decided, Took, Broke, Unbound}
 
 -- no octets waited
 abbrev pub is_quiet_mark : Mark → Bool
 is_quiet_mark (Offered waited left) = not waited
+is_quiet_mark WriteFailed = true
 is_quiet_mark Full = false
 is_quiet_mark Part = true
 
@@ -41,9 +42,8 @@ is_quiet_event (Began p) = false
 is_quiet_event (Opened n) = true
 is_quiet_event (Looked now due silent) = is_none due.value
 is_quiet_event (Expired lane r) = expires_nothing r.value
-is_quiet_event Young = true
 is_quiet_event (Shifted least r) = true
-is_quiet_event (Sought r) = finds_nothing r.value
+is_quiet_event (Sought r under) = finds_nothing r.value
 is_quiet_event (Decided p now a f) = false
 is_quiet_event (Took r) = takes_nothing r.value
 is_quiet_event Broke = false

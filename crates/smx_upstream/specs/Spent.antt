@@ -24,8 +24,9 @@ is_spent_fate (fate.Lane lane a) = false
 is_spent_fate fate.LaneSpent = true
 is_spent_fate fate.Unread = false
 is_spent_fate (fate.Unrouted found) = false
-is_spent_fate (fate.Put place n) = false
+is_spent_fate (fate.Put place n given) = false
 is_spent_fate (fate.Full place) = false
+is_spent_fate (fate.Crowded place) = false
 is_spent_fate (fate.BoxSpent place) = true
 
 abbrev pub is_spent_expiry : Result Failed ExpiryFault → Bool

@@ -1,5 +1,5 @@
 -- What a worker stands on, and what each event does to it.
-use Rattle.std.specs.Prelude.{◌≡◌, ◌≢◌, ◌≤◌, ℕ, List, length, Option, Some, None, Result, Ok, Err, MatchResult}
+use Rattle.std.specs.Prelude.{true, ◌≡◌, ◌≢◌, ◌≤◌, ◌++◌, [], ◌∷◌, ℕ, List, length, set, slice_get, Option, Some, None, Result, Ok, Err, MatchResult}
 use Rattle.smx_pdu.specs.declared.pdu.Pdu.{Pdu}
 use Rattle.smx_pdu.specs.declared.body_fault.BodyFault.{BodyFault}
 use Rattle.smx_pdu.specs.declared.command.TheConstants.{BIND_TRANSCEIVER}
@@ -15,36 +15,40 @@ use Rattle.smx_history.specs.declared.entry.Entry.{Entry}
 use Rattle.smx_shared.specs.declared.fault.TurnFault.{TurnFault}
 use Rattle.smx_box.specs.declared.fault.Spent.{Spent}
 use Rattle.smx_box.specs.declared.receiver.Got.{Got}
+use Rattle.smx_box.specs.declared.receiver.Got.TheVariants as got
+use Rattle.smx_routes.specs.Window.{Window, IsFirstFree, message_for, without}
+use Rattle.smx_routes.specs.declared.mo_window.Waiting.{Waiting}
 use Rattle.smx_box.specs.Boxes.{Sending, Receiving, GetServes, Hands}
 use Rattle.smx_session.specs.Binds.{own_bind}
 use Rattle.smx_session.specs.UpstreamTable.{bind_number}
-use Rattle.smx_session.specs.Moments.{Upstream, at, act_on, after_pdu, enquiry, after_moment, is_silent, farewell, state_after_stop}
+use Rattle.smx_session.specs.Moments.{Upstream, at, act_on, after_pdu, is_bound, enquiry, after_moment, is_silent, farewell, state_after_stop}
 use Rattle.smx_session.specs.declared.up_act.UpAct.{UpAct}
 use Rattle.smx_session.specs.declared.up_act.UpAct.TheVariants as act
 use Rattle.smx_shared.specs.Views.{TapView}
 use Rattle.smx_shared.specs.Serving.{Takes, Expires, AnswerServes, TurnServes, IsTurnFault}
 use Rattle.std.specs.Option.{option_map}
 use Rattle.smx_upstream.specs.declared.age.Age.{Age}
-use Rattle.smx_upstream.specs.Ages.{next_turn, noted_more, age_after_shift, shift_due, fate_notes, fate_shifts, take_notes, expiry_notes, has_shifted}
+use Rattle.smx_upstream.specs.Ages.{next_turn, least_shift}
 use Rattle.smx_upstream.specs.Rising.{Rises}
 use Rattle.smx_turns.specs.declared.directory.Place.{Place}
 use Rattle.smx_turns.specs.declared.mo_item.MoItem.{MoItem}
 use Rattle.smx_turns.specs.Puts.{AtIndex, Puts, FindsFull, FindsSpent}
 use Rattle.smx_upstream.specs.declared.event.Event.{Event}
-use Rattle.smx_upstream.specs.declared.event.Event.TheVariants.{Began, Opened, Looked, Expired, Young, Shifted, Sought, Decided, Took, Broke, Unbound}
+use Rattle.smx_upstream.specs.declared.event.Event.TheVariants.{Began, Opened, Looked, Expired, Shifted, Sought, Decided, Took, Broke, Unbound}
 use Rattle.smx_upstream.specs.declared.event.Fate.{Fate}
 use Rattle.smx_upstream.specs.declared.event.Fate.TheVariants as fate
 
--- the session, the lane's tap, the return box, the senders at the index of their slot, and the worker's age
+-- the session, the lane's tap, the return box, the senders at the index of their slot, the messages that clients have and have not answered, and the worker's age
 pub record Stand : Type 0 where
   pub session : Upstream
   pub tap : TapView
   pub answers : Receiving Pdu
   pub senders : List (Sending MoItem)
+  pub owed : List Window
   pub age : Age
 
-abbrev pub stand : Upstream → TapView → Receiving Pdu → List (Sending MoItem) → Age → Stand
-stand session tap answers senders age = record { session = session; tap = tap; answers = answers; senders = senders; age = age }
+abbrev pub stand : Upstream → TapView → Receiving Pdu → List (Sending MoItem) → List Window → Age → Stand
+stand session tap answers senders owed age = record { session = session; tap = tap; answers = answers; senders = senders; owed = owed; age = age }
 
 -- the session's bind
 abbrev pub bind_of : Upstream → Pdu
@@ -55,9 +59,44 @@ abbrev pub Gets : Receiving Pdu → Receiving Pdu → Result (Got Pdu) Spent →
 Gets a b (Ok got) = GetServes a b.front got × Hands a.got b.got got
 Gets a b (Err e) = ⊥
 
--- the message as an item for the client
-abbrev pub item_for : ℕ → Place → Pdu → MoItem
-item_for lane place p = record { client = place.client; lane = lane; number = p.number; pdu = p }
+-- the message as an item for the client, under a number of this link's own
+abbrev pub item_for : ℕ → Place → ℕ → Pdu → MoItem
+item_for lane place given p = record { client = place.client; lane = lane; number = given; pdu = p }
+
+-- of the windows just that of this slot changed, so
+abbrev pub AtSlot : ℕ → List Window → List Window → (Window → Window → Type 0) → Type 0
+AtSlot k ws ws' P = (x : Window) × (y : Window) × (slice_get ws k ≡ Some x) × (ws' ≡ set ws k y) × P x y
+
+-- the message that this answer of a slot is for is settled, and the answer goes out under the centre's number; or none of that slot waits for it, and nothing changed
+abbrev pub Answers : ℕ → Pdu → Option ℕ → List Window → List Window → Type 0
+Answers k p (Some number) ws ws' = AtSlot k ws ws' (λ w w'. (m : Waiting) × (message_for p.number p.command w.waiting ≡ Some m) × (number ≡ m.number) × (w' ≡ record w { waiting = without p.number w.waiting }))
+Answers k p None ws ws' = ((w : Window) → slice_get ws k ≡ Some w → message_for p.number p.command w.waiting ≡ None) × (ws' ≡ ws)
+
+abbrev pub Settles : Result (Got Pdu) Spent → Option ℕ → List Window → List Window → Type 0
+Settles (Ok (got.Item k n p)) under ws ws' = Answers k p under ws ws'
+Settles (Ok (got.Shut k)) under ws ws' = (under ≡ None) × (ws' ≡ ws)
+Settles (Ok got.Empty) under ws ws' = (under ≡ None) × (ws' ≡ ws)
+Settles (Err e) under ws ws' = (under ≡ None) × (ws' ≡ ws)
+
+-- the message waits for its answer under the number given
+abbrev pub Keeps : ℕ → Pdu → ℕ → Window → Window → Type 0
+Keeps lane p given w w' = IsFirstFree w given × (w' ≡ record w { last = given; waiting = w.waiting ++ record { given = given; lane = lane; number = p.number; command = p.command } ∷ [] })
+
+-- a message that was put waits in its slot's window; for any other fate nothing changed
+abbrev pub Owes : ℕ → Pdu → Fate → List Window → List Window → Type 0
+Owes lane p (fate.Put place n given) ws ws' = AtSlot place.slot ws ws' (Keeps lane p given)
+Owes lane p (fate.Crowded place) ws ws' = ((w : Window) → slice_get ws place.slot ≡ Some w → length w.waiting ≡ w.places) × (ws' ≡ ws)
+Owes lane p _ ws ws' = ws' ≡ ws
+
+-- what waited is let go
+abbrev pub emptied : Window → Window
+emptied w = record w { waiting = [] }
+
+abbrev pub AreEmptied : List Window → List Window → Type 0
+AreEmptied ws ws' = (k : ℕ) → slice_get ws' k ≡ option_map emptied (slice_get ws k)
+
+abbrev pub HoldNone : List Window → Type 0
+HoldNone ws = (k : ℕ) (w : Window) → slice_get ws k ≡ Some w → w.waiting ≡ []
 
 -- no sender stands at the place that the directory named
 abbrev pub HasNoSender : List (Sending MoItem) → Option Place → Type 0
@@ -83,8 +122,9 @@ Becomes p a (fate.Lane lane r) t ss t' ss' = (a ≡ act.ToLane) × AnswerServes 
 Becomes p a fate.LaneSpent t ss t' ss' = (a ≡ act.ToLane) × IsSpent t.front t'.front × (t'.lane ≡ t.lane) × (ss' ≡ ss)
 Becomes p a fate.Unread t ss t' ss' = (a ≡ act.Mo) × ReadsNone p × (t' ≡ t) × (ss' ≡ ss)
 Becomes p a (fate.Unrouted found) t ss t' ss' = (a ≡ act.Mo) × Reads p × HasNoSender ss found × (t' ≡ t) × (ss' ≡ ss)
-Becomes p a (fate.Put place n) t ss t' ss' = (a ≡ act.Mo) × Reads p × AtIndex place.slot ss ss' (Puts (item_for t.lane place p) n) × (t' ≡ t)
+Becomes p a (fate.Put place n given) t ss t' ss' = (a ≡ act.Mo) × Reads p × AtIndex place.slot ss ss' (Puts (item_for t.lane place given p) n) × (t' ≡ t)
 Becomes p a (fate.Full place) t ss t' ss' = (a ≡ act.Mo) × Reads p × AtIndex place.slot ss ss' FindsFull × (t' ≡ t)
+Becomes p a (fate.Crowded place) t ss t' ss' = (a ≡ act.Mo) × Reads p × (t' ≡ t) × (ss' ≡ ss)
 Becomes p a (fate.BoxSpent place) t ss t' ss' = (a ≡ act.Mo) × Reads p × AtIndex place.slot ss ss' FindsSpent × (t' ≡ t)
 
 -- one hold handed out what was noted since the last shift, or changed nothing; or the tickets are spent
@@ -98,15 +138,12 @@ Does s (Opened n) t = (n ≡ (next_turn s.age).turns) × (t ≡ record s { age =
 Does s (Looked now due silent) t = (due.value ≡ enquiry s.session now) × (silent ≡ is_silent (after_moment s.session now) now)
     × (t ≡ record s { session = at (after_moment s.session now) now })
 Does s (Expired lane r) t = (lane ≡ s.tap.lane) × Expires s.tap.front t.tap.front s.session.latest s.age.response_timer r.value × (t.tap.lane ≡ s.tap.lane)
-    × (t ≡ record s { tap = t.tap; age = noted_more (expiry_notes r.value) s.age })
-Does s Young t = (shift_due s.age ≡ None) × (t ≡ s)
-Does s (Shifted least r) t = (shift_due s.age ≡ Some least)
-    × Shifts s.tap.front t.tap.front least r.value
-    × (t.tap.lane ≡ s.tap.lane) × (t ≡ record s { tap = t.tap; age = age_after_shift (has_shifted r.value) s.age })
-Does s (Sought r) t = Gets s.answers t.answers r.value × (t ≡ record s { answers = t.answers })
-Does s (Decided p now a f) t = (a.value ≡ act_on s.session p.value) × Becomes p.value a.value f s.tap s.senders t.tap t.senders
-    × (t ≡ record s { session = after_pdu s.session p.value now; tap = t.tap; senders = t.senders; age = noted_more (fate_notes f) (age_after_shift (fate_shifts f) s.age) })
-Does s (Took r) t = Takes s.tap.front t.tap.front s.session.latest r.value × (t.tap.lane ≡ s.tap.lane) × (t ≡ record s { tap = t.tap; age = noted_more (take_notes r.value) s.age })
+    × (t ≡ record s { tap = t.tap })
+Does s (Shifted least r) t = (least ≡ least_shift s.age) × Shifts s.tap.front t.tap.front least r.value × (t.tap.lane ≡ s.tap.lane) × (t ≡ record s { tap = t.tap })
+Does s (Sought r under) t = Gets s.answers t.answers r.value × Settles r.value under s.owed t.owed × (t ≡ record s { answers = t.answers; owed = t.owed })
+Does s (Decided p now a f) t = (a.value ≡ act_on s.session p.value) × Becomes p.value a.value f s.tap s.senders t.tap t.senders × Owes s.tap.lane p.value f s.owed t.owed
+    × (t ≡ record s { session = after_pdu s.session p.value now; tap = t.tap; senders = t.senders; owed = t.owed })
+Does s (Took r) t = (is_bound s.session.state ≡ true) × Takes s.tap.front t.tap.front s.session.latest r.value × (t.tap.lane ≡ s.tap.lane) × (t ≡ record s { tap = t.tap })
 Does s Broke t = t ≡ s
 Does s (Unbound p) t = (p.value ≡ farewell s.session.state)
     × (t ≡ record s { session = record s.session { state = state_after_stop s.session.state } })

@@ -10,7 +10,7 @@ use Rattle.smx_turns.specs.declared.end.TurnEnd.{TurnEnd}
 use Rattle.smx_turns.specs.declared.end.Fault.{Fault}
 use Rattle.smx_upstream.specs.Phases.{phase_of, link_faults, IsTurn}
 use Rattle.smx_upstream.specs.Quiet.{are_all_quiet}
-use Rattle.smx_upstream.specs.Working.{Working, before_turn, side_of, ChangesSide}
+use Rattle.smx_upstream.specs.Working.{Working, before_turn, scene_of, Changes}
 
 -- a worker, the clock that is asked before each turn, what the gate was asked and told, and what the directory was asked
 pub record Timing (C L : Type 0) : Type 0 where
@@ -23,11 +23,11 @@ pub record Timing (C L : Type 0) : Type 0 where
 abbrev pub timing : {C L : Type 0} → C → List Question → List Party → List Query → Working L → Timing C L
 timing clock asked told queries worker = record { clock = clock; worker = worker; asked = asked; told = told; queries = queries }
 
--- the clock was asked once, and a turn in the table's order was made at the moment that it gave; its steps are all that gate, directory and link were asked
-pub record TurnsAt {C L : Type 0} (gives : C → ℕ → C → Type 0) (polls : L → List (Result Polled LinkFault)) (failures : L → ℕ) (a : Timing C L) (now : ℕ) (b : Timing C L) : Type 0 where
+-- the clock was asked once, and a turn in the table's order was made at the moment that it gave; its steps are all that gate, directory and link were asked, and all that the link was offered
+pub record TurnsAt {C L : Type 0} (gives : C → ℕ → C → Type 0) (polls : L → List (Result Polled LinkFault)) (offered : L → List ℕ) (failures : L → ℕ) (a : Timing C L) (now : ℕ) (b : Timing C L) : Type 0 where
   pub end : Result TurnEnd Fault
   pub asked : gives a.clock now b.clock
   pub order : IsTurn (is_bound b.worker.stand.session.state) (are_all_quiet b.worker.steps) end (phase_of (before_turn now a.worker) b.worker.steps)
-  pub turned : ChangesSide b.worker.stand.age.turns (side_of polls a.asked a.told a.queries a.worker) (side_of polls b.asked b.told b.queries b.worker) b.worker.steps
+  pub turned : Changes b.worker.stand.age.turns (scene_of polls offered a.asked a.told a.queries a.worker) (scene_of polls offered b.asked b.told b.queries b.worker) b.worker.steps
   pub fails : failures b.worker.wire.link ≡ failures a.worker.wire.link + link_faults end
   pub ends : b.worker.ends ≡ a.worker.ends ++ end ∷ []

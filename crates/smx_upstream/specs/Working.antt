@@ -1,6 +1,7 @@
 -- What contracts see of a worker.
-use Rattle.std.specs.Prelude.{◌≡◌, ℕ, Bool, false, List, ◌++◌, Option, None, Result}
+use Rattle.std.specs.Prelude.{◌≡◌, ℕ, Bool, true, false, List, ◌++◌, Option, None, is_some, Result}
 use Rattle.smx_pdu.specs.declared.pdu.Pdu.{Pdu}
+use Rattle.smx_frame.specs.Stream.{fault_at}
 use Rattle.smx_link.specs.Wiring.{Wiring}
 use Rattle.smx_link.specs.declared.link.Polled.{Polled}
 use Rattle.smx_link.specs.declared.link.LinkFault.{LinkFault}
@@ -14,10 +15,11 @@ use Rattle.smx_turns.specs.Runs.{Runs}
 use Rattle.smx_turns.specs.Steps.{Side, side, Turned}
 use Rattle.smx_upstream.specs.declared.mark.Mark.{Mark}
 use Rattle.smx_upstream.specs.declared.event.Event.{Event}
-use Rattle.smx_upstream.specs.Ending.{has_ended}
+use Rattle.smx_upstream.specs.Ending.{has_ended, has_broken}
 use Rattle.smx_upstream.specs.Events.{ins, outs, those, tell_of, find_of}
 use Rattle.smx_upstream.specs.Phases.{Before, before}
-use Rattle.smx_upstream.specs.Standing.{Stand, Does}
+use Rattle.smx_upstream.specs.Writing.{Writing, Writes, writing, has_link_ended}
+use Rattle.smx_upstream.specs.Standing.{Stand, Does, HoldNone}
 
 pub record Working (L : Type 0) : Type 0 where
   -- the PDUs over its link
@@ -36,6 +38,10 @@ pub record Working (L : Type 0) : Type 0 where
   -- how its turns ended
   pub ends : List (Result TurnEnd Fault)
 
+-- whether a bad length stands at the front
+abbrev pub is_bad_front : List ℕ → Bool
+is_bad_front rest = is_some (fault_at 65536 rest)
+
 -- what a worker keeps at every call
 pub record IsWorker {L : Type 0} (w : Working L) : Type 0 where
   -- In: the PDUs heard are those decided, and then one that waits
@@ -44,23 +50,39 @@ pub record IsWorker {L : Type 0} (w : Working L) : Type 0 where
   pub said : w.wire.said ≡ outs w.events
   -- each event did what its call did, one after another
   pub runs : ∥ Runs Does w.first w.events w.stand ∥₁
+  -- at first no client has a message of this link
+  pub none_owed : HoldNone w.first.owed
   -- just an event of which that came left nothing but writing to do
   pub over : w.ending ≡ has_ended w.events
   -- no bad length was met, or all ends
   pub goes_on : w.ending ≡ false → w.wire.failed ≡ None
+  -- a bad length that was answered stands at the front of what is left
+  pub broke : has_broken w.events ≡ true → is_bad_front w.wire.rest ≡ true
 
 -- what the order of a turn at this moment depends on
 abbrev pub before_turn : {L : Type 0} → ℕ → Working L → Before
 before_turn now w = before now w.ending w.wire.unsent
 
--- the side of a turn that a worker, its gate and its directory show
-abbrev pub side_of : {L : Type 0} → (L → List (Result Polled LinkFault)) → List Question → List Party → List Query → Working L → Side Stand Event
-side_of polls asked told queries w = side asked told queries w.events w.stand (polls w.wire.link)
+abbrev pub writing_of : {L : Type 0} → (L → List (Result Polled LinkFault)) → (L → List ℕ) → Working L → Writing
+writing_of polls offered w = writing w.wire.unsent (offered w.wire.link) (has_link_ended (polls w.wire.link))
 
--- the steps of a turn, and nothing else, lead from one side to the other
-abbrev pub ChangesSide : ℕ → Side Stand Event → Side Stand Event → List (Step Mark Event) → Type 0
-ChangesSide turn a b ss = Turned Does tell_of find_of turn a b ss
+-- what a turn changes, as contracts see it
+pub record Scene : Type 0 where
+  pub side : Side Stand Event
+  pub writing : Writing
+
+-- what a worker, its gate and its directory show of it
+abbrev pub scene_of : {L : Type 0} → (L → List (Result Polled LinkFault)) → (L → List ℕ) → List Question → List Party → List Query → Working L → Scene
+scene_of polls offered asked told queries w = record {
+  side = side asked told queries w.events w.stand (polls w.wire.link);
+  writing = writing_of polls offered w;
+}
+
+-- the steps of a turn, and nothing else, lead from one scene to the other
+pub record Changes (turn : ℕ) (a b : Scene) (ss : List (Step Mark Event)) : Type 0 where
+  pub turned : Turned Does tell_of find_of turn a.side b.side ss
+  pub written : Runs Writes a.writing ss b.writing
 
 -- whatever led here, these steps lead on
-abbrev pub LeadsOn : ℕ → Side Stand Event → Side Stand Event → List (Step Mark Event) → List (Step Mark Event) → Type 0
-LeadsOn turn a b ss ss' = (start : Side Stand Event) → ChangesSide turn start a ss → ChangesSide turn start b ss'
+abbrev pub LeadsOn : ℕ → Scene → Scene → List (Step Mark Event) → List (Step Mark Event) → Type 0
+LeadsOn turn a b ss ss' = (start : Scene) → Changes turn start a ss → Changes turn start b ss'

@@ -1,9 +1,12 @@
 //! What a worker does once: each of these is one event.
-ghost use Rattle.std.specs.Prelude.{◌≡◌, ◌≢◌, ◌≤◌, [], false, is_some, slice_get, Some, Err, OnErr, IsSome};
+ghost use Rattle.std.specs.Prelude.{◌≡◌, ◌≢◌, ◌≤◌, [], true, false, is_some, slice_get, Some, Err, OnErr, IsSome};
+ghost use Rattle.smx_session.specs.Moments.{is_bound};
 ghost use Rattle.smx_upstream.specs.Events.{those, got_out, taken_out};
 ghost use Rattle.smx_upstream.specs.Quiet.{finds_nothing, takes_nothing};
-ghost use Rattle.smx_upstream.specs.Ages.{next_turn, take_notes, has_shifted};
-ghost use Rattle.smx_upstream.specs.Working.{side_of, LeadsOn};
+ghost use Rattle.smx_upstream.specs.Ages.{next_turn};
+ghost use Rattle.smx_upstream.specs.Standing.{Answers, Settles};
+ghost use Rattle.smx_upstream.specs.Working.{scene_of, writing_of, LeadsOn};
+ghost use Rattle.smx_upstream.specs.Writing.{MayDecide};
 ghost use Rattle.smx_upstream.specs.Phases.{phase_of, when_looked, when_kept, when_decided, unless_spent, Before, LeadsTo, Opening, Ready, Written, Swept, Clear, Sated, Deciding, MayTake, HasTried};
 
 use crate::carry::{Outcome, carry};
@@ -12,11 +15,11 @@ use crate::mark::Mark;
 use crate::spent::{is_spent_get, is_spent_shift, is_spent_take, unless_spent};
 use crate::worker::{UpstreamWorker, jot, note};
 use smx_box::{Got, Spent};
-use smx_history::Entry;
 use smx_lane::Sent;
 use smx_link::Link;
 use smx_pdu::Pdu;
-use smx_shared::{Exchange, TakeFault, TurnFault};
+use smx_routes::MoWindow;
+use smx_shared::{Exchange, TakeFault};
 use smx_turns::{Directory, Fault, Gate, Log};
 use std::snapshot::Snapshot;
 use std::sync::Wait;
@@ -28,12 +31,50 @@ fn finds_nothing(found: &Result<Got<Pdu>, Spent>) -> bool
     !matches!(found, Ok(Got::Item { .. } | Got::Shut { .. }))
 }
 
-// What a get from the return box sends.
-fn answer_in(found: Result<Got<Pdu>, Spent>) -> Option<Pdu>
-    ensures { got_out found ≡ those result }
+// The same of an answer of this slot.
+fn settle_at(owed: &mut Vec<MoWindow>, slot: usize, answer: &Pdu) -> Option<u32>
+    ensures { Answers slot answer.now result owed.old.items owed.new.items }
+{
+    if slot >= owed.len() {
+        return None;
+    }
+    match owed[slot].settle(answer.number, answer.command) {
+        Some((_, number)) => Some(number),
+        None => None,
+    }
+}
+
+// The centre's number of the message that this answers, where one of this link waits for it.
+fn settle(owed: &mut Vec<MoWindow>, found: &Result<Got<Pdu>, Spent>) -> Option<u32>
+    ensures { Settles found.now result owed.old.items owed.new.items }
 {
     match found {
-        Ok(Got::Item { content, .. }) => Some(content),
+        Ok(
+            Got::Item {
+                sender,
+                content,
+                ..
+            },
+        ) => settle_at(owed, *sender, content),
+        Ok(Got::Shut { .. } | Got::Empty) => None,
+        Err(_) => None,
+    }
+}
+
+// What a get from the return box sends, where the answer goes out under this number.
+fn answer_in(found: Result<Got<Pdu>, Spent>, under: Option<u32>) -> Option<Pdu>
+    ensures { got_out found under ≡ those result }
+{
+    match found {
+        Ok(Got::Item { content, .. }) => match under {
+            Some(number) => Some(Pdu {
+                command: content.command,
+                status: content.status,
+                number,
+                body: content.body,
+            }),
+            None => None,
+        },
         Ok(Got::Shut { .. } | Got::Empty) => None,
         Err(_) => None,
     }
@@ -61,23 +102,6 @@ fn request_in(taken: Result<Sent, TakeFault>) -> Option<Pdu>
     }
 }
 
-// How many notes a take tells.
-fn take_notes(taken: &Result<Sent, TakeFault>) -> usize
-    ensures { result ≡ take_notes taken.now }
-{
-    match taken {
-        Ok(_) => 1,
-        Err(_) => 0,
-    }
-}
-
-// Whether the lane handed its entries out.
-pub(crate) fn has_shifted(entries: &Result<Option<Vec<Entry>>, TurnFault>) -> bool
-    ensures { result ≡ has_shifted entries.now }
-{
-    matches!(entries, Ok(Some(_)))
-}
-
 impl<L: Link + Drop> UpstreamWorker<L> {
     // Hands in the moment. True where the session is silent.
     pub(crate) fn look(&mut self, now: u64, log: &mut Log<Mark, Event>) -> bool
@@ -86,8 +110,8 @@ impl<L: Link + Drop> UpstreamWorker<L> {
             → phase_of t log.new ≡ when_looked left result }
         ensures left { self.old.wire.unsent ≢ [] → self.new.wire.unsent ≢ [] }
         ensures goes { (turn asked told queries : _) → LeadsOn turn
-            (side_of L.polls asked told queries self.old)
-            (side_of L.polls asked told queries self.new) log.old log.new }
+            (scene_of L.polls L.offered asked told queries self.old)
+            (scene_of L.polls L.offered asked told queries self.new) log.old log.new }
         ensures same { self.new ≡ record self.old {
           wire = record self.old.wire {
             said = self.new.wire.said;
@@ -111,8 +135,8 @@ impl<L: Link + Drop> UpstreamWorker<L> {
         ensures turn { result ≡ (next_turn self.old.stand.age).turns }
         ensures phase { (t : Before) → phase_of t log.old ≡ Opening → phase_of t log.new ≡ Ready }
         ensures goes { (turn asked told queries : _) → LeadsOn turn
-            (side_of L.polls asked told queries self.old)
-            (side_of L.polls asked told queries self.new) log.old log.new }
+            (scene_of L.polls L.offered asked told queries self.old)
+            (scene_of L.polls L.offered asked told queries self.new) log.old log.new }
         ensures same { self.new ≡ record self.old {
           stand = record self.old.stand { age = next_turn self.old.stand.age };
           events = self.new.events;
@@ -125,7 +149,7 @@ impl<L: Link + Drop> UpstreamWorker<L> {
         turn
     }
 
-    // Turns the lane over where it is time. Want of memory there is no fault.
+    // Turns the lane over where it stores enough, whoever noted it. Want of memory there is no fault.
     pub(crate) fn renew<R: Wait>(
         &mut self,
         at: &Exchange,
@@ -140,58 +164,54 @@ impl<L: Link + Drop> UpstreamWorker<L> {
             → LeadsTo result (λ _. when_kept left) (phase_of t log.new) }
         ensures err { OnErr result (result ≡ Err Fault.Spent) }
         ensures goes { (turn asked told queries : _) → LeadsOn turn
-            (side_of L.polls asked told queries self.old)
-            (side_of L.polls asked told queries self.new) log.old log.new }
+            (scene_of L.polls L.offered asked told queries self.old)
+            (scene_of L.polls L.offered asked told queries self.new) log.old log.new }
         ensures same { self.new ≡ record self.old {
-          stand = record self.old.stand {
-            tap = self.new.stand.tap;
-            age = record self.old.stand.age { noted = self.new.stand.age.noted };
-          };
+          stand = record self.old.stand { tap = self.new.stand.tap };
           events = self.new.events;
         } }
     {
-        let Some(least) = self.age.shift_due() else {
-            jot(Event::Young, true, &mut self.events, log);
-            return Ok(());
-        };
+        let least = self.age.least_shift();
         let entries = self.tap.turn_over(at, rt, least);
         let spent = is_spent_shift(&entries);
-        let age = self.age.after_shift(has_shifted(&entries));
-        self.age = age;
         let event = Event::Shifted(least, Snapshot::of(&entries));
         jot(event, true, &mut self.events, log);
         unless_spent(spent)
     }
 
-    // Gets at most one answer.
+    // Gets at most one answer, and drops one that answers no message of this link.
     pub(crate) fn seek<R: Wait>(&mut self, rt: &R, log: &mut Log<Mark, Event>) -> Result<(), Fault>
         requires room { 65536 ≤ self.old.wire.room }
         ensures phase { (t : Before) → phase_of t log.old ≡ Clear
             → LeadsTo result (λ _. Sated) (phase_of t log.new) }
         ensures err { OnErr result (result ≡ Err Fault.Spent) }
         ensures goes { (turn asked told queries : _) → LeadsOn turn
-            (side_of L.polls asked told queries self.old)
-            (side_of L.polls asked told queries self.new) log.old log.new }
+            (scene_of L.polls L.offered asked told queries self.old)
+            (scene_of L.polls L.offered asked told queries self.new) log.old log.new }
         ensures same { self.new ≡ record self.old {
           wire = record self.old.wire {
             said = self.new.wire.said;
             unsent = self.new.wire.unsent;
             room = self.new.wire.room;
           };
-          stand = record self.old.stand { answers = self.new.stand.answers };
+          stand = record self.old.stand {
+            answers = self.new.stand.answers;
+            owed = self.new.stand.owed;
+          };
           events = self.new.events;
         } }
     {
         let found = self.answers.get(rt);
-        let event = Event::Sought(Snapshot::of(&found));
+        let under = settle(&mut self.owed, &found);
+        let event = Event::Sought(Snapshot::of(&found), under);
         let spent = is_spent_get(&found);
         let quiet = finds_nothing(&found);
-        let answer = answer_in(found);
+        let answer = answer_in(found, under);
         note(event, quiet, &answer, &mut self.wire, &mut self.events, log);
         unless_spent(spent)
     }
 
-    // Takes at most one request.
+    // Takes at most one request, where the session is bound.
     pub(crate) fn take_one<R: Wait>(
         &mut self,
         at: &Exchange,
@@ -199,6 +219,7 @@ impl<L: Link + Drop> UpstreamWorker<L> {
         log: &mut Log<Mark, Event>,
     ) -> Result<(), Fault>
         requires room { 65536 ≤ self.old.wire.room }
+        requires bound { is_bound self.old.stand.session.state ≡ true }
         requires lock { slice_get at.now self.old.stand.tap.lane
             ≡ Some self.old.stand.tap.front.lock }
         ensures lock { slice_get at.now self.new.stand.tap.lane
@@ -207,18 +228,15 @@ impl<L: Link + Drop> UpstreamWorker<L> {
             → LeadsTo result (λ _. HasTried) (phase_of t log.new) }
         ensures err { OnErr result (result ≡ Err Fault.Spent) }
         ensures goes { (turn asked told queries : _) → LeadsOn turn
-            (side_of L.polls asked told queries self.old)
-            (side_of L.polls asked told queries self.new) log.old log.new }
+            (scene_of L.polls L.offered asked told queries self.old)
+            (scene_of L.polls L.offered asked told queries self.new) log.old log.new }
         ensures same { self.new ≡ record self.old {
           wire = record self.old.wire {
             said = self.new.wire.said;
             unsent = self.new.wire.unsent;
             room = self.new.wire.room;
           };
-          stand = record self.old.stand {
-            tap = self.new.stand.tap;
-            age = record self.old.stand.age { noted = self.new.stand.age.noted };
-          };
+          stand = record self.old.stand { tap = self.new.stand.tap };
           events = self.new.events;
         } }
     {
@@ -226,8 +244,6 @@ impl<L: Link + Drop> UpstreamWorker<L> {
         let event = Event::Took(Snapshot::of(&taken));
         let spent = is_spent_take(&taken);
         let quiet = takes_nothing(&taken);
-        let age = self.age.noted_more(take_notes(&taken));
-        self.age = age;
         let request = request_in(taken);
         note(
             event,
@@ -256,6 +272,7 @@ impl<L: Link + Drop> UpstreamWorker<L> {
             ≡ Some self.old.stand.tap.front.lock }
         requires some { IsSome self.old.held }
         requires goes_on { self.old.ending ≡ false }
+        requires may { MayDecide (writing_of L.polls L.offered self.old) }
         ensures lock { slice_get at.now self.new.stand.tap.lane
             ≡ Some self.new.stand.tap.front.lock }
         ensures phase { (t : Before) (ended : _) → t.now ≡ now → phase_of t log.old ≡ Deciding ended
@@ -263,9 +280,9 @@ impl<L: Link + Drop> UpstreamWorker<L> {
             ≡ unless_spent (is_some self.new.held) (when_decided ended result) }
         ensures over { self.new.ending ≡ result }
         ensures goes { (turn : _) → LeadsOn turn
-            (side_of L.polls (G.asked gate.old) (G.told gate.old)
+            (scene_of L.polls L.offered (G.asked gate.old) (G.told gate.old)
             (D.queries directory.old) self.old)
-            (side_of L.polls (G.asked gate.new) (G.told gate.new)
+            (scene_of L.polls L.offered (G.asked gate.new) (G.told gate.new)
             (D.queries directory.new) self.new)
             log.old log.new }
         ensures same { self.new ≡ record self.old {
@@ -276,7 +293,7 @@ impl<L: Link + Drop> UpstreamWorker<L> {
           };
           stand = record self.new.stand {
             answers = self.old.stand.answers;
-            age = record self.old.stand.age { noted = self.new.stand.age.noted };
+            age = self.old.stand.age;
           };
           held = self.new.held;
           ending = self.new.ending;
@@ -293,13 +310,12 @@ impl<L: Link + Drop> UpstreamWorker<L> {
             fate,
             answer,
             back,
-            notes,
-            shifted,
             over,
         } = carry(
             self.alloc,
             &mut self.tap,
             &mut self.senders,
+            &mut self.owed,
             at,
             rt,
             gate,
@@ -309,8 +325,6 @@ impl<L: Link + Drop> UpstreamWorker<L> {
         );
         self.held = back;
         self.ending = over;
-        let age = self.age.after_shift(shifted).noted_more(notes);
-        self.age = age;
         let event = Event::Decided(read, now, chosen, fate);
         note(event, false, &answer, &mut self.wire, &mut self.events, log);
         over

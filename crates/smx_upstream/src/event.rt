@@ -34,10 +34,12 @@ pub enum Fate {
     Unread,
     /// The directory said this, and there is no sender.
     Unrouted(Option<Place>),
-    /// That slot's sender put it, as its item of this number.
-    Put(Place, u64),
+    /// That slot's sender put it, as its item of this number, under a number of this link's own.
+    Put(Place, u64, u32),
     /// That slot's box is full.
     Full(Place),
+    /// As many messages of this link wait for answers as there are places.
+    Crowded(Place),
     /// That slot's box takes no more calls, and the PDU waits.
     BoxSpent(Place),
 }
@@ -53,12 +55,11 @@ pub enum Event {
     Looked(u64, Snapshot<Option<Pdu>>, bool),
     /// The lane of this number was to give up a request that has waited for the response timer, and gave this.
     Expired(usize, Snapshot<Result<Failed, ExpiryFault>>),
-    /// It was too early to turn the lane over.
-    Young,
-    /// The lane was to be turned over, for at least so many entries, and gave this.
+    /// The lane was to hand out its entries, for at least so many, and gave this.
     Shifted(usize, Snapshot<Result<Option<Vec<Entry>>, TurnFault>>),
-    /// The return box was held, and gave this.
-    Sought(Snapshot<Result<Got<Pdu>, Spent>>),
+    /// The return box was held, and gave this: an answer goes out under this number of the centre's,
+    /// or is dropped where no message of this link waits for it.
+    Sought(Snapshot<Result<Got<Pdu>, Spent>>, Option<u32>),
     /// A PDU was decided at a moment: the session's act, and what became of the PDU.
     Decided(Snapshot<Pdu>, u64, Snapshot<UpAct>, Fate),
     /// The lane was asked for a request, and gave this.

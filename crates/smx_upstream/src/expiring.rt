@@ -1,10 +1,9 @@
 //! A request that the centre has left without an answer for too long.
 ghost use Rattle.std.specs.Prelude.{◌≡◌, ◌++◌, slice_get, Some, Err, OnErr};
-ghost use Rattle.smx_upstream.specs.Ages.{expiry_notes};
 ghost use Rattle.smx_upstream.specs.Events.{expiry_tells};
 ghost use Rattle.smx_upstream.specs.Phases.{phase_of, Before, LeadsTo, Watched, Swept};
 ghost use Rattle.smx_upstream.specs.Quiet.{expires_nothing};
-ghost use Rattle.smx_upstream.specs.Working.{side_of, LeadsOn};
+ghost use Rattle.smx_upstream.specs.Working.{scene_of, LeadsOn};
 
 use crate::event::Event;
 use crate::mark::Mark;
@@ -22,16 +21,6 @@ fn expires_nothing(failed: &Result<Failed, ExpiryFault>) -> bool
     ensures { result ≡ expires_nothing failed.now }
 {
     failed.is_err()
-}
-
-// How many notes that left.
-fn expiry_notes(failed: &Result<Failed, ExpiryFault>) -> usize
-    ensures { result ≡ expiry_notes failed.now }
-{
-    match failed {
-        Ok(_) => 1,
-        Err(_) => 0,
-    }
 }
 
 // Tells the gate of the client that is to hear of it.
@@ -65,14 +54,11 @@ impl<L: Link + Drop> UpstreamWorker<L> {
             → LeadsTo result (λ _. Swept left) (phase_of t log.new) }
         ensures err { OnErr result (result ≡ Err Fault.Spent) }
         ensures goes { (turn queries : _) → LeadsOn turn
-            (side_of L.polls (G.asked gate.old) (G.told gate.old) queries self.old)
-            (side_of L.polls (G.asked gate.new)
+            (scene_of L.polls L.offered (G.asked gate.old) (G.told gate.old) queries self.old)
+            (scene_of L.polls L.offered (G.asked gate.new)
             (G.told gate.new) queries self.new) log.old log.new }
         ensures same { self.new ≡ record self.old {
-          stand = record self.old.stand {
-            tap = self.new.stand.tap;
-            age = record self.old.stand.age { noted = self.new.stand.age.noted };
-          };
+          stand = record self.old.stand { tap = self.new.stand.tap };
           events = self.new.events;
         } }
     {
@@ -80,8 +66,6 @@ impl<L: Link + Drop> UpstreamWorker<L> {
         let now = self.session.latest();
         let failed = self.tap.fail_expired(at, rt, now, self.age.response_timer);
         tell(gate, lane, &failed);
-        let age = self.age.noted_more(expiry_notes(&failed));
-        self.age = age;
         let event = Event::Expired(lane, Snapshot::of(&failed));
         let quiet = expires_nothing(&failed);
         jot(event, quiet, &mut self.events, log);

@@ -1,11 +1,16 @@
 //! What is true of a worker at every moment.
-ghost use Rattle.std.specs.Prelude.{◌≡◌, ◌++◌};
+ghost use Rattle.std.specs.Prelude.{◌≡◌, ◌++◌, List, [], true};
+ghost use mathlib.Core.List.{IsPrefix};
 ghost use Rattle.smx_link.specs.Wiring.{spellings};
+ghost use Rattle.smx_session.specs.declared.upstream_state.UpstreamState.TheVariants.{Binding};
 ghost use Rattle.smx_turns.specs.Runs.{Runs};
-ghost use Rattle.smx_upstream.specs.Ending.{has_ended};
+ghost use Rattle.smx_upstream.specs.Ending.{has_ended, has_broken};
 ghost use Rattle.smx_upstream.specs.Events.{ins, outs, those};
 ghost use Rattle.smx_upstream.specs.Standing.{Does};
 ghost use Rattle.smx_upstream.specs.Laws.{KeepsTokens};
+ghost use Rattle.smx_upstream.specs.Working.{is_bad_front};
+ghost use Rattle.smx_upstream.specs.Owing.{AreOwn, passed};
+ghost use Rattle.smx_upstream.specs.declared.event.Event.{Event};
 
 use crate::worker::UpstreamWorker;
 use smx_link::Link;
@@ -22,6 +27,17 @@ pub fn law<L: Link + Drop>(worker: &UpstreamWorker<L>)
         ≡ L.taken worker.now.wire.start ++ spellings (outs worker.now.events) }
     ensures runs { ∥ Runs Does worker.now.first worker.now.events worker.now.stand ∥₁ }
     ensures over { worker.now.ending ≡ has_ended worker.now.events }
+
+    // A bad length is answered just where one stands behind the PDUs that were decided.
+    ensures broke { has_broken worker.now.events ≡ true
+        → is_bad_front worker.now.wire.rest ≡ true }
+
+    // At each moment: of the answers of clients that went out, each answers a message of the centre
+    // that this very link gave, under its number, and no message was answered twice.
+    ensures own_answers { ∥ ((front : List Event) → IsPrefix front worker.now.events → AreOwn front) ∥₁ }
+
+    // While the session binds nothing of clients is passed on.
+    ensures binding { worker.now.stand.session.state ≡ Binding → ∥ passed worker.now.events ≡ [] ∥₁ }
 
     // The tap's notes and each sender's items, in order.
     ensures kept { ∥ KeepsTokens worker.now.first worker.now.events worker.now.stand ∥₁ }

@@ -1,6 +1,7 @@
 //! The worker towards the centre: turns over a link, a lane's tap and the boxes of messages.
 #![tactic(auto)]
 
+mod abandoning;
 mod acting;
 mod age;
 mod carry;
@@ -17,9 +18,10 @@ mod turning;
 mod wiring;
 mod worker;
 
+pub use abandoning::{AbandonEnd, Abandoned, Round, give_up_queued};
 pub use event::{Event, Fate, Rise};
 pub use laws::law;
-pub use losing::Lost;
+pub use losing::{Lost, lose};
 pub use mark::Mark;
 pub use running::{Closed, run_upstream};
 pub use worker::{Parts, UpstreamWorker};

@@ -1,5 +1,5 @@
 //! The end of a worker's link, as its lane has it.
-ghost use Rattle.std.specs.Prelude.{◌≡◌, length, slice_get, Some, None};
+ghost use Rattle.std.specs.Prelude.{◌≡◌, ◌≤◌, length, slice_get, Some, None};
 ghost use Rattle.smx_shared.specs.Taps.{known_of};
 ghost use Rattle.smx_upstream.specs.Losing.{GivesAll, Loses};
 
@@ -39,6 +39,7 @@ fn give_up<R: Wait>(tap: &mut Tap, at: &Exchange, rt: &R) -> Given
     ensures lock { (tap.new.lane ≡ tap.old.lane) × (tap.new.front.lock ≡ tap.old.front.lock) }
     ensures gives { GivesAll tap.old.front tap.new.front result.given result.end }
     ensures count { result.failed ≡ length result.given }
+    ensures few { result.failed ≤ 1025 }
     ensures all { result.end ≡ None → result.failed ≡ 1025 }
     ensures known { known_of tap.new.front.mine ≡ known_of tap.old.front.mine }
 {
@@ -62,12 +63,14 @@ fn give_up<R: Wait>(tap: &mut Tap, at: &Exchange, rt: &R) -> Given
     }
 }
 
-// Brings the lane down, and gives up what was taken and not answered.
-pub(crate) fn lose<R: Wait>(tap: &mut Tap, at: &Exchange, rt: &R) -> Lost
+/// Brings the lane down, and gives up each request that was taken and not answered, so that its client
+/// is told. It may wait, and takes no memory.
+pub fn lose<R: Wait>(tap: &mut Tap, at: &Exchange, rt: &R) -> Lost
     requires lock { slice_get at.now tap.old.lane ≡ Some tap.old.front.lock }
     ensures lock { (tap.new.lane ≡ tap.old.lane) × (tap.new.front.lock ≡ tap.old.front.lock) }
     ensures loses { Loses tap.old.front tap.new.front result }
     ensures count { result.failed ≡ length result.given }
+    ensures few { result.failed ≤ 1025 }
     ensures all { result.end ≡ None → result.failed ≡ 1025 }
     ensures known { known_of tap.new.front.mine ≡ known_of tap.old.front.mine }
 {

@@ -13,6 +13,8 @@ pub enum Mark {
         /// Octets wait still.
         left: bool,
     },
+    /// The write failed.
+    WriteFailed,
     /// 65,536 octets or more wait, so it does no more.
     Full,
     /// No whole PDU is left of what was read.

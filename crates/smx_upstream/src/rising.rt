@@ -1,9 +1,7 @@
 //! The lane comes up once its link is bound.
 ghost use Rattle.std.specs.Prelude.{◌≡◌, slice_get, Some};
-ghost use Rattle.smx_upstream.specs.Ages.{rise_notes, rise_shifts};
 ghost use Rattle.smx_upstream.specs.Rising.{Rises, is_history_full, said_last, stays_down};
 
-use crate::acting::has_shifted;
 use crate::event::Rise;
 use smx_history::UpRefusal;
 use smx_shared::{Exchange, Tap, UpFault};
@@ -32,26 +30,6 @@ pub(crate) fn stays_down(rise: &Rise) -> bool
     match said_last(rise) {
         Ok(()) | Err(UpFault::Refused(UpRefusal::AlreadyUp)) => false,
         Err(_) => true,
-    }
-}
-
-// How many notes that left since the last shift.
-pub(crate) fn rise_notes(rise: &Rise) -> usize
-    ensures { result ≡ rise_notes rise.now }
-{
-    match said_last(rise) {
-        Ok(()) => 1,
-        Err(_) => 0,
-    }
-}
-
-// Whether the lane handed its entries out.
-pub(crate) fn rise_shifts(rise: &Rise) -> bool
-    ensures { result ≡ rise_shifts rise.now }
-{
-    match rise {
-        Rise::Asked(_) => false,
-        Rise::Renewed(entries, _) => has_shifted(entries),
     }
 }
 

@@ -10,7 +10,7 @@ ghost use Rattle.smx_upstream.specs.Ages.{next_turn};
 ghost use Rattle.smx_upstream.specs.Quiet.{are_all_quiet};
 ghost use Rattle.smx_upstream.specs.Standing.{Does};
 ghost use Rattle.smx_upstream.specs.Timing.{TurnsAt, timing};
-ghost use Rattle.smx_upstream.specs.Working.{before_turn, side_of, ChangesSide};
+ghost use Rattle.smx_upstream.specs.Working.{before_turn, scene_of, Changes};
 ghost use Rattle.smx_upstream.specs.Losing.{Loses};
 ghost use Rattle.smx_upstream.specs.Phases.{phase_of, is_all_decided, link_faults, Before, Waits, IsTurn, IsOver};
 
@@ -19,6 +19,7 @@ use crate::worker::UpstreamWorker;
 use smx_box::{Receiver, Sender};
 use smx_link::Link;
 use smx_pdu::Pdu;
+use smx_routes::MoWindow;
 use smx_shared::{Exchange, Tap};
 use smx_turns::{Directory, Fault, Gate, Log, MoItem, RunEnd, TurnEnd};
 use std::sync::Wait;
@@ -31,6 +32,8 @@ pub struct Closed<L: Link + Drop> {
     pub tap: Tap,
     pub answers: Receiver<Pdu>,
     pub senders: Vec<Sender<MoItem>>,
+    /// The messages that clients have and have not answered.
+    pub owed: Vec<MoWindow>,
     /// What became of its lane.
     pub lost: Lost,
 }
@@ -54,10 +57,10 @@ impl<L: Link + Drop> UpstreamWorker<L> {
             ≡ Some self.new.stand.tap.front.lock }
 
         // The turn's steps, and nothing else, lead from what was to what is, in the table's order.
-        ensures turned { ChangesSide self.new.stand.age.turns
-            (side_of L.polls (G.asked gate.old) (G.told gate.old)
+        ensures turned { Changes self.new.stand.age.turns
+            (scene_of L.polls L.offered (G.asked gate.old) (G.told gate.old)
             (D.queries directory.old) self.old)
-            (side_of L.polls (G.asked gate.new) (G.told gate.new)
+            (scene_of L.polls L.offered (G.asked gate.new) (G.told gate.new)
             (D.queries directory.new) self.new)
             self.new.steps }
         ensures order { IsTurn (is_bound self.new.stand.session.state)
@@ -97,12 +100,14 @@ impl<L: Link + Drop> UpstreamWorker<L> {
         ensures known { known_of result.tap.front.mine ≡ known_of self.stand.tap.front.mine }
         ensures answers { result.answers ≡ self.stand.answers }
         ensures senders { result.senders.items ≡ self.stand.senders }
+        ensures owed { result.owed.items ≡ self.stand.owed }
     {
         let UpstreamWorker {
             wire,
             mut tap,
             answers,
             senders,
+            owed,
             ..
         } = self;
         let lost = lose(&mut tap, at, rt);
@@ -111,6 +116,7 @@ impl<L: Link + Drop> UpstreamWorker<L> {
             tap,
             answers,
             senders,
+            owed,
             lost,
         }
     }
@@ -143,7 +149,7 @@ pub fn run_upstream<L: Link + Drop, R: Wait, G: Gate, D: Directory, C: FnMut() -
     // Each turn is one in the table's order, at the moment that one call of the clock gave, and
     // nothing else is asked of the gate, the directory and the link's reads.
     ensures clocked { (moments : List ℕ) × (last : C)
-        × Runs (TurnsAt (λ a now b. C.step a now b) L.polls L.failures)
+        × Runs (TurnsAt (λ a now b. C.step a now b) L.polls L.offered L.failures)
         (timing clock (G.asked gate.old) (G.told gate.old) (D.queries directory.old) worker.old)
         moments
         (timing last (G.asked gate.new) (G.told gate.new) (D.queries directory.new) worker.new) }

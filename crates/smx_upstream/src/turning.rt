@@ -4,7 +4,8 @@ ghost use mathlib.Core.List.{IsPrefix};
 ghost use Rattle.smx_frame.specs.Stream.{HasNone};
 ghost use Rattle.smx_session.specs.Moments.{is_bound};
 ghost use Rattle.smx_upstream.specs.Ages.{next_turn};
-ghost use Rattle.smx_upstream.specs.Working.{before_turn, side_of, LeadsOn};
+ghost use Rattle.smx_upstream.specs.Working.{before_turn, scene_of, writing_of, LeadsOn};
+ghost use Rattle.smx_upstream.specs.Writing.{MayDecide, has_link_ended};
 ghost use Rattle.smx_upstream.specs.Quiet.{are_all_quiet};
 ghost use Rattle.smx_upstream.specs.Phases.{phase_of, when_next, when_progress, is_all_decided, end_of, quiet_end, link_faults, Before, Waits, LeadsTo, IsPart, IsTurn, Opening, Ready, Sated, MayRead, Deciding, Settled};
 
@@ -80,6 +81,7 @@ impl<L: Link + Drop> UpstreamWorker<L> {
             ≡ Some self.old.stand.tap.front.lock }
         requires none { self.old.held ≡ None }
         requires goes_on { self.old.ending ≡ false }
+        requires may { MayDecide (writing_of L.polls L.offered self.old) }
         ensures lock { slice_get at.now self.new.stand.tap.lane
             ≡ Some self.new.stand.tap.front.lock }
         ensures phase { (t : Before) (ended : _) → t.now ≡ now → phase_of t log.old ≡ Deciding ended
@@ -88,13 +90,14 @@ impl<L: Link + Drop> UpstreamWorker<L> {
         ensures more { result ≡ Ok Next.More
             → (length self.new.wire.rest < length self.old.wire.rest) × (self.new.ending ≡ false) }
         ensures part { result ≡ Ok Next.Part
-            → HasNone 65536 self.new.wire.rest × (self.new.ending ≡ false) }
+            → HasNone 65536 self.new.wire.rest × (self.new.ending ≡ false)
+            × (self.new.wire.unsent ≡ self.old.wire.unsent) }
         ensures over { result ≡ Ok Next.Over → self.new.ending ≡ true }
         ensures faults { link_faults result ≡ 0 }
         ensures goes { (turn : _) → LeadsOn turn
-            (side_of L.polls (G.asked gate.old) (G.told gate.old)
+            (scene_of L.polls L.offered (G.asked gate.old) (G.told gate.old)
             (D.queries directory.old) self.old)
-            (side_of L.polls (G.asked gate.new) (G.told gate.new)
+            (scene_of L.polls L.offered (G.asked gate.new) (G.told gate.new)
             (D.queries directory.new) self.new)
             log.old log.new }
         ensures kept { (self.new.wire.link ≡ self.old.wire.link)
@@ -130,6 +133,7 @@ impl<L: Link + Drop> UpstreamWorker<L> {
             ≡ Some self.old.stand.tap.front.lock }
         requires none { self.old.held ≡ None }
         requires goes_on { self.old.ending ≡ false }
+        requires ended { ended ≡ has_link_ended (L.polls self.old.wire.link) }
         ensures lock { slice_get at.now self.new.stand.tap.lane
             ≡ Some self.new.stand.tap.front.lock }
         ensures phase { (t : Before) → t.now ≡ now → phase_of t log.old ≡ Deciding ended
@@ -137,14 +141,16 @@ impl<L: Link + Drop> UpstreamWorker<L> {
         ensures held { OnOk result (self.new.held ≡ None) }
         ensures part { result ≡ Ok Progress.Part
             → HasNone 65536 self.new.wire.rest × (self.new.ending ≡ false) }
+        ensures few { result ≡ Ok Progress.Part → ended ≡ false
+            → length self.new.wire.unsent < 65536 }
         ensures brimming { result ≡ Ok Progress.Brimming
             → (ended ≡ false) × (65536 ≤ length self.new.wire.unsent) }
         ensures over { result ≡ Ok Progress.Over → self.new.ending ≡ true }
         ensures faults { link_faults result ≡ 0 }
         ensures goes { (turn : _) → LeadsOn turn
-            (side_of L.polls (G.asked gate.old) (G.told gate.old)
+            (scene_of L.polls L.offered (G.asked gate.old) (G.told gate.old)
             (D.queries directory.old) self.old)
-            (side_of L.polls (G.asked gate.new) (G.told gate.new)
+            (scene_of L.polls L.offered (G.asked gate.new) (G.told gate.new)
             (D.queries directory.new) self.new)
             log.old log.new }
         ensures kept { (self.new.wire.link ≡ self.old.wire.link)
@@ -189,8 +195,8 @@ impl<L: Link + Drop> UpstreamWorker<L> {
         ensures failures { L.failures self.new.wire.link
             ≡ L.failures self.old.wire.link + link_faults result }
         ensures goes { (turn queries : _) → LeadsOn turn
-            (side_of L.polls (G.asked gate.old) (G.told gate.old) queries self.old)
-            (side_of L.polls (G.asked gate.new)
+            (scene_of L.polls L.offered (G.asked gate.old) (G.told gate.old) queries self.old)
+            (scene_of L.polls L.offered (G.asked gate.new)
             (G.told gate.new) queries self.new) log.old log.new }
         ensures kept { (self.new.held ≡ self.old.held)
             × (self.new.stand.age.turns ≡ self.old.stand.age.turns)
@@ -237,14 +243,15 @@ impl<L: Link + Drop> UpstreamWorker<L> {
         ensures waits { (t : Before) → t.now ≡ now → phase_of t log.old ≡ MayRead
             → OnOk result (Waits (phase_of t log.new) self.new.wire.unsent self.new.wire.rest) }
         ensures whole { result ≡ Ok None → HasNone 65536 self.new.wire.rest }
+        ensures few { result ≡ Ok None → length self.new.wire.unsent < 65536 }
         ensures held { OnOk result (self.new.held ≡ None) }
         ensures offers { IsPrefix (L.offered self.old.wire.link) (L.offered self.new.wire.link) }
         ensures failures { L.failures self.new.wire.link
             ≡ L.failures self.old.wire.link + link_faults result }
         ensures goes { (turn : _) → LeadsOn turn
-            (side_of L.polls (G.asked gate.old) (G.told gate.old)
+            (scene_of L.polls L.offered (G.asked gate.old) (G.told gate.old)
             (D.queries directory.old) self.old)
-            (side_of L.polls (G.asked gate.new) (G.told gate.new)
+            (scene_of L.polls L.offered (G.asked gate.new) (G.told gate.new)
             (D.queries directory.new) self.new)
             log.old log.new }
         ensures kept { (self.new.stand.age.turns ≡ self.old.stand.age.turns)
@@ -288,14 +295,15 @@ impl<L: Link + Drop> UpstreamWorker<L> {
         ensures waits { (t : Before) → t.now ≡ now → phase_of t log.old ≡ Sated
             → OnOk result (Waits (phase_of t log.new) self.new.wire.unsent self.new.wire.rest) }
         ensures whole { result ≡ Ok None → HasNone 65536 self.new.wire.rest }
+        ensures few { result ≡ Ok None → length self.new.wire.unsent < 65536 }
         ensures held { OnOk result (self.new.held ≡ None) }
         ensures offers { IsPrefix (L.offered self.old.wire.link) (L.offered self.new.wire.link) }
         ensures failures { L.failures self.new.wire.link
             ≡ L.failures self.old.wire.link + link_faults result }
         ensures goes { LeadsOn turn
-            (side_of L.polls (G.asked gate.old) (G.told gate.old)
+            (scene_of L.polls L.offered (G.asked gate.old) (G.told gate.old)
             (D.queries directory.old) self.old)
-            (side_of L.polls (G.asked gate.new) (G.told gate.new)
+            (scene_of L.polls L.offered (G.asked gate.new) (G.told gate.new)
             (D.queries directory.new) self.new)
             log.old log.new }
         ensures kept { (self.new.stand.age.turns ≡ self.old.stand.age.turns)
@@ -325,6 +333,7 @@ impl<L: Link + Drop> UpstreamWorker<L> {
     ) -> Result<TurnEnd, Fault>
         requires lock { slice_get at.now self.old.stand.tap.lane
             ≡ Some self.old.stand.tap.front.lock }
+        requires few { length self.old.wire.unsent < 65536 }
         ensures lock { slice_get at.now self.new.stand.tap.lane
             ≡ Some self.new.stand.tap.front.lock }
         ensures phase { (t : Before) → phase_of t log.old ≡ Settled
@@ -334,8 +343,8 @@ impl<L: Link + Drop> UpstreamWorker<L> {
             → OnOk result (Waits (phase_of t log.new) self.new.wire.unsent self.new.wire.rest) }
         ensures faults { link_faults result ≡ 0 }
         ensures goes { (queries : _) → LeadsOn turn
-            (side_of L.polls (G.asked gate.old) (G.told gate.old) queries self.old)
-            (side_of L.polls (G.asked gate.new)
+            (scene_of L.polls L.offered (G.asked gate.old) (G.told gate.old) queries self.old)
+            (scene_of L.polls L.offered (G.asked gate.new)
             (G.told gate.new) queries self.new) log.old log.new }
         ensures kept { (self.new.held ≡ self.old.held) × (self.new.wire.link ≡ self.old.wire.link)
             × (self.new.wire.rest ≡ self.old.wire.rest)
@@ -384,9 +393,9 @@ impl<L: Link + Drop> UpstreamWorker<L> {
         ensures failures { L.failures self.new.wire.link
             ≡ L.failures self.old.wire.link + link_faults result }
         ensures goes { LeadsOn self.new.stand.age.turns
-            (side_of L.polls (G.asked gate.old) (G.told gate.old)
+            (scene_of L.polls L.offered (G.asked gate.old) (G.told gate.old)
             (D.queries directory.old) self.old)
-            (side_of L.polls (G.asked gate.new) (G.told gate.new)
+            (scene_of L.polls L.offered (G.asked gate.new) (G.told gate.new)
             (D.queries directory.new) self.new)
             log.old log.new }
         ensures count { self.new.stand.age.turns ≡ (next_turn self.old.stand.age).turns }

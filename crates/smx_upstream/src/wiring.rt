@@ -5,7 +5,9 @@ ghost use Rattle.smx_turns.specs.Steps.{brings_none};
 ghost use Rattle.smx_turns.specs.declared.step.Step.TheVariants.{Did};
 ghost use Rattle.smx_upstream.specs.declared.event.Event.TheVariants.{Broke};
 ghost use Rattle.smx_upstream.specs.Events.{out_of};
-ghost use Rattle.smx_upstream.specs.Working.{side_of, LeadsOn};
+ghost use Rattle.smx_link.specs.Wiring.{spellings};
+ghost use Rattle.smx_upstream.specs.Working.{scene_of, writing_of, LeadsOn};
+ghost use Rattle.smx_upstream.specs.Writing.{MayDecide, has_link_ended};
 ghost use Rattle.smx_upstream.specs.Phases.{phase_of, some_wait, after_offer, unless_left, when_front, is_end, Before, LeadsTo, link_faults, Ready, Closing, MayRead, Deciding};
 
 use crate::event::Event;
@@ -42,6 +44,17 @@ fn brings_none(polled: Polled) -> bool
     !matches!(polled, Polled::Octets(_))
 }
 
+// Whether memory was wanted, and no bad length was met.
+fn is_memory(fault: FrameFault) -> bool
+    ensures memory { result ≡ true → fault ≡ FrameFault.NoMemory }
+    ensures other { result ≡ false → fault ≢ FrameFault.NoMemory }
+{
+    match fault {
+        FrameFault::NoMemory => true,
+        FrameFault::Below16 | FrameFault::AboveMax => false,
+    }
+}
+
 // Answers a bad length.
 fn break_off<L: Link + Drop>(
     alloc: Global,
@@ -51,6 +64,7 @@ fn break_off<L: Link + Drop>(
 )
     requires room { 65536 ≤ wire.old.room }
     ensures said { wire.new.said ≡ wire.old.said ++ out_of Broke }
+    ensures unsent { wire.new.unsent ≡ wire.old.unsent ++ spellings (out_of Broke) }
     ensures same { wire.new ≡ record wire.old {
       said = wire.new.said;
       unsent = wire.new.unsent;
@@ -79,14 +93,15 @@ impl<L: Link + Drop> UpstreamWorker<L> {
             ≡ L.failures self.old.wire.link + link_faults result }
         ensures err { OnErr result (result ≡ Err Fault.Link) }
         ensures goes { (turn asked told queries : _) → LeadsOn turn
-            (side_of L.polls asked told queries self.old)
-            (side_of L.polls asked told queries self.new) log.old log.new }
+            (scene_of L.polls L.offered asked told queries self.old)
+            (scene_of L.polls L.offered asked told queries self.new) log.old log.new }
         ensures same { self.new ≡ record self.old {
           wire = record self.old.wire { link = self.new.wire.link; unsent = self.new.wire.unsent };
         } }
     {
         let waited = !self.wire.is_clear();
         if self.wire.offer().is_err() {
+            log.push(&Step::Marked(Mark::WriteFailed), true);
             return Err(Fault::Link);
         }
         let left = !self.wire.is_clear();
@@ -129,13 +144,15 @@ impl<L: Link + Drop> UpstreamWorker<L> {
         requires goes_on { self.old.ending ≡ false }
         ensures phase { (t : Before) → phase_of t log.old ≡ MayRead
             → LeadsTo result Deciding (phase_of t log.new) }
+        ensures ended { IfOk result (λ ended. ended
+            ≡ has_link_ended (L.polls self.new.wire.link)) }
         ensures offered { L.offered self.new.wire.link ≡ L.offered self.old.wire.link }
         ensures failures { L.failures self.new.wire.link
             ≡ L.failures self.old.wire.link + link_faults result }
         ensures err { OnErr result (result ≡ Err Fault.Link) }
         ensures goes { (turn asked told queries : _) → LeadsOn turn
-            (side_of L.polls asked told queries self.old)
-            (side_of L.polls asked told queries self.new) log.old log.new }
+            (scene_of L.polls L.offered asked told queries self.old)
+            (scene_of L.polls L.offered asked told queries self.new) log.old log.new }
         ensures same { self.new ≡ record self.old {
           wire = record self.old.wire {
             link = self.new.wire.link;
@@ -160,11 +177,13 @@ impl<L: Link + Drop> UpstreamWorker<L> {
         requires room { 65536 ≤ self.old.wire.room }
         requires none { self.old.held ≡ None }
         requires goes_on { self.old.ending ≡ false }
+        requires may { MayDecide (writing_of L.polls L.offered self.old) }
         ensures phase { (t : Before) (ended : _) → phase_of t log.old ≡ Deciding ended
             → LeadsTo result (when_front ended) (phase_of t log.new) }
         ensures whole { result ≡ Ok Front.Whole
             → IsSome self.new.held × (length self.new.wire.rest < length self.old.wire.rest)
-            × (self.new.ending ≡ false) × (65536 ≤ self.new.wire.room) }
+            × (self.new.ending ≡ false) × (65536 ≤ self.new.wire.room)
+            × (self.new.wire.unsent ≡ self.old.wire.unsent) }
         ensures part { result ≡ Ok Front.Part
             → HasNone 65536 self.new.wire.rest × (self.new ≡ self.old) }
         ensures broken { result ≡ Ok Front.Broken
@@ -172,8 +191,8 @@ impl<L: Link + Drop> UpstreamWorker<L> {
         ensures err { OnErr result
             ((result ≡ Err Fault.NoMemory) × (self.new ≡ self.old) × (log.new ≡ log.old)) }
         ensures goes { (turn asked told queries : _) → LeadsOn turn
-            (side_of L.polls asked told queries self.old)
-            (side_of L.polls asked told queries self.new) log.old log.new }
+            (scene_of L.polls L.offered asked told queries self.old)
+            (scene_of L.polls L.offered asked told queries self.new) log.old log.new }
         ensures same { self.new ≡ record self.old {
           wire = record self.new.wire { link = self.old.wire.link; start = self.old.wire.start };
           held = self.new.held;
@@ -190,8 +209,10 @@ impl<L: Link + Drop> UpstreamWorker<L> {
                 log.push(&Step::Marked(Mark::Part), true);
                 Ok(Front::Part)
             }
-            Err(FrameFault::NoMemory) => Err(Fault::NoMemory),
-            Err(_) => {
+            Err(fault) => {
+                if is_memory(fault) {
+                    return Err(Fault::NoMemory);
+                }
                 self.ending = true;
                 break_off(self.alloc, &mut self.wire, &mut self.events, log);
                 Ok(Front::Broken)

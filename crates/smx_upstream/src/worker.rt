@@ -7,7 +7,7 @@ ghost use Rattle.smx_turns.specs.declared.step.Step.TheVariants.{Did};
 ghost use Rattle.smx_upstream.specs.Ages.{new_age};
 ghost use Rattle.smx_upstream.specs.Events.{out_of, those};
 ghost use Rattle.smx_upstream.specs.Quiet.{is_quiet_event};
-ghost use Rattle.smx_upstream.specs.Standing.{bind_of, stand};
+ghost use Rattle.smx_upstream.specs.Standing.{bind_of, stand, AreEmptied};
 
 use crate::age::Age;
 use crate::event::Event;
@@ -15,6 +15,7 @@ use crate::mark::Mark;
 use smx_box::{Receiver, Sender};
 use smx_link::{Link, Wire};
 use smx_pdu::Pdu;
+use smx_routes::MoWindow;
 use smx_session::{UpstreamSession, UpstreamState};
 use smx_shared::Tap;
 use smx_trace::Trace;
@@ -33,6 +34,9 @@ pub struct Parts<L: Link + Drop> {
     pub answers: Receiver<Pdu>,
     /// The senders of the clients' boxes, at the index of their slot.
     pub senders: Vec<Sender<MoItem>>,
+    /// For each slot the messages that its client has and has not answered: what is left of an earlier
+    /// link is let go, and its numbers go on.
+    pub owed: Vec<MoWindow>,
 }
 
 // The parts as a worker was handed them, for contracts alone.
@@ -42,6 +46,7 @@ pub(crate) struct Origin {
     pub session: Snapshot<UpstreamSession>,
     pub answers: Snapshot<Receiver<Pdu>>,
     pub senders: Snapshot<Vec<Sender<MoItem>>>,
+    pub owed: Snapshot<Vec<MoWindow>>,
     pub age: Snapshot<Age>,
 }
 
@@ -51,12 +56,14 @@ impl Origin {
         session: &UpstreamSession,
         answers: &Receiver<Pdu>,
         senders: &Vec<Sender<MoItem>>,
+        owed: &Vec<MoWindow>,
         age: &Age,
     ) -> Origin
         ensures tap { result.tap.value ≡ tap.now }
         ensures session { result.session.value ≡ session.now }
         ensures answers { result.answers.value ≡ answers.now }
         ensures senders { result.senders.value ≡ senders.now }
+        ensures owed { result.owed.value ≡ owed.now }
         ensures age { result.age.value ≡ age.now }
     {
         Origin {
@@ -64,6 +71,7 @@ impl Origin {
             session: Snapshot::of(session),
             answers: Snapshot::of(answers),
             senders: Snapshot::of(senders),
+            owed: Snapshot::of(owed),
             age: Snapshot::of(age),
         }
     }
@@ -79,6 +87,8 @@ pub struct UpstreamWorker<L: Link + Drop> {
     pub(crate) session: UpstreamSession,
     pub(crate) answers: Receiver<Pdu>,
     pub(crate) senders: Vec<Sender<MoItem>>,
+    // The messages of this link that clients have and have not answered.
+    pub(crate) owed: Vec<MoWindow>,
     // A whole PDU that isn't decided yet.
     pub(crate) held: Option<Pdu>,
     // Nothing but writing is left to do.
@@ -100,9 +110,9 @@ impl<L: Link + Drop> Model for UpstreamWorker<L> {
 
     ghost view = { λ w. record {
       wire = w.wire;
-      stand = stand w.session w.tap w.answers w.senders.items w.age;
+      stand = stand w.session w.tap w.answers w.senders.items w.owed.items w.age;
       first = stand w.origin.session.value w.origin.tap.value w.origin.answers.value
-          w.origin.senders.value.items w.origin.age.value;
+          w.origin.senders.value.items w.origin.owed.value.items w.origin.age.value;
       held = w.held;
       ending = w.ending;
       events = w.events;
@@ -112,9 +122,9 @@ impl<L: Link + Drop> Model for UpstreamWorker<L> {
 
     ghost invariant = { λ w. IsWorker (record {
       wire = w.wire;
-      stand = stand w.session w.tap w.answers w.senders.items w.age;
+      stand = stand w.session w.tap w.answers w.senders.items w.owed.items w.age;
       first = stand w.origin.session.value w.origin.tap.value w.origin.answers.value
-          w.origin.senders.value.items w.origin.age.value;
+          w.origin.senders.value.items w.origin.owed.value.items w.origin.age.value;
       held = w.held;
       ending = w.ending;
       events = w.events;
@@ -175,6 +185,15 @@ pub(crate) fn note<L: Link + Drop>(
     jot(event, quiet, events, log);
 }
 
+// Lets all that waits go.
+fn let_go(owed: &mut Vec<MoWindow>)
+    ensures { AreEmptied owed.old.items owed.new.items }
+{
+    for slot in 0..owed.len() {
+        owed[slot].clear();
+    }
+}
+
 impl<L: Link + Drop> UpstreamWorker<L> {
     /// A worker whose first PDU is the session's bind (SMPP 3.4, section 4.1.5). It takes memory
     /// for 65,536 octets; where that is wanted the parts come back. Its lane's history may have
@@ -190,7 +209,8 @@ impl<L: Link + Drop> UpstreamWorker<L> {
         ensures link { IfOk result (λ w. (w.wire.link ≡ parts.link) × (w.wire.start ≡ parts.link)) }
         ensures stand { IfOk result (λ w. w.stand
             ≡ stand parts.session parts.tap parts.answers parts.senders.items
-            (new_age history response_timer)) }
+            w.stand.owed (new_age history response_timer)) }
+        ensures owed { IfOk result (λ w. AreEmptied parts.owed.items w.stand.owed) }
         ensures first { IfOk result (λ w. w.first ≡ w.stand) }
         ensures said { IfOk result (λ w. w.wire.said ≡ bind_of parts.session ∷ []) }
         ensures ready { IfOk result (λ w. (w.held ≡ None) × (w.ending ≡ false)) }
@@ -205,6 +225,7 @@ impl<L: Link + Drop> UpstreamWorker<L> {
             session,
             answers,
             senders,
+            mut owed,
         } = parts;
         let mut wire = Wire::new(alloc, link);
         if wire.make_room().is_err() {
@@ -215,10 +236,12 @@ impl<L: Link + Drop> UpstreamWorker<L> {
                 session,
                 answers,
                 senders,
+                owed,
             });
         }
+        let_go(&mut owed);
         let age = Age::new(history, response_timer);
-        let origin = Origin::of(&tap, &session, &answers, &senders, &age);
+        let origin = Origin::of(&tap, &session, &answers, &senders, &owed, &age);
         let event = Event::Began(Snapshot::of(&bind));
         wire.say(&bind);
         Ok(UpstreamWorker {
@@ -228,6 +251,7 @@ impl<L: Link + Drop> UpstreamWorker<L> {
             session,
             answers,
             senders,
+            owed,
             held: None,
             ending: false,
             age,

@@ -10,7 +10,7 @@ use smx_box::{Boxed, Got, Receiver, Sender};
 use smx_client::{ClientWorker, Desk, run_client};
 use smx_lane::Lane;
 use smx_link::Link;
-use smx_memory::{MemoryLink, Script};
+use smx_memory_link::{MemoryLink, Script};
 use smx_pdu::Pdu;
 use smx_session::{Account, ClientState};
 use smx_shared::{Door, Exchange, Port, Tap};

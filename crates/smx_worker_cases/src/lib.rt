@@ -7,6 +7,8 @@ mod client;
 #[cfg(test)]
 mod hall;
 #[cfg(test)]
+mod messages;
+#[cfg(test)]
 mod shared;
 #[cfg(test)]
 mod stand;

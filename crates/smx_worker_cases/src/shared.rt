@@ -17,6 +17,7 @@ use std::process::Abort;
 use std::sync::Wait;
 
 mod comparing;
+mod full;
 mod making;
 mod scenes;
 mod threads;

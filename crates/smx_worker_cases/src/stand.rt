@@ -1,7 +1,7 @@
 //! What the workers here are lent, and links whose other end follows a script.
 ghost use Rattle.std.specs.Prelude.{◌≡◌};
 
-use smx_memory::{MemoryLink, Script};
+use smx_memory_link::{MemoryLink, Script};
 use smx_pdu::Body;
 use smx_routes::RouteFault;
 use smx_trace::Trace;
@@ -173,7 +173,7 @@ pub fn body_of(rt: &impl Abort, alloc: Global, octets: &[u8], zeros: usize) -> B
     Body::new(all).ok().expect(rt, "the body is short enough")
 }
 
-/// Names want of memory, which tools/refuse-memory brings about.
+/// Names want of memory, which refuse-memory brings about.
 pub fn name_want(rt: &impl Abort, end: RunEnd) {
     if end == RunEnd::Fault(Fault::NoMemory) {
         panic!(rt; "out of memory");

@@ -12,7 +12,7 @@ use crate::upstream::session;
 use crate::{client, upstream};
 use smx_centre::{Centre, Mode};
 use smx_client::Desk;
-use smx_memory::{CentrePeer, FlagGate, MemoryLink, Nobody, Script};
+use smx_memory_link::{CentrePeer, FlagGate, MemoryLink, Nobody, Script};
 use smx_slots::{ClientEnds, LaneEnds, ends_of};
 use smx_turns::RunEnd;
 use smx_upstream::Parts;
@@ -130,7 +130,11 @@ fn carrier<'a, R: Abort>(
     ends: LaneEnds,
 ) -> upstream::Seat<'a, MemoryLink<CentrePeer>> {
     let Line { at, tap, .. } = line;
-    let LaneEnds { answers, senders } = ends;
+    let LaneEnds {
+        answers,
+        senders,
+        owed,
+    } = ends;
     let centre = CentrePeer::new(alloc, Centre::new(alloc, Mode::Plain));
     let parts = Parts {
         link: MemoryLink::new(centre),
@@ -138,6 +142,7 @@ fn carrier<'a, R: Abort>(
         session: session(rt, alloc),
         answers,
         senders,
+        owed,
     };
     upstream::Seat::new(rt, alloc, at, parts, 1_000)
 }

@@ -1,16 +1,17 @@
 //! A worker over a link in memory whose other end follows a script: steps as rows, each with what is
 //! to be found.
-ghost use Rattle.std.specs.Prelude.{◌≡◌, slice_get, Some, None, false};
+ghost use Rattle.std.specs.Prelude.{◌≡◌, slice_get, Some, None, IfSome, false};
 ghost use Rattle.smx_shared.specs.Views.{locks_of};
 ghost use Rattle.smx_session.specs.declared.upstream_state.UpstreamState.{UpstreamState};
 
 use crate::hall::{Client, Hall, enter, hold, lanes_of, last_tap};
 use crate::stand::{Piece, World, body_of, link_to, name_want, script, took};
-use smx_box::{Boxed, Got, Receiver};
+use smx_box::{Boxed, Got, Receiver, Sender};
 use smx_lane::Lane;
 use smx_link::Link;
-use smx_memory::{MemoryLink, Script};
+use smx_memory_link::{MemoryLink, Script};
 use smx_pdu::{Bind, Pdu};
+use smx_routes::MoWindow;
 use smx_session::{UpstreamSession, UpstreamState};
 use smx_shared::{Door, Exchange, SubmitFault, Tap};
 use smx_turns::{MoItem, RunEnd};
@@ -19,6 +20,7 @@ use std::alloc::Global;
 use std::process::Abort;
 use std::sync::Wait;
 
+mod abandoned;
 mod hostile;
 mod passing;
 mod rows;
@@ -88,8 +90,10 @@ enum Step<'s> {
     Submits(Result<usize, SubmitFault>),
     // The status and the body of its next response.
     Collects(Option<(u32, &'s [u8])>),
-    // The number and the body of the first message for client 1 from lane 0.
+    // The number and the body of the next message for client 1 from lane 0.
     Gets(Option<(u32, &'s [u8])>),
+    // The client answers the message of this number, with this status and a body of so many zeros.
+    Answers(u32, u32, usize),
     // The worker is turned at this moment, at most so often.
     Runs(u64, u64, RunEnd),
     // It is to end, and says whether it was bound.
@@ -100,14 +104,14 @@ enum Step<'s> {
     Told(u64),
     // The worker is closed. Its link took just this, one part after another.
     Closes(&'s [&'s [u8]]),
-    // The same, and one request failed. Another worker goes on over a link with these pieces.
-    GoesOn(&'s [&'s [u8]], &'s [Piece<'s>]),
+    // The same, and so many requests failed. Another worker goes on over a link with these pieces.
+    GoesOn(usize, &'s [&'s [u8]], &'s [Piece<'s>]),
 }
 
 /// A worker with its exchange.
 #[derive(Drop)]
 pub struct Seat<'a, L: Link + Drop> {
-    at: &'a Exchange,
+    pub at: &'a Exchange,
     pub worker: UpstreamWorker<L>,
     // A fault ended a run.
     faulty: bool,
@@ -171,21 +175,27 @@ pub fn session(rt: &impl Abort, alloc: Global) -> UpstreamSession
     UpstreamSession::new(alloc, system_id, password, 1_000, 0)
 }
 
-// A client, a worker until it is closed, what it is lent, and what its messages come into.
+// A client, a worker until it is closed, what it is lent, what its messages come into, and where the
+// client puts its answers.
 #[derive(Drop)]
 struct Stand<'a> {
     client: Client<'a>,
     seat: Option<Seat<'a, MemoryLink<Script>>>,
     world: World,
     inbox: Receiver<MoItem>,
+    outbox: Sender<Pdu>,
 }
 
-impl Stand<'_> {
+impl<'a> Stand<'a> {
     fn holds<R: Wait + Abort>(&mut self, rt: &R, alloc: Global, step: Step) -> bool {
         match step {
             Step::Submits(want) => submit(rt, alloc, &mut self.client) == want,
             Step::Collects(want) => collects(rt, &mut self.client, want),
             Step::Gets(want) => gets(rt, &mut self.inbox, want),
+            Step::Answers(number, status, zeros) => {
+                let answer = answer_to(rt, alloc, number, status, zeros);
+                self.outbox.put(rt, answer).is_ok()
+            }
             Step::Runs(now, turns, want) => match &mut self.seat {
                 Some(seat) => seat.run(rt, &mut self.world, now, turns) == want,
                 None => false,
@@ -200,42 +210,57 @@ impl Stand<'_> {
             },
             Step::Asked(want) => self.world.gate.questions == want,
             Step::Told(want) => self.world.gate.tidings == want,
-            Step::Closes(parts) => self.closes(rt, alloc, parts, None),
-            Step::GoesOn(parts, pieces) => self.closes(rt, alloc, parts, Some(pieces)),
+            Step::Closes(parts) => self.closes(rt, parts).is_some(),
+            Step::GoesOn(failed, parts, pieces) => {
+                self.goes_on(rt, alloc, parts, pieces) == Some(failed)
+            }
         }
     }
 
-    // Closes the worker, whose link took this. Where there are pieces, one request failed, and another
-    // worker goes on.
+    // Closes the worker, where its link took just this.
     fn closes<R: Wait + Abort>(
+        &mut self,
+        rt: &R,
+        taken: &[&[u8]],
+    ) -> Option<(&'a Exchange, Closed<MemoryLink<Script>>)>
+        ensures { IfSome result (λ p. slice_get p.0.now p.1.tap.lane ≡ Some p.1.tap.front.lock) }
+    {
+        let Seat { at, worker, .. } = self.seat.take()?;
+        let closed = worker.close(at, rt);
+        if took(&closed.link, taken) {
+            Some((at, closed))
+        } else {
+            None
+        }
+    }
+
+    // The same, and another worker goes on over a link with these pieces: how many requests failed.
+    fn goes_on<R: Wait + Abort>(
         &mut self,
         rt: &R,
         alloc: Global,
         taken: &[&[u8]],
-        pieces: Option<&[Piece]>,
-    ) -> bool {
-        let Some(Seat { at, worker, .. }) = self.seat.take() else {
-            return false;
-        };
+        pieces: &[Piece],
+    ) -> Option<usize> {
+        let (at, closed) = self.closes(rt, taken)?;
         let Closed {
-            link,
             tap,
             answers,
             senders,
+            owed,
             lost,
-        } = worker.close(at, rt);
-        let Some(pieces) = pieces else {
-            return took(&link, taken);
-        };
+            ..
+        } = closed;
         let parts = Parts {
             link: link_to(rt, script(alloc, 65_536, pieces)),
             tap,
             session: session(rt, alloc),
             answers,
             senders,
+            owed,
         };
         self.seat = Some(Seat::new(rt, alloc, at, parts, 1_000));
-        took(&link, taken) && lost.failed == 1
+        Some(lost.failed)
     }
 }
 
@@ -268,11 +293,21 @@ fn gets<R: Wait>(rt: &R, inbox: &mut Receiver<MoItem>, want: Option<(u32, &[u8])
                 ..
             },
         ) => {
-            (number, content.client, content.lane) == (1, 1, 0)
+            (number, content.client, content.lane) == (u64::from(content.number), 1, 0)
                 && want == Some((content.number, content.pdu.body.as_slice()))
         }
         Ok(Got::Empty) => want.is_none(),
         _ => false,
+    }
+}
+
+// deliver_sm_resp.
+fn answer_to(rt: &impl Abort, alloc: Global, number: u32, status: u32, zeros: usize) -> Pdu {
+    Pdu {
+        command: 0x8000_0005,
+        status,
+        number,
+        body: body_of(rt, alloc, &[], zeros),
     }
 }
 
@@ -297,15 +332,27 @@ impl Setting {
     }
 }
 
-// A return box of one place.
-fn return_box<R: Wait + Abort>(rt: &R, alloc: Global, answer: Option<Pdu>) -> Receiver<Pdu> {
+// A return box of one place, and the client's sender into it.
+fn return_box<R: Wait + Abort>(
+    rt: &R,
+    alloc: Global,
+    answer: Option<Pdu>,
+) -> (Receiver<Pdu>, Sender<Pdu>) {
     let made = Boxed::new(rt, alloc, 1, 1).ok();
     let (answers, mut clients) = made.expect(rt, "out of memory");
+    let mut client = clients.pop().expect(rt, "the box has a sender");
     if let Some(answer) = answer {
-        let client = clients.last_mut().expect(rt, "the box has a sender");
         assert!(rt; client.put(rt, answer).is_ok());
     }
-    answers
+    (answers, client)
+}
+
+// A window for the messages of the one slot.
+fn windows<R: Abort>(rt: &R, alloc: Global) -> Vec<MoWindow> {
+    let window = MoWindow::new(alloc, 2).ok().expect(rt, "out of memory");
+    let mut all = Vec::new(alloc);
+    all.push(window).ok().expect(rt, "out of memory");
+    all
 }
 
 // A client that enters, and a worker. Each box has one place.
@@ -329,18 +376,21 @@ fn stand_at<'a, R: Wait + Abort>(
     } = setting;
     let made = Boxed::new(rt, alloc, 1, 1).ok();
     let (inbox, senders) = made.expect(rt, "out of memory");
+    let (answers, outbox) = return_box(rt, alloc, answer);
     let parts = Parts {
         link: link_to(rt, script),
         tap,
         session: session(rt, alloc),
-        answers: return_box(rt, alloc, answer),
+        answers,
         senders,
+        owed: windows(rt, alloc),
     };
     Stand {
         client: enter(rt, at, door).expect(rt, "no client"),
         seat: Some(Seat::new(rt, alloc, at, parts, history)),
         world: World::new(),
         inbox,
+        outbox,
     }
 }
 

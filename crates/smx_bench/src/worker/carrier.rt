@@ -6,7 +6,7 @@ use crate::figures::{NOT_MADE, stopped};
 use crate::seats::Drawer;
 use crate::worker::hall::Worker;
 use smx_centre::{Centre, Mode};
-use smx_memory::{CentrePeer, FlagGate, MemoryLink, Nobody};
+use smx_memory_link::{CentrePeer, FlagGate, MemoryLink, Nobody};
 use smx_session::UpstreamSession;
 use smx_shared::Exchange;
 use smx_slots::LaneEnds;
@@ -48,7 +48,11 @@ impl<'a> Carrier<'a> {
         requires { session.state ≡ UpstreamState.Binding }
     {
         let Drawer { at, tap, .. } = drawer;
-        let LaneEnds { answers, senders } = ends;
+        let LaneEnds {
+            answers,
+            senders,
+            owed,
+        } = ends;
         let centre = CentrePeer::new(alloc, Centre::new(alloc, Mode::Plain));
         let parts = Parts {
             link: MemoryLink::new(centre),
@@ -56,6 +60,7 @@ impl<'a> Carrier<'a> {
             session,
             answers,
             senders,
+            owed,
         };
         match UpstreamWorker::new(alloc, parts, history, 60_000) {
             Ok(worker) => Ok(Carrier {

@@ -1,7 +1,7 @@
 //! A client that keeps a window of requests without an answer.
 use smx_frame::Framer;
 use smx_link::{LinkFault, Polled};
-use smx_memory::Peer;
+use smx_memory_link::Peer;
 use smx_pdu::command::{RESPONSE, SUBMIT_SM};
 use smx_pdu::status::ESME_ROK;
 use std::alloc::{AllocError, Global};

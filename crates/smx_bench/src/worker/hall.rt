@@ -2,7 +2,7 @@
 use crate::figures::{Hundredths, nanos_since, stopped};
 use crate::worker::carrier::Carrier;
 use crate::worker::member::Member;
-use smx_memory::{FlagGate, Nobody};
+use smx_memory_link::{FlagGate, Nobody};
 use smx_turns::RunEnd;
 use std::io;
 use std::rt::Clock;

@@ -8,7 +8,7 @@ use crate::seats::Seat;
 use crate::worker::flood::Flood;
 use crate::worker::hall::Worker;
 use smx_client::{ClientWorker, Desk, run_client};
-use smx_memory::{FlagGate, MemoryLink, Nobody};
+use smx_memory_link::{FlagGate, MemoryLink, Nobody};
 use smx_shared::Exchange;
 use smx_slots::ClientEnds;
 use smx_turns::RunEnd;

@@ -1,10 +1,11 @@
 -- What the ends of a box keep, and what their private functions do.
-use Rattle.std.specs.Prelude.{◌≡◌, ℕ, ◌+◌, ◌≤◌, zero, suc, Bool, true, false, [], length, Result, Ok, Err}
+use Rattle.std.specs.Prelude.{◌≡◌, ℕ, ◌+◌, ◌≤◌, zero, suc, Bool, true, false, List, [], length, Result, Ok, Err}
 use Rattle.crossbeam_queue.specs.Passes.{Pass, view}
 use Rattle.smx_box.specs.declared.letter.Letter.{Letter}
 use Rattle.smx_box.specs.declared.letter.Known.{Known}
 use Rattle.smx_box.specs.Letters.{of, is_open, Numbered}
-use Rattle.smx_box.specs.Boxes.{most_items, puts, gets, PassFront, Sending, Receiving, PutServes, FullPutServes}
+use Rattle.smx_box.specs.Private.Rule.{KnowsPlaces}
+use Rattle.smx_box.specs.Boxes.{most_items, pass_notes, puts, gets, BoxHistory, PassFront, Sending, Receiving, PutServes, FullPutServes}
 
 -- counts a sender that is no longer open
 abbrev pub one_if_shut : Bool → ℕ
@@ -20,6 +21,10 @@ module _ {T : Type 0} where
   -- a pass of a queue with so many places
   abbrev pub pass_front : ℕ → Pass (Letter T) (Known T) → PassFront T
   pass_front places p = record { queue = record { table = p.table_id; places = places }; known = view p }
+
+  -- the pass was told how many places its queue has
+  abbrev pub IsTold : PassFront T → Type 0
+  IsTold f = KnowsPlaces f.queue.places f.known
 
   -- the letter is the next of the sender that has the pass
   pub record IsNextLetter (f : PassFront T) (m : Letter T) : Type 0 where
@@ -45,6 +50,8 @@ module _ {T : Type 0} where
     pub all : f.known.senders ≡ senders
     pub numbered : (p : ℕ) → Numbered 0 (of p (gets f.known.mine))
     pub counted : shut ≡ shut_below senders (λ p. is_open (of p (gets f.known.mine)))
+    pub own : pass_notes 0 f.known.seen ≡ f.known.mine
+    pub left : (items : List (Letter T)) × BoxHistory f.known.seen items
 
   abbrev pub sending : ℕ → PassFront T → Sending T
   sending sender f = record { sender = sender; put = puts f.known.mine; front = f }

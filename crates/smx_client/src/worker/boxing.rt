@@ -40,9 +40,13 @@ impl<'d, L: Link + Drop> ClientWorker<'d, L> {
         log: &mut Log<Mark, Event>,
     ) -> Result<Option<Progress>, Fault>
         requires some { IsSome self.old.parked }
-        ensures leads { (n : ℕ) (queries : List Query)
-            → Leads n (scene_of (G.asked gate.old) (G.told gate.old) queries self.old) log.old
-            (scene_of (G.asked gate.new) (G.told gate.new) queries self.new) log.new }
+        ensures leads { (n : ℕ) (queries : List Query) → Leads n
+            (scene_of L.offered L.polls L.failures (G.asked gate.old) (G.told gate.old) queries
+            self.old)
+            log.old
+            (scene_of L.offered L.polls L.failures (G.asked gate.new) (G.told gate.new) queries
+            self.new)
+            log.new }
         ensures phase { (t : Before) (p q : Phase) → phase_of t log.old ≡ p
             → ((lane : ℕ) (reply : Reply)
             → go t p (step.Did (event.PutAgain lane reply)) ≡ after_reply q reply)
@@ -51,13 +55,11 @@ impl<'d, L: Link + Drop> ClientWorker<'d, L> {
         ensures clear { result ≡ Ok None → self.new.parked ≡ None }
         ensures which { (result ≢ Ok (Some Progress.Settled)) × (result ≢ Ok (Some Progress.Closed))
             × (result ≢ Ok (Some Progress.Clogged)) }
-        ensures port { self.new.port ≡ self.old.port }
-        ensures origin { self.new.origin ≡ self.old.origin }
-        ensures held { self.new.held ≡ self.old.held }
-        ensures settled { self.new.settled ≡ self.old.settled }
-        ensures stage { self.new.stage ≡ self.old.stage }
-        ensures wire { self.new.wire ≡ self.old.wire }
-        ensures counts { (self.new.turns ≡ self.old.turns) × (self.new.ends ≡ self.old.ends) }
+        ensures same { self.new ≡ record self.old {
+          senders = self.new.senders;
+          parked = self.new.parked;
+          events = self.new.events;
+        } }
     {
         let Some(Parked { lane, answer }) = self.parked.take() else {
             unreachable!()
@@ -79,22 +81,31 @@ impl<'d, L: Link + Drop> ClientWorker<'d, L> {
         requires room { 65536 ≤ self.old.wire.room }
         requires none { self.old.parked ≡ None }
         requires free { length self.old.window.waiting ≢ self.old.window.places }
-        ensures leads { (n : ℕ) (queries : List Query)
-            → Leads n (scene_of (G.asked gate.old) (G.told gate.old) queries self.old) log.old
-            (scene_of (G.asked gate.new) (G.told gate.new) queries self.new) log.new }
+        ensures leads { (n : ℕ) (queries : List Query) → Leads n
+            (scene_of L.offered L.polls L.failures (G.asked gate.old) (G.told gate.old) queries
+            self.old)
+            log.old
+            (scene_of L.offered L.polls L.failures (G.asked gate.new) (G.told gate.new) queries
+            self.new)
+            log.new }
         ensures phase { (t : Before) → phase_of t log.old ≡ MayCollect t.lanes
             → t.parked ≡ is_there self.old.parked → IsPart Clear result (phase_of t log.new) }
         ensures parked { result ≡ Ok (Some Progress.Parked) → IsSome self.new.parked }
         ensures clear { result ≡ Ok None → self.new.parked ≡ None }
         ensures which { (result ≢ Ok (Some Progress.Settled)) × (result ≢ Ok (Some Progress.Closed))
             × (result ≢ Ok (Some Progress.Clogged)) }
-        ensures port { self.new.port ≡ self.old.port }
-        ensures origin { self.new.origin ≡ self.old.origin }
-        ensures held { self.new.held ≡ self.old.held }
-        ensures settled { self.new.settled ≡ self.old.settled }
-        ensures stage { self.new.stage ≡ self.old.stage }
-        ensures failed { self.new.wire.failed ≡ self.old.wire.failed }
-        ensures counts { (self.new.turns ≡ self.old.turns) × (self.new.ends ≡ self.old.ends) }
+        ensures same { self.new ≡ record self.old {
+          inbox = self.new.inbox;
+          senders = self.new.senders;
+          window = self.new.window;
+          wire = record self.old.wire {
+            said = self.new.wire.said;
+            unsent = self.new.wire.unsent;
+            room = self.new.wire.room;
+          };
+          parked = self.new.parked;
+          events = self.new.events;
+        } }
     {
         let found = self.inbox.get(rt);
         let seen = Snapshot::of(&found);
@@ -135,9 +146,13 @@ impl<'d, L: Link + Drop> ClientWorker<'d, L> {
         gate: &mut G,
         log: &mut Log<Mark, Event>,
     ) -> Result<Option<Progress>, Fault>
-        ensures leads { (n : ℕ) (queries : List Query)
-            → Leads n (scene_of (G.asked gate.old) (G.told gate.old) queries self.old) log.old
-            (scene_of (G.asked gate.new) (G.told gate.new) queries self.new) log.new }
+        ensures leads { (n : ℕ) (queries : List Query) → Leads n
+            (scene_of L.offered L.polls L.failures (G.asked gate.old) (G.told gate.old) queries
+            self.old)
+            log.old
+            (scene_of L.offered L.polls L.failures (G.asked gate.new) (G.told gate.new) queries
+            self.new)
+            log.new }
         ensures phase { (t : Before) → phase_of t log.old ≡ MayCollect t.lanes
             → t.parked ≡ is_there self.old.parked → IsPart Clear result (phase_of t log.new) }
         ensures parked { result ≡ Ok (Some Progress.Parked) → IsSome self.new.parked }
@@ -146,13 +161,18 @@ impl<'d, L: Link + Drop> ClientWorker<'d, L> {
             → 65536 ≤ length self.new.wire.unsent }
         ensures which { (result ≢ Ok (Some Progress.Settled))
             × (result ≢ Ok (Some Progress.Closed)) }
-        ensures port { self.new.port ≡ self.old.port }
-        ensures origin { self.new.origin ≡ self.old.origin }
-        ensures held { self.new.held ≡ self.old.held }
-        ensures settled { self.new.settled ≡ self.old.settled }
-        ensures stage { self.new.stage ≡ self.old.stage }
-        ensures failed { self.new.wire.failed ≡ self.old.wire.failed }
-        ensures counts { (self.new.turns ≡ self.old.turns) × (self.new.ends ≡ self.old.ends) }
+        ensures same { self.new ≡ record self.old {
+          inbox = self.new.inbox;
+          senders = self.new.senders;
+          window = self.new.window;
+          wire = record self.old.wire {
+            said = self.new.wire.said;
+            unsent = self.new.wire.unsent;
+            room = self.new.wire.room;
+          };
+          parked = self.new.parked;
+          events = self.new.events;
+        } }
     {
         if is_waiting(&self.parked) {
             return self.put_again(rt, gate, log);

@@ -37,7 +37,7 @@ impl<'d, L: Link + Drop> ClientWorker<'d, L> {
         ensures link { result.link ≡ self.entry.wire.link }
         ensures left { (last : Window) × (last.waiting ≡ []) × LeftBy
             (rest_of self.entry.parked self.entry.window self.entry.inbox
-            self.entry.senders.items)
+            self.entry.senders)
             result.closing
             (rest_of None last result.inbox result.senders.items) }
         ensures emptied { IsEmptied self.entry.inbox.front.queue.places result.closing }

@@ -3,7 +3,7 @@ ghost use Rattle.std.specs.Prelude.{◌≡◌, ◌≢◌, ◌≤◌, ◌<◌, �
 ghost use Rattle.smx_shared.specs.Views.{locks_of};
 ghost use Rattle.smx_turns.specs.declared.directory.Query.{Query};
 ghost use Rattle.smx_client.specs.Scenes.{scene_of, Moves};
-ghost use Rattle.smx_client.specs.Table.{Before, Phase, phase_of, Written, MayCollect, IsOffered, IsCollectedFrom, IsPart};
+ghost use Rattle.smx_client.specs.Table.{Before, Phase, phase_of, Written, MayCollect, after_collect, IsOffered, IsCollectedFrom, IsPart};
 ghost use Rattle.smx_client.specs.Turns.{Leads, is_some_left};
 
 use super::ClientWorker;
@@ -12,7 +12,8 @@ use crate::ledger::{ask, mark, note};
 use crate::mark::Mark;
 use crate::saying::say_found;
 use smx_link::{Link, Wire};
-use smx_pdu::MAX_PDU;
+use smx_lock::Spent;
+use smx_pdu::{MAX_PDU, Pdu};
 use smx_shared::Exchange;
 use smx_turns::{Fault, Gate, Log, Point};
 use std::snapshot::Snapshot;
@@ -33,56 +34,47 @@ fn differ(a: usize, b: usize) -> bool
     a != b
 }
 
+// How far a turn comes by what a lane gave.
+fn unless_spent(found: &Result<Option<Pdu>, Spent>) -> Result<(), Fault>
+    ensures { (lane : ℕ) → IsCollectedFrom lane result (after_collect lane found.now) }
+{
+    match found {
+        Ok(_) => Ok(()),
+        Err(_) => Err(Fault::Spent),
+    }
+}
+
 impl<'d, L: Link + Drop> ClientWorker<'d, L> {
     // Offers the link what waits. True where some is left.
     pub(super) fn offer_part(&mut self, log: &mut Log<Mark, Event>) -> Result<bool, Fault>
-        ensures moves { Moves self.old log.old self.new log.new }
+        ensures moves { Moves L.offered L.polls L.failures self.old log.old self.new log.new }
         ensures phase { (t : Before) (p : Phase) → phase_of t log.old ≡ p
             → IsOffered t p result (phase_of t log.new) }
         ensures some { result ≡ Ok true → self.new.wire.unsent ≢ [] }
         ensures none { result ≡ Ok false → self.new.wire.unsent ≡ [] }
-        ensures port { self.new.port ≡ self.old.port }
-        ensures origin { self.new.origin ≡ self.old.origin }
-        ensures held { self.new.held ≡ self.old.held }
-        ensures settled { self.new.settled ≡ self.old.settled }
-        ensures parked { self.new.parked ≡ self.old.parked }
-        ensures stage { self.new.stage ≡ self.old.stage }
-        ensures failed { self.new.wire.failed ≡ self.old.wire.failed }
-        ensures counts { (self.new.turns ≡ self.old.turns) × (self.new.ends ≡ self.old.ends) }
+        ensures same { self.new ≡ record self.old {
+          wire = record self.old.wire { link = self.new.wire.link; unsent = self.new.wire.unsent };
+        } }
     {
         let waited = self.wire.unsent();
-        match self.wire.offer() {
-            Err(_) => {
-                mark(log, Mark::WriteFailed, true);
-                Err(Fault::Link)
-            }
-            Ok(()) => {
-                let left = has_unsent(&self.wire);
-                let wrote = differ(self.wire.unsent(), waited);
-                mark(log, Mark::Offered(wrote, left), !wrote);
-                Ok(left)
-            }
+        if self.wire.offer().is_err() {
+            mark(log, Mark::WriteFailed, true);
+            return Err(Fault::Link);
         }
+        let left = has_unsent(&self.wire);
+        let wrote = differ(self.wire.unsent(), waited);
+        mark(log, Mark::Offered(wrote, left), !wrote);
+        Ok(left)
     }
 
     // Makes room for what one event may say.
     pub(super) fn make_room(&mut self) -> Result<(), Fault>
         ensures room { OnOk result (65536 ≤ self.new.wire.room) }
         ensures err { OnErr result (result ≡ Err Fault.NoMemory) }
-        ensures port { self.new.port ≡ self.old.port }
-        ensures origin { self.new.origin ≡ self.old.origin }
-        ensures held { self.new.held ≡ self.old.held }
-        ensures settled { self.new.settled ≡ self.old.settled }
-        ensures parked { self.new.parked ≡ self.old.parked }
-        ensures window { self.new.window ≡ self.old.window }
-        ensures inbox { self.new.inbox ≡ self.old.inbox }
-        ensures senders { self.new.senders ≡ self.old.senders }
-        ensures stage { self.new.stage ≡ self.old.stage }
-        ensures events { self.new.events ≡ self.old.events }
-        ensures session { self.new.session ≡ self.old.session }
-        ensures desk { self.new.desk ≡ self.old.desk }
-        ensures counts { (self.new.turns ≡ self.old.turns) × (self.new.ends ≡ self.old.ends) }
         ensures wire { self.new.wire ≡ record self.old.wire { room = self.new.wire.room } }
+        ensures same { self.new ≡ record self.old {
+          wire = record self.old.wire { room = self.new.wire.room };
+        } }
     {
         match self.wire.make_room() {
             Ok(()) => Ok(()),
@@ -108,26 +100,25 @@ impl<'d, L: Link + Drop> ClientWorker<'d, L> {
         requires locks { locks_of self.old.port.fronts ≡ at.now }
         requires lane { lane < length self.old.port.fronts }
         requires room { 65536 ≤ self.old.wire.room }
-        ensures moves { Moves self.old log.old self.new log.new }
+        ensures moves { Moves L.offered L.polls L.failures self.old log.old self.new log.new }
         ensures phase { (t : Before) → phase_of t log.old ≡ MayCollect lane
             → IsCollectedFrom lane result (phase_of t log.new) }
         ensures locks { locks_of self.new.port.fronts ≡ locks_of self.old.port.fronts }
-        ensures origin { self.new.origin ≡ self.old.origin }
-        ensures held { self.new.held ≡ self.old.held }
-        ensures settled { self.new.settled ≡ self.old.settled }
-        ensures parked { self.new.parked ≡ self.old.parked }
-        ensures stage { self.new.stage ≡ self.old.stage }
-        ensures failed { self.new.wire.failed ≡ self.old.wire.failed }
-        ensures counts { (self.new.turns ≡ self.old.turns) × (self.new.ends ≡ self.old.ends) }
+        ensures same { self.new ≡ record self.old {
+          port = self.new.port;
+          wire = record self.old.wire {
+            said = self.new.wire.said;
+            unsent = self.new.wire.unsent;
+            room = self.new.wire.room;
+          };
+          events = self.new.events;
+        } }
     {
         let found = self.port.collect(at, rt, lane);
         let event = Event::Collected(lane, Snapshot::of(&found));
         let none = say_found(&mut self.wire, &found);
         note(&mut self.events, log, event, none);
-        match found {
-            Ok(_) => Ok(()),
-            Err(_) => Err(Fault::Spent),
-        }
+        unless_spent(&found)
     }
 
     // Asks for leave to collect, and asks each lane. `None` where the turn goes on.
@@ -140,9 +131,13 @@ impl<'d, L: Link + Drop> ClientWorker<'d, L> {
         log: &mut Log<Mark, Event>,
     ) -> Result<Option<Progress>, Fault>
         requires locks { locks_of self.old.port.fronts ≡ at.now }
-        ensures leads { (queries : List Query)
-            → Leads turn (scene_of (G.asked gate.old) (G.told gate.old) queries self.old) log.old
-            (scene_of (G.asked gate.new) (G.told gate.new) queries self.new) log.new }
+        ensures leads { (queries : List Query) → Leads turn
+            (scene_of L.offered L.polls L.failures (G.asked gate.old) (G.told gate.old) queries
+            self.old)
+            log.old
+            (scene_of L.offered L.polls L.failures (G.asked gate.new) (G.told gate.new) queries
+            self.new)
+            log.new }
         ensures phase { (t : Before) → phase_of t log.old ≡ Written
             → IsPart (MayCollect (length self.old.port.fronts)) result (phase_of t log.new) }
         ensures clogged { result ≡ Ok (Some Progress.Clogged)
@@ -150,13 +145,15 @@ impl<'d, L: Link + Drop> ClientWorker<'d, L> {
         ensures which { (result ≢ Ok (Some Progress.Settled)) × (result ≢ Ok (Some Progress.Closed))
             × (result ≢ Ok (Some Progress.Parked)) }
         ensures locks { locks_of self.new.port.fronts ≡ locks_of self.old.port.fronts }
-        ensures origin { self.new.origin ≡ self.old.origin }
-        ensures held { self.new.held ≡ self.old.held }
-        ensures settled { self.new.settled ≡ self.old.settled }
-        ensures parked { self.new.parked ≡ self.old.parked }
-        ensures stage { self.new.stage ≡ self.old.stage }
-        ensures failed { self.new.wire.failed ≡ self.old.wire.failed }
-        ensures counts { (self.new.turns ≡ self.old.turns) × (self.new.ends ≡ self.old.ends) }
+        ensures same { self.new ≡ record self.old {
+          port = self.new.port;
+          wire = record self.old.wire {
+            said = self.new.wire.said;
+            unsent = self.new.wire.unsent;
+            room = self.new.wire.room;
+          };
+          events = self.new.events;
+        } }
     {
         if !ask(log, gate, Point::Collecting, turn) {
             return Ok(Some(Progress::Stopped));

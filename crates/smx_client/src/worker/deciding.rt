@@ -1,12 +1,13 @@
 //! The PDUs that came, each decided once and in order.
-ghost use Rattle.std.specs.Prelude.{◌≡◌, ◌≢◌, ◌⊎◌, ◌≤◌, ◌<◌, ℕ, Bool, List, [], length, Some, None, Ok, Err, OnOk, OnErr, IfSome, IsSome, true, false};
+ghost use Rattle.std.specs.Prelude.{◌≡◌, ◌≢◌, ◌⊎◌, ◌≤◌, ◌<◌, ℕ, Bool, List, [], length, Some, None, Ok, Err, OnOk, OnErr, IfSome, IsSome, true, false, if◌then◌else◌};
 ghost use Rattle.smx_frame.specs.Stream.{HasNone};
 ghost use Rattle.smx_session.specs.ClientTable.{client_decides};
 ghost use Rattle.smx_session.specs.declared.act.Act.{Act};
 ghost use Rattle.smx_shared.specs.Views.{locks_of};
 ghost use Rattle.smx_turns.specs.declared.directory.Query.{Query};
+ghost use Rattle.smx_client.specs.Breaking.{IsBad};
 ghost use Rattle.smx_client.specs.Scenes.{scene_of, Moves};
-ghost use Rattle.smx_client.specs.Table.{Before, Phase, phase_of, Deciding, MaySubmit, Closing, after_reply, IsDecided, IsPart, weight};
+ghost use Rattle.smx_client.specs.Table.{Before, Phase, phase_of, Deciding, MaySubmit, Closing, Settled, after_reply, IsAt, IsDecided, IsPart, weight};
 ghost use Rattle.smx_client.specs.Turns.{Leads};
 
 use super::ClientWorker;
@@ -23,34 +24,52 @@ use smx_turns::{Fault, Gate, Log};
 use std::snapshot::Snapshot;
 use std::sync::Wait;
 
+// Whether memory was wanted, and no bad length was met.
+fn is_memory(fault: FrameFault) -> bool
+    ensures memory { result ≡ true → fault ≡ FrameFault.NoMemory }
+    ensures other { result ≡ false → fault ≢ FrameFault.NoMemory }
+{
+    match fault {
+        FrameFault::NoMemory => true,
+        FrameFault::Below16 | FrameFault::AboveMax => false,
+    }
+}
+
+// How far a turn comes where no whole PDU is left.
+fn part_end(ended: bool) -> Progress
+    ensures phase { (p : Phase) → p ≡ (if ended then Closing else Settled) → IsAt result p }
+    ensures closed { result ≡ Progress.Closed → ended ≡ true }
+    ensures which { (result ≢ Progress.Parked) × (result ≢ Progress.Clogged) }
+{
+    if ended {
+        Progress::Closed
+    } else {
+        Progress::Settled
+    }
+}
+
 impl<'d, L: Link + Drop> ClientWorker<'d, L> {
     // Sets the next whole PDU apart.
     fn fetch(&mut self) -> Result<Front, Fault>
+        requires goes_on { self.old.wire.failed ≡ None }
         requires none { self.old.held ≡ None }
         requires undecided { self.old.settled ≡ false }
         ensures whole { result ≡ Ok Front.Whole
             → IsSome self.new.held × (length self.new.wire.rest < length self.old.wire.rest) }
         ensures part { result ≢ Ok Front.Whole → self.new.held ≡ None }
         ensures none_left { result ≡ Ok Front.Part → HasNone 65536 self.new.wire.rest }
-        ensures events { self.new.events ≡ self.old.events }
-        ensures port { self.new.port ≡ self.old.port }
-        ensures session { self.new.session ≡ self.old.session }
-        ensures window { self.new.window ≡ self.old.window }
-        ensures inbox { self.new.inbox ≡ self.old.inbox }
-        ensures senders { self.new.senders ≡ self.old.senders }
-        ensures parked { self.new.parked ≡ self.old.parked }
-        ensures desk { self.new.desk ≡ self.old.desk }
-        ensures origin { self.new.origin ≡ self.old.origin }
-        ensures stage { self.new.stage ≡ self.old.stage }
-        ensures settled { self.new.settled ≡ self.old.settled }
-        ensures counts { (self.new.turns ≡ self.old.turns) × (self.new.ends ≡ self.old.ends) }
-        ensures said { self.new.wire.said ≡ self.old.wire.said }
-        ensures unsent { self.new.wire.unsent ≡ self.old.wire.unsent }
-        ensures link { self.new.wire.link ≡ self.old.wire.link }
-        ensures failed { result ≢ Ok Front.Broken → self.old.wire.failed ≡ None
-            → self.new.wire.failed ≡ None }
+        ensures broken { result ≡ Ok Front.Broken → IsBad self.new.wire }
+        ensures failed { result ≢ Ok Front.Broken → self.new.wire.failed ≡ None }
         ensures err { OnErr result
-            ((result ≡ Err Fault.NoMemory) × (self.new.wire.failed ≡ self.old.wire.failed)) }
+            ((result ≡ Err Fault.NoMemory) × (self.new ≡ self.old)) }
+        ensures same { self.new ≡ record self.old {
+          wire = record self.old.wire {
+            heard = self.new.wire.heard;
+            rest = self.new.wire.rest;
+            failed = self.new.wire.failed;
+          };
+          held = self.new.held;
+        } }
     {
         match self.wire.hear() {
             Ok(Some(pdu)) => {
@@ -58,24 +77,32 @@ impl<'d, L: Link + Drop> ClientWorker<'d, L> {
                 Ok(Front::Whole)
             }
             Ok(None) => Ok(Front::Part),
-            Err(FrameFault::NoMemory) => Err(Fault::NoMemory),
-            Err(_) => Ok(Front::Broken),
+            Err(fault) => {
+                if is_memory(fault) {
+                    return Err(Fault::NoMemory);
+                }
+                Ok(Front::Broken)
+            }
         }
     }
 
     // Ends the session at a bad length.
     fn break_off(&mut self, log: &mut Log<Mark, Event>)
         requires room { 65536 ≤ self.old.wire.room }
-        ensures moves { Moves self.old log.old self.new log.new }
+        requires bad { IsBad self.old.wire }
+        ensures moves { Moves L.offered L.polls L.failures self.old log.old self.new log.new }
         ensures phase { (t : Before) (ended : Bool) → phase_of t log.old ≡ Deciding ended
             → phase_of t log.new ≡ Closing }
         ensures over { self.new.session ≡ ClientState.Ended }
-        ensures port { self.new.port ≡ self.old.port }
-        ensures origin { self.new.origin ≡ self.old.origin }
-        ensures held { self.new.held ≡ self.old.held }
-        ensures stage { self.new.stage ≡ self.old.stage }
-        ensures parked { self.new.parked ≡ self.old.parked }
-        ensures counts { (self.new.turns ≡ self.old.turns) × (self.new.ends ≡ self.old.ends) }
+        ensures same { self.new ≡ record self.old {
+          session = self.new.session;
+          wire = record self.old.wire {
+            said = self.new.wire.said;
+            unsent = self.new.wire.unsent;
+            room = self.new.wire.room;
+          };
+          events = self.new.events;
+        } }
     {
         let act = self.session.on_fault();
         say_act(&mut self.wire, &act);
@@ -89,8 +116,9 @@ impl<'d, L: Link + Drop> ClientWorker<'d, L> {
         ended: bool,
         log: &mut Log<Mark, Event>,
     ) -> Result<Option<Progress>, Fault>
+        requires goes_on { self.old.wire.failed ≡ None }
         requires going { self.old.stage ≢ Stage.Closed }
-        ensures moves { Moves self.old log.old self.new log.new }
+        ensures moves { Moves L.offered L.polls L.failures self.old log.old self.new log.new }
         ensures phase { (t : Before) → phase_of t log.old ≡ Deciding ended
             → IsPart (Deciding ended) result (phase_of t log.new) }
         ensures waits { result ≡ Ok None
@@ -103,15 +131,17 @@ impl<'d, L: Link + Drop> ClientWorker<'d, L> {
             × HasNone 65536 self.new.wire.rest }
         ensures over { result ≡ Ok (Some Progress.Closed) → self.new.session ≢ ClientState.Ended
             → (self.new.settled ≡ true) × (ended ≡ true) }
-        ensures failed { OnOk result (result ≢ Ok (Some Progress.Closed)
-            → self.old.wire.failed ≡ None → self.new.wire.failed ≡ None) }
+        ensures failed { OnOk result
+            (result ≢ Ok (Some Progress.Closed) → self.new.wire.failed ≡ None) }
         ensures which { (result ≢ Ok (Some Progress.Parked))
             × (result ≢ Ok (Some Progress.Clogged)) }
-        ensures port { self.new.port ≡ self.old.port }
-        ensures origin { self.new.origin ≡ self.old.origin }
-        ensures stage { self.new.stage ≡ self.old.stage }
-        ensures parked { self.new.parked ≡ self.old.parked }
-        ensures counts { (self.new.turns ≡ self.old.turns) × (self.new.ends ≡ self.old.ends) }
+        ensures same { self.new ≡ record self.old {
+          session = self.new.session;
+          wire = record self.new.wire { link = self.old.wire.link; start = self.old.wire.start };
+          held = self.new.held;
+          settled = self.new.settled;
+          events = self.new.events;
+        } }
     {
         self.settled = false;
         if self.held.is_some() {
@@ -122,11 +152,7 @@ impl<'d, L: Link + Drop> ClientWorker<'d, L> {
             Front::Part => {
                 self.settled = true;
                 mark(log, Mark::Part, true);
-                Ok(Some(if ended {
-                    Progress::Closed
-                } else {
-                    Progress::Settled
-                }))
+                Ok(Some(part_end(ended)))
             }
             Front::Broken => {
                 self.make_room()?;
@@ -142,30 +168,32 @@ impl<'d, L: Link + Drop> ClientWorker<'d, L> {
         requires some { IsSome self.old.held }
         requires undecided { self.old.settled ≡ false }
         requires going { self.old.stage ≢ Stage.Closed }
-        ensures moves { Moves self.old log.old self.new log.new }
+        ensures moves { Moves L.offered L.polls L.failures self.old log.old self.new log.new }
         ensures phase { (t : Before) (ended : Bool) → phase_of t log.old ≡ Deciding ended
             → IsDecided ended result (phase_of t log.new) }
         ensures held { OnOk result
             ((result ≢ Ok Verdict.Forward) → (result ≢ Ok Verdict.Settle) → self.new.held ≡ None) }
         ensures over { result ≡ Ok Verdict.Over → self.new.session ≡ ClientState.Ended }
-        ensures settled { self.new.settled ≡ self.old.settled }
         ensures forward { result ≡ Ok Verdict.Forward
             → IfSome self.new.held (λ p.
-            client_decides self.new.desk.now.accounts.items self.new.session p
+            client_decides self.new.desk.accounts.items self.new.session p
             ≡ (Act.Forward, self.new.session)) }
         ensures settle { result ≡ Ok Verdict.Settle
             → IfSome self.new.held (λ p.
-            client_decides self.new.desk.now.accounts.items self.new.session p
+            client_decides self.new.desk.accounts.items self.new.session p
             ≡ (Act.MoAnswer p.number, self.new.session)) }
         ensures waits { (result ≡ Ok Verdict.Forward) ⊎ (result ≡ Ok Verdict.Settle)
             → IsSome self.new.held × (self.new.wire ≡ self.old.wire) }
-        ensures port { self.new.port ≡ self.old.port }
-        ensures origin { self.new.origin ≡ self.old.origin }
-        ensures stage { self.new.stage ≡ self.old.stage }
-        ensures parked { self.new.parked ≡ self.old.parked }
-        ensures rest { self.new.wire.rest ≡ self.old.wire.rest }
-        ensures failed { self.new.wire.failed ≡ self.old.wire.failed }
-        ensures counts { (self.new.turns ≡ self.old.turns) × (self.new.ends ≡ self.old.ends) }
+        ensures same { self.new ≡ record self.old {
+          session = self.new.session;
+          wire = record self.old.wire {
+            said = self.new.wire.said;
+            unsent = self.new.wire.unsent;
+            room = self.new.wire.room;
+          };
+          held = self.new.held;
+          events = self.new.events;
+        } }
     {
         let Some(pdu) = self.held.take() else {
             unreachable!()
@@ -204,23 +232,31 @@ impl<'d, L: Link + Drop> ClientWorker<'d, L> {
         requires locks { locks_of self.old.port.fronts ≡ at.now }
         requires room { 65536 ≤ self.old.wire.room }
         requires held { IfSome self.old.held (λ p.
-            client_decides self.old.desk.now.accounts.items self.old.session p
+            client_decides self.old.desk.accounts.items self.old.session p
             ≡ (Act.Forward, self.old.session)) }
         requires some { IsSome self.old.held }
         requires undecided { self.old.settled ≡ false }
-        ensures leads { (n : ℕ) (queries : List Query)
-            → Leads n (scene_of (G.asked gate.old) (G.told gate.old) queries self.old) log.old
-            (scene_of (G.asked gate.new) (G.told gate.new) queries self.new) log.new }
+        ensures leads { (n : ℕ) (queries : List Query) → Leads n
+            (scene_of L.offered L.polls L.failures (G.asked gate.old) (G.told gate.old) queries
+            self.old)
+            log.old
+            (scene_of L.offered L.polls L.failures (G.asked gate.new) (G.told gate.new) queries
+            self.new)
+            log.new }
         ensures phase { (t : Before) (ended : Bool) → phase_of t log.old ≡ MaySubmit ended
             → phase_of t log.new ≡ Deciding ended }
         ensures locks { locks_of self.new.port.fronts ≡ locks_of self.old.port.fronts }
-        ensures origin { self.new.origin ≡ self.old.origin }
         ensures held { self.new.held ≡ None }
-        ensures stage { self.new.stage ≡ self.old.stage }
-        ensures parked { self.new.parked ≡ self.old.parked }
-        ensures rest { self.new.wire.rest ≡ self.old.wire.rest }
-        ensures failed { self.new.wire.failed ≡ self.old.wire.failed }
-        ensures counts { (self.new.turns ≡ self.old.turns) × (self.new.ends ≡ self.old.ends) }
+        ensures same { self.new ≡ record self.old {
+          port = self.new.port;
+          wire = record self.old.wire {
+            said = self.new.wire.said;
+            unsent = self.new.wire.unsent;
+            room = self.new.wire.room;
+          };
+          held = self.new.held;
+          events = self.new.events;
+        } }
     {
         let Some(pdu) = self.held.take() else {
             unreachable!()
@@ -248,25 +284,31 @@ impl<'d, L: Link + Drop> ClientWorker<'d, L> {
     ) -> Result<Option<Progress>, Fault>
         requires none { self.old.parked ≡ None }
         requires held { IfSome self.old.held (λ p.
-            client_decides self.old.desk.now.accounts.items self.old.session p
+            client_decides self.old.desk.accounts.items self.old.session p
             ≡ (Act.MoAnswer p.number, self.old.session)) }
         requires some { IsSome self.old.held }
         requires undecided { self.old.settled ≡ false }
-        ensures leads { (n : ℕ) (queries : List Query)
-            → Leads n (scene_of (G.asked gate.old) (G.told gate.old) queries self.old) log.old
-            (scene_of (G.asked gate.new) (G.told gate.new) queries self.new) log.new }
+        ensures leads { (n : ℕ) (queries : List Query) → Leads n
+            (scene_of L.offered L.polls L.failures (G.asked gate.old) (G.told gate.old) queries
+            self.old)
+            log.old
+            (scene_of L.offered L.polls L.failures (G.asked gate.new) (G.told gate.new) queries
+            self.new)
+            log.new }
         ensures phase { (t : Before) (ended : Bool) → phase_of t log.old ≡ Deciding ended
             → IsPart (Deciding ended) result (phase_of t log.new) }
         ensures which { (result ≢ Ok (Some Progress.Settled)) × (result ≢ Ok (Some Progress.Closed))
             × (result ≢ Ok (Some Progress.Clogged)) }
         ensures waits { result ≡ Ok (Some Progress.Parked) → IsSome self.new.parked }
         ensures clear { result ≡ Ok None → self.new.parked ≡ None }
-        ensures port { self.new.port ≡ self.old.port }
-        ensures origin { self.new.origin ≡ self.old.origin }
         ensures held { self.new.held ≡ None }
-        ensures stage { self.new.stage ≡ self.old.stage }
-        ensures wire { self.new.wire ≡ self.old.wire }
-        ensures counts { (self.new.turns ≡ self.old.turns) × (self.new.ends ≡ self.old.ends) }
+        ensures same { self.new ≡ record self.old {
+          senders = self.new.senders;
+          window = self.new.window;
+          held = self.new.held;
+          parked = self.new.parked;
+          events = self.new.events;
+        } }
     {
         let Some(pdu) = self.held.take() else {
             unreachable!()

@@ -11,7 +11,8 @@ ghost use Rattle.smx_client.specs.Courses.{course, TurnsSo};
 ghost use Rattle.smx_client.specs.Events.{is_quiet_event, tells};
 ghost use Rattle.smx_client.specs.Marks.{is_quiet_mark};
 ghost use Rattle.smx_client.specs.Parts.{Does};
-ghost use Rattle.smx_client.specs.Scenes.{scene_of, parts_of, before, Moves};
+ghost use Rattle.smx_client.specs.Scenes.{scene_of, before, Moves};
+ghost use Rattle.smx_client.specs.Serving.{parts_of};
 ghost use Rattle.smx_client.specs.Stages.{has_ended};
 ghost use Rattle.smx_client.specs.Table.{Before, Phase, phase_of, Opening, Closing, when_written, IsAt, EndsIn, IsTurn, Stands, last_end};
 ghost use Rattle.smx_client.specs.Turns.{Leads, Changes, faults};
@@ -59,15 +60,15 @@ impl<'d, L: Link + Drop> ClientWorker<'d, L> {
     // Offers what waits, where nothing more is decided in any turn.
     fn last_part(&mut self, log: &mut Log<Mark, Event>) -> Result<TurnEnd, Fault>
         requires stage { self.old.stage ≡ Stage.Closed }
-        ensures moves { Moves self.old log.old self.new log.new }
+        ensures moves { Moves L.offered L.polls L.failures self.old log.old self.new log.new }
         ensures phase { (t : Before) → phase_of t log.old ≡ Closing
             → IsTurn result (are_quiet is_quiet_mark is_quiet_event log.new) (phase_of t log.new)
             × OnOk result (Stands (phase_of t log.new) self.new.wire.unsent self.new.wire.rest
             self.new.held self.new.parked self.new.settled self.new.stage) }
         ensures stage { self.new.stage ≡ Stage.Closed }
-        ensures port { self.new.port ≡ self.old.port }
-        ensures origin { self.new.origin ≡ self.old.origin }
-        ensures counts { (self.new.turns ≡ self.old.turns) × (self.new.ends ≡ self.old.ends) }
+        ensures same { self.new ≡ record self.old {
+          wire = record self.old.wire { link = self.new.wire.link; unsent = self.new.wire.unsent };
+        } }
     {
         match self.offer_part(log) {
             Err(fault) => Err(fault),
@@ -89,9 +90,11 @@ impl<'d, L: Link + Drop> ClientWorker<'d, L> {
         requires goes_on { self.old.wire.failed ≡ None }
         requires going { self.old.stage ≢ Stage.Closed }
         ensures leads { Leads turn
-            (scene_of (G.asked gate.old) (G.told gate.old) (D.queries directory.old) self.old)
+            (scene_of L.offered L.polls L.failures (G.asked gate.old) (G.told gate.old) (D.queries
+            directory.old) self.old)
             log.old
-            (scene_of (G.asked gate.new) (G.told gate.new) (D.queries directory.new) self.new)
+            (scene_of L.offered L.polls L.failures (G.asked gate.new) (G.told gate.new) (D.queries
+            directory.new) self.new)
             log.new }
         ensures phase { (t : Before) → t ≡ before self.old
             → phase_of t log.old ≡ when_written t self.old.stage
@@ -102,8 +105,13 @@ impl<'d, L: Link + Drop> ClientWorker<'d, L> {
             (self.new.stage ≢ Stage.Closed → self.new.wire.failed ≡ None) }
         ensures done { result ≡ Ok TurnEnd.Done → self.new.stage ≡ Stage.Closed }
         ensures locks { locks_of self.new.port.fronts ≡ locks_of self.old.port.fronts }
-        ensures origin { self.new.origin ≡ self.old.origin }
-        ensures counts { (self.new.turns ≡ self.old.turns) × (self.new.ends ≡ self.old.ends) }
+        ensures same { self.new ≡ record self.new {
+          desk = self.old.desk;
+          turns = self.old.turns;
+          steps = self.old.steps;
+          ends = self.old.ends;
+          origin = self.old.origin;
+        } }
     {
         match self.middle_part(at, rt, gate, directory, turn, log)? {
             Progress::Closed => {
@@ -127,9 +135,11 @@ impl<'d, L: Link + Drop> ClientWorker<'d, L> {
         requires locks { locks_of self.old.port.fronts ≡ at.now }
         requires goes_on { self.old.stage ≢ Stage.Closed → self.old.wire.failed ≡ None }
         ensures leads { Leads turn
-            (scene_of (G.asked gate.old) (G.told gate.old) (D.queries directory.old) self.old)
+            (scene_of L.offered L.polls L.failures (G.asked gate.old) (G.told gate.old) (D.queries
+            directory.old) self.old)
             log.old
-            (scene_of (G.asked gate.new) (G.told gate.new) (D.queries directory.new) self.new)
+            (scene_of L.offered L.polls L.failures (G.asked gate.new) (G.told gate.new) (D.queries
+            directory.new) self.new)
             log.new }
         ensures phase { (t : Before) → t ≡ before self.old → phase_of t log.old ≡ Opening
             → IsTurn result (are_quiet is_quiet_mark is_quiet_event log.new) (phase_of t log.new)
@@ -139,8 +149,13 @@ impl<'d, L: Link + Drop> ClientWorker<'d, L> {
             (self.new.stage ≢ Stage.Closed → self.new.wire.failed ≡ None) }
         ensures done { result ≡ Ok TurnEnd.Done → self.new.stage ≡ Stage.Closed }
         ensures locks { locks_of self.new.port.fronts ≡ locks_of self.old.port.fronts }
-        ensures origin { self.new.origin ≡ self.old.origin }
-        ensures counts { (self.new.turns ≡ self.old.turns) × (self.new.ends ≡ self.old.ends) }
+        ensures same { self.new ≡ record self.new {
+          desk = self.old.desk;
+          turns = self.old.turns;
+          steps = self.old.steps;
+          ends = self.old.ends;
+          origin = self.old.origin;
+        } }
     {
         match self.offer_part(log) {
             Err(fault) => Err(fault),
@@ -172,9 +187,11 @@ impl<'d, L: Link + Drop> ClientWorker<'d, L> {
 
         // Its steps, and nothing else, lead from what was to what is, in the table's order.
         ensures changes { Changes self.new.turns
-            (scene_of (G.asked gate.old) (G.told gate.old) (D.queries directory.old) self.old)
+            (scene_of L.offered L.polls L.failures (G.asked gate.old) (G.told gate.old) (D.queries
+            directory.old) self.old)
             self.new.steps
-            (scene_of (G.asked gate.new) (G.told gate.new) (D.queries directory.new) self.new) }
+            (scene_of L.offered L.polls L.failures (G.asked gate.new) (G.told gate.new) (D.queries
+            directory.new) self.new) }
         ensures order { IsTurn result (are_quiet is_quiet_mark is_quiet_event self.new.steps)
             (phase_of (before self.old) self.new.steps) }
         ensures stands { OnOk result (Stands (phase_of (before self.old) self.new.steps)
@@ -237,10 +254,10 @@ pub fn run_client<'d, L: Link + Drop, R: Wait, G: Gate, D: Directory>(
         worker.new.events }
 
     // It makes turns, and asks nothing else of the gate, the directory and the link.
-    ensures turned { (ends : List (Result TurnEnd Fault)) × Runs TurnsSo
-        (course (G.asked gate.old) (G.told gate.old) (D.queries directory.old) worker.old)
-        ends
-        (course (G.asked gate.new) (G.told gate.new) (D.queries directory.new) worker.new) }
+    ensures turned { (ends : List (Result TurnEnd Fault)) × Runs (TurnsSo L.offered L.polls
+        L.failures) (course (G.asked gate.old) (G.told gate.old) (D.queries directory.old)
+        worker.old) ends (course (G.asked gate.new) (G.told gate.new) (D.queries directory.new)
+        worker.new) }
     ensures goes_on { ((fault : Fault) → result ≢ RunEnd.Fault fault)
         → worker.new.stage ≢ Stage.Closed → worker.new.wire.failed ≡ None }
     ensures locks { locks_of worker.new.port.fronts ≡ locks_of worker.old.port.fronts }

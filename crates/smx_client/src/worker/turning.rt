@@ -1,12 +1,12 @@
 //! A turn, part by part.
-ghost use Rattle.std.specs.Prelude.{◌≡◌, ◌≢◌, ◌≤◌, ◌<◌, ℕ, Bool, true, false, List, length, Some, None, Ok, Err, IfOk, OnOk, IsSome};
+ghost use Rattle.std.specs.Prelude.{◌≡◌, ◌≢◌, ◌≤◌, ◌<◌, ℕ, Bool, true, false, List, length, Some, None, Ok, Err, IfOk, OnOk, IsSome, if◌then◌else◌};
 ghost use Rattle.smx_frame.specs.Stream.{HasNone};
 ghost use Rattle.smx_shared.specs.Views.{locks_of};
 ghost use Rattle.smx_turns.specs.declared.gate.Question.{Question};
 ghost use Rattle.smx_turns.specs.declared.gate.Party.{Party};
 ghost use Rattle.smx_turns.specs.declared.directory.Query.{Query};
 ghost use Rattle.smx_client.specs.Scenes.{scene_of, is_there, before};
-ghost use Rattle.smx_client.specs.Table.{Before, Phase, phase_of, Written, Clear, Deciding, when_drained, IsFront, IsPart, ComesTo, after_bind, when_written, is_end};
+ghost use Rattle.smx_client.specs.Table.{Before, Phase, phase_of, Written, Clear, Deciding, Unentered, when_drained, IsFront, IsPart, ComesTo, after_bind, when_written, is_end};
 ghost use Rattle.smx_client.specs.Turns.{Leads};
 
 use super::ClientWorker;
@@ -48,6 +48,19 @@ fn stage_after(ended: bool) -> Stage
     if ended { Stage::Drained } else { Stage::Open }
 }
 
+// How far a turn comes once prefixes were entered: whether there was memory for all.
+fn part_entered(whole: bool) -> Result<Option<Progress>, Fault>
+    ensures phase { (ended : Bool)
+        → IsPart (Deciding ended) result (if whole then Deciding ended else Unentered) }
+    ensures none { OnOk result (result ≡ Ok None) }
+{
+    if whole {
+        Ok(None)
+    } else {
+        Err(Fault::NoMemory)
+    }
+}
+
 impl<'d, L: Link + Drop> ClientWorker<'d, L> {
     // Asks for leave to read, and reads where every whole PDU that came was decided: whether the
     // link has ended.
@@ -59,21 +72,29 @@ impl<'d, L: Link + Drop> ClientWorker<'d, L> {
     ) -> Result<Result<bool, Progress>, Fault>
         requires goes_on { self.old.wire.failed ≡ None }
         requires opened { self.old.stage ≡ Stage.Open }
-        ensures leads { (queries : List Query)
-            → Leads turn (scene_of (G.asked gate.old) (G.told gate.old) queries self.old) log.old
-            (scene_of (G.asked gate.new) (G.told gate.new) queries self.new) log.new }
+        ensures leads { (queries : List Query) → Leads turn
+            (scene_of L.offered L.polls L.failures (G.asked gate.old) (G.told gate.old) queries
+            self.old)
+            log.old
+            (scene_of L.offered L.polls L.failures (G.asked gate.new) (G.told gate.new) queries
+            self.new)
+            log.new }
         ensures phase { (t : Before) → phase_of t log.old ≡ Clear → t.settled ≡ self.old.settled
             → IsFront result (phase_of t log.new) }
         ensures which { IfOk result (λ r. (r ≢ Err Progress.Parked) × (r ≢ Err Progress.Clogged)
             × (r ≢ Err Progress.Settled) × (r ≢ Err Progress.Closed)) }
-        ensures port { self.new.port ≡ self.old.port }
-        ensures origin { self.new.origin ≡ self.old.origin }
-        ensures parked { self.new.parked ≡ self.old.parked }
         ensures stage { self.new.stage ≢ Stage.Closed }
         ensures ended { IfOk result
             (λ r. IfOk r (λ ended. ended ≡ true → self.new.stage ≡ Stage.Drained)) }
-        ensures failed { self.new.wire.failed ≡ self.old.wire.failed }
-        ensures counts { (self.new.turns ≡ self.old.turns) × (self.new.ends ≡ self.old.ends) }
+        ensures same { self.new ≡ record self.old {
+          wire = record self.old.wire {
+            link = self.new.wire.link;
+            rest = self.new.wire.rest;
+            intake = self.new.wire.intake;
+          };
+          settled = self.new.settled;
+          stage = self.new.stage;
+        } }
     {
         if self.wire.make_ready().is_err() {
             return Err(Fault::NoMemory);
@@ -111,9 +132,13 @@ impl<'d, L: Link + Drop> ClientWorker<'d, L> {
         requires locks { locks_of self.old.port.fronts ≡ at.now }
         requires goes_on { self.old.wire.failed ≡ None }
         requires opened { self.old.stage ≡ Stage.Open }
-        ensures leads { (queries : List Query)
-            → Leads turn (scene_of (G.asked gate.old) (G.told gate.old) queries self.old) log.old
-            (scene_of (G.asked gate.new) (G.told gate.new) queries self.new) log.new }
+        ensures leads { (queries : List Query) → Leads turn
+            (scene_of L.offered L.polls L.failures (G.asked gate.old) (G.told gate.old) queries
+            self.old)
+            log.old
+            (scene_of L.offered L.polls L.failures (G.asked gate.new) (G.told gate.new) queries
+            self.new)
+            log.new }
         ensures phase { (t : Before) → phase_of t log.old ≡ Written
             → t.lanes ≡ length self.old.port.fronts → t.settled ≡ self.old.settled
             → t.parked ≡ is_there self.old.parked → IsFront result (phase_of t log.new) }
@@ -122,12 +147,23 @@ impl<'d, L: Link + Drop> ClientWorker<'d, L> {
         ensures clogged { result ≡ Ok (Err Progress.Clogged) → 65536 ≤ length self.new.wire.unsent }
         ensures which { (result ≢ Ok (Err Progress.Settled)) × (result ≢ Ok (Err Progress.Closed)) }
         ensures locks { locks_of self.new.port.fronts ≡ locks_of self.old.port.fronts }
-        ensures origin { self.new.origin ≡ self.old.origin }
         ensures stage { self.new.stage ≢ Stage.Closed }
         ensures ended { IfOk result
             (λ r. IfOk r (λ ended. ended ≡ true → self.new.stage ≡ Stage.Drained)) }
-        ensures failed { self.new.wire.failed ≡ self.old.wire.failed }
-        ensures counts { (self.new.turns ≡ self.old.turns) × (self.new.ends ≡ self.old.ends) }
+        ensures same { self.new ≡ record self.old {
+          port = self.new.port;
+          inbox = self.new.inbox;
+          senders = self.new.senders;
+          window = self.new.window;
+          wire = record self.new.wire {
+            start = self.old.wire.start;
+            failed = self.old.wire.failed;
+          };
+          parked = self.new.parked;
+          settled = self.new.settled;
+          stage = self.new.stage;
+          events = self.new.events;
+        } }
     {
         if let Some(progress) = self.collect_part(at, rt, gate, turn, log)? {
             return Ok(Err(progress));
@@ -147,9 +183,11 @@ impl<'d, L: Link + Drop> ClientWorker<'d, L> {
         account: usize,
         log: &mut Log<Mark, Event>,
     ) -> Result<Option<Progress>, Fault>
-        ensures leads { (n : ℕ) (asked : List Question) (told : List Party)
-            → Leads n (scene_of asked told (D.queries directory.old) self.old) log.old
-            (scene_of asked told (D.queries directory.new) self.new) log.new }
+        ensures leads { (n : ℕ) (asked : List Question) (told : List Party) → Leads n
+            (scene_of L.offered L.polls L.failures asked told (D.queries directory.old) self.old)
+            log.old
+            (scene_of L.offered L.polls L.failures asked told (D.queries directory.new) self.new)
+            log.new }
         ensures phase { (t : Before) (ended : Bool)
             → phase_of t log.old ≡ after_bind ended kind account
             → IsPart (Deciding ended) result (phase_of t log.new) }
@@ -162,11 +200,7 @@ impl<'d, L: Link + Drop> ClientWorker<'d, L> {
         let prefixes = prefixes_at(self.desk, account);
         let whole = add_all(rt, directory, prefixes, self.port.client());
         mark(log, Mark::Entered(account, whole), true);
-        if whole {
-            Ok(None)
-        } else {
-            Err(Fault::NoMemory)
-        }
+        part_entered(whole)
     }
 
     // Decides the PDU that waits. `None` where the next one may be decided.
@@ -186,9 +220,11 @@ impl<'d, L: Link + Drop> ClientWorker<'d, L> {
         requires undecided { self.old.settled ≡ false }
         requires going { self.old.stage ≢ Stage.Closed }
         ensures leads { Leads turn
-            (scene_of (G.asked gate.old) (G.told gate.old) (D.queries directory.old) self.old)
+            (scene_of L.offered L.polls L.failures (G.asked gate.old) (G.told gate.old) (D.queries
+            directory.old) self.old)
             log.old
-            (scene_of (G.asked gate.new) (G.told gate.new) (D.queries directory.new) self.new)
+            (scene_of L.offered L.polls L.failures (G.asked gate.new) (G.told gate.new) (D.queries
+            directory.new) self.new)
             log.new }
         ensures phase { (t : Before) → phase_of t log.old ≡ Deciding ended
             → IsPart (Deciding ended) result (phase_of t log.new) }
@@ -199,11 +235,20 @@ impl<'d, L: Link + Drop> ClientWorker<'d, L> {
             → self.new.session ≡ ClientState.Ended }
         ensures waits { result ≡ Ok (Some Progress.Parked) → IsSome self.new.parked }
         ensures locks { locks_of self.new.port.fronts ≡ locks_of self.old.port.fronts }
-        ensures origin { self.new.origin ≡ self.old.origin }
-        ensures stage { self.new.stage ≡ self.old.stage }
-        ensures rest { self.new.wire.rest ≡ self.old.wire.rest }
-        ensures failed { self.new.wire.failed ≡ self.old.wire.failed }
-        ensures counts { (self.new.turns ≡ self.old.turns) × (self.new.ends ≡ self.old.ends) }
+        ensures same { self.new ≡ record self.old {
+          port = self.new.port;
+          session = self.new.session;
+          senders = self.new.senders;
+          window = self.new.window;
+          wire = record self.old.wire {
+            said = self.new.wire.said;
+            unsent = self.new.wire.unsent;
+            room = self.new.wire.room;
+          };
+          held = self.new.held;
+          parked = self.new.parked;
+          events = self.new.events;
+        } }
     {
         self.make_room()?;
         match self.decide(log)? {
@@ -233,17 +278,20 @@ impl<'d, L: Link + Drop> ClientWorker<'d, L> {
         log: &mut Log<Mark, Event>,
     ) -> Result<Progress, Fault>
         requires locks { locks_of self.old.port.fronts ≡ at.now }
+        requires goes_on { self.old.wire.failed ≡ None }
         requires none { self.old.parked ≡ None }
         requires going { self.old.stage ≢ Stage.Closed }
         ensures leads { Leads turn
-            (scene_of (G.asked gate.old) (G.told gate.old) (D.queries directory.old) self.old)
+            (scene_of L.offered L.polls L.failures (G.asked gate.old) (G.told gate.old) (D.queries
+            directory.old) self.old)
             log.old
-            (scene_of (G.asked gate.new) (G.told gate.new) (D.queries directory.new) self.new)
+            (scene_of L.offered L.polls L.failures (G.asked gate.new) (G.told gate.new) (D.queries
+            directory.new) self.new)
             log.new }
         ensures phase { (t : Before) → phase_of t log.old ≡ Deciding ended
             → ComesTo result (phase_of t log.new) }
-        ensures failed { OnOk result (result ≢ Ok Progress.Closed → self.old.wire.failed ≡ None
-            → self.new.wire.failed ≡ None) }
+        ensures failed { OnOk result
+            (result ≢ Ok Progress.Closed → self.new.wire.failed ≡ None) }
         ensures settled { result ≡ Ok Progress.Settled
             → (self.new.settled ≡ true) × (self.new.held ≡ None)
             × HasNone 65536 self.new.wire.rest }
@@ -252,9 +300,17 @@ impl<'d, L: Link + Drop> ClientWorker<'d, L> {
         ensures waits { result ≡ Ok Progress.Parked → IsSome self.new.parked }
         ensures clogged { result ≡ Ok Progress.Clogged → 65536 ≤ length self.new.wire.unsent }
         ensures locks { locks_of self.new.port.fronts ≡ locks_of self.old.port.fronts }
-        ensures origin { self.new.origin ≡ self.old.origin }
-        ensures stage { self.new.stage ≡ self.old.stage }
-        ensures counts { (self.new.turns ≡ self.old.turns) × (self.new.ends ≡ self.old.ends) }
+        ensures same { self.new ≡ record self.old {
+          port = self.new.port;
+          session = self.new.session;
+          senders = self.new.senders;
+          window = self.new.window;
+          wire = record self.new.wire { link = self.old.wire.link; start = self.old.wire.start };
+          held = self.new.held;
+          parked = self.new.parked;
+          settled = self.new.settled;
+          events = self.new.events;
+        } }
     {
         loop {
             if self.is_clogged() {
@@ -277,9 +333,13 @@ impl<'d, L: Link + Drop> ClientWorker<'d, L> {
         gate: &mut G,
         log: &mut Log<Mark, Event>,
     ) -> Result<Option<Progress>, Fault>
-        ensures leads { (n : ℕ) (queries : List Query)
-            → Leads n (scene_of (G.asked gate.old) (G.told gate.old) queries self.old) log.old
-            (scene_of (G.asked gate.new) (G.told gate.new) queries self.new) log.new }
+        ensures leads { (n : ℕ) (queries : List Query) → Leads n
+            (scene_of L.offered L.polls L.failures (G.asked gate.old) (G.told gate.old) queries
+            self.old)
+            log.old
+            (scene_of L.offered L.polls L.failures (G.asked gate.new) (G.told gate.new) queries
+            self.new)
+            log.new }
         ensures phase { (t : Before) → t.parked ≡ is_there self.old.parked
             → phase_of t log.old ≡ when_drained t.parked
             → IsPart (Deciding true) result (phase_of t log.new) }
@@ -287,11 +347,11 @@ impl<'d, L: Link + Drop> ClientWorker<'d, L> {
         ensures clear { result ≡ Ok None → self.new.parked ≡ None }
         ensures which { (result ≢ Ok (Some Progress.Settled)) × (result ≢ Ok (Some Progress.Closed))
             × (result ≢ Ok (Some Progress.Clogged)) }
-        ensures port { self.new.port ≡ self.old.port }
-        ensures origin { self.new.origin ≡ self.old.origin }
-        ensures stage { self.new.stage ≡ self.old.stage }
-        ensures wire { self.new.wire ≡ self.old.wire }
-        ensures counts { (self.new.turns ≡ self.old.turns) × (self.new.ends ≡ self.old.ends) }
+        ensures same { self.new ≡ record self.old {
+          senders = self.new.senders;
+          parked = self.new.parked;
+          events = self.new.events;
+        } }
     {
         if is_waiting(&self.parked) {
             return self.put_again(rt, gate, log);
@@ -313,9 +373,11 @@ impl<'d, L: Link + Drop> ClientWorker<'d, L> {
         requires goes_on { self.old.wire.failed ≡ None }
         requires going { self.old.stage ≢ Stage.Closed }
         ensures leads { Leads turn
-            (scene_of (G.asked gate.old) (G.told gate.old) (D.queries directory.old) self.old)
+            (scene_of L.offered L.polls L.failures (G.asked gate.old) (G.told gate.old) (D.queries
+            directory.old) self.old)
             log.old
-            (scene_of (G.asked gate.new) (G.told gate.new) (D.queries directory.new) self.new)
+            (scene_of L.offered L.polls L.failures (G.asked gate.new) (G.told gate.new) (D.queries
+            directory.new) self.new)
             log.new }
         ensures phase { (t : Before) → t ≡ before self.old
             → phase_of t log.old ≡ when_written t self.old.stage
@@ -330,8 +392,13 @@ impl<'d, L: Link + Drop> ClientWorker<'d, L> {
         ensures waits { result ≡ Ok Progress.Parked → IsSome self.new.parked }
         ensures clogged { result ≡ Ok Progress.Clogged → 65536 ≤ length self.new.wire.unsent }
         ensures locks { locks_of self.new.port.fronts ≡ locks_of self.old.port.fronts }
-        ensures origin { self.new.origin ≡ self.old.origin }
-        ensures counts { (self.new.turns ≡ self.old.turns) × (self.new.ends ≡ self.old.ends) }
+        ensures same { self.new ≡ record self.new {
+          desk = self.old.desk;
+          turns = self.old.turns;
+          steps = self.old.steps;
+          ends = self.old.ends;
+          origin = self.old.origin;
+        } }
     {
         match self.stage {
             Stage::Closed => unreachable!(),

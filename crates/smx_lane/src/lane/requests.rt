@@ -14,8 +14,8 @@ use crate::sent::Sent;
 use smx_history::{Entry, Kind, Refusal, Request, TakeRefusal};
 
 impl Lane {
-    // The index of the row of a client whose request may be accepted.
-    fn row_for_accept(&self, client: u64) -> Result<usize, Refusal>
+    // The number under which a client has its row, whose request may be accepted.
+    fn row_for_accept(&self, client: u64) -> Result<u64, Refusal>
         ensures ok { IfOk result (λ i. (accept_refusal self.now client ≡ None)
             × ((m : Member) × IsRowOf self.now.members client i m)) }
         ensures err { IfErr result (λ e. accept_refusal self.now client ≡ Some e) }

@@ -1,6 +1,10 @@
-//! Shifts: the entries are handed out, and the lane goes on without them.
-ghost use Rattle.std.specs.Prelude.{◌≡◌, IfOk, OnErr};
+//! Shifts: the entries are handed out or let go, and the lane goes on without them.
+ghost use Rattle.std.specs.Prelude.{◌≡◌, List, [], ◌∷◌, ◌++◌, IfOk, OnErr};
 ghost use Rattle.std.specs.Option.{option_map};
+ghost use Rattle.smx_history.specs.declared.note.Note.{Note};
+ghost use Rattle.smx_history.specs.Contents.{AgreesWith};
+ghost use Rattle.smx_history.specs.History.{shift};
+ghost use Rattle.smx_history.specs.Replies.{after_shift};
 ghost use Rattle.smx_lane.specs.Turning.{IsTurned};
 
 use super::Lane;
@@ -27,5 +31,15 @@ impl Lane {
         }
         let fresh = Vec::with_capacity(self.roster.alloc(), self.limits.history as usize)?;
         Ok(Some(mem::replace(&mut self.entries, fresh)))
+    }
+
+    /// A shift whose entries nobody is handed: they are let go where they stand. Nothing else
+    /// changes. It takes no memory.
+    pub fn let_go(&mut self, by: u64)
+        ensures entries { self.new ≡ after_shift self.old }
+        ensures agrees { (h : List Note) → AgreesWith h self.old
+            → AgreesWith (h ++ shift by ∷ []) self.new }
+    {
+        self.entries.clear();
     }
 }

@@ -1,4 +1,5 @@
 //! A connection, of a client or of a centre, over which PDUs are said and heard.
+use crate::stage::comes;
 use smx_pdu::command::{ENQUIRE_LINK, RESPONSE, SUBMIT_SM};
 use smx_pdu::{Header, read_header};
 use std::cmp::Ord;
@@ -150,6 +151,11 @@ impl Caller {
             left -= most;
         }
         true
+    }
+
+    // Whether these octets come next.
+    pub(crate) fn hears(&mut self, octets: &[u8]) -> bool {
+        comes(&mut self.stream, octets)
     }
 
     // Whether the next PDU has this status.

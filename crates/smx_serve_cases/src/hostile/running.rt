@@ -76,13 +76,7 @@ fn serve_and_go<R>(
     config: &Config,
 )
 where
-    R: Net<Listener = TcpListener, Stream = TcpStream>
-        + Clock
-        + Wait
-        + Threads
-        + Eprint
-        + Abort
-        + Sync,
+    R: Net<Listener = TcpListener, Stream = TcpStream> + Clock + Wait + Threads + Abort + Sync,
 {
     let (_, ended) = join(
         rt,
@@ -98,13 +92,7 @@ where
 // Runs a proxy beside a centre, and what is tried there.
 pub(crate) fn run<R>(rt: &R, alloc: Global, trial: Trial)
 where
-    R: Net<Listener = TcpListener, Stream = TcpStream>
-        + Clock
-        + Wait
-        + Threads
-        + Eprint
-        + Abort
-        + Sync,
+    R: Net<Listener = TcpListener, Stream = TcpStream> + Clock + Wait + Threads + Abort + Sync,
 {
     let listener = listen(rt);
     let config = config_for(rt, alloc, &listener);

@@ -54,14 +54,19 @@ fn lanes_limits_and_tickets_have_ranges(rt: HostRuntime) {
     assert_eq!(rt; found, wanted);
 }
 
-// Of a lane's 1,000 entries 1 is kept for its end, an admit takes 2 and a request 4: 249 on lane 1
-// leave 1, 248 on lane 0 leave 5. The next client is refused.
+// Two clients fill the lanes. Of a lane's 1,000 places 1 is kept for its end, a member takes 1 and a
+// request that is queued 3, and an admit wants 4 more: 332 requests on lane 1 leave 1 place, 331 on
+// lane 0 leave 4. The next client is refused.
 fn filling(rt: &impl Abort, alloc: Global) -> Vec<Step> {
     let mut steps = Vec::new(alloc);
-    steps.push(Step::Enters(None)).expect(rt, "out of memory");
-    for own in 1..=497u32 {
+    let entering = [Step::Enters(None), Step::Enters(None)];
+    steps
+        .extend_from_slice(&entering)
+        .expect(rt, "out of memory");
+    for own in 1..=663u32 {
+        let client = usize::from(own > 512);
         let lane = own as usize % 2;
-        let step = Step::Asks(0, Ask::Submit(own, Ok(lane)));
+        let step = Step::Asks(client, Ask::Submit(own, Ok(lane)));
         steps.push(step).expect(rt, "out of memory");
     }
     let refused = Step::Enters(Some(EnterFault::HistoryFull));
@@ -91,12 +96,12 @@ fn have_members(lanes: &[Lane], first: &[(Kind, u64)], second: &[(Kind, u64)]) -
     }
 }
 
-// Lane 1 has no room for a client more where lane 0 still has: the second client is admitted on lane
-// 0, refused on lane 1, and so retired on lane 0.
+// Lane 1 has no room for a client more where lane 0 still has: the third client is admitted on lane
+// 0, refused on lane 1, and so retired on lane 0. It turned both lanes over.
 #[test]
 fn refused_client_leaves_again(rt: HostRuntime) {
     let limits = Limits {
-        queue: 300,
+        queue: 400,
         client: 256,
         ..ROOMY
     };
@@ -107,8 +112,8 @@ fn refused_client_leaves_again(rt: HostRuntime) {
     };
     let steps = filling(&rt, rt.alloc());
     let lanes = lanes_after(&rt, rt.alloc(), limits, 2, starts, &steps);
-    let first = [(Kind::Admit, 1), (Kind::Admit, 2), (Kind::Retire, 2)];
-    assert!(rt; have_members(&lanes, &first, &[(Kind::Admit, 1)]));
+    let first = [(Kind::Admit, 3), (Kind::Retire, 3)];
+    assert!(rt; have_members(&lanes, &first, &[]));
 }
 
 // Whether a client enters under the number and leaves: false where there is no memory for it.
@@ -147,7 +152,7 @@ fn have_visits(lanes: &[Lane], entered: (Option<bool>, Option<bool>)) -> bool {
     have_members(lanes, left, left) || have_members(lanes, &VISITS, left)
 }
 
-// Want of memory is said by name: tools/refuse-memory refuses each allocation in turn. A client that
+// Want of memory is said by name: refuse-memory refuses each allocation in turn. A client that
 // finds none has left again the lanes that it entered, and its number is used up.
 #[test]
 fn refused_memory(rt: HostRuntime) {

@@ -8,10 +8,12 @@ use super::*;
 use crate::hall::last_line;
 use smx_centre::{Centre, Mode};
 use smx_legal::is_legal_shifts;
+use std::rt::Clock;
 use std::sync::atomic::{AtomicBool, Ordering};
 use std::test::*;
 use std::thread;
 use std::thread::{Threads, join};
+use std::time::Duration;
 
 const LIMITS: Limits = Limits {
     queue: 400,
@@ -23,8 +25,9 @@ const LIMITS: Limits = Limits {
 // How many requests a client submits, with its own numbers 1 and on.
 const REQUESTS: u32 = 200;
 
-// How often a client looks for the other's first accept, and how often for a response.
-const LOOKS: u32 = 10_000_000;
+// How often a client looks for the other's first accept, a millisecond apart at the least, and how
+// often for a response.
+const LOOKS: u32 = 10_000;
 
 const COLLECTS: u32 = 100_000_000;
 
@@ -54,7 +57,7 @@ fn note(rt: &impl Abort, came: &mut [bool], own: u32) {
 impl Client<'_> {
     // Submits, collects and leaves. The one flag tells of its first accept, the other of the other
     // client's.
-    fn goes_through<R: Wait + Abort>(
+    fn goes_through<R: Wait + Clock + Abort>(
         self,
         rt: &R,
         alloc: Global,
@@ -68,7 +71,7 @@ impl Client<'_> {
         assert!(rt; client.leave(rt));
     }
 
-    fn submit_all<R: Wait + Abort>(
+    fn submit_all<R: Wait + Clock + Abort>(
         &mut self,
         rt: &R,
         alloc: Global,
@@ -117,13 +120,13 @@ impl Client<'_> {
 
 // Tells the other client of this one's first accept, and waits for the other's: one thread alone can't
 // pass.
-fn meet(rt: &impl Abort, mine: &AtomicBool, other: &AtomicBool) {
+fn meet<R: Clock + Abort>(rt: &R, mine: &AtomicBool, other: &AtomicBool) {
     mine.store(true, Ordering::SeqCst);
     for _ in 0..LOOKS {
         if other.load(Ordering::SeqCst) {
             return;
         }
-        thread::yield_now();
+        thread::sleep(rt, Duration::from_millis(1));
     }
     panic!(rt; "the other client's first request is not accepted")
 }
@@ -239,7 +242,7 @@ fn check(rt: &impl Abort, served: &mut Served, lane: &Lane, handed: usize) {
 }
 
 // Two clients and the tap of the only lane, with a centre behind it, each in a thread of its own.
-fn run_course<R: Threads + Wait + Abort + Sync>(rt: &R, alloc: Global, course: Course) {
+fn run_course<R: Threads + Wait + Clock + Abort + Sync>(rt: &R, alloc: Global, course: Course) {
     let Hall {
         exchange,
         mut door,

@@ -88,7 +88,7 @@ fn hands_out_or_keeps<R: Wait + Abort>(
     (admits, handed)
 }
 
-// Where the new list is refused, the lane keeps its entry: tools/refuse-memory refuses each allocation
+// Where the new list is refused, the lane keeps its entry: refuse-memory refuses each allocation
 // in turn.
 #[test]
 fn refused_memory_at_a_turn_over(rt: HostRuntime) {

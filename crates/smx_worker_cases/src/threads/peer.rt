@@ -1,6 +1,6 @@
 //! A scripted peer that tells when it took enough.
 use smx_link::{LinkFault, Polled};
-use smx_memory::{Peer, Script};
+use smx_memory_link::{Peer, Script};
 use std::sync::atomic::{AtomicBool, Ordering};
 
 /// A script, and a flag that is set once it took so many octets.

@@ -23,7 +23,7 @@ fn meets<R: Wait + Abort>(
     heard: usize,
     taken: usize,
 ) {
-    let message: Option<(u32, &[u8])> = (heard >= 60).then_some((3, &TEXT));
+    let message: Option<(u32, &[u8])> = (heard >= 60).then_some((1, &TEXT));
     let told = match heard {
         0..23 => None,
         23..78 => FAILED,

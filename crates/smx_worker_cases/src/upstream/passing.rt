@@ -1,5 +1,7 @@
 //! What passes between a client's tokens and the centre.
-use super::Step::{Asked, Closes, Collects, Gets, GoesOn, Runs, Stands, Stops, Submits, Told};
+use super::Step::{
+    Answers, Asked, Closes, Collects, Gets, GoesOn, Runs, Stands, Stops, Submits, Told,
+};
 use super::*;
 use crate::hall::is_of;
 use smx_history::Kind;
@@ -7,18 +9,21 @@ use smx_pdu::decode;
 use smx_turns::Fault;
 use std::test::*;
 
-// A request and its response, a message and a client's answer, which is in the return box before the
-// first turn. The centre gives its response to the bind, then a message, and then the response to the
-// request. The worker tells of the response and of the message.
-const ONE_EACH_PIECES: [Piece; 3] = [(30, &BOUND), (47, &MESSAGE), (81, &RESPONSE)];
+// The centre gives its response to the bind, and then a message.
+const ONE_MESSAGE: [Piece; 2] = [(30, &BOUND), (30, &MESSAGE)];
+
+// A request and its response, a message, and an answer to a message of an earlier link, which is in the
+// return box before the first turn and goes nowhere. The centre gives its response to the bind, then a
+// message, and then the response to the request. The worker tells of the response and of the message.
+const ONE_EACH_PIECES: [Piece; 3] = [(30, &BOUND), (30, &MESSAGE), (64, &RESPONSE)];
 
 const ONE_EACH_STEPS: [Step; 7] = [
     Submits(Ok(0)),
     Runs(0, 1_000, RunEnd::Idle),
     Stands(UpstreamState::Bound),
     Told(2),
-    Gets(Some((3, &TEXT))),
-    Closes(&[&BIND, &ANSWER, &SUBMIT]),
+    Gets(Some((1, &TEXT))),
+    Closes(&[&BIND, &SUBMIT]),
     Collects(ANSWERED),
 ];
 
@@ -52,35 +57,23 @@ fn one_of_each(rt: HostRuntime) {
     assert!(rt; is_of(&last, &ONE_EACH_KINDS[4..]));
 }
 
-// An answer with the greatest body.
-fn greatest(rt: &impl Abort, alloc: Global) -> Pdu {
-    Pdu {
-        command: 0x8000_0005,
-        status: 0,
-        number: 3,
-        body: body_of(rt, alloc, &[], 65_520),
-    }
-}
-
-// With 65,536 octets waiting a turn asks its gate nothing. The last turn is one in which nothing
-// came.
-const WAITING_STEPS: [Step; 6] = [
-    Runs(0, 1, RunEnd::Turns),
-    Asked(0),
-    Runs(0, 1, RunEnd::Turns),
-    Asked(2),
+// The client's answer to the message has the greatest body, so that 65,536 octets wait: that turn asks
+// its gate nothing. The last turn is one in which nothing came.
+const WAITING_STEPS: [Step; 9] = [
     Runs(0, 1_000, RunEnd::Idle),
-    Asked(4),
+    Gets(Some((1, &TEXT))),
+    Asked(6),
+    Answers(1, 0, 65_520),
+    Runs(0, 1, RunEnd::Turns),
+    Asked(6),
+    Runs(0, 1, RunEnd::Turns),
+    Asked(8),
+    Runs(0, 1_000, RunEnd::Idle),
 ];
 
 #[test]
 fn waiting_octets_stop_a_turn(rt: HostRuntime) {
-    let setting = Setting {
-        case: 0,
-        script: script(rt.alloc(), 65_536, &[]),
-        answer: Some(greatest(&rt, rt.alloc())),
-        history: 1_000,
-    };
+    let setting = Setting::new(0, script(rt.alloc(), 65_536, &ONE_MESSAGE));
     lanes_after(&rt, rt.alloc(), setting, &WAITING_STEPS);
 }
 
@@ -119,7 +112,7 @@ const ANEW_STEPS: [Step; 9] = [
     Submits(Ok(0)),
     Submits(Ok(0)),
     Runs(0, 1_000, RunEnd::Fault(Fault::Link)),
-    GoesOn(&[&BIND, &SUBMIT], &ANSWERING),
+    GoesOn(1, &[&BIND, &SUBMIT], &ANSWERING),
     Collects(FAILED),
     Submits(Err(SubmitFault::AllFull)),
     Runs(0, 1_000, RunEnd::Idle),
@@ -132,6 +125,27 @@ fn lane_goes_on_over_a_new_link(rt: HostRuntime) {
     let mut failing = script(rt.alloc(), 65_536, &[(30, &BOUND)]);
     failing.failing_read = 2;
     lanes_after(&rt, rt.alloc(), Setting::new(0, failing), &ANEW_STEPS);
+}
+
+// The centre gives message 3 over either link. The client answers the first once the second link is
+// bound: that answer goes nowhere, and the second message is answered by its own.
+const OWN_LINK_STEPS: [Step; 10] = [
+    Runs(0, 1_000, RunEnd::Idle),
+    Gets(Some((1, &TEXT))),
+    GoesOn(0, &[&BIND], &ONE_MESSAGE),
+    Runs(0, 1_000, RunEnd::Idle),
+    Answers(1, 0x64, 1),
+    Runs(0, 1_000, RunEnd::Idle),
+    Gets(Some((2, &TEXT))),
+    Answers(2, 0, 1),
+    Runs(0, 1_000, RunEnd::Idle),
+    Closes(&[&BIND, &ANSWER]),
+];
+
+#[test]
+fn answer_goes_out_over_its_own_link(rt: HostRuntime) {
+    let setting = Setting::new(0, script(rt.alloc(), 65_536, &ONE_MESSAGE));
+    lanes_after(&rt, rt.alloc(), setting, &OWN_LINK_STEPS);
 }
 
 // The proxy's unbind, the centre's answer, and what tells it that its message is out of place.

@@ -9,7 +9,7 @@ use Rattle.smx_box.proofs.BoxPasses.{stand_more, same_queue}
 use Rattle.smx_box.proofs.boxed.pass_all.Goals as goal
 
 pub another-theirs-requires-clause-rule : goal.another-theirs-requires-clause-rule
-another-theirs-requires-clause-rule g c = forks _ (view c.loop-sender.pass) (ap (λ v. v.number) c.loop-sender.invariant.2)
+another-theirs-requires-clause-rule g c = forks _ (view c.loop-sender.pass) (ap (λ v. v.told) c.loop-sender.invariant.2) (ap (λ v. v.number) c.loop-sender.invariant.2)
 
 pub loop-sender-preserved : goal.loop-sender-preserved
 loop-sender-preserved g c =

@@ -2,7 +2,7 @@ use Rattle.std.proofs.Common.{ap, subst, arith}
 use Rattle.smx_box.specs.Letters.{is_item}
 use Rattle.smx_box.specs.Boxes.{OldestServes}
 use Rattle.smx_box.specs.Private.Ends.{receiving}
-use Rattle.smx_box.proofs.BoxEnds.{taken, receiver_item, receiver_mark, some_open, hands_item, hands_mark, mark_serves}
+use Rattle.smx_box.proofs.BoxEnds.{taken, receiver_item, receiver_mark, some_open, hands_item, hands_mark, mark_serves, empty_get_serves}
 use Rattle.smx_box.proofs.receiver.Receiver.get.Goals as goal
 
 pub invariant_of-self-in-Some-content : goal.invariant_of-self-in-Some-content
@@ -54,3 +54,8 @@ returns-in-None-clause-served g c =
     let s = subst (OldestServes (receiving f) c.take.new.self) c.in-Some.is c.take.ensures in
     let t = taken f c.take.new.self c.in-Some.letter c.self.invariant.pass s in
     mark_serves f c.take.new.self c.args.self.now c.in-Some.letter c.self.view_is t c.in-None.is s
+
+pub returns-in_default-clause-served : goal.returns-in_default-clause-served
+returns-in_default-clause-served g c =
+    let f = c.self.inside.end in
+    empty_get_serves f c.take.new.self c.args.self.now c.self.inside.senders c.self.inside.shut c.self.view_is c.self.invariant (subst (OldestServes (receiving f) c.take.new.self) c.in_default.is c.take.ensures)

@@ -6,16 +6,16 @@ use Rattle.smx_client.proofs.Leavings.{left_so}
 use Rattle.smx_client.proofs.worker.ClientWorker.close.Goals as goal
 
 pub returns-clause-left : goal.returns-clause-left
-returns-clause-left g c =
+returns-clause-left g c = rw (← c.self.view_is) (
     let new = c.new-leaver.ensures in
     let all = c.answer_all.ensures in (
       c.answer_all.new.self.window,
       all.over.1,
       left_so _ _ _ _ _ _ _ _ _ _ _ _ _ (ap (λ x. x.value) all.first.0 ∙ new.first_parked) (ap (λ x. x.value) all.first.1 ∙ new.first_window)
           (ap (λ x. x.value) all.first.2 ∙ new.first_inbox) (ap (λ v. v.items) (ap (λ x. x.value) all.first.3 ∙ new.first_senders)) all.over.0 c.into_closed.ensures.left,
-    )
+    ))
 
 pub returns-clause-emptied : goal.returns-clause-emptied
-returns-clause-emptied g c =
-    subst (λ es. IsEmptied c.args.self.inbox.front.queue.places es) (sym c.into_closed.ensures.closing)
-    (subst (λ (i : Receiving MoItem). IsEmptied i.front.queue.places c.answer_all.new.self.closing) c.new-leaver.ensures.inbox c.answer_all.ensures.emptied)
+returns-clause-emptied g c = rw (← c.self.view_is) (
+    subst (λ es. IsEmptied c.self.inside.inbox.front.queue.places es) (sym c.into_closed.ensures.closing)
+    (subst (λ (i : Receiving MoItem). IsEmptied i.front.queue.places c.answer_all.new.self.closing) c.new-leaver.ensures.inbox c.answer_all.ensures.emptied))

@@ -8,13 +8,7 @@ returns-then-not-ask-clause-phase g c = λ t was. c.if-not-ask.ensures.phase t _
 pub loop-lane-init : goal.loop-lane-init
 loop-lane-init g c = record {
   locks = refl;
-  origin = refl;
-  held = refl;
-  settled = refl;
-  parked = refl;
-  stage = refl;
-  failed = refl;
-  counts = (refl, refl);
+  same = refl;
   phase = λ t was. c.if-not-ask.ensures.phase t _ was ∙ cell.yes_collect t;
   leads = λ queries. c.if-not-ask.ensures.leads queries _ _ _ _ _ _;
 }

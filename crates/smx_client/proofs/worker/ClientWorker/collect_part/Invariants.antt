@@ -9,14 +9,12 @@ use Rattle.smx_client.proofs.worker.ClientWorker.collect_part.Given as goal
 abbrev pub invariant-loop-lane : goal.invariant-loop-lane
 invariant-loop-lane g l = record {
   locks : locks_of l.self.port.fronts ≡ locks_of l.fn.self.port.fronts;
-  origin : l.self.origin ≡ l.fn.self.origin;
-  held : l.self.held ≡ l.fn.self.held;
-  settled : l.self.settled ≡ l.fn.self.settled;
-  parked : l.self.parked ≡ l.fn.self.parked;
-  stage : l.self.stage ≡ l.fn.self.stage;
-  failed : l.self.wire.failed ≡ l.fn.self.wire.failed;
-  counts : (l.self.turns ≡ l.fn.self.turns) × (l.self.ends ≡ l.fn.self.ends);
+  same : l.self ≡ record l.fn.self {
+    port = l.self.port;
+    wire = record l.fn.self.wire { said = l.self.wire.said; unsent = l.self.wire.unsent; room = l.self.wire.room };
+    events = l.self.events;
+  };
   phase : (t : Before) → phase_of t l.fn.log ≡ Written → phase_of t l.log ≡ MayCollect l.lane;
-  leads : (queries : List Query) → Leads l.fn.turn (scene_of (g.G.Gate.asked l.fn.gate) (g.G.Gate.told l.fn.gate) queries l.fn.self) l.fn.log
-      (scene_of (g.G.Gate.asked l.gate) (g.G.Gate.told l.gate) queries l.self) l.log;
+  leads : (queries : List Query) → Leads l.fn.turn (scene_of g.L.Link.offered g.L.Link.polls g.L.Link.failures (g.G.Gate.asked l.fn.gate) (g.G.Gate.told l.fn.gate) queries l.fn.self) l.fn.log
+      (scene_of g.L.Link.offered g.L.Link.polls g.L.Link.failures (g.G.Gate.asked l.gate) (g.G.Gate.told l.gate) queries l.self) l.log;
 }

@@ -1,46 +1,42 @@
-use Rattle.std.proofs.Common.{◌≡◌, ◌++◌, [], ◌∷◌, List, refl, sym, ap, ◌∙◌, subst}
+use Rattle.std.proofs.Common.{◌≡◌, ◌++◌, List, refl, sym, ap, ◌∙◌, subst}
 use Rattle.std.proofs.lemmas.List.{append-nil}
-use Rattle.smx_link.specs.Wiring.{spellings}
-use Rattle.smx_turns.proofs.Chains.{chain_push}
-use Rattle.smx_client.specs.Parts.{Does}
-use Rattle.smx_client.proofs.Steps.{takes}
-use Rattle.smx_client.proofs.Scenes.{happens}
-use Rattle.smx_pdu.specs.declared.pdu.Pdu.{Pdu}
+use Rattle.smx_link.specs.Wiring.{Wiring, spellings}
 use Rattle.smx_session.specs.Login.{Login}
 use Rattle.smx_session.specs.ClientTable.{client_decides}
 use Rattle.smx_client.specs.declared.event.Event.TheVariants.{Decided}
-use Rattle.smx_client.specs.declared.event.Verdict.TheVariants.{Over}
 use Rattle.smx_client.specs.declared.event.Fate.TheVariants.{Own}
+use Rattle.smx_client.specs.declared.event.Verdict.TheVariants.{Over}
 use Rattle.smx_client.specs.Parts.{Suits}
-use Rattle.smx_client.proofs.Doings as doing
+use Rattle.smx_client.specs.Serving.{Serving}
 use Rattle.smx_client.proofs.Cells as cell
+use Rattle.smx_client.proofs.Doings as doing
 use Rattle.smx_client.proofs.Fates.{own_out, says_session, ends_session}
+use Rattle.smx_client.proofs.Scenes.{happens}
+use Rattle.smx_client.proofs.Serving.{did, decides, undecided}
 use Rattle.smx_client.proofs.worker.ClientWorker.decide.Goals as goal
 
-pub invariant_of-self-in_default-act-clause-heard_is : goal.invariant_of-self-in_default-act-clause-heard_is
-invariant_of-self-in_default-act-clause-heard_is g c =
-    let s = c.args.self.now in
-    ap (λ w. w.heard) c.say_act.ensures.same
-    ∙ takes _ s.held c.take.new.self _ _ (Decided c.of.result c.of-in_default-act.result Own) c.in-Some.pdu c.note.ensures.events
-    (ap (λ (p : Pdu). p ∷ []) c.of.ensures) c.in-Some.ensures.value c.take.ensures.after s.heard_is
-
-pub invariant_of-self-in_default-act-clause-run_is : goal.invariant_of-self-in_default-act-clause-run_is
-invariant_of-self-in_default-act-clause-run_is g c =
-    let s = c.args.self.now in
-    chain_push Does _ _ _ _ _ (Decided c.of.result c.of-in_default-act.result Own) c.note.ensures.events
+pub invariant_of-self-in-Answer-1 : goal.invariant_of-self-in-Answer-1
+invariant_of-self-in-Answer-1 g c =
+    let s = c.self.inside in
+    let e = c.say_act.ensures.same in
+    did g.L.Link.polls _ _ (Decided c.of.result c.of-in_default-act.result Own) c.self.invariant (ap (λ w. w.link) e) (ap (λ w. w.start) e) refl refl c.note.ensures.events (ap (λ w. w.heard) e)
+    (decides s.held c.take.new.self c.in-Some.pdu _ c.of.ensures c.in-Some.ensures.value c.take.ensures.after)
     (doing.owned _ _ _ _ _ _ _ _ _ _ c.of.result c.of-in_default-act.result (c.say_act.ensures.said ∙ ap (λ l. s.wire.said ++ l) (own_out _ _ c.of-in_default-act.ensures))
     (subst (λ (l : List Login). ((c.of-in_default-act.result.value, c.on_pdu.new.self) ≡ client_decides l s.session c.of.result.value) × Suits c.of-in_default-act.result.value Own) c.as_slice.ensures.value
-    (says_session _ _ _ c.in-Some.pdu _ c.in-Ok.act _ c.of.ensures c.of-in_default-act.ensures c.in-Ok.ensures.act c.in-Ok.ensures.state c.in_default-act.not-Forward c.in_default-act.not-MoAnswer))) s.run_is
+    (says_session _ _ _ c.in-Some.pdu _ c.in-Ok.act _ c.of.ensures c.of-in_default-act.ensures c.in-Ok.ensures.act c.in-Ok.ensures.state c.in_default-act.not-Forward c.in_default-act.not-MoAnswer)))
+    (undecided _ (ap (λ (w : Serving g.row.L.Denot). w.settled) c.self.view_is ∙ c.requires.undecided))
+    (ap (λ (w : Wiring g.row.L.Denot). w.failed) e) (ap (λ (w : Wiring g.row.L.Denot). w.rest) e) (λ told. absurd (cc))
+    (λ closed. absurd (c.requires.going (sym (ap (λ (w : Serving g.row.L.Denot). w.stage) c.self.view_is) ∙ closed)))
 
 pub returns-in_default-act-clause-moves : goal.returns-in_default-act-clause-moves
-returns-in_default-act-clause-moves g c = λ n asked told queries base was.
-    let s = c.args.self.now in
+returns-in_default-act-clause-moves g c = rw (← c.self.view_is) (λ n asked told queries base was.
+    let s = c.self.inside in
     c.note.ensures.leads n _ _ (happens g.L.Link.offered g.L.Link.polls g.L.Link.failures asked asked told told queries _ _ _ _ _ _ _ _ (Decided c.of.result c.of-in_default-act.result Own)
     (doing.owned _ _ _ _ _ _ _ _ _ _ c.of.result c.of-in_default-act.result (c.say_act.ensures.said ∙ ap (λ l. s.wire.said ++ l) (own_out _ _ c.of-in_default-act.ensures))
     (subst (λ (l : List Login). ((c.of-in_default-act.result.value, c.on_pdu.new.self) ≡ client_decides l s.session c.of.result.value) × Suits c.of-in_default-act.result.value Own) c.as_slice.ensures.value
     (says_session _ _ _ c.in-Some.pdu _ c.in-Ok.act _ c.of.ensures c.of-in_default-act.ensures c.in-Ok.ensures.act c.in-Ok.ensures.state c.in_default-act.not-Forward c.in_default-act.not-MoAnswer)))
     refl (sym (append-nil told)) c.note.ensures.events (c.say_act.ensures.unsent ∙ ap (λ l. s.wire.unsent ++ spellings l) (own_out _ _ c.of-in_default-act.ensures))
-    (ap (λ w. w.link) c.say_act.ensures.same)) base was
+    (ap (λ w. w.link) c.say_act.ensures.same)) base was)
 
 pub returns-in_default-act-clause-phase : goal.returns-in_default-act-clause-phase
 returns-in_default-act-clause-phase g c = λ t ended was. c.note.ensures.phase t _ was

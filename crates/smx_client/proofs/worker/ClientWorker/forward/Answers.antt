@@ -1,50 +1,49 @@
-use Rattle.std.proofs.Common.{◌++◌, [], ◌∷◌, sym, ap, ◌∙◌}
-use Rattle.smx_link.specs.Wiring.{spellings}
-use Rattle.smx_turns.proofs.Chains.{chain_push}
-use Rattle.smx_client.specs.Parts.{Does}
-use Rattle.smx_client.proofs.Steps.{takes}
-use Rattle.smx_client.proofs.Scenes.{happens}
-use Rattle.smx_pdu.specs.declared.pdu.Pdu.{Pdu}
+use Rattle.std.proofs.Common.{◌≡◌, ◌++◌, refl, sym, ap, ◌∙◌, subst, IfSome}
+use Rattle.smx_link.specs.Wiring.{Wiring, spellings}
+use Rattle.smx_session.specs.ClientTable.{client_decides}
 use Rattle.smx_session.specs.declared.act.Act.TheVariants as act
 use Rattle.smx_client.specs.declared.event.Event.TheVariants.{Decided}
 use Rattle.smx_client.specs.declared.event.Fate.TheVariants.{Submitted}
 use Rattle.smx_client.specs.Events.{submit_told}
-use Rattle.smx_client.proofs.Doings as doing
+use Rattle.smx_client.specs.Serving.{Serving}
 use Rattle.smx_client.proofs.Cells as cell
+use Rattle.smx_client.proofs.Doings as doing
 use Rattle.smx_client.proofs.Fates.{forward_out, forward_port, forward_lists, stays}
+use Rattle.smx_client.proofs.Scenes.{happens}
+use Rattle.smx_client.proofs.Serving.{did, decides, undecided, as_closed}
 use Rattle.smx_client.proofs.worker.ClientWorker.forward.Goals as goal
 
-pub invariant_of-self-clause-heard_is : goal.invariant_of-self-clause-heard_is
-invariant_of-self-clause-heard_is g c =
-    let s = c.args.self.now in
-    ap (λ w. w.heard) c.say_refusal.ensures.same
-    ∙ takes _ s.held c.take.new.self _ _ (Decided c.of-read.result c.of-2.result (Submitted c.of-offered.result c.of.result)) c.in-Some.pdu c.note.ensures.events
-    (ap (λ (p : Pdu). p ∷ []) c.of-read.ensures) c.in-Some.ensures.value c.take.ensures.after s.heard_is
-
-pub invariant_of-self-clause-run_is : goal.invariant_of-self-clause-run_is
-invariant_of-self-clause-run_is g c =
-    let s = c.args.self.now in
-    chain_push Does _ _ _ _ _ (Decided c.of-read.result c.of-2.result (Submitted c.of-offered.result c.of.result)) c.note.ensures.events
+pub invariant_of-self : goal.invariant_of-self
+invariant_of-self g c =
+    let s = c.self.inside in
+    let e = c.say_refusal.ensures.same in
+    did g.L.Link.polls _ _ (Decided c.of-read.result c.of-2.result (Submitted c.of-offered.result c.of.result)) c.self.invariant (ap (λ w. w.link) e) (ap (λ w. w.start) e) refl refl c.note.ensures.events (ap (λ w. w.heard) e)
+    (decides s.held c.take.new.self c.in-Some.pdu _ c.of-read.ensures c.in-Some.ensures.value c.take.ensures.after)
     (doing.submitted _ _ _ _ _ _ _ _ _ _ c.of-read.result c.of-2.result c.of-offered.result c.of.result
     (c.say_refusal.ensures.said ∙ ap (λ l. s.wire.said ++ l) (forward_out c.in-Some.pdu _ _ c.submit-landed.result _ c.of-2.ensures c.of-read.ensures c.of.ensures))
     (forward_port c.in-Some.pdu _ c.offer_of-offer.result _ c.submit-landed.result _ _ _ c.of-read.ensures c.of-offered.ensures c.of.ensures
     c.offer_of-offer.ensures c.submit-landed.ensures.ok c.submit-landed.ensures.err)
     (λ all has. forward_lists c.offer_of-offer.result _ c.submit-landed.result _ _ all c.of-offered.ensures c.of.ensures (c.submit-landed.ensures.listed all has))
-    (stays _ _ s.held c.in-Some.pdu _ act.Forward _ (Submitted c.of-offered.result c.of.result) c.in-Some.ensures.value c.of-read.ensures c.of-2.ensures tt c.requires.held)) s.run_is
+    (stays _ _ s.held c.in-Some.pdu _ act.Forward _ (Submitted c.of-offered.result c.of.result) c.in-Some.ensures.value c.of-read.ensures c.of-2.ensures tt
+    (subst (λ (w : Serving g.row.L.Denot). IfSome w.held (λ p. client_decides w.desk.accounts.items w.session p ≡ (act.Forward, w.session))) (sym c.self.view_is) c.requires.held)))
+    (undecided _ (ap (λ (w : Serving g.row.L.Denot). w.settled) c.self.view_is ∙ c.requires.undecided))
+    (ap (λ (w : Wiring g.row.L.Denot). w.failed) e) (ap (λ (w : Wiring g.row.L.Denot). w.rest) e) (λ told. absurd (cc))
+    (as_closed g.L.Link.polls _ _ _ _ _ (ap (λ w. w.link) e) c.self.invariant.closed)
 
 pub returns-clause-leads : goal.returns-clause-leads
-returns-clause-leads g c = λ n queries base was.
-    let s = c.args.self.now in
+returns-clause-leads g c = rw (← c.self.view_is) (λ n queries base was.
+    let s = c.self.inside in
     c.note.ensures.leads n _ _ (happens g.L.Link.offered g.L.Link.polls g.L.Link.failures _ _ _ _ queries _ _ _ _ _ _ _ _ (Decided c.of-read.result c.of-2.result (Submitted c.of-offered.result c.of.result))
     (doing.submitted _ _ _ _ _ _ _ _ _ _ c.of-read.result c.of-2.result c.of-offered.result c.of.result
     (c.say_refusal.ensures.said ∙ ap (λ l. s.wire.said ++ l) (forward_out c.in-Some.pdu _ _ c.submit-landed.result _ c.of-2.ensures c.of-read.ensures c.of.ensures))
     (forward_port c.in-Some.pdu _ c.offer_of-offer.result _ c.submit-landed.result _ _ _ c.of-read.ensures c.of-offered.ensures c.of.ensures
     c.offer_of-offer.ensures c.submit-landed.ensures.ok c.submit-landed.ensures.err)
     (λ all has. forward_lists c.offer_of-offer.result _ c.submit-landed.result _ _ all c.of-offered.ensures c.of.ensures (c.submit-landed.ensures.listed all has))
-    (stays _ _ s.held c.in-Some.pdu _ act.Forward _ (Submitted c.of-offered.result c.of.result) c.in-Some.ensures.value c.of-read.ensures c.of-2.ensures tt c.requires.held))
+    (stays _ _ s.held c.in-Some.pdu _ act.Forward _ (Submitted c.of-offered.result c.of.result) c.in-Some.ensures.value c.of-read.ensures c.of-2.ensures tt
+    (subst (λ (w : Serving g.row.L.Denot). IfSome w.held (λ p. client_decides w.desk.accounts.items w.session p ≡ (act.Forward, w.session))) (sym c.self.view_is) c.requires.held)))
     c.tell_accepted.ensures.asked (c.tell_accepted.ensures.told ∙ ap (λ r. g.G.Gate.told c.args.gate.now ++ submit_told r) (sym c.of.ensures)) c.note.ensures.events
     (c.say_refusal.ensures.unsent ∙ ap (λ l. s.wire.unsent ++ spellings l) (forward_out c.in-Some.pdu _ _ c.submit-landed.result _ c.of-2.ensures c.of-read.ensures c.of.ensures))
-    (ap (λ w. w.link) c.say_refusal.ensures.same)) base was
+    (ap (λ w. w.link) c.say_refusal.ensures.same)) base was)
 
 pub returns-clause-phase : goal.returns-clause-phase
 returns-clause-phase g c = λ t ended was. c.note.ensures.phase t _ was ∙ cell.submits t ended c.of-read.result c.of-2.result c.of-offered.result c.of.result

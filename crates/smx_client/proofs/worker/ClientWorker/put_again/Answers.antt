@@ -1,34 +1,28 @@
 use Rattle.std.proofs.Common.{refl, sym, ◌∙◌, subst}
 use Rattle.std.proofs.lemmas.List.{append-nil}
-use Rattle.smx_turns.proofs.Chains.{chain_push}
-use Rattle.smx_client.specs.Parts.{Does}
-use Rattle.smx_client.proofs.Steps.{keeps}
-use Rattle.smx_client.proofs.Scenes.{happens}
-use Rattle.smx_client.proofs.Replying.{waits, clears, others}
 use Rattle.smx_client.specs.declared.event.Event.TheVariants.{PutAgain}
 use Rattle.smx_client.specs.Table.{IsPart}
 use Rattle.smx_client.proofs.Doings as doing
+use Rattle.smx_client.proofs.Replying.{waits, clears, others}
+use Rattle.smx_client.proofs.Scenes.{happens}
+use Rattle.smx_client.proofs.Serving.{did, as_closed}
 use Rattle.smx_client.proofs.worker.ClientWorker.put_again.Goals as goal
 
-pub invariant_of-self-clause-heard_is : goal.invariant_of-self-clause-heard_is
-invariant_of-self-clause-heard_is g c =
-    let s = c.args.self.now in
-    keeps _ _ _ _ (PutAgain c.in-Some.field-0.lane c.put_or_park-reply.result) c.note.ensures.events refl s.heard_is
-
-pub invariant_of-self-clause-run_is : goal.invariant_of-self-clause-run_is
-invariant_of-self-clause-run_is g c =
-    let s = c.args.self.now in
+pub invariant_of-self : goal.invariant_of-self
+invariant_of-self g c =
     let e = c.put_or_park-reply.ensures in
-    chain_push Does _ _ _ _ _ (PutAgain c.in-Some.field-0.lane c.put_or_park-reply.result) c.note.ensures.events
-    (doing.put_again _ _ _ _ _ _ _ s.parked c.take.new.self _ _ c.in-Some.field-0 c.put_or_park-reply.result c.in-Some.ensures.value c.take.ensures.after e.parks e.count e.put e.answer) s.run_is
+    did g.L.Link.polls _ _ (PutAgain c.in-Some.field-0.lane c.put_or_park-reply.result) c.self.invariant refl refl refl refl c.note.ensures.events refl refl
+    (doing.put_again _ _ _ _ _ _ _ c.self.inside.parked c.take.new.self _ _ c.in-Some.field-0 c.put_or_park-reply.result c.in-Some.ensures.value c.take.ensures.after e.parks e.count e.put e.answer)
+    c.self.invariant.settled refl refl (λ told. absurd (cc))
+    (as_closed g.L.Link.polls _ _ _ _ _ refl c.self.invariant.closed)
 
 pub returns-clause-leads : goal.returns-clause-leads
-returns-clause-leads g c = λ n queries base was.
-    let s = c.args.self.now in
+returns-clause-leads g c = rw (← c.self.view_is) (λ n queries base was.
+    let s = c.self.inside in
     let e = c.put_or_park-reply.ensures in
     c.note.ensures.leads n _ _ (happens g.L.Link.offered g.L.Link.polls g.L.Link.failures _ _ _ _ queries _ _ _ _ _ _ _ _ (PutAgain c.in-Some.field-0.lane c.put_or_park-reply.result)
     (doing.put_again _ _ _ _ _ _ _ s.parked c.take.new.self _ _ c.in-Some.field-0 c.put_or_park-reply.result c.in-Some.ensures.value c.take.ensures.after e.parks e.count e.put e.answer)
-    c.tell.ensures.asked c.tell.ensures.told c.note.ensures.events (sym (append-nil s.wire.unsent)) refl) base was
+    c.tell.ensures.asked c.tell.ensures.told c.note.ensures.events (sym (append-nil s.wire.unsent)) refl) base was)
 
 pub returns-clause-phase : goal.returns-clause-phase
 returns-clause-phase g c = λ t p q was cells.

@@ -1,52 +1,51 @@
-use Rattle.std.proofs.Common.{◌++◌, [], ◌∷◌, refl, sym, ap, ◌∙◌, subst}
+use Rattle.std.proofs.Common.{◌≡◌, ◌++◌, refl, sym, ap, ◌∙◌, subst, IfSome}
 use Rattle.std.proofs.lemmas.List.{append-nil}
 use Rattle.smx_link.specs.Wiring.{spellings}
-use Rattle.smx_turns.proofs.Chains.{chain_push}
-use Rattle.smx_client.specs.Parts.{Does}
-use Rattle.smx_client.proofs.Steps.{takes}
-use Rattle.smx_client.proofs.Scenes.{happens}
-use Rattle.smx_client.proofs.Replying.{waits, clears, others}
-use Rattle.smx_pdu.specs.declared.pdu.Pdu.{Pdu}
+use Rattle.smx_session.specs.ClientTable.{client_decides}
 use Rattle.smx_session.specs.declared.act.Act.TheVariants as act
 use Rattle.smx_client.specs.declared.event.Event.TheVariants.{Decided}
 use Rattle.smx_client.specs.declared.event.Fate.TheVariants.{Settled}
+use Rattle.smx_client.specs.Serving.{Serving}
 use Rattle.smx_client.specs.Table.{IsPart, Deciding}
-use Rattle.smx_client.proofs.Doings as doing
 use Rattle.smx_client.proofs.Cells as cell
+use Rattle.smx_client.proofs.Doings as doing
 use Rattle.smx_client.proofs.Fates.{own_out, stays, settles, settle_window}
+use Rattle.smx_client.proofs.Replying.{waits, clears, others}
+use Rattle.smx_client.proofs.Scenes.{happens}
+use Rattle.smx_client.proofs.Serving.{did, decides, undecided, as_closed}
 use Rattle.smx_client.proofs.worker.ClientWorker.settle.Goals as goal
 
-pub invariant_of-self-clause-heard_is : goal.invariant_of-self-clause-heard_is
-invariant_of-self-clause-heard_is g c =
-    let s = c.args.self.now in
-    takes _ s.held c.take.new.self _ _ (Decided c.of-read.result c.of.result (Settled c.settle-found.result c.answer_settled-reply.result)) c.in-Some.pdu c.note.ensures.events
-    (ap (λ (p : Pdu). p ∷ []) c.of-read.ensures) c.in-Some.ensures.value c.take.ensures.after s.heard_is
-
-pub invariant_of-self-clause-run_is : goal.invariant_of-self-clause-run_is
-invariant_of-self-clause-run_is g c =
-    let s = c.args.self.now in
+pub invariant_of-self : goal.invariant_of-self
+invariant_of-self g c =
+    let s = c.self.inside in
     let e = c.answer_settled-reply.ensures in
-    chain_push Does _ _ _ _ _ (Decided c.of-read.result c.of.result (Settled c.settle-found.result c.answer_settled-reply.result)) c.note.ensures.events
+    did g.L.Link.polls _ _ (Decided c.of-read.result c.of.result (Settled c.settle-found.result c.answer_settled-reply.result)) c.self.invariant refl refl refl refl c.note.ensures.events refl
+    (decides s.held c.take.new.self c.in-Some.pdu _ c.of-read.ensures c.in-Some.ensures.value c.take.ensures.after)
     (doing.settled _ _ _ _ _ _ _ _ _ _ _ _ c.in-Some.pdu c.of-read.result c.of.result c.settle-found.result c.answer_settled-reply.result c.of-read.ensures
     (sym (append-nil s.wire.said) ∙ ap (λ l. s.wire.said ++ l) (own_out (act.MoAnswer c.in-Some.pdu.number) _ c.of.ensures))
     (stays _ _ s.held c.in-Some.pdu _ (act.MoAnswer c.in-Some.pdu.number) _ (Settled c.settle-found.result c.answer_settled-reply.result) c.in-Some.ensures.value c.of-read.ensures c.of.ensures tt
-    (settles _ _ s.held c.in-Some.pdu c.in-Some.ensures.value c.requires.held))
+    (settles _ _ s.held c.in-Some.pdu c.in-Some.ensures.value
+    (subst (λ (w : Serving g.row.L.Denot). IfSome w.held (λ p. client_decides w.desk.accounts.items w.session p ≡ (act.MoAnswer p.number, w.session))) (sym c.self.view_is) c.requires.held)))
     (settle_window c.in-Some.pdu _ c.settle-found.result _ _ c.of-read.ensures c.settle-found.ensures.settled c.settle-found.ensures.none)
-    c.requires.none e.parks e.count e.put e.answer) s.run_is
+    (ap (λ (w : Serving g.row.L.Denot). w.parked) c.self.view_is ∙ c.requires.none) e.parks e.count e.put e.answer)
+    (undecided _ (ap (λ (w : Serving g.row.L.Denot). w.settled) c.self.view_is ∙ c.requires.undecided))
+    refl refl (λ told. absurd (cc))
+    (as_closed g.L.Link.polls _ _ _ _ _ refl c.self.invariant.closed)
 
 pub returns-clause-leads : goal.returns-clause-leads
-returns-clause-leads g c = λ n queries base was.
-    let s = c.args.self.now in
+returns-clause-leads g c = rw (← c.self.view_is) (λ n queries base was.
+    let s = c.self.inside in
     let e = c.answer_settled-reply.ensures in
     c.note.ensures.leads n _ _ (happens g.L.Link.offered g.L.Link.polls g.L.Link.failures _ _ _ _ queries _ _ _ _ _ _ _ _ (Decided c.of-read.result c.of.result (Settled c.settle-found.result c.answer_settled-reply.result))
     (doing.settled _ _ _ _ _ _ _ _ _ _ _ _ c.in-Some.pdu c.of-read.result c.of.result c.settle-found.result c.answer_settled-reply.result c.of-read.ensures
     (sym (append-nil s.wire.said) ∙ ap (λ l. s.wire.said ++ l) (own_out (act.MoAnswer c.in-Some.pdu.number) _ c.of.ensures))
     (stays _ _ s.held c.in-Some.pdu _ (act.MoAnswer c.in-Some.pdu.number) _ (Settled c.settle-found.result c.answer_settled-reply.result) c.in-Some.ensures.value c.of-read.ensures c.of.ensures tt
-    (settles _ _ s.held c.in-Some.pdu c.in-Some.ensures.value c.requires.held))
+    (settles _ _ s.held c.in-Some.pdu c.in-Some.ensures.value
+    (subst (λ (w : Serving g.row.L.Denot). IfSome w.held (λ p. client_decides w.desk.accounts.items w.session p ≡ (act.MoAnswer p.number, w.session))) (sym c.self.view_is) c.requires.held)))
     (settle_window c.in-Some.pdu _ c.settle-found.result _ _ c.of-read.ensures c.settle-found.ensures.settled c.settle-found.ensures.none)
-    c.requires.none e.parks e.count e.put e.answer)
+    (ap (λ (w : Serving g.row.L.Denot). w.parked) c.self.view_is ∙ c.requires.none) e.parks e.count e.put e.answer)
     e.asked e.told c.note.ensures.events
-    (sym (append-nil s.wire.unsent) ∙ ap (λ l. s.wire.unsent ++ spellings l) (own_out (act.MoAnswer c.in-Some.pdu.number) _ c.of.ensures)) refl) base was
+    (sym (append-nil s.wire.unsent) ∙ ap (λ l. s.wire.unsent ++ spellings l) (own_out (act.MoAnswer c.in-Some.pdu.number) _ c.of.ensures)) refl) base was)
 
 pub returns-clause-phase : goal.returns-clause-phase
 returns-clause-phase g c = λ t ended was.

@@ -7,7 +7,7 @@ use Rattle.smx_client.specs.declared.mark.Stage.TheVariants.{Closed}
 use Rattle.smx_client.specs.Courses.{course, TurnsSo}
 use Rattle.smx_client.specs.Parts.{Does}
 use Rattle.smx_turns.specs.Rounds.{worked_turns}
-use Rattle.smx_client.specs.Scenes.{parts_of}
+use Rattle.smx_client.specs.Serving.{parts_of}
 use Rattle.smx_client.proofs.worker.running.run_client.Given as goal
 
 abbrev pub invariant-loop-turn : goal.invariant-loop-turn
@@ -16,7 +16,7 @@ invariant-loop-turn g l = record {
   origin : l.worker.origin ≡ l.fn.worker.origin;
   goes_on : l.worker.stage ≢ Closed → l.worker.wire.failed ≡ None;
   ends : l.worker.ends ≡ l.fn.worker.ends ++ worked_turns l._turn [];
-  turned : (ends : List (Result TurnEnd Fault)) × Runs TurnsSo (course (g.G.Gate.asked l.fn.gate) (g.G.Gate.told l.fn.gate) (g.D.Directory.queries l.fn.directory) l.fn.worker)
+  turned : (ends : List (Result TurnEnd Fault)) × Runs (TurnsSo g.L.Link.offered g.L.Link.polls g.L.Link.failures) (course (g.G.Gate.asked l.fn.gate) (g.G.Gate.told l.fn.gate) (g.D.Directory.queries l.fn.directory) l.fn.worker)
       ends (course (g.G.Gate.asked l.gate) (g.G.Gate.told l.gate) (g.D.Directory.queries l.directory) l.worker);
   ran : RunsOn Does (parts_of l.fn.worker) l.fn.worker.events (parts_of l.worker) l.worker.events;
 }

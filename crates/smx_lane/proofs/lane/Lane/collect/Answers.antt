@@ -3,11 +3,21 @@ use Rattle.smx_history.specs.Contents.{Content, Member}
 use Rattle.smx_lane.specs.Inside.{content_of}
 use Rattle.smx_history.specs.Replies.{member_with}
 use Rattle.smx_history.specs.Answering.{oldest_in}
-use Rattle.smx_history.proofs.Keeping.{found_meets}
+use Rattle.smx_history.proofs.Room.{FitsBox}
+use Rattle.smx_history.proofs.Keeping.{found_meets, All-each}
+use Rattle.smx_lane.proofs.ClientRows.{some_waits}
 use Rattle.smx_history.proofs.Settled.{KeepsRoom-collected}
 use Rattle.smx_history.proofs.CollectAgrees.{AgreesWith-collected}
 use Rattle.smx_lane.specs.Members.{IsRowOf}
 use Rattle.smx_lane.proofs.lane.Lane.collect.Goals as goal
+
+pub get-response-requires : goal.get-response-requires
+get-response-requires c =
+    let v = content_of c.self.inside in
+    let row : (m : Member) × IsRowOf v.members c.args.client c.in_ok-at.at m = c.in_ok-at.ensures in
+    let fits : FitsBox v row.0 = found_meets (λ x. FitsBox v x) c.args.client row.0 v.members (All-each (FitsBox v) (λ x. x.client ≡ c.args.client → FitsBox v x) (λ x h is. h) v.members c.self.invariant.room.boxes) row.1.found in
+    let some = some_waits (length row.0.waiting) (sym (c.is_box_empty.ensures row.0 row.1.at) ∙ c.if-is_box_empty.false) in
+    (row.0, row.1.at, some, omega (arith, some, fits.0))
 
 pub invariant_of-self : goal.invariant_of-self
 invariant_of-self c =

@@ -9,4 +9,4 @@ unreachable-requires c =
     let requires = rw (← c.self.view_is) at c.requires in
     let size = c.self.invariant.size in
     let all = waiting-le-length inside.last c.loop-passed.passed inside.waiting.items (omega (arith, c.loop-passed.auto.passed-end, size.1)) invariant in
-    omega (arith, all, requires, c.loop-passed-test.false)
+    requires (omega (arith, all, c.self.invariant.within, c.loop-passed-test.false))

@@ -3,8 +3,8 @@ use Rattle.smx_shared.specs.Views.{PortView}
 use Rattle.smx_shared.specs.Submits.{request_of, AcceptsOn, StopsOn, start_of}
 use Rattle.smx_shared.specs.Ports.{IsMemberBy}
 use Rattle.smx_shared.specs.Steps.{IsBelow, offer_of}
-use Rattle.smx_shared.proofs.PortInvariants.{port_below, port_grows, port_same, accepted_more, accepted_same}
-use Rattle.smx_shared.proofs.Submitting.{accepts_grows, accepts_locks, refuses, stops_locks, stops_same}
+use Rattle.smx_shared.proofs.PortInvariants.{port_below, port_grows, port_quiet, accepted_more, accepted_none, accepted_quiet}
+use Rattle.smx_shared.proofs.Submitting.{accepts_grows, accepts_locks, refuses, stops_grows, stops_locks}
 use Rattle.smx_shared.proofs.port.Port.submit.Goals as goal
 
 pub try_ring-requires-clause-own : goal.try_ring-requires-clause-own
@@ -22,7 +22,7 @@ invariant_of-self g c =
 pub invariant_of-self-in-Err : goal.invariant_of-self-in-Err
 invariant_of-self-in-Err g c =
     let v : PortView = (record { client = c.self.inside.client; first = c.self.inside.first; next = c.self.inside.next; fronts = c.self.inside.seats.items }) in
-    port_same v c.try_ring.new.seats.items c.self.invariant (stops_same ((c.self.inside.next - 1) % c.len.result) c.named-request.result v.fronts c.try_ring.new.seats.items c.in-Err.fault c.in-Err.ensures.err.1)
+    port_quiet v c.try_ring.new.seats.items c.self.invariant (stops_grows v.client v.next ((c.self.inside.next - 1) % c.len.result) c.named-request.result v.fronts c.try_ring.new.seats.items c.in-Err.fault c.in-Err.ensures.err.1)
 
 pub returns-in-Ok-clause-ok : goal.returns-in-Ok-clause-ok
 returns-in-Ok-clause-ok g c =
@@ -52,7 +52,8 @@ returns-in-Ok-clause-listed g c =
 pub returns-in-Err-clause-listed : goal.returns-in-Err-clause-listed
 returns-in-Err-clause-listed g c =
     let v : PortView = (record { client = c.self.inside.client; first = c.self.inside.first; next = c.self.inside.next; fronts = c.self.inside.seats.items }) in
-    rw (← c.self.view_is) (λ all has. accepted_same v all c.try_ring.new.seats.items has (stops_same ((c.self.inside.next - 1) % c.len.result) c.named-request.result v.fronts c.try_ring.new.seats.items c.in-Err.fault c.in-Err.ensures.err.1))
+    rw (← c.self.view_is) (λ all has. accepted_none (record { client = v.client; first = v.first; next = v.next; fronts = c.try_ring.new.seats.items }) all
+    (accepted_quiet v all c.try_ring.new.seats.items has (stops_grows v.client v.next ((c.self.inside.next - 1) % c.len.result) c.named-request.result v.fronts c.try_ring.new.seats.items c.in-Err.fault c.in-Err.ensures.err.1)))
 
 pub returns-in-Ok-clause-locks : goal.returns-in-Ok-clause-locks
 returns-in-Ok-clause-locks g c =

@@ -5,10 +5,12 @@ use Rattle.smx_session.specs.declared.up_act.UpAct.{UpAct}
 use Rattle.smx_turns.specs.declared.step.Step.TheVariants.{Did}
 use Rattle.smx_upstream.specs.declared.event.Event.TheVariants.{Decided}
 use Rattle.smx_upstream.specs.Events.{those, unless_kept, kept_by, fate_finds}
-use Rattle.smx_upstream.specs.Standing.{Becomes}
+use Rattle.smx_upstream.specs.Standing.{Becomes, Owes}
 use Rattle.smx_upstream.specs.Ending.{is_last}
 use Rattle.smx_upstream.specs.Phases.{Deciding, when_decided, unless_spent}
-use Rattle.smx_upstream.proofs.Eventful.{did, goes_did, kept_or_in, stands_same, aged}
+use Rattle.smx_upstream.specs.Working.{writing_of}
+use Rattle.smx_upstream.specs.Writing.{MayDecide, has_link_ended}
+use Rattle.smx_upstream.proofs.Eventful.{did, front_same, goes_did, kept_or_in, stands_same, writes_same}
 use Rattle.smx_upstream.proofs.Cells.{stepped, cell_decided, at_its_moment, kept_spent}
 use Rattle.smx_upstream.proofs.worker.UpstreamWorker.decide.Goals as goal
 
@@ -22,11 +24,12 @@ invariant_of-self g c =
       c.of-chosen.ensures ∙ c.on_pdu-act.ensures.act ∙ ap (act_on c.self.inside.session) (sym c.of-read.ensures),
       subst (λ (p : Pdu). Becomes p c.of-chosen.result.value c.carry-fate.result.fate c.self.inside.tap c.self.inside.senders.items c.carry-fate.new.tap c.carry-fate.new.senders.items) (sym c.of-read.ensures)
           (subst (λ (a : UpAct). Becomes c.in-Some.pdu a c.carry-fate.result.fate c.self.inside.tap c.self.inside.senders.items c.carry-fate.new.tap c.carry-fate.new.senders.items) (sym c.of-chosen.ensures) c.carry-fate.ensures.becomes),
-      stands_same (c.on_pdu-act.ensures.session ∙ ap (λ (p : Pdu). after_pdu c.self.inside.session p c.args.now) (sym c.of-read.ensures)) refl refl refl (aged c.carry-fate.result.fate _ _ _ _ _ c.noted_more-age.ensures c.after_shift.ensures c.carry-fate.ensures.notes c.carry-fate.ensures.shifted),
+      subst (λ (p : Pdu). Owes c.self.inside.tap.lane p c.carry-fate.result.fate c.self.inside.owed.items c.carry-fate.new.owed.items) (sym c.of-read.ensures) c.carry-fate.ensures.owes,
+      stands_same (c.on_pdu-act.ensures.session ∙ ap (λ (p : Pdu). after_pdu c.self.inside.session p c.args.now) (sym c.of-read.ensures)) refl refl refl refl refl,
     )
     (λ h. ap (λ w. w.failed) c.note.ensures.same ∙ c.self.invariant.goes_on (ap (λ w. w.ending) c.self.view_is ∙ c.requires.goes_on))
     (c.carry-fate.ensures.over ∙ ap (λ (a : UpAct). is_last a c.carry-fate.result.fate) (sym c.of-chosen.ensures)
-    ∙ ap (λ b. b || is_last c.of-chosen.result.value c.carry-fate.result.fate) (sym (ap (λ w. w.ending) c.self.view_is ∙ c.requires.goes_on)))
+    ∙ ap (λ b. b || is_last c.of-chosen.result.value c.carry-fate.result.fate) (sym (ap (λ w. w.ending) c.self.view_is ∙ c.requires.goes_on))) (front_same refl (ap (λ w. w.rest) c.note.ensures.same))
 
 pub returns-clause-goes : goal.returns-clause-goes
 returns-clause-goes g c = rw (← c.self.view_is)
@@ -35,8 +38,9 @@ returns-clause-goes g c = rw (← c.self.view_is)
       c.of-chosen.ensures ∙ c.on_pdu-act.ensures.act ∙ ap (act_on c.self.inside.session) (sym c.of-read.ensures),
       subst (λ (p : Pdu). Becomes p c.of-chosen.result.value c.carry-fate.result.fate c.self.inside.tap c.self.inside.senders.items c.carry-fate.new.tap c.carry-fate.new.senders.items) (sym c.of-read.ensures)
           (subst (λ (a : UpAct). Becomes c.in-Some.pdu a c.carry-fate.result.fate c.self.inside.tap c.self.inside.senders.items c.carry-fate.new.tap c.carry-fate.new.senders.items) (sym c.of-chosen.ensures) c.carry-fate.ensures.becomes),
-      stands_same (c.on_pdu-act.ensures.session ∙ ap (λ (p : Pdu). after_pdu c.self.inside.session p c.args.now) (sym c.of-read.ensures)) refl refl refl (aged c.carry-fate.result.fate _ _ _ _ _ c.noted_more-age.ensures c.after_shift.ensures c.carry-fate.ensures.notes c.carry-fate.ensures.shifted),
-    ) (ap (λ w. g.L.Link.polls w.link) c.note.ensures.same))
+      subst (λ (p : Pdu). Owes c.self.inside.tap.lane p c.carry-fate.result.fate c.self.inside.owed.items c.carry-fate.new.owed.items) (sym c.of-read.ensures) c.carry-fate.ensures.owes,
+      stands_same (c.on_pdu-act.ensures.session ∙ ap (λ (p : Pdu). after_pdu c.self.inside.session p c.args.now) (sym c.of-read.ensures)) refl refl refl refl refl,
+    ) (ap (λ w. g.L.Link.polls w.link) c.note.ensures.same) (record { fits = (subst (λ w. MayDecide (writing_of g.L.Link.polls g.L.Link.offered w)) (sym c.self.view_is) c.requires.may); same = writes_same c.note.ensures.unsent (ap (λ w. g.L.Link.offered w.link) c.note.ensures.same) (ap (λ w. has_link_ended (g.L.Link.polls w.link)) c.note.ensures.same) }))
 
 pub returns-clause-phase : goal.returns-clause-phase
 returns-clause-phase g c = λ t ended same was.

@@ -3,7 +3,7 @@ use Rattle.smx_turns.specs.declared.step.Step.TheVariants.{Marked}
 use Rattle.smx_upstream.specs.declared.mark.Mark.TheVariants.{Full}
 use Rattle.smx_upstream.specs.Phases.{Deciding, when_next}
 use Rattle.smx_upstream.proofs.Eventful.{goes_mark, goes_then}
-use Rattle.smx_upstream.proofs.Cells.{stepped, cell_brim}
+use Rattle.smx_upstream.proofs.Cells.{stepped, cell_brim, leads_err}
 use Rattle.smx_upstream.proofs.worker.UpstreamWorker.decide_all.Goals as goal
 
 pub returns-then-unsent-ge-MAX_PDU-clause-phase : goal.returns-then-unsent-ge-MAX_PDU-clause-phase
@@ -12,7 +12,7 @@ returns-then-unsent-ge-MAX_PDU-clause-phase g c = λ t same was.
 
 pub returns-then-unsent-ge-MAX_PDU-clause-goes : goal.returns-then-unsent-ge-MAX_PDU-clause-goes
 returns-then-unsent-ge-MAX_PDU-clause-goes g c = λ turn.
-    goes_then turn _ _ _ _ _ _ (c.loop-self.invariant.goes turn) (goes_mark turn _ _ _ _ Full c.push.ensures refl refl refl refl refl refl)
+    goes_then turn _ _ _ _ _ _ (c.loop-self.invariant.goes turn) (goes_mark turn _ _ _ _ Full c.push.ensures refl (let h = c.unsent.ensures in let k = c.if-unsent-ge-MAX_PDU.true in (search rules), refl))
 
 pub loop-self-preserved : goal.loop-self-preserved
 loop-self-preserved g c = record {
@@ -30,3 +30,7 @@ loop-self-preserved g c = record {
 pub returns-in-Part-clause-phase : goal.returns-in-Part-clause-phase
 returns-in-Part-clause-phase g c = λ t same was.
     c.in_ok-decide_next.ensures.phase t c.args.ended same (c.loop-self.invariant.phase t same was) ∙ ap (when_next c.args.ended) c.in-Part.is
+
+pub returns-in_err-decide_next-clause-phase : goal.returns-in_err-decide_next-clause-phase
+returns-in_err-decide_next-clause-phase g c = λ t same was.
+    leads_err _ _ _ _ c.from_residual.ensures.0 c.from_residual.ensures.1 (c.in_err-decide_next.ensures.phase t c.args.ended same (c.loop-self.invariant.phase t same was))

@@ -1,5 +1,5 @@
 use Rattle.std.proofs.Common.{◌≡◌, ℕ, false, None, Some, length, slice_get}
-use Rattle.smx_upstream.specs.Working.{side_of, LeadsOn}
+use Rattle.smx_upstream.specs.Working.{scene_of, LeadsOn}
 use Rattle.smx_upstream.specs.Phases.{phase_of, Before, Deciding}
 use Rattle.smx_upstream.proofs.worker.UpstreamWorker.decide_all.Given as goal
 
@@ -13,8 +13,8 @@ invariant-loop-self g l = record {
   first : l.self.first ≡ l.fn.self.first;
   ends : l.self.ends ≡ l.fn.self.ends;
   phase : (t : Before) → t.now ≡ l.fn.now → phase_of t l.fn.log ≡ Deciding l.fn.ended → phase_of t l.log ≡ Deciding l.fn.ended;
-  goes : (turn : ℕ) → LeadsOn turn (side_of g.L.Link.polls (g.G.Gate.asked l.fn.gate) (g.G.Gate.told l.fn.gate) (g.D.Directory.queries l.fn.directory) l.fn.self)
-      (side_of g.L.Link.polls (g.G.Gate.asked l.gate) (g.G.Gate.told l.gate) (g.D.Directory.queries l.directory) l.self) l.fn.log l.log;
+  goes : (turn : ℕ) → LeadsOn turn (scene_of g.L.Link.polls g.L.Link.offered (g.G.Gate.asked l.fn.gate) (g.G.Gate.told l.fn.gate) (g.D.Directory.queries l.fn.directory) l.fn.self)
+      (scene_of g.L.Link.polls g.L.Link.offered (g.G.Gate.asked l.gate) (g.G.Gate.told l.gate) (g.D.Directory.queries l.directory) l.self) l.fn.log l.log;
 }
 
 abbrev pub decreases-loop-self : goal.decreases-loop-self

@@ -3,11 +3,10 @@ use Rattle.std.proofs.lemmas.List.{append-nil}
 use Rattle.smx_shared.specs.Serving.{Expires}
 use Rattle.smx_turns.specs.declared.step.Step.TheVariants.{Did}
 use Rattle.smx_upstream.specs.declared.event.Event.TheVariants.{Expired}
-use Rattle.smx_upstream.specs.Ages.{noted_more, expiry_notes}
 use Rattle.smx_upstream.specs.Events.{expiry_tells}
 use Rattle.smx_upstream.specs.Phases.{Watched, Swept, unless_spent}
 use Rattle.smx_upstream.specs.Spent.{is_spent_expiry}
-use Rattle.smx_upstream.proofs.Eventful.{did, goes_did, stands_same, goes_on}
+use Rattle.smx_upstream.proofs.Eventful.{did, front_same, goes_did, goes_on, writes_same}
 use Rattle.smx_upstream.proofs.Cells.{stepped, cell_expired}
 use Rattle.smx_upstream.proofs.worker.UpstreamWorker.expire.Goals as goal
 
@@ -18,8 +17,8 @@ invariant_of-self g c =
       subst (λ r. Expires c.self.inside.tap.front c.fail_expired-failed.new.self.front c.self.inside.session.latest c.self.inside.age.response_timer r) (sym c.of.ensures)
           (subst (λ n. Expires c.self.inside.tap.front c.fail_expired-failed.new.self.front n c.self.inside.age.response_timer c.fail_expired-failed.result) c.latest-now.ensures c.fail_expired-failed.ensures.served),
       c.fail_expired-failed.ensures.same.0,
-      stands_same refl refl refl refl (c.noted_more-age.ensures ∙ ap (λ n. noted_more n c.self.inside.age) (c.expiry_notes.ensures ∙ ap expiry_notes (sym c.of.ensures))),
-    ) c.self.invariant.goes_on (goes_on c.self.inside.ending)
+      refl,
+    ) c.self.invariant.goes_on (goes_on c.self.inside.ending) (front_same refl refl)
 
 pub returns-clause-goes : goal.returns-clause-goes
 returns-clause-goes g c = rw (← c.self.view_is)
@@ -29,8 +28,8 @@ returns-clause-goes g c = rw (← c.self.view_is)
       subst (λ r. Expires c.self.inside.tap.front c.fail_expired-failed.new.self.front c.self.inside.session.latest c.self.inside.age.response_timer r) (sym c.of.ensures)
           (subst (λ n. Expires c.self.inside.tap.front c.fail_expired-failed.new.self.front n c.self.inside.age.response_timer c.fail_expired-failed.result) c.latest-now.ensures c.fail_expired-failed.ensures.served),
       c.fail_expired-failed.ensures.same.0,
-      stands_same refl refl refl refl (c.noted_more-age.ensures ∙ ap (λ n. noted_more n c.self.inside.age) (c.expiry_notes.ensures ∙ ap expiry_notes (sym c.of.ensures))),
-    ) refl)
+      refl,
+    ) refl (record { fits = tt; same = writes_same (sym (append-nil _)) refl refl }))
 
 pub returns-clause-phase : goal.returns-clause-phase
 returns-clause-phase g c = λ t left was.

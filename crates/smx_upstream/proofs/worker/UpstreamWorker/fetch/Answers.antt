@@ -1,11 +1,14 @@
-use Rattle.std.proofs.Common.{rules, ◌++◌, refl, sym, ap, ◌∙◌}
+use Rattle.std.proofs.Common.{rules, true≢false, [], ◌∷◌, ◌++◌, refl, sym, ap, ◌∙◌, subst}
 use Rattle.std.proofs.lemmas.List.{append-nil}
 use Rattle.smx_turns.specs.declared.step.Step.TheVariants.{Marked, Did}
 use Rattle.smx_upstream.specs.declared.mark.Mark.TheVariants.{Part}
 use Rattle.smx_upstream.specs.declared.event.Event.TheVariants.{Broke}
-use Rattle.smx_upstream.specs.Events.{out_of}
+use Rattle.smx_upstream.specs.Events.{ins, out_of, those}
 use Rattle.smx_upstream.specs.Phases.{Deciding}
-use Rattle.smx_upstream.proofs.Eventful.{did, goes_did, goes_mark, bad_heard, or_true}
+use Rattle.smx_link.specs.Wiring.{spellings}
+use Rattle.smx_upstream.specs.Working.{is_bad_front, writing_of}
+use Rattle.smx_upstream.specs.Writing.{MayDecide, has_link_ended}
+use Rattle.smx_upstream.proofs.Eventful.{did, goes_did, goes_mark, bad_heard, bad_front, some_of, on_hearing, or_true, sides_same, writes_same}
 use Rattle.smx_upstream.proofs.Cells.{stepped, cell_broke, cell_part}
 use Rattle.smx_upstream.proofs.worker.UpstreamWorker.fetch.Goals as goal
 
@@ -13,18 +16,34 @@ pub invariant_of-self-in-Err : goal.invariant_of-self-in-Err
 invariant_of-self-in-Err g c =
     did _ _ Broke c.self.invariant c.break_off.ensures.events (ap (λ w. w.heard) c.break_off.ensures.same ∙ bad_heard _ _ _ c.in-Err.ensures.bad) refl
     (c.break_off.ensures.said ∙ ap (λ w. w.said ++ out_of Broke) c.in-Err.ensures.same) refl refl (λ h. search rules) (or_true c.self.inside.ending)
+    (record { same = λ unbroken. absurd (true≢false unbroken); bad = λ _. ap (λ w. is_bad_front w.rest) c.break_off.ensures.same ∙ bad_front _ _ _ c.in-Err.ensures.bad (c.is_memory.ensures.other c.if-is_memory.false) })
+
+pub invariant_of-self : goal.invariant_of-self
+invariant_of-self g c =
+    let on = ap (λ w. w.ending) c.self.view_is ∙ c.requires.goes_on in
+    let some = some_of _ _ _ c.in-Ok-Some.field-0-is c.in-Ok-Some.ensures.some in
+    on_hearing _ _ c.self.invariant on refl
+    (some.0 ∙ ap (λ l. l ++ c.in-Ok-Some.pdu ∷ []) (c.self.invariant.heard ∙ ap (λ o. ins c.self.inside.events ++ those o) (ap (λ w. w.held) c.self.view_is ∙ c.requires.none) ∙ append-nil _))
+    (ap (λ w. w.said) c.in-Ok-Some.ensures.same) some.2
 
 pub returns-in-Ok-None-clause-phase : goal.returns-in-Ok-None-clause-phase
 returns-in-Ok-None-clause-phase g c = λ t ended. stepped t _ _ (Marked Part) (Deciding ended) _ c.push.ensures (cell_part t ended)
 
 pub returns-in-Ok-None-clause-goes : goal.returns-in-Ok-None-clause-goes
 returns-in-Ok-None-clause-goes g c = rw (← c.self.view_is)
-    (λ turn asked told queries. goes_mark turn _ _ _ _ _ c.push.ensures refl refl refl refl refl (ap (λ w. g.L.Link.polls w.link) c.in-Ok-None.ensures.same))
+    (λ turn asked told queries. goes_mark turn _ _ _ _ Part c.push.ensures (sides_same refl refl refl refl refl (ap (λ w. g.L.Link.polls w.link) c.in-Ok-None.ensures.same))
+    ((subst (λ w. MayDecide (writing_of g.L.Link.polls g.L.Link.offered w)) (sym c.self.view_is) c.requires.may), writes_same (ap (λ w. w.unsent) c.in-Ok-None.ensures.same) (ap (λ w. g.L.Link.offered w.link) c.in-Ok-None.ensures.same) (ap (λ w. has_link_ended (g.L.Link.polls w.link)) c.in-Ok-None.ensures.same)))
 
-pub returns-in-Err-clause-phase : goal.returns-in-Err-clause-phase
-returns-in-Err-clause-phase g c = λ t ended. stepped t _ _ (Did Broke) (Deciding ended) _ c.break_off.ensures.log (cell_broke t ended)
+pub returns-else-is_memory-clause-phase : goal.returns-else-is_memory-clause-phase
+returns-else-is_memory-clause-phase g c = λ t ended. stepped t _ _ (Did Broke) (Deciding ended) _ c.break_off.ensures.log (cell_broke t ended)
 
-pub returns-in-Err-clause-goes : goal.returns-in-Err-clause-goes
-returns-in-Err-clause-goes g c = rw (← c.self.view_is)
+pub returns-else-is_memory-clause-goes : goal.returns-else-is_memory-clause-goes
+returns-else-is_memory-clause-goes g c = rw (← c.self.view_is)
     (λ turn asked told queries. goes_did turn _ _ _ _ Broke c.break_off.ensures.log refl (sym (append-nil told)) (sym (append-nil queries)) c.break_off.ensures.events refl
-    (ap (λ w. g.L.Link.polls w.link) c.break_off.ensures.same ∙ ap (λ w. g.L.Link.polls w.link) c.in-Err.ensures.same))
+    (ap (λ w. g.L.Link.polls w.link) c.break_off.ensures.same ∙ ap (λ w. g.L.Link.polls w.link) c.in-Err.ensures.same)
+    (record {
+      fits = (subst (λ w. MayDecide (writing_of g.L.Link.polls g.L.Link.offered w)) (sym c.self.view_is) c.requires.may);
+      same = writes_same (c.break_off.ensures.unsent ∙ ap (λ w. w.unsent ++ spellings (out_of Broke)) c.in-Err.ensures.same)
+          (ap (λ w. g.L.Link.offered w.link) c.break_off.ensures.same ∙ ap (λ w. g.L.Link.offered w.link) c.in-Err.ensures.same)
+          (ap (λ w. has_link_ended (g.L.Link.polls w.link)) c.break_off.ensures.same ∙ ap (λ w. has_link_ended (g.L.Link.polls w.link)) c.in-Err.ensures.same);
+    }))

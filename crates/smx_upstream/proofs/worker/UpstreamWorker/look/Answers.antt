@@ -4,20 +4,21 @@ use Rattle.smx_session.specs.Moments.{at, is_silent}
 use Rattle.smx_turns.specs.declared.step.Step.TheVariants.{Did}
 use Rattle.smx_upstream.specs.declared.event.Event.TheVariants.{Looked}
 use Rattle.smx_upstream.specs.Phases.{Written}
-use Rattle.smx_upstream.proofs.Eventful.{did, goes_did, stands_same, goes_on}
+use Rattle.smx_upstream.specs.Writing.{has_link_ended}
+use Rattle.smx_upstream.proofs.Eventful.{did, front_same, goes_did, stands_same, goes_on, writes_same}
 use Rattle.smx_upstream.proofs.Cells.{stepped, cell_looked, at_its_moment}
 use Rattle.smx_upstream.proofs.worker.UpstreamWorker.look.Goals as goal
 
 pub invariant_of-self : goal.invariant_of-self
 invariant_of-self g c =
     did _ _ (Looked c.args.now c.of.result c.is_silent-silent.result) c.self.invariant c.note.ensures.events (ap (λ w. w.heard) c.note.ensures.same) refl c.note.ensures.said refl
-    (c.of.ensures ∙ c.on_moment-due.ensures.enquiry, c.is_silent-silent.ensures.silent ∙ ap (λ u. is_silent u c.args.now) c.on_moment-due.ensures.session, stands_same (c.is_silent-silent.ensures.session ∙ ap (λ u. at u c.args.now) c.on_moment-due.ensures.session) refl refl refl refl)
-    (λ h. ap (λ w. w.failed) c.note.ensures.same ∙ c.self.invariant.goes_on h) (goes_on c.self.inside.ending)
+    (c.of.ensures ∙ c.on_moment-due.ensures.enquiry, c.is_silent-silent.ensures.silent ∙ ap (λ u. is_silent u c.args.now) c.on_moment-due.ensures.session, stands_same (c.is_silent-silent.ensures.session ∙ ap (λ u. at u c.args.now) c.on_moment-due.ensures.session) refl refl refl refl refl)
+    (λ h. ap (λ w. w.failed) c.note.ensures.same ∙ c.self.invariant.goes_on h) (goes_on c.self.inside.ending) (front_same refl (ap (λ w. w.rest) c.note.ensures.same))
 
 pub returns-clause-goes : goal.returns-clause-goes
 returns-clause-goes g c = rw (← c.self.view_is)
     (λ turn asked told queries. goes_did turn _ _ _ _ (Looked c.args.now c.of.result c.is_silent-silent.result) c.note.ensures.log refl (sym (append-nil told)) (sym (append-nil queries)) c.note.ensures.events
-    (c.of.ensures ∙ c.on_moment-due.ensures.enquiry, c.is_silent-silent.ensures.silent ∙ ap (λ u. is_silent u c.args.now) c.on_moment-due.ensures.session, stands_same (c.is_silent-silent.ensures.session ∙ ap (λ u. at u c.args.now) c.on_moment-due.ensures.session) refl refl refl refl) (ap (λ w. g.L.Link.polls w.link) c.note.ensures.same))
+    (c.of.ensures ∙ c.on_moment-due.ensures.enquiry, c.is_silent-silent.ensures.silent ∙ ap (λ u. is_silent u c.args.now) c.on_moment-due.ensures.session, stands_same (c.is_silent-silent.ensures.session ∙ ap (λ u. at u c.args.now) c.on_moment-due.ensures.session) refl refl refl refl refl) (ap (λ w. g.L.Link.polls w.link) c.note.ensures.same) (record { fits = tt; same = writes_same c.note.ensures.unsent (ap (λ w. g.L.Link.offered w.link) c.note.ensures.same) (ap (λ w. has_link_ended (g.L.Link.polls w.link)) c.note.ensures.same) }))
 
 pub returns-clause-phase : goal.returns-clause-phase
 returns-clause-phase g c = λ t left same.

@@ -1,13 +1,12 @@
 use Rattle.std.proofs.Common.{ℕ, refl, sym, ap, ◌∙◌, subst, Ok, Err}
 use Rattle.std.proofs.lemmas.List.{append-nil}
 use Rattle.smx_turns.specs.declared.step.Step.TheVariants.{Did}
-use Rattle.smx_upstream.specs.declared.event.Event.TheVariants.{Young, Shifted}
+use Rattle.smx_upstream.specs.declared.event.Event.TheVariants.{Shifted}
 use Rattle.smx_upstream.specs.Standing.{Shifts}
-use Rattle.smx_upstream.specs.Ages.{age_after_shift, has_shifted}
 use Rattle.smx_upstream.specs.Phases.{Swept, when_kept, unless_spent}
 use Rattle.smx_upstream.specs.Spent.{is_spent_shift}
-use Rattle.smx_upstream.proofs.Eventful.{did, goes_did, stands_same, goes_on}
-use Rattle.smx_upstream.proofs.Cells.{stepped, cell_young, cell_shifted}
+use Rattle.smx_upstream.proofs.Eventful.{did, front_same, goes_did, goes_on, writes_same}
+use Rattle.smx_upstream.proofs.Cells.{stepped, cell_shifted}
 use Rattle.std.specs.Prelude.{Option, Result}
 use Rattle.std.specs.declared.vec.Vec.{Vec}
 use Rattle.std.specs.declared.alloc.Global.{Global}
@@ -25,36 +24,23 @@ as_shifts f g least (Err e) t = t
 
 pub invariant_of-self : goal.invariant_of-self
 invariant_of-self g c =
-    did _ _ (Young) c.self.invariant c.jot.ensures.events refl refl (sym (append-nil _)) refl
-    (sym c.shift_due.ensures ∙ c.in_default.is, refl) c.self.invariant.goes_on (goes_on c.self.inside.ending)
-
-pub returns-in_default-clause-goes : goal.returns-in_default-clause-goes
-returns-in_default-clause-goes g c = rw (← c.self.view_is)
-    (λ turn asked told queries. goes_did turn _ _ _ _ (Young) c.jot.ensures.log refl (sym (append-nil told)) (sym (append-nil queries)) c.jot.ensures.events
-    (sym c.shift_due.ensures ∙ c.in_default.is, refl) refl)
-
-pub returns-in_default-clause-phase : goal.returns-in_default-clause-phase
-returns-in_default-clause-phase g c = λ t left. stepped t _ _ (Did (Young)) (Swept left) _ c.jot.ensures.log (cell_young t left)
-
-pub invariant_of-self-2 : goal.invariant_of-self-2
-invariant_of-self-2 g c =
-    did _ _ (Shifted c.in-Some.least c.of.result) c.self.invariant c.jot-2.ensures.events refl refl (sym (append-nil _)) refl (
-      sym c.shift_due.ensures ∙ c.in-Some.is,
-      subst (Shifts c.self.inside.tap.front c.turn_over-entries.new.self.front c.in-Some.least) (sym c.of.ensures) (as_shifts _ _ _ _ c.turn_over-entries.ensures.served),
+    did _ _ (Shifted c.least_shift-least.result c.of.result) c.self.invariant c.jot.ensures.events refl refl (sym (append-nil _)) refl (
+      c.least_shift-least.ensures,
+      subst (Shifts c.self.inside.tap.front c.turn_over-entries.new.self.front c.least_shift-least.result) (sym c.of.ensures) (as_shifts _ _ _ _ c.turn_over-entries.ensures.served),
       c.turn_over-entries.ensures.same.0,
-      stands_same refl refl refl refl (c.after_shift-age.ensures ∙ ap (λ b. age_after_shift b c.self.inside.age) (c.has_shifted.ensures ∙ ap has_shifted (sym c.of.ensures))),
-    ) c.self.invariant.goes_on (goes_on c.self.inside.ending)
+      refl,
+    ) c.self.invariant.goes_on (goes_on c.self.inside.ending) (front_same refl refl)
 
 pub returns-clause-goes : goal.returns-clause-goes
 returns-clause-goes g c = rw (← c.self.view_is)
-    (λ turn asked told queries. goes_did turn _ _ _ _ (Shifted c.in-Some.least c.of.result) c.jot-2.ensures.log refl (sym (append-nil told)) (sym (append-nil queries)) c.jot-2.ensures.events (
-      sym c.shift_due.ensures ∙ c.in-Some.is,
-      subst (Shifts c.self.inside.tap.front c.turn_over-entries.new.self.front c.in-Some.least) (sym c.of.ensures) (as_shifts _ _ _ _ c.turn_over-entries.ensures.served),
+    (λ turn asked told queries. goes_did turn _ _ _ _ (Shifted c.least_shift-least.result c.of.result) c.jot.ensures.log refl (sym (append-nil told)) (sym (append-nil queries)) c.jot.ensures.events (
+      c.least_shift-least.ensures,
+      subst (Shifts c.self.inside.tap.front c.turn_over-entries.new.self.front c.least_shift-least.result) (sym c.of.ensures) (as_shifts _ _ _ _ c.turn_over-entries.ensures.served),
       c.turn_over-entries.ensures.same.0,
-      stands_same refl refl refl refl (c.after_shift-age.ensures ∙ ap (λ b. age_after_shift b c.self.inside.age) (c.has_shifted.ensures ∙ ap has_shifted (sym c.of.ensures))),
-    ) refl)
+      refl,
+    ) refl (record { fits = tt; same = writes_same (sym (append-nil _)) refl refl }))
 
 pub returns-clause-phase : goal.returns-clause-phase
 returns-clause-phase g c = λ t left was.
-    c.unless_spent.ensures.leads (when_kept left) _ (stepped t _ _ (Did (Shifted c.in-Some.least c.of.result)) (Swept left) _ c.jot-2.ensures.log (cell_shifted t left _ _) was
+    c.unless_spent.ensures.leads (when_kept left) _ (stepped t _ _ (Did (Shifted c.least_shift-least.result c.of.result)) (Swept left) _ c.jot.ensures.log (cell_shifted t left _ _) was
     ∙ ap (λ b. unless_spent b (when_kept left)) (ap is_spent_shift c.of.ensures ∙ sym c.is_spent_shift-spent.ensures))

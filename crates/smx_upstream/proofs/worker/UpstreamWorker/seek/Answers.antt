@@ -2,25 +2,26 @@ use Rattle.std.proofs.Common.{refl, sym, ap, ◌∙◌, subst}
 use Rattle.std.proofs.lemmas.List.{append-nil}
 use Rattle.smx_turns.specs.declared.step.Step.TheVariants.{Did}
 use Rattle.smx_upstream.specs.declared.event.Event.TheVariants.{Sought}
-use Rattle.smx_upstream.specs.Standing.{Gets}
+use Rattle.smx_upstream.specs.Standing.{Gets, Settles}
 use Rattle.smx_upstream.specs.Phases.{Clear, Sated, unless_spent}
 use Rattle.smx_upstream.specs.Spent.{is_spent_get}
-use Rattle.smx_upstream.proofs.Eventful.{did, goes_did, gets_from, goes_on}
+use Rattle.smx_upstream.specs.Writing.{has_link_ended}
+use Rattle.smx_upstream.proofs.Eventful.{did, front_same, goes_did, gets_from, goes_on, writes_same}
 use Rattle.smx_upstream.proofs.Cells.{stepped, cell_sought}
 use Rattle.smx_upstream.proofs.worker.UpstreamWorker.seek.Goals as goal
 
 pub invariant_of-self : goal.invariant_of-self
 invariant_of-self g c =
-    did _ _ (Sought c.of.result) c.self.invariant c.note.ensures.events (ap (λ w. w.heard) c.note.ensures.same) refl c.note.ensures.said refl
-    (subst (λ r. Gets c.self.inside.answers c.get-found.new.self r) (sym c.of.ensures) (gets_from c.self.inside.answers c.get-found.new.self c.get-found.result c.get-found.ensures.got c.get-found.ensures.served c.get-found.ensures.never_spent), refl)
-    (λ h. ap (λ w. w.failed) c.note.ensures.same ∙ c.self.invariant.goes_on h) (goes_on c.self.inside.ending)
+    did _ _ (Sought c.of.result c.settle-under.result) c.self.invariant c.note.ensures.events (ap (λ w. w.heard) c.note.ensures.same) refl c.note.ensures.said refl
+    (subst (λ r. Gets c.self.inside.answers c.get-found.new.self r) (sym c.of.ensures) (gets_from c.self.inside.answers c.get-found.new.self c.get-found.result c.get-found.ensures.got c.get-found.ensures.served c.get-found.ensures.never_spent), subst (λ r. Settles r c.settle-under.result c.self.inside.owed.items c.settle-under.new.owed.items) (sym c.of.ensures) c.settle-under.ensures, refl)
+    (λ h. ap (λ w. w.failed) c.note.ensures.same ∙ c.self.invariant.goes_on h) (goes_on c.self.inside.ending) (front_same refl (ap (λ w. w.rest) c.note.ensures.same))
 
 pub returns-clause-goes : goal.returns-clause-goes
 returns-clause-goes g c = rw (← c.self.view_is)
-    (λ turn asked told queries. goes_did turn _ _ _ _ (Sought c.of.result) c.note.ensures.log refl (sym (append-nil told)) (sym (append-nil queries)) c.note.ensures.events
-    (subst (λ r. Gets c.self.inside.answers c.get-found.new.self r) (sym c.of.ensures) (gets_from c.self.inside.answers c.get-found.new.self c.get-found.result c.get-found.ensures.got c.get-found.ensures.served c.get-found.ensures.never_spent), refl) (ap (λ w. g.L.Link.polls w.link) c.note.ensures.same))
+    (λ turn asked told queries. goes_did turn _ _ _ _ (Sought c.of.result c.settle-under.result) c.note.ensures.log refl (sym (append-nil told)) (sym (append-nil queries)) c.note.ensures.events
+    (subst (λ r. Gets c.self.inside.answers c.get-found.new.self r) (sym c.of.ensures) (gets_from c.self.inside.answers c.get-found.new.self c.get-found.result c.get-found.ensures.got c.get-found.ensures.served c.get-found.ensures.never_spent), subst (λ r. Settles r c.settle-under.result c.self.inside.owed.items c.settle-under.new.owed.items) (sym c.of.ensures) c.settle-under.ensures, refl) (ap (λ w. g.L.Link.polls w.link) c.note.ensures.same) (record { fits = tt; same = writes_same c.note.ensures.unsent (ap (λ w. g.L.Link.offered w.link) c.note.ensures.same) (ap (λ w. has_link_ended (g.L.Link.polls w.link)) c.note.ensures.same) }))
 
 pub returns-clause-phase : goal.returns-clause-phase
 returns-clause-phase g c = λ t was.
-    c.unless_spent.ensures.leads Sated _ (stepped t _ _ (Did (Sought c.of.result)) Clear _ c.note.ensures.log (cell_sought t _) was
+    c.unless_spent.ensures.leads Sated _ (stepped t _ _ (Did (Sought c.of.result c.settle-under.result)) Clear _ c.note.ensures.log (cell_sought t _ _) was
     ∙ ap (λ b. unless_spent b Sated) (ap is_spent_get c.of.ensures ∙ sym c.is_spent_get-spent.ensures))

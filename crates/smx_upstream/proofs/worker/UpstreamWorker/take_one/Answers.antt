@@ -1,25 +1,26 @@
 use Rattle.std.proofs.Common.{refl, sym, ap, ◌∙◌, subst}
 use Rattle.std.proofs.lemmas.List.{append-nil}
+use Rattle.smx_session.specs.Moments.{is_bound}
 use Rattle.smx_shared.specs.Serving.{Takes}
 use Rattle.smx_turns.specs.declared.step.Step.TheVariants.{Did}
 use Rattle.smx_upstream.specs.declared.event.Event.TheVariants.{Took}
-use Rattle.smx_upstream.specs.Ages.{noted_more, take_notes}
 use Rattle.smx_upstream.specs.Phases.{MayTake, HasTried, unless_spent}
 use Rattle.smx_upstream.specs.Spent.{is_spent_take}
-use Rattle.smx_upstream.proofs.Eventful.{did, goes_did, stands_same, goes_on}
+use Rattle.smx_upstream.specs.Writing.{has_link_ended}
+use Rattle.smx_upstream.proofs.Eventful.{did, front_same, goes_did, goes_on, writes_same}
 use Rattle.smx_upstream.proofs.Cells.{stepped, cell_took}
 use Rattle.smx_upstream.proofs.worker.UpstreamWorker.take_one.Goals as goal
 
 pub invariant_of-self : goal.invariant_of-self
 invariant_of-self g c =
     did _ _ (Took c.of.result) c.self.invariant c.note.ensures.events (ap (λ w. w.heard) c.note.ensures.same) refl c.note.ensures.said refl
-    (subst (λ r. Takes c.self.inside.tap.front c.take-taken.new.self.front c.self.inside.session.latest r) (sym c.of.ensures) (subst (λ n. Takes c.self.inside.tap.front c.take-taken.new.self.front n c.take-taken.result) c.latest.ensures c.take-taken.ensures.served), c.take-taken.ensures.same.0, stands_same refl refl refl refl (c.noted_more-age.ensures ∙ ap (λ n. noted_more n c.self.inside.age) (c.take_notes.ensures ∙ ap take_notes (sym c.of.ensures))))
-    (λ h. ap (λ w. w.failed) c.note.ensures.same ∙ c.self.invariant.goes_on h) (goes_on c.self.inside.ending)
+    (ap (λ w. is_bound w.stand.session.state) c.self.view_is ∙ c.requires.bound, subst (λ r. Takes c.self.inside.tap.front c.take-taken.new.self.front c.self.inside.session.latest r) (sym c.of.ensures) (subst (λ n. Takes c.self.inside.tap.front c.take-taken.new.self.front n c.take-taken.result) c.latest.ensures c.take-taken.ensures.served), c.take-taken.ensures.same.0, refl)
+    (λ h. ap (λ w. w.failed) c.note.ensures.same ∙ c.self.invariant.goes_on h) (goes_on c.self.inside.ending) (front_same refl (ap (λ w. w.rest) c.note.ensures.same))
 
 pub returns-clause-goes : goal.returns-clause-goes
 returns-clause-goes g c = rw (← c.self.view_is)
     (λ turn asked told queries. goes_did turn _ _ _ _ (Took c.of.result) c.note.ensures.log refl (sym (append-nil told)) (sym (append-nil queries)) c.note.ensures.events
-    (subst (λ r. Takes c.self.inside.tap.front c.take-taken.new.self.front c.self.inside.session.latest r) (sym c.of.ensures) (subst (λ n. Takes c.self.inside.tap.front c.take-taken.new.self.front n c.take-taken.result) c.latest.ensures c.take-taken.ensures.served), c.take-taken.ensures.same.0, stands_same refl refl refl refl (c.noted_more-age.ensures ∙ ap (λ n. noted_more n c.self.inside.age) (c.take_notes.ensures ∙ ap take_notes (sym c.of.ensures)))) (ap (λ w. g.L.Link.polls w.link) c.note.ensures.same))
+    (ap (λ w. is_bound w.stand.session.state) c.self.view_is ∙ c.requires.bound, subst (λ r. Takes c.self.inside.tap.front c.take-taken.new.self.front c.self.inside.session.latest r) (sym c.of.ensures) (subst (λ n. Takes c.self.inside.tap.front c.take-taken.new.self.front n c.take-taken.result) c.latest.ensures c.take-taken.ensures.served), c.take-taken.ensures.same.0, refl) (ap (λ w. g.L.Link.polls w.link) c.note.ensures.same) (record { fits = tt; same = writes_same c.note.ensures.unsent (ap (λ w. g.L.Link.offered w.link) c.note.ensures.same) (ap (λ w. has_link_ended (g.L.Link.polls w.link)) c.note.ensures.same) }))
 
 pub returns-clause-phase : goal.returns-clause-phase
 returns-clause-phase g c = λ t was.

@@ -1,0 +1,172 @@
+use crate::pdus::spelling::{copy, is_spelled, pdu_of};
+use crate::rows::check;
+use smx_pdu::Pdu;
+use smx_session::{Account, Act, ClientSession, ClientState, Kind};
+use std::alloc::Global;
+use std::process::Abort;
+use std::test::*;
+
+fn account(rt: &impl Abort, alloc: Global, texts: [u8; 2]) -> Account {
+    let [system_id, password] = texts;
+    Account {
+        system_id: copy(rt, alloc, &[system_id]),
+        password: copy(rt, alloc, &[password]),
+    }
+}
+
+// Whether the act sends these octets, as the answer to a bind of this kind and account where it is one.
+fn sends(
+    rt: &impl Abort,
+    alloc: Global,
+    act: &Act,
+    bound: Option<(Kind, usize)>,
+    octets: &[u8],
+) -> bool {
+    match act {
+        Act::Bind {
+            kind,
+            account,
+            answer,
+        } => bound == Some((*kind, *account)) && is_spelled(rt, alloc, answer, octets),
+        Act::Answer(answer) | Act::Hangup(answer) => {
+            bound.is_none() && is_spelled(rt, alloc, answer, octets)
+        }
+        _ => false,
+    }
+}
+
+// The octets of answers to binds with number 7, of a client of SMPP 3.4.
+const RX: [u8; 25] = [
+    0, 0, 0, 0x19, 0x80, 0, 0, 1, 0, 0, 0, 0, 0, 0, 0, 7, 0x73, 0x6d, 0x78, 0, 2, 0x10, 0, 1, 0x34,
+];
+
+const TX: [u8; 25] = [
+    0, 0, 0, 0x19, 0x80, 0, 0, 2, 0, 0, 0, 0, 0, 0, 0, 7, 0x73, 0x6d, 0x78, 0, 2, 0x10, 0, 1, 0x34,
+];
+
+const TRX: [u8; 25] = [
+    0, 0, 0, 0x19, 0x80, 0, 0, 9, 0, 0, 0, 0, 0, 0, 0, 7, 0x73, 0x6d, 0x78, 0, 2, 0x10, 0, 1, 0x34,
+];
+
+// The answer to an earlier client has no version.
+const EARLIER: [u8; 20] = [
+    0, 0, 0, 0x14, 0x80, 0, 0, 9, 0, 0, 0, 0, 0, 0, 0, 7, 0x73, 0x6d, 0x78, 0,
+];
+
+// Those to a wrong password, to an unknown system_id, and to a body that can't be read.
+const NO_PASSWORD: [u8; 16] = [0, 0, 0, 0x10, 0x80, 0, 0, 9, 0, 0, 0, 0x0E, 0, 0, 0, 7];
+
+const NO_SYSTEM: [u8; 16] = [0, 0, 0, 0x10, 0x80, 0, 0, 9, 0, 0, 0, 0x0F, 0, 0, 0, 7];
+
+const NO_BIND: [u8; 16] = [0, 0, 0, 0x10, 0x80, 0, 0, 9, 0, 0, 0, 2, 0, 0, 0, 7];
+
+// A bind that is accepted.
+const BIND: &[u8] = b"a\0p\0\0\x34\0\0\0";
+
+// A bind's command and body, its kind and account where it is accepted, the octets of its answer, and
+// the state behind it.
+type Row<'a> = (u32, &'a [u8], Option<(Kind, usize)>, &'a [u8], ClientState);
+
+fn holds(rt: &impl Abort, alloc: Global, accounts: &[Account], row: Row) -> bool {
+    let (command, body, bound, octets, state) = row;
+    let pdu = pdu_of(rt, alloc, command, 7, body);
+    let mut session = ClientSession::new(alloc);
+    let act = session.on_pdu(&pdu, accounts).expect(rt, "out of memory");
+    (session.state() == state) & sends(rt, alloc, &act, bound, octets)
+}
+
+// Of accounts with one system_id the first counts; a body that can't be read comes before an
+// unknown system_id.
+const BINDS: [Row<'static>; 9] = [
+    (9, BIND, Some((Kind::Trx, 1)), &TRX, ClientState::BoundTrx),
+    (
+        9,
+        b"a\0p\0\0\x33\0\0\0",
+        Some((Kind::Trx, 1)),
+        &EARLIER,
+        ClientState::BoundTrx,
+    ),
+    (1, BIND, Some((Kind::Rx, 1)), &RX, ClientState::BoundRx),
+    (2, BIND, Some((Kind::Tx, 1)), &TX, ClientState::BoundTx),
+    (
+        9,
+        b"a\0q\0\0\x34\0\0\0",
+        None,
+        &NO_PASSWORD,
+        ClientState::Opened,
+    ),
+    (
+        9,
+        b"c\0p\0\0\x34\0\0\0",
+        None,
+        &NO_SYSTEM,
+        ClientState::Opened,
+    ),
+    (
+        9,
+        b"\0\0p\0\0\x34\0\0\0",
+        None,
+        &NO_SYSTEM,
+        ClientState::Opened,
+    ),
+    (9, b"a\0p\0\0\x34\0\0", None, &NO_BIND, ClientState::Opened),
+    (9, b"c\0p\0\0\x34\0\0", None, &NO_BIND, ClientState::Opened),
+];
+
+fn play(rt: &impl Abort, alloc: Global, accounts: &[Account]) {
+    for at in 0..BINDS.len() {
+        let holds = holds(rt, alloc, accounts, BINDS[at]);
+        check(rt, holds, "binds", at);
+    }
+}
+
+#[test]
+fn binds(rt: HostRuntime) {
+    let alloc = rt.alloc();
+    let accounts = [
+        account(&rt, alloc, *b"bq"),
+        account(&rt, alloc, *b"ap"),
+        account(&rt, alloc, *b"aq"),
+    ];
+    play(&rt, alloc, &accounts);
+}
+
+// Whether the session accepts the bind, or stays open for want of memory and accepts it then.
+fn binds_at_last(session: &mut ClientSession, accounts: &[Account], pdu: &Pdu) -> bool {
+    for _ in 0..2 {
+        if let Ok(act) = session.on_pdu(pdu, accounts) {
+            return matches!(act, Act::Bind { .. });
+        }
+        if session.state() != ClientState::Opened {
+            return false;
+        }
+    }
+    false
+}
+
+// Want of memory leaves the session open: refuse-memory refuses each allocation in turn, one in
+// a run. The account's texts are empty.
+#[test]
+fn refused_memory(rt: HostRuntime) {
+    let accounts = [Account {
+        system_id: Vec::new(rt.alloc()),
+        password: Vec::new(rt.alloc()),
+    }];
+    let Ok(body) = Vec::from_slice(rt.alloc(), b"\0\0\0\x34\0\0\0") else {
+        return;
+    };
+    let pdu = Pdu::new(9, 0, 7, body).ok().expect(&rt, "short enough");
+    let mut session = ClientSession::new(rt.alloc());
+    assert!(rt; binds_at_last(&mut session, &accounts, &pdu));
+    assert!(rt; session.state() == ClientState::BoundTrx);
+}
+
+// At a length that no PDU has.
+#[test]
+fn client_fault(rt: HostRuntime) {
+    let octets = [0, 0, 0, 0x10, 0x80, 0, 0, 0, 0, 0, 0, 2, 0, 0, 0, 0];
+    let mut session = ClientSession::bound(rt.alloc(), Kind::Trx);
+    let act = session.on_fault();
+    assert!(rt; sends(&rt, rt.alloc(), &act, None, &octets));
+    assert!(rt; session.state() == ClientState::Ended);
+}

@@ -1,0 +1,118 @@
+//! Scripts of the relay, of a kind of lines each: one as long as scripts may be, and one of half its rounds.
+//! The longer may take at most 2.3 times as long.
+
+mod kinds;
+mod writing;
+
+use crate::figures::{Hundredths, nanos_since, stopped};
+use kinds::{KINDS, Kind};
+use smx_relay::RunEnd;
+use std::alloc::Global;
+use std::io;
+use std::io::Write;
+use std::rt::Clock;
+use std::time::Instant;
+use writing::script_of;
+
+/// The most octets of a script.
+const MOST: usize = 1_048_576;
+
+/// The rounds of the script by which the octets of a round are told.
+const SHORT: u64 = 1_000;
+
+/// How often a count is taken a little lower until the script is short enough.
+const TRIES: u64 = 64;
+
+/// How often each script is run. The least time is shown.
+const REPEATS: u64 = 5;
+
+const LANES: [u64; 2] = [1, 16];
+
+// A writer that only counts.
+#[derive(Drop)]
+struct Counted {
+    octets: u64,
+}
+
+impl Write for Counted {
+    fn write(&mut self, buf: &[u8]) -> io::Result<usize> {
+        self.octets = self.octets.saturating_add(buf.len() as u64);
+        Ok(buf.len())
+    }
+
+    fn flush(&mut self) -> io::Result<()> {
+        Ok(())
+    }
+}
+
+/// Prints a row for each kind whose name begins so, over 1 lane and over 16.
+pub(crate) fn run<R: Print + Clock + AllocGlobal>(rt: &R, begins: &str) -> io::Result<()> {
+    println!(rt; "lanes, rounds, ms, rounds, ms, times the first; octets printed by both; lines")?;
+    for kind in &KINDS {
+        if kind.name.starts_with(begins) {
+            for lanes in LANES {
+                print_row(rt, rt.alloc(), *kind, lanes)?;
+            }
+        }
+    }
+    Ok(())
+}
+
+fn print_row<R: Print + Clock>(rt: &R, alloc: Global, kind: Kind, lanes: u64) -> io::Result<()> {
+    let count = half_of_most(alloc, kind, lanes)?;
+    let twice = count.saturating_mul(2);
+    let (short, few) = least_nanos(rt, alloc, kind, lanes, count)?;
+    let (long, many) = least_nanos(rt, alloc, kind, lanes, twice)?;
+    println!(rt;
+        "{lanes:2} {count:7} {:8} {twice:7} {:8} {:5}; {few:9} {many:9}; {}",
+        Hundredths::quotient(short, 1_000_000),
+        Hundredths::quotient(long, 1_000_000),
+        Hundredths::quotient(long, short),
+        kind.name
+    )
+}
+
+// Half the most rounds, or a little less.
+fn half_of_most(alloc: Global, kind: Kind, lanes: u64) -> io::Result<u64> {
+    let octets = script_of(alloc, kind, lanes, SHORT)?.len() as u64;
+    let mut count = (MOST as u64 / 2)
+        .saturating_mul(SHORT)
+        .checked_div(octets)
+        .unwrap_or(1);
+    for _ in 0..TRIES {
+        if script_of(alloc, kind, lanes, count.saturating_mul(2))?.len() <= MOST {
+            break;
+        }
+        count = count.saturating_sub(count / TRIES + 1);
+    }
+    Ok(count)
+}
+
+// The least nanoseconds of some runs of the script with so many rounds, and the octets that it prints.
+fn least_nanos<R: Clock>(
+    rt: &R,
+    alloc: Global,
+    kind: Kind,
+    lanes: u64,
+    count: u64,
+) -> io::Result<(u64, u64)> {
+    let script = script_of(alloc, kind, lanes, count)?;
+    let (mut least, mut printed) = (u64::MAX, 0);
+    for _ in 0..REPEATS {
+        let (nanos, octets) = nanos_of_run(rt, alloc, &script)?;
+        least = least.min(nanos);
+        printed = octets;
+    }
+    Ok((least, printed))
+}
+
+// The nanoseconds of a run, each of whose lines is good, and the octets that it prints.
+fn nanos_of_run<R: Clock>(rt: &R, alloc: Global, script: &[u8]) -> io::Result<(u64, u64)> {
+    let mut writer = Counted { octets: 0 };
+    let start = Instant::now(rt)?;
+    let mut reader = script;
+    match smx_relay::run(alloc, &mut reader, &mut writer) {
+        RunEnd::Clean => Ok((nanos_since(rt, start)?, writer.octets)),
+        end => Err(stopped(end)),
+    }
+}

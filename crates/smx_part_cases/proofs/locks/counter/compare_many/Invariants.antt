@@ -1,5 +1,0 @@
-use Rattle.std.proofs.Common.{◌≡◌}
-use Rattle.smx_part_cases.proofs.locks.counter.compare_many.Given as goal
-
-abbrev pub invariant-loop : goal.invariant-loop
-invariant-loop l = (l.one.lock ≡ l.lock) × (l.two.lock ≡ l.lock)
