@@ -12,7 +12,7 @@ def answers_stay_on_their_link(program, _):
     """An answer to a message of a lost link goes nowhere, also where the new link's message has its number."""
     port = free_port()
     with Centre() as centre:
-        text = text_of(port, [f"{HOST}:{centre.port}"], keys="silence = 500")
+        text = text_of(port, [f"{HOST}:{centre.port}"], keys="silence = 3000")
         with Proxy(program, port, text) as proxy:
             first = centre.bound()
             with proxy.client() as client:

@@ -27,7 +27,7 @@ def queued_requests_go_on(program, _):
     """Where a link is lost what was sent fails at once, and what is queued goes out on the next one."""
     port = free_port()
     with Centre() as centre:
-        text = text_of(port, [f"{HOST}:{centre.port}"], keys="silence = 500", limits="window = 2")
+        text = text_of(port, [f"{HOST}:{centre.port}"], keys="silence = 2000", limits="window = 2")
         with Proxy(program, port, text) as proxy, centre.bound() as first, proxy.client() as link:
             link.say(*(message(SUBMIT_SM, it, "49") for it in range(2, 8)))
             sent = [first.hear_but_enquiries().body for _ in range(2)]
@@ -65,7 +65,7 @@ def old_answers_at_any_time(program, _):
     """An answer to a message of a lost link goes nowhere, whenever it comes."""
     port = free_port()
     with Centre() as centre:
-        text = text_of(port, [f"{HOST}:{centre.port}"], keys="silence = 1000")
+        text = text_of(port, [f"{HOST}:{centre.port}"], keys="silence = 3000")
         with Proxy(program, port, text) as proxy:
             link = centre.bound()
             with proxy.client() as client:

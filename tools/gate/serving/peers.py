@@ -1,6 +1,7 @@
 """The proxy under test, as a process, with message centres and clients of ours around it."""
 
 import contextlib
+import os
 import pathlib
 import random
 import socket
@@ -11,7 +12,10 @@ import time
 
 from .smpp import BIND_TRANSCEIVER, OK, PATIENCE, RESPONSE, Gone, Link, bind_of, response
 
-HOST = "127.0.0.1"
+# A process that runs cases has a host of its own, so that no port of one is one of another's.
+HOST = "127.{}.{}.{}".format(1 + (os.getpid() >> 16) % 250, os.getpid() >> 8 & 255, os.getpid() & 255)
+# The option of a socket whose port the system chooses as it connects (ip(7)), so that no two peers share a pool.
+BIND_ADDRESS_NO_PORT = 24
 
 
 def free_port():
@@ -145,8 +149,13 @@ class Proxy:
         self.child.stdin.flush()
         return self.child.wait(PATIENCE)
 
-    def connect(self, source=HOST):
-        return Link(socket.create_connection((HOST, self.port), PATIENCE, (source, 0)))
+    def connect(self, source="127.0.0.1"):
+        stream = socket.socket()
+        stream.setsockopt(socket.IPPROTO_IP, BIND_ADDRESS_NO_PORT, 1)
+        stream.settimeout(PATIENCE)
+        stream.bind((source, 0))
+        stream.connect((HOST, self.port))
+        return Link(stream)
 
     def client(self, name="alpha"):
         """A client that is bound as transceiver."""

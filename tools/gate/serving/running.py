@@ -18,6 +18,7 @@ from .peers import HOST, Answering, Proxy, free_port, is_free, state_of, text_of
 from .smpp import PATIENCE, bind_of
 
 TOP = pathlib.Path(__file__).resolve().parent.parent.parent.parent
+RESOLVER = "127.0.0.1"
 # What a script may reserve, in KB.
 GIGABYTE = 1_000_000
 
@@ -29,7 +30,7 @@ class LeftOut(Exception):
 def a_resolver_that_is_silent(program, _):
     """While a name is looked up the other upstream is bound and a client is served."""
     with socket.socket(socket.AF_INET, socket.SOCK_DGRAM) as resolver:
-        resolver.bind((HOST, 53))
+        resolver.bind((RESOLVER, 53))
         port = free_port()
         with Answering() as centre:
             text = text_of(port, ["smsc.example.org:2775", f"{HOST}:{centre.port}"])
@@ -43,12 +44,12 @@ def a_resolver_that_is_silent(program, _):
 
 
 def in_a_namespace(program, clients):
-    """The same, where 127.0.0.1:53 is ours and /etc/resolv.conf names it: in namespaces of its own."""
+    """The same, where that resolver's port is ours and /etc/resolv.conf names it: in namespaces of its own."""
     words = ["unshare", "--mount", "--net", *([] if os.geteuid() == 0 else ["--user", "--map-root-user"])]
     if subprocess.run([*words, "true"], capture_output=True).returncode:
         raise LeftOut("no namespaces can be made here")
     with tempfile.NamedTemporaryFile("w") as names:
-        names.write(f"nameserver {HOST}\noptions timeout:5 attempts:2\n")
+        names.write(f"nameserver {RESOLVER}\noptions timeout:5 attempts:2\n")
         names.flush()
         script = f"mount --bind {names.name} /etc/resolv.conf; ip link set lo up; exec \"$@\""
         inside = [sys.executable, TOP / "tools" / "gate" / "try-serve", "--program", program, "--inside"]
