@@ -1,5 +1,5 @@
-//! Scripts of the relay, of a kind of lines each: one as long as scripts may be, and one of half its rounds.
-//! The longer may take at most 2.3 times as long.
+//! Scripts of the relay, of a kind of lines each: one as long as scripts may be, or as its clients may reserve,
+//! and one of half its rounds. The longer may take at most 2.3 times as long.
 
 mod kinds;
 mod writing;
@@ -23,8 +23,8 @@ const SHORT: u64 = 1_000;
 /// How often a count is taken a little lower until the script is short enough.
 const TRIES: u64 = 64;
 
-/// How often each script is run. The least time is shown.
-const REPEATS: u64 = 5;
+/// How often each script is run, in turn with the other. The least time is shown.
+const REPEATS: u64 = 9;
 
 const LANES: [u64; 2] = [1, 16];
 
@@ -61,18 +61,24 @@ pub(crate) fn run<R: Print + Clock + AllocGlobal>(rt: &R, begins: &str) -> io::R
 fn print_row<R: Print + Clock>(rt: &R, alloc: Global, kind: Kind, lanes: u64) -> io::Result<()> {
     let count = half_of_most(alloc, kind, lanes)?;
     let twice = count.saturating_mul(2);
-    let (short, few) = least_nanos(rt, alloc, kind, lanes, count)?;
-    let (long, many) = least_nanos(rt, alloc, kind, lanes, twice)?;
+    let mut short = Timed::new(script_of(alloc, kind, lanes, count)?);
+    let mut long = Timed::new(script_of(alloc, kind, lanes, twice)?);
+    for _ in 0..REPEATS {
+        short.run(rt, alloc)?;
+        long.run(rt, alloc)?;
+    }
     println!(rt;
-        "{lanes:2} {count:7} {:8} {twice:7} {:8} {:5}; {few:9} {many:9}; {}",
-        Hundredths::quotient(short, 1_000_000),
-        Hundredths::quotient(long, 1_000_000),
-        Hundredths::quotient(long, short),
+        "{lanes:2} {count:7} {:8} {twice:7} {:8} {:5}; {:9} {:9}; {}",
+        Hundredths::quotient(short.least, 1_000_000),
+        Hundredths::quotient(long.least, 1_000_000),
+        Hundredths::quotient(long.least, short.least),
+        short.printed,
+        long.printed,
         kind.name
     )
 }
 
-// Half the most rounds, or a little less.
+// Half the most rounds, or a little less; by halves where a run of all of them would reserve too much.
 fn half_of_most(alloc: Global, kind: Kind, lanes: u64) -> io::Result<u64> {
     let octets = script_of(alloc, kind, lanes, SHORT)?.len() as u64;
     let mut count = (MOST as u64 / 2)
@@ -85,25 +91,51 @@ fn half_of_most(alloc: Global, kind: Kind, lanes: u64) -> io::Result<u64> {
         }
         count = count.saturating_sub(count / TRIES + 1);
     }
+    for _ in 0..TRIES {
+        if is_within(
+            alloc,
+            &script_of(alloc, kind, lanes, count.saturating_mul(2))?,
+        ) {
+            break;
+        }
+        count /= 2;
+    }
     Ok(count)
 }
 
-// The least nanoseconds of some runs of the script with so many rounds, and the octets that it prints.
-fn least_nanos<R: Clock>(
-    rt: &R,
-    alloc: Global,
-    kind: Kind,
-    lanes: u64,
-    count: u64,
-) -> io::Result<(u64, u64)> {
-    let script = script_of(alloc, kind, lanes, count)?;
-    let (mut least, mut printed) = (u64::MAX, 0);
-    for _ in 0..REPEATS {
-        let (nanos, octets) = nanos_of_run(rt, alloc, &script)?;
-        least = least.min(nanos);
-        printed = octets;
+// Whether what a run of the script reserves is no more than it may.
+fn is_within(alloc: Global, script: &[u8]) -> bool {
+    let mut writer = Counted { octets: 0 };
+    let mut reader = script;
+    !matches!(
+        smx_relay::run(alloc, &mut reader, &mut writer),
+        RunEnd::TooLarge(_)
+    )
+}
+
+// A script, the least nanoseconds of its runs so far, and the octets that one prints.
+#[derive(Drop)]
+struct Timed {
+    script: Vec<u8>,
+    least: u64,
+    printed: u64,
+}
+
+impl Timed {
+    fn new(script: Vec<u8>) -> Timed {
+        Timed {
+            script,
+            least: u64::MAX,
+            printed: 0,
+        }
     }
-    Ok((least, printed))
+
+    fn run<R: Clock>(&mut self, rt: &R, alloc: Global) -> io::Result<()> {
+        let (nanos, octets) = nanos_of_run(rt, alloc, &self.script)?;
+        self.least = self.least.min(nanos);
+        self.printed = octets;
+        Ok(())
+    }
 }
 
 // The nanoseconds of a run, each of whose lines is good, and the octets that it prints.
