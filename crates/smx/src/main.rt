@@ -3,41 +3,23 @@
 
 mod config_file;
 mod demonstrating;
-mod options;
 mod relaying;
 mod serving;
 mod watched;
-mod words;
 
-use clap::Error;
 use config_file::config_of;
-use options::Asked;
+use smx_options::{Asked, asked_of, words_of};
 use smx_serve::{Ended, Server, is_name};
 use std::io::IsTerminal;
 use std::process::ExitCode;
 use std::thread;
 
-/// The status where the command line is wrong.
-const USAGE: u8 = 2;
-
-// Says what is wrong with the command line, or the help or the version that it asks for.
-fn say<R: Print + Eprint>(rt: &R, error: &Error) -> ExitCode {
-    let printed = error.print(rt);
-    if error.use_stderr() {
-        return ExitCode::from(USAGE);
-    }
-    match printed {
-        Ok(()) => ExitCode::SUCCESS,
-        Err(_) => ExitCode::FAILURE,
-    }
-}
-
 fn main(rt: HostRuntime) -> ExitCode {
-    let Ok(words) = words::words_of(&rt) else {
-        words::say_bad(&rt);
-        return ExitCode::from(USAGE);
+    let words = match words_of(&rt) {
+        Ok(words) => words,
+        Err(status) => return status,
     };
-    match options::read(rt.alloc(), words.as_slice()) {
+    match asked_of(&rt, words.as_slice()) {
         Ok(Asked::Relay(None)) => relaying::run_input(&rt, rt.stdin().is_terminal()),
         Ok(Asked::Relay(Some(path))) => relaying::run_file(&rt, path),
         Ok(Asked::Check(path)) => config_file::run(&rt, path),
@@ -76,6 +58,6 @@ fn main(rt: HostRuntime) -> ExitCode {
             demonstrating::run(rt, path, errors)
         }
         Ok(Asked::Nothing) => ExitCode::FAILURE,
-        Err(error) => say(&rt, &error),
+        Err(status) => status,
     }
 }
