@@ -20,6 +20,9 @@ use std::thread;
 /// The status where the command line is wrong.
 const USAGE: u8 = 2;
 
+/// The status where `serve` has no configuration to run by: EX_CONFIG of sysexits.h.
+const CONFIG: u8 = 78;
+
 // Says what is wrong with the command line, or the help or the version that it asks for.
 fn say<R: Print + Eprint>(rt: &R, error: &Error) -> ExitCode {
     let printed = error.print(rt);
@@ -43,7 +46,7 @@ fn main(rt: HostRuntime) -> ExitCode {
         Ok(Asked::Check(path)) => config_file::run(&rt, path),
         Ok(Asked::Serve(path, always_reads)) => {
             let Some(config) = config_of(&rt, path) else {
-                return ExitCode::FAILURE;
+                return ExitCode::from(CONFIG);
             };
             let Some(server) = Server::new(&rt, rt.alloc()) else {
                 let _ = eprintln!(rt; "{}", Ended::NoEvents);
