@@ -10,7 +10,7 @@ use Rattle.smx_client.specs.Table.{IsPart, Clear, after_got}
 use Rattle.smx_client.proofs.Cells as cell
 use Rattle.smx_client.proofs.Doings as doing
 use Rattle.smx_client.proofs.Scenes.{happens}
-use Rattle.smx_client.proofs.Serving.{did, as_closed}
+use Rattle.smx_client.proofs.Serving.{did, as_below, as_closed}
 use Rattle.smx_client.proofs.Settling.{still}
 use Rattle.smx_client.proofs.worker.ClientWorker.get_one.Goals as goal
 
@@ -41,7 +41,7 @@ returns-in-Ok-clause-leads g c = rw (← c.self.view_is) (λ n queries base was.
     let s = c.self.inside in
     let d = c.deliver-delivery.ensures in
     let seen = c.of-seen.ensures ∙ c.in-Ok.is in
-    c.note-in-Ok.ensures.leads n _ _ (happens g.L.Link.offered g.L.Link.polls g.L.Link.failures _ _ _ _ queries _ _ _ _ _ _ _ _ (Got c.of-seen.result c.deliver-delivery.result)
+    c.note-in-Ok.ensures.leads n _ _ (happens g.L.Link.offered g.L.Link.polls g.L.Link.failures _ _ _ _ queries _ _ _ _ _ _ _ _ (Got c.of-seen.result c.deliver-delivery.result) (as_below _ _ c.self.view_is c.requires.below)
     (doing.got _ _ _ _ _ _ _ _ _ _ _ _ _ (Ok c.in-Ok.got) c.of-seen.result c.deliver-delivery.result (c.of-seen.ensures ∙ c.in-Ok.is) d.says.said d.window (
       subst (λ r. IfOk r (λ f. GetServes s.inbox c.get-found.new.self.front f)) c.in-Ok.is c.get-found.ensures.served,
       subst (λ r. IfOk r (λ f. Hands s.inbox.got c.get-found.new.self.got f)) c.in-Ok.is c.get-found.ensures.got,
