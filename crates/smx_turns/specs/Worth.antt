@@ -41,4 +41,4 @@ says o = record no_worth { said = those o; quiet = is_none o }
 
 -- what a worker holds of an event is what it is worth
 abbrev pub IsWorth : {E A : Type 0} → Outcome E A → Worth → Type 0
-IsWorth o w = (w.said ≡ those o.sent) × (o.quiet ≡ w.quiet) × (o.ends ≡ w.ends) × (o.spent ≡ w.spent)
+IsWorth o w = (w.said ≡ those o.sent) × (o.quiet ≡ w.quiet) × (o.ends ≡ w.ends)
