@@ -13,7 +13,7 @@ use Rattle.smx_config.specs.declared.text.Text.{Text}
 use Rattle.smx_config.specs.declared.text.Text.TheVariants as text
 use Rattle.smx_config.specs.declared.fault.ConfigFault.{ConfigFault}
 use Rattle.smx_config.specs.declared.fault.ConfigFault.TheVariants as fault
-use Rattle.smx_config.specs.Keys.{number_key, default_of, is_number, text_key, is_text}
+use Rattle.smx_config.specs.Keys.{number_row, is_number, text_row, is_text}
 use Rattle.smx_config.specs.Settings.{UpstreamSettings, AccountSettings, Settings}
 
 -- an integer as a number that may stand at the key
@@ -27,7 +27,7 @@ number_of key d = option_and_then (number_within key) (as_integer d)
 
 -- the number at a key, or its default where the key is absent
 abbrev pub number_or_default : Number → Members → Option ℕ
-number_or_default key ms = option_map_or (number_of key) (get_member (number_key key) ms) (Some (default_of key))
+number_or_default key ms = option_map_or (number_of key) (get_member (number_row key).key ms) (Some (number_row key).default)
 
 -- the text, where it may stand at the key
 abbrev pub text_within : Text → List ℕ → Option (List ℕ)
@@ -38,10 +38,10 @@ text_of key d = option_and_then (text_within key) (as_str d)
 
 -- the text at a key of a table, and of a value
 abbrev pub text_at : Text → Members → Option (List ℕ)
-text_at key ms = option_and_then (text_of key) (get_member (text_key key) ms)
+text_at key ms = option_and_then (text_of key) (get_member (text_row key).key ms)
 
 abbrev pub text_in : Text → Data → Option (List ℕ)
-text_in key d = option_and_then (text_of key) (get (text_key key) d)
+text_in key d = option_and_then (text_of key) (get (text_row key).key d)
 
 -- clients, box and silence, where each is in its range
 abbrev pub all_three : Option ℕ → Option ℕ → Option ℕ → Option (ℕ × ℕ × ℕ)
@@ -111,7 +111,7 @@ prefixes_of ds = if nat_le (item_count ds) 16 then result_ok (stated_after prefi
 
 -- the prefixes of an account, of which it may have none
 abbrev pub prefixes_in : Data → Option (List (List ℕ))
-prefixes_in d = option_map_or (λ p. option_and_then prefixes_of (as_array p)) (get (text_key text.Prefix) d) (Some [])
+prefixes_in d = option_map_or (λ p. option_and_then prefixes_of (as_array p)) (get (text_row text.Prefix).key d) (Some [])
 
 abbrev pub account_from : Option (List ℕ) → Option (List ℕ) → Option (List (List ℕ)) → Option AccountSettings
 account_from None password prefixes = None

@@ -5,10 +5,10 @@ ghost use Rattle.smx_config.specs.Lines.{fault_place};
 use crate::account::MAX_PREFIXES;
 use crate::fault::ConfigFault;
 use crate::listing::{on_prefixes, on_table_list};
-use crate::number::Number;
+use crate::number::{Number, NumberRule};
 use crate::reading::{MAX_ACCOUNTS, MAX_UPSTREAMS};
 use crate::table::find;
-use crate::text::Text;
+use crate::text::{Text, TextRule};
 use std::alloc::{AllocError, Global};
 use toml::{Table, Value};
 
@@ -40,7 +40,8 @@ fn text_wrong(alloc: Global, key: Text, value: &Value) -> Result<String, AllocEr
         return String::from_str(alloc, "is no text");
     };
     let length = text.len();
-    if key.fewest() <= length && length <= key.longest() {
+    let rule = key.rule();
+    if rule.fewest <= length && length <= rule.longest {
         return String::from_str(alloc, "has an octet 0");
     }
     format!(in alloc; "has {length} octets")
@@ -53,11 +54,15 @@ fn on_text(alloc: Global, key: Text, value: Option<&Value>) -> Result<Option<Str
         Some(value) => text_wrong(alloc, key, value)?,
         None => String::from_str(alloc, "is missing")?,
     };
-    let name = key.key();
+    let TextRule {
+        key: name,
+        fewest,
+        longest,
+        may_have_zero,
+        ..
+    } = key.rule();
     let sample = sample(key);
-    let fewest = key.fewest();
-    let longest = key.longest();
-    let zeros = if key.may_have_zero() {
+    let zeros = if may_have_zero {
         ""
     } else {
         ", none of them 0"
@@ -70,7 +75,14 @@ fn on_text(alloc: Global, key: Text, value: Option<&Value>) -> Result<Option<Str
 
 // Words on the number at a key, unless it is as it may be.
 fn on_number(alloc: Global, key: Number, table: &Table) -> Result<Option<String>, AllocError> {
-    let Some(value) = find(table, key.key()) else {
+    let NumberRule {
+        key: name,
+        least,
+        most,
+        default,
+        ..
+    } = key.rule();
+    let Some(value) = find(table, name) else {
         return Ok(None);
     };
     let what = match key.of(value) {
@@ -83,10 +95,6 @@ fn on_number(alloc: Global, key: Number, table: &Table) -> Result<Option<String>
             }
         }
     };
-    let name = key.key();
-    let least = key.least();
-    let most = key.most();
-    let default = key.default();
     let words = format!(in alloc;
         "{name} {what}: write {name} = {default}, or another number from {least} to {most}"
     )?;
@@ -126,7 +134,7 @@ fn on_limits(alloc: Global, table: &Table) -> Result<Option<String>, AllocError>
 // Words on the first of these fields of a table that isn't as it may be.
 fn on_texts(alloc: Global, keys: &[Text], value: &Value) -> Result<Option<String>, AllocError> {
     for key in keys {
-        let words = on_text(alloc, *key, value.get(key.key()))?;
+        let words = on_text(alloc, *key, value.get(key.rule().key))?;
         if words.is_some() {
             return Ok(words);
         }
@@ -163,10 +171,10 @@ fn on_twin(
     index: usize,
     value: &Value,
 ) -> Result<String, AllocError> {
-    let name = value.get(Text::SystemId.key());
+    let name = value.get(Text::SystemId.rule().key);
     for before in 0..index {
         if let Some(other) = nth(table, "account", before) {
-            if name.is_some() && other.get(Text::SystemId.key()) == name {
+            if name.is_some() && other.get(Text::SystemId.rule().key) == name {
                 return format!(in alloc;
                     "system_id is that of account {before}: write another one"
                 );
@@ -187,7 +195,7 @@ fn on_account(alloc: Global, table: &Table, index: usize) -> Result<Option<Strin
     if words.is_some() {
         return Ok(words);
     }
-    if let Some(prefixes) = value.get(Text::Prefix.key()) {
+    if let Some(prefixes) = value.get(Text::Prefix.rule().key) {
         let words = on_prefixes(alloc, prefixes, MAX_PREFIXES)?;
         if words.is_some() {
             return Ok(words);
@@ -203,7 +211,7 @@ fn on_fault(
     fault: ConfigFault,
 ) -> Result<Option<String>, AllocError> {
     match fault {
-        ConfigFault::Listen => on_text(alloc, Text::Listen, find(table, Text::Listen.key())),
+        ConfigFault::Listen => on_text(alloc, Text::Listen, find(table, Text::Listen.rule().key)),
         ConfigFault::Numbers => {
             let keys = [Number::Clients, Number::Places, Number::Silence];
             on_numbers(alloc, &keys, table)

@@ -10,6 +10,7 @@ mod file;
 mod listing;
 mod number;
 mod reading;
+mod section;
 mod spelling;
 mod table;
 mod text;

@@ -1,8 +1,10 @@
 //! A text read as a configuration.
-ghost use Rattle.std.specs.Prelude.{◌≡◌, ◌≢◌, ◌⊎◌, ◌≤◌, IfOk, IfErr, IfSome, IsErrOf, MatchResult};
+ghost use Rattle.std.specs.Prelude.{◌≡◌, ◌≢◌, ◌⊎◌, IfOk, IfErr, IfSome, IsTrue, IsErrOf, MatchResult};
 ghost use Rattle.toml.specs.Parse.{parse_document};
 ghost use Rattle.toml.specs.View.{table_view};
 ghost use Rattle.smx_history.specs.Room.{AreLimits};
+ghost use Rattle.smx_config.specs.declared.number.Number.TheVariants as number;
+ghost use Rattle.smx_config.specs.Keys.{is_number};
 ghost use Rattle.smx_config.specs.Reading.{numbers_of, stated_limits, limits_at, config_of, settings_of};
 
 use crate::account::read_accounts;
@@ -24,9 +26,9 @@ pub(crate) const MAX_ACCOUNTS: usize = 256;
 // clients, box and silence.
 fn numbers(table: &Table) -> Option<(u32, u32, u32)>
     ensures value { result ≡ numbers_of (table_view table.now) }
-    ensures clients { IfSome result (λ n. (1 ≤ n.0) × (n.0 ≤ 256)) }
-    ensures places { IfSome result (λ n. (1 ≤ n.1) × (n.1 ≤ 256)) }
-    ensures silence { IfSome result (λ n. (1 ≤ n.2) × (n.2 ≤ 3600000)) }
+    ensures clients { IfSome result (λ n. IsTrue (is_number number.Clients n.0)) }
+    ensures places { IfSome result (λ n. IsTrue (is_number number.Places n.1)) }
+    ensures silence { IfSome result (λ n. IsTrue (is_number number.Silence n.2)) }
 {
     let clients = Number::Clients.at(table)?;
     let places = Number::Places.at(table)?;

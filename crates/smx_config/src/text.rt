@@ -1,9 +1,10 @@
 //! The texts of a configuration.
 ghost use Rattle.std.specs.Prelude.{◌≡◌, IfSome, IsTrue, option_copied};
 ghost use Rattle.toml.specs.View.{table_view, view};
-ghost use Rattle.smx_config.specs.Keys.{text_key, fewest_of, longest_of, may_have_zero, has_zero, is_text};
+ghost use Rattle.smx_config.specs.Keys.{text_row, has_zero, is_text};
 ghost use Rattle.smx_config.specs.Reading.{text_of, text_at, text_in};
 
+use crate::section::Section;
 use crate::table::find;
 use toml::{Table, Value};
 
@@ -17,58 +18,70 @@ pub(crate) enum Text {
     Prefix,
 }
 
-impl Text {
-    pub(crate) fn key(self) -> &'static str
-        ensures { result.now ≡ text_key self }
-    {
-        match self {
-            Text::Listen => "listen",
-            Text::Address => "address",
-            Text::SystemId => "system_id",
-            Text::Password => "password",
-            Text::Prefix => "prefixes",
-        }
-    }
-
+/// What holds of a key with a text.
+#[derive(Clone, Copy, Debug)]
+pub(crate) struct TextRule {
+    /// The tables where the key stands.
+    pub(crate) sections: &'static [Section],
+    /// The key as a file writes it.
+    pub(crate) key: &'static str,
     /// The fewest octets of such a text.
-    pub(crate) fn fewest(self) -> usize
-        ensures { result ≡ fewest_of self }
-    {
-        match self {
-            Text::Listen | Text::Address | Text::SystemId => 1,
-            Text::Password | Text::Prefix => 0,
-        }
-    }
-
+    pub(crate) fewest: usize,
     /// The most octets of such a text.
-    pub(crate) fn longest(self) -> usize
-        ensures { result ≡ longest_of self }
-    {
-        match self {
-            Text::Listen | Text::Address => 255,
-            Text::SystemId => 15,
-            Text::Password => 8,
-            Text::Prefix => 64,
-        }
-    }
-
+    pub(crate) longest: usize,
     /// Whether such a text may have the octet 0.
-    pub(crate) fn may_have_zero(self) -> bool
-        ensures { result ≡ may_have_zero self }
+    pub(crate) may_have_zero: bool,
+}
+
+fn row(
+    sections: &'static [Section],
+    key: &'static str,
+    fewest: usize,
+    longest: usize,
+    may_have_zero: bool,
+) -> TextRule
+    ensures sections { result.sections.now ≡ sections.now }
+    ensures key { result.key.now ≡ key.now }
+    ensures fewest { result.fewest ≡ fewest }
+    ensures longest { result.longest ≡ longest }
+    ensures may_have_zero { result.may_have_zero ≡ may_have_zero }
+{
+    TextRule {
+        sections,
+        key,
+        fewest,
+        longest,
+        may_have_zero,
+    }
+}
+
+impl Text {
+    /// The row of the key.
+    pub(crate) fn rule(self) -> TextRule
+        ensures sections { result.sections.now ≡ (text_row self).sections }
+        ensures key { result.key.now ≡ (text_row self).key }
+        ensures fewest { result.fewest ≡ (text_row self).fewest }
+        ensures longest { result.longest ≡ (text_row self).longest }
+        ensures may_have_zero { result.may_have_zero ≡ (text_row self).may_have_zero }
     {
+        use Section::{Account, Top, Upstream};
         match self {
-            Text::Listen | Text::Address | Text::Prefix => true,
-            Text::SystemId | Text::Password => false,
+            Text::Listen => row(&[Top], "listen", 1, 255, true),
+            Text::Address => row(&[Upstream], "address", 1, 255, true),
+            Text::SystemId => row(&[Upstream, Account], "system_id", 1, 15, false),
+            Text::Password => row(&[Upstream, Account], "password", 0, 8, false),
+            Text::Prefix => row(&[Account], "prefixes", 0, 64, true),
         }
     }
 
     fn allows(self, text: &str) -> bool
         ensures { result ≡ is_text self text.now }
     {
+        let rule = self.rule();
         let length = text.len();
-        self.fewest() <= length
-            && length <= self.longest()
-            && (self.may_have_zero() || !has_zero(text.as_bytes()))
+        rule.fewest <= length
+            && length <= rule.longest
+            && (rule.may_have_zero || !has_zero(text.as_bytes()))
     }
 
     /// The text that a value is, where it may stand at this key.
@@ -87,7 +100,7 @@ impl Text {
         ensures value { option_copied result ≡ text_at self (table_view table.now) }
         ensures kept { IfSome result (λ s. IsTrue (is_text self s.now)) }
     {
-        match find(table, self.key()) {
+        match find(table, self.rule().key) {
             Some(value) => self.of(value),
             None => None,
         }
@@ -98,7 +111,7 @@ impl Text {
         ensures value { option_copied result ≡ text_in self (view value.now) }
         ensures kept { IfSome result (λ s. IsTrue (is_text self s.now)) }
     {
-        match value.get(self.key()) {
+        match value.get(self.rule().key) {
             Some(value) => self.of(value),
             None => None,
         }
