@@ -1,6 +1,7 @@
 -- The keys of a configuration: where they stand, how they are written, and what their values may be.
 use Rattle.std.specs.Prelude.{ℕ, List, [], ◌∷◌, length, Bool, true, false, not, ◌&&◌, ◌||◌, ◌==◌, nat_le, codes}
 use Rattle.std.specs.List.{list_any}
+use Rattle.std.specs.Str.{bytes_eq}
 use Rattle.smx_config.specs.declared.section.Section.{Section}
 use Rattle.smx_config.specs.declared.section.Section.TheVariants.{Top, Limits, Upstream, Account}
 use Rattle.smx_config.specs.declared.number.Number.{Number}
@@ -54,3 +55,34 @@ has_zero s = list_any (λ b. b == 0) s
 -- the text may stand at the key
 abbrev pub is_text : Text → List ℕ → Bool
 is_text key s = (nat_le (text_row key).fewest (length s) && nat_le (length s) (text_row key).longest) && ((text_row key).may_have_zero || not (has_zero s))
+
+abbrev pub all_numbers : List Number
+all_numbers = Clients ∷ Places ∷ Silence ∷ Queue ∷ Window ∷ Client ∷ History ∷ []
+
+abbrev pub all_texts : List Text
+all_texts = Listen ∷ Address ∷ SystemId ∷ Password ∷ Prefix ∷ []
+
+abbrev pub is_same : Section → Section → Bool
+is_same Top Top = true
+is_same Limits Limits = true
+is_same Upstream Upstream = true
+is_same Account Account = true
+is_same _ _ = false
+
+abbrev pub stands_in : Section → Text → Bool
+stands_in section text = list_any (is_same section) (text_row text).sections
+
+-- the key is that of a number in this table, or of a text, or of another table
+abbrev pub is_number_key : Section → List ℕ → Bool
+is_number_key section key = list_any (λ n. is_same section (number_row n).section && bytes_eq key (number_row n).key) all_numbers
+
+abbrev pub is_text_key : Section → List ℕ → Bool
+is_text_key section key = list_any (λ t. stands_in section t && bytes_eq key (text_row t).key) all_texts
+
+abbrev pub is_table_key : Section → List ℕ → Bool
+is_table_key Top key = bytes_eq key (codes "limits") || (bytes_eq key (codes "upstream") || bytes_eq key (codes "account"))
+is_table_key _ key = false
+
+-- the key is read where it stands in this table
+abbrev pub is_read : Section → List ℕ → Bool
+is_read section key = is_number_key section key || (is_text_key section key || is_table_key section key)

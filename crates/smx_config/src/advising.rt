@@ -7,6 +7,7 @@ use crate::fault::ConfigFault;
 use crate::listing::{on_prefixes, on_table_list};
 use crate::number::{Number, NumberRule};
 use crate::reading::{MAX_ACCOUNTS, MAX_UPSTREAMS};
+use crate::section::Section;
 use crate::table::find;
 use crate::text::{Text, TextRule};
 use std::alloc::{AllocError, Global};
@@ -101,12 +102,18 @@ fn on_number(alloc: Global, key: Number, table: &Table) -> Result<Option<String>
     Ok(Some(words))
 }
 
-// Words on the first number that isn't as it may be.
-fn on_numbers(alloc: Global, keys: &[Number], table: &Table) -> Result<Option<String>, AllocError> {
-    for key in keys {
-        let words = on_number(alloc, *key, table)?;
-        if words.is_some() {
-            return Ok(words);
+// Words on the first number of a table that isn't as it may be.
+fn on_numbers(
+    alloc: Global,
+    section: Section,
+    table: &Table,
+) -> Result<Option<String>, AllocError> {
+    for key in Number::all() {
+        if section.is(key.rule().section) {
+            let words = on_number(alloc, *key, table)?;
+            if words.is_some() {
+                return Ok(words);
+            }
         }
     }
     Ok(None)
@@ -122,21 +129,27 @@ fn on_limits(alloc: Global, table: &Table) -> Result<Option<String>, AllocError>
             "limits is no table: write [limits] and its keys below it",
         )?));
     };
-    let keys = [
-        Number::Queue,
-        Number::Window,
-        Number::Client,
-        Number::History,
-    ];
-    on_numbers(alloc, &keys, limits)
+    on_numbers(alloc, Section::Limits, limits)
 }
 
-// Words on the first of these fields of a table that isn't as it may be.
-fn on_texts(alloc: Global, keys: &[Text], value: &Value) -> Result<Option<String>, AllocError> {
-    for key in keys {
-        let words = on_text(alloc, *key, value.get(key.rule().key))?;
-        if words.is_some() {
-            return Ok(words);
+// Words on what stands at a key of a value, unless it is as it may be.
+fn on_field(alloc: Global, key: Text, value: &Value) -> Result<Option<String>, AllocError> {
+    let field = value.get(key.rule().key);
+    match (key, field) {
+        (Text::Prefix, Some(prefixes)) => on_prefixes(alloc, prefixes, MAX_PREFIXES),
+        (Text::Prefix, None) => Ok(None),
+        _ => on_text(alloc, key, field),
+    }
+}
+
+// Words on the first of the texts of a table that isn't as it may be.
+fn on_texts(alloc: Global, section: Section, value: &Value) -> Result<Option<String>, AllocError> {
+    for key in Text::all() {
+        if key.stands_in(section) {
+            let words = on_field(alloc, *key, value)?;
+            if words.is_some() {
+                return Ok(words);
+            }
         }
     }
     Ok(None)
@@ -155,11 +168,7 @@ fn nth<'a>(table: &'a Table, key: &str, index: usize) -> Option<&'a Value> {
 
 fn on_upstream(alloc: Global, table: &Table, index: usize) -> Result<Option<String>, AllocError> {
     match nth(table, "upstream", index) {
-        Some(value) => on_texts(
-            alloc,
-            &[Text::Address, Text::SystemId, Text::Password],
-            value,
-        ),
+        Some(value) => on_texts(alloc, Section::Upstream, value),
         None => Ok(None),
     }
 }
@@ -191,15 +200,9 @@ fn on_account(alloc: Global, table: &Table, index: usize) -> Result<Option<Strin
     let Some(value) = nth(table, "account", index) else {
         return Ok(None);
     };
-    let words = on_texts(alloc, &[Text::SystemId, Text::Password], value)?;
+    let words = on_texts(alloc, Section::Account, value)?;
     if words.is_some() {
         return Ok(words);
-    }
-    if let Some(prefixes) = value.get(Text::Prefix.rule().key) {
-        let words = on_prefixes(alloc, prefixes, MAX_PREFIXES)?;
-        if words.is_some() {
-            return Ok(words);
-        }
     }
     Ok(Some(on_twin(alloc, table, index, value)?))
 }
@@ -212,10 +215,7 @@ fn on_fault(
 ) -> Result<Option<String>, AllocError> {
     match fault {
         ConfigFault::Listen => on_text(alloc, Text::Listen, find(table, Text::Listen.rule().key)),
-        ConfigFault::Numbers => {
-            let keys = [Number::Clients, Number::Places, Number::Silence];
-            on_numbers(alloc, &keys, table)
-        }
+        ConfigFault::Numbers => on_numbers(alloc, Section::Top, table),
         ConfigFault::Limits => on_limits(alloc, table),
         ConfigFault::Upstreams => on_table_list(alloc, "upstream", MAX_UPSTREAMS, table),
         ConfigFault::Upstream(index) => on_upstream(alloc, table, index),

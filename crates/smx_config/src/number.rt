@@ -1,7 +1,7 @@
 //! The numbers of a configuration.
 ghost use Rattle.std.specs.Prelude.{◌≡◌, IfSome, IsTrue};
 ghost use Rattle.toml.specs.View.{table_view, view};
-ghost use Rattle.smx_config.specs.Keys.{number_row, is_number};
+ghost use Rattle.smx_config.specs.Keys.{number_row, all_numbers, is_number, is_read};
 ghost use Rattle.smx_config.specs.Reading.{number_of, number_or_default};
 
 use crate::section::Section;
@@ -20,7 +20,7 @@ pub(crate) enum Number {
     History,
 }
 
-/// What holds of a key with a number.
+/// The range of a key with a number, and where it stands.
 #[derive(Clone, Copy, Debug)]
 pub(crate) struct NumberRule {
     /// The table where the key stands.
@@ -31,18 +31,9 @@ pub(crate) struct NumberRule {
     pub(crate) most: u32,
     /// The number where the key is absent.
     pub(crate) default: u32,
-    /// What the number is, in words for a person.
-    pub(crate) means: &'static str,
 }
 
-fn row(
-    section: Section,
-    key: &'static str,
-    least: u32,
-    most: u32,
-    default: u32,
-    means: &'static str,
-) -> NumberRule
+fn row(section: Section, key: &'static str, least: u32, most: u32, default: u32) -> NumberRule
     ensures section { result.section ≡ section }
     ensures key { result.key.now ≡ key.now }
     ensures least { result.least ≡ least }
@@ -55,11 +46,18 @@ fn row(
         least,
         most,
         default,
-        means,
     }
 }
 
 impl Number {
+    /// Every key with a number, in the order in which they are told of.
+    pub(crate) fn all() -> &'static [Number]
+        ensures { result.now ≡ all_numbers }
+    {
+        use Number::{Client, Clients, History, Places, Queue, Silence, Window};
+        &[Clients, Places, Silence, Queue, Window, Client, History]
+    }
+
     /// The row of the key.
     pub(crate) fn rule(self) -> NumberRule
         ensures section { result.section ≡ (number_row self).section }
@@ -67,67 +65,17 @@ impl Number {
         ensures least { result.least ≡ (number_row self).least }
         ensures most { result.most ≡ (number_row self).most }
         ensures default { result.default ≡ (number_row self).default }
+        ensures read { IsTrue (is_read (number_row self).section (number_row self).key) }
     {
         use Section::{Limits, Top};
         match self {
-            Number::Clients => row(
-                Top,
-                "clients",
-                1,
-                256,
-                8,
-                "connections of clients at a time",
-            ),
-            Number::Places => row(
-                Top,
-                "box",
-                1,
-                256,
-                16,
-                "messages that wait for a client; as many again that it was sent and has not answered",
-            ),
-            Number::Silence => row(
-                Top,
-                "silence",
-                1,
-                3_600_000,
-                30_000,
-                "milliseconds without an octet of a centre before it is enquired; also how long a \
-                 connection to it, its bind and its answer to the enquiry may take, and the pause \
-                 before the next try",
-            ),
-            Number::Queue => row(
-                Limits,
-                "queue",
-                1,
-                65_535,
-                100,
-                "requests accepted and not sent yet",
-            ),
-            Number::Window => row(
-                Limits,
-                "window",
-                1,
-                1_024,
-                10,
-                "requests sent and not answered yet",
-            ),
-            Number::Client => row(
-                Limits,
-                "client",
-                1,
-                256,
-                20,
-                "requests of one client that were accepted and whose responses it has not got",
-            ),
-            Number::History => row(
-                Limits,
-                "history",
-                1_000,
-                1_000_000,
-                100_000,
-                "entries that the lane stores, with the room that must be left ([below](#history))",
-            ),
+            Number::Clients => row(Top, "clients", 1, 256, 8),
+            Number::Places => row(Top, "box", 1, 256, 16),
+            Number::Silence => row(Top, "silence", 1, 3_600_000, 30_000),
+            Number::Queue => row(Limits, "queue", 1, 65_535, 100),
+            Number::Window => row(Limits, "window", 1, 1_024, 10),
+            Number::Client => row(Limits, "client", 1, 256, 20),
+            Number::History => row(Limits, "history", 1_000, 1_000_000, 100_000),
         }
     }
 

@@ -1,23 +1,10 @@
 //! Keys that nobody reads, in words for a person.
 
+use crate::section::Section;
 use crate::table::find;
 use std::alloc::{AllocError, Global};
 use strsim::levenshtein;
 use toml::{Table, Value};
-
-/// The keys of a whole configuration.
-const TOP: [&str; 7] = [
-    "listen", "clients", "box", "silence", "limits", "upstream", "account",
-];
-
-/// The keys of `limits`.
-const LIMITS: [&str; 4] = ["queue", "window", "client", "history"];
-
-/// The keys of an upstream.
-const UPSTREAM: [&str; 3] = ["address", "system_id", "password"];
-
-/// The keys of an account.
-const ACCOUNT: [&str; 3] = ["system_id", "password", "prefixes"];
 
 // The first of the names that is nearest to a key.
 fn nearest(alloc: Global, key: &str, names: &[&'static str]) -> Result<&'static str, AllocError> {
@@ -33,16 +20,17 @@ fn nearest(alloc: Global, key: &str, names: &[&'static str]) -> Result<&'static 
     Ok(best)
 }
 
-// Words on a key that isn't among the names. Of its value they show a number alone, since a text may
+// Words on a key that a table isn't read for. Of its value they show a number alone, since a text may
 // be a password.
 fn on_key(
     alloc: Global,
     place: &str,
     key: &str,
     value: &Value,
-    names: &[&'static str],
+    section: Section,
 ) -> Result<String, AllocError> {
-    let best = nearest(alloc, key, names)?;
+    let names = section.keys(alloc)?;
+    let best = nearest(alloc, key, &names)?;
     match value.as_integer() {
         Some(number) => {
             format!(in alloc; "{place}{key} = {number} is not read: did you mean {best}?")
@@ -51,18 +39,18 @@ fn on_key(
     }
 }
 
-// Adds words on each key of a table that isn't among the names.
+// Adds words on each key of a table that isn't read there.
 fn on_table(
     alloc: Global,
     place: &str,
     table: &Table,
-    names: &[&'static str],
+    section: Section,
     all: &mut Vec<String>,
 ) -> Result<(), AllocError> {
     for (key, value) in table.iter() {
         let key = key.as_str();
-        if !names.contains(&key) {
-            all.push(on_key(alloc, place, key, value, names)?)?;
+        if !section.reads(key) {
+            all.push(on_key(alloc, place, key, value, section)?)?;
         }
     }
     Ok(())
@@ -73,7 +61,7 @@ fn on_list(
     alloc: Global,
     key: &str,
     table: &Table,
-    names: &[&'static str],
+    section: Section,
     all: &mut Vec<String>,
 ) -> Result<(), AllocError> {
     let Some(value) = find(table, key) else {
@@ -85,7 +73,7 @@ fn on_list(
     for (index, value) in values.iter().enumerate() {
         if let Some(item) = value.as_table() {
             let place = format!(in alloc; "{key} {index}: ")?;
-            on_table(alloc, place.as_str(), item, names, all)?;
+            on_table(alloc, place.as_str(), item, section, all)?;
         }
     }
     Ok(())
@@ -100,13 +88,13 @@ pub fn unread(alloc: Global, text: &str) -> Result<Vec<String>, AllocError> {
         Err(error) if error.is_memory() => return Err(AllocError),
         Err(_) => return Ok(all),
     };
-    on_table(alloc, "", &table, &TOP, &mut all)?;
+    on_table(alloc, "", &table, Section::Top, &mut all)?;
     if let Some(value) = find(&table, "limits") {
         if let Some(limits) = value.as_table() {
-            on_table(alloc, "limits: ", limits, &LIMITS, &mut all)?;
+            on_table(alloc, "limits: ", limits, Section::Limits, &mut all)?;
         }
     }
-    on_list(alloc, "upstream", &table, &UPSTREAM, &mut all)?;
-    on_list(alloc, "account", &table, &ACCOUNT, &mut all)?;
+    on_list(alloc, "upstream", &table, Section::Upstream, &mut all)?;
+    on_list(alloc, "account", &table, Section::Account, &mut all)?;
     Ok(all)
 }

@@ -1,7 +1,8 @@
 //! The texts of a configuration.
 ghost use Rattle.std.specs.Prelude.{◌≡◌, IfSome, IsTrue, option_copied};
+ghost use Rattle.std.specs.List.{list_all};
 ghost use Rattle.toml.specs.View.{table_view, view};
-ghost use Rattle.smx_config.specs.Keys.{text_row, has_zero, is_text};
+ghost use Rattle.smx_config.specs.Keys.{text_row, all_texts, stands_in, has_zero, is_text, is_read};
 ghost use Rattle.smx_config.specs.Reading.{text_of, text_at, text_in};
 
 use crate::section::Section;
@@ -56,6 +57,14 @@ fn row(
 }
 
 impl Text {
+    /// Every key with texts, in the order in which they are told of.
+    pub(crate) fn all() -> &'static [Text]
+        ensures { result.now ≡ all_texts }
+    {
+        use Text::{Address, Listen, Password, Prefix, SystemId};
+        &[Listen, Address, SystemId, Password, Prefix]
+    }
+
     /// The row of the key.
     pub(crate) fn rule(self) -> TextRule
         ensures sections { result.sections.now ≡ (text_row self).sections }
@@ -63,6 +72,8 @@ impl Text {
         ensures fewest { result.fewest ≡ (text_row self).fewest }
         ensures longest { result.longest ≡ (text_row self).longest }
         ensures may_have_zero { result.may_have_zero ≡ (text_row self).may_have_zero }
+        ensures read { IsTrue (list_all (λ section. is_read section (text_row self).key)
+            (text_row self).sections) }
     {
         use Section::{Account, Top, Upstream};
         match self {
@@ -72,6 +83,13 @@ impl Text {
             Text::Password => row(&[Upstream, Account], "password", 0, 8, false),
             Text::Prefix => row(&[Account], "prefixes", 0, 64, true),
         }
+    }
+
+    /// Whether the key stands in this table.
+    pub(crate) fn stands_in(self, section: Section) -> bool
+        ensures { result ≡ stands_in section self }
+    {
+        self.rule().sections.iter().any(|own| section.is(*own))
     }
 
     fn allows(self, text: &str) -> bool
