@@ -79,6 +79,27 @@ impl Number {
         }
     }
 
+    /// What the number is, in words for a person.
+    pub(crate) fn means(self) -> &'static str {
+        match self {
+            Number::Clients => "connections of clients at a time",
+            Number::Places => {
+                "messages that wait for a client; as many again that it was sent and has not answered"
+            }
+            Number::Silence => {
+                "milliseconds without an octet of a centre before it is enquired; also how long a \
+                 connection to it, its bind and its answer to the enquiry may take, and the pause \
+                 before the next try"
+            }
+            Number::Queue => "requests accepted and not sent yet",
+            Number::Window => "requests sent and not answered yet",
+            Number::Client => {
+                "requests of one client that were accepted and whose responses it has not got"
+            }
+            Number::History => "entries that the lane stores, with the room that must be left",
+        }
+    }
+
     fn allows(self, number: u32) -> bool
         ensures { result ≡ is_number self number }
     {

@@ -20,6 +20,12 @@ pub(crate) enum Section {
 }
 
 impl Section {
+    /// Every table, in the order in which they are told of.
+    pub(crate) fn all() -> &'static [Section] {
+        use Section::{Account, Limits, Top, Upstream};
+        &[Top, Limits, Upstream, Account]
+    }
+
     pub(crate) fn is(self, other: Section) -> bool
         ensures { result ≡ is_same self other }
     {

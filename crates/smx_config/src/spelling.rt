@@ -1,4 +1,7 @@
 //! Keys that nobody reads, in words for a person.
+ghost use Rattle.std.specs.Prelude.{◌≡◌, ◌+◌, length, IfOk, OnOk};
+ghost use Rattle.toml.specs.View.{table_view, view, items_view};
+ghost use Rattle.smx_config.specs.Unread.{unread_in, unread_within, unread_below, unread_among, unread_listed, unread_of, unread_count};
 
 use crate::section::Section;
 use crate::table::find;
@@ -20,7 +23,7 @@ fn nearest(alloc: Global, key: &str, names: &[&'static str]) -> Result<&'static 
     Ok(best)
 }
 
-// Words on a key that a table isn't read for. Of its value they show a number alone, since a text may
+// Words on a key that isn't read in its table. Of its value they show a number alone, since a text may
 // be a password.
 fn on_key(
     alloc: Global,
@@ -46,12 +49,72 @@ fn on_table(
     table: &Table,
     section: Section,
     all: &mut Vec<String>,
-) -> Result<(), AllocError> {
+) -> Result<(), AllocError>
+    ensures { OnOk result (length all.new.items
+        ≡ length all.old.items + unread_in section (table_view table.now)) }
+{
     for (key, value) in table.iter() {
         let key = key.as_str();
         if !section.reads(key) {
             all.push(on_key(alloc, place, key, value, section)?)?;
         }
+    }
+    Ok(())
+}
+
+// The same of a value, where that is a table.
+fn on_value(
+    alloc: Global,
+    place: &str,
+    value: &Value,
+    section: Section,
+    all: &mut Vec<String>,
+) -> Result<(), AllocError>
+    ensures { OnOk result (length all.new.items
+        ≡ length all.old.items + unread_within section (view value.now)) }
+{
+    match value.as_table() {
+        Some(table) => on_table(alloc, place, table, section, all),
+        None => Ok(()),
+    }
+}
+
+// The same of the table at a key.
+fn on_member(
+    alloc: Global,
+    key: &str,
+    table: &Table,
+    section: Section,
+    all: &mut Vec<String>,
+) -> Result<(), AllocError>
+    ensures { OnOk result (length all.new.items
+        ≡ length all.old.items + unread_below section key.now (table_view table.now)) }
+{
+    match find(table, key) {
+        Some(value) => {
+            let place = format!(in alloc; "{key}: ")?;
+            on_value(alloc, place.as_str(), value, section, all)
+        }
+        None => Ok(()),
+    }
+}
+
+// The same of each of these values that is a table, the items of the list at a key.
+fn on_items(
+    alloc: Global,
+    key: &str,
+    values: &[Value],
+    section: Section,
+    all: &mut Vec<String>,
+) -> Result<(), AllocError>
+    ensures { OnOk result (length all.new.items
+        ≡ length all.old.items + unread_among section (items_view values.now)) }
+{
+    let mut index = 0_usize;
+    for value in values {
+        let place = format!(in alloc; "{key} {index}: ")?;
+        on_value(alloc, place.as_str(), value, section, all)?;
+        index = index.saturating_add(1);
     }
     Ok(())
 }
@@ -63,38 +126,39 @@ fn on_list(
     table: &Table,
     section: Section,
     all: &mut Vec<String>,
-) -> Result<(), AllocError> {
-    let Some(value) = find(table, key) else {
-        return Ok(());
-    };
-    let Some(values) = value.as_array() else {
-        return Ok(());
-    };
-    for (index, value) in values.iter().enumerate() {
-        if let Some(item) = value.as_table() {
-            let place = format!(in alloc; "{key} {index}: ")?;
-            on_table(alloc, place.as_str(), item, section, all)?;
-        }
+) -> Result<(), AllocError>
+    ensures { OnOk result (length all.new.items
+        ≡ length all.old.items + unread_listed section key.now (table_view table.now)) }
+{
+    match find(table, key) {
+        Some(value) => match value.as_array() {
+            Some(values) => on_items(alloc, key, values.as_slice(), section, all),
+            None => Ok(()),
+        },
+        None => Ok(()),
     }
-    Ok(())
+}
+
+// A sentence on each key of a whole configuration that nobody reads.
+fn on_whole(alloc: Global, table: &Table) -> Result<Vec<String>, AllocError>
+    ensures { IfOk result (λ all. length all.items ≡ unread_of (table_view table.now)) }
+{
+    let mut all = Vec::new(alloc);
+    on_table(alloc, "", table, Section::Top, &mut all)?;
+    on_member(alloc, "limits", table, Section::Limits, &mut all)?;
+    on_list(alloc, "upstream", table, Section::Upstream, &mut all)?;
+    on_list(alloc, "account", table, Section::Account, &mut all)?;
+    Ok(all)
 }
 
 /// A sentence on each key of a text that nobody reads, with the known key that is nearest. There is
 /// none where the text isn't TOML. Of the words no clause says anything.
-pub fn unread(alloc: Global, text: &str) -> Result<Vec<String>, AllocError> {
-    let mut all = Vec::new(alloc);
-    let table = match toml::table_from_str(alloc, text) {
-        Ok(table) => table,
-        Err(error) if error.is_memory() => return Err(AllocError),
-        Err(_) => return Ok(all),
-    };
-    on_table(alloc, "", &table, Section::Top, &mut all)?;
-    if let Some(value) = find(&table, "limits") {
-        if let Some(limits) = value.as_table() {
-            on_table(alloc, "limits: ", limits, Section::Limits, &mut all)?;
-        }
+pub fn unread(alloc: Global, text: &str) -> Result<Vec<String>, AllocError>
+    ensures count { IfOk result (λ all. length all.items ≡ unread_count text.now) }
+{
+    match toml::table_from_str(alloc, text) {
+        Ok(table) => on_whole(alloc, &table),
+        Err(error) if error.is_memory() => Err(AllocError),
+        Err(_) => Ok(Vec::new(alloc)),
     }
-    on_list(alloc, "upstream", &table, Section::Upstream, &mut all)?;
-    on_list(alloc, "account", &table, Section::Account, &mut all)?;
-    Ok(all)
 }

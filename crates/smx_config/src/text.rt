@@ -85,6 +85,22 @@ impl Text {
         }
     }
 
+    /// What the text is in a table, in words for a person.
+    pub(crate) fn means(self, section: Section) -> &'static str {
+        match (self, section) {
+            (Text::Listen, _) => "where clients connect, as `\"127.0.0.1:2775\"`",
+            (Text::Address, _) => "where the centre listens, as `\"127.0.0.1:2776\"`",
+            (Text::SystemId, Section::Account) => "what the client calls itself",
+            (Text::SystemId, _) => "the proxy's own name there (SMPP 3.4, section 5.2.1)",
+            (Text::Password, Section::Account) => "",
+            (Text::Password, _) => "the proxy's own password there (section 5.2.2)",
+            (Text::Prefix, _) => {
+                "the client gets messages whose destination begins with one of these; `\"\"` begins \
+                 every address"
+            }
+        }
+    }
+
     /// Whether the key stands in this table.
     pub(crate) fn stands_in(self, section: Section) -> bool
         ensures { result ≡ stands_in section self }
