@@ -43,16 +43,6 @@ text_at key ms = option_and_then (text_of key) (get_member (text_row key).key ms
 abbrev pub text_in : Text → Data → Option (List ℕ)
 text_in key d = option_and_then (text_of key) (get (text_row key).key d)
 
--- clients, box and silence, where each is in its range
-abbrev pub all_three : Option ℕ → Option ℕ → Option ℕ → Option (ℕ × ℕ × ℕ)
-all_three None places silence = None
-all_three (Some clients) None silence = None
-all_three (Some clients) (Some places) None = None
-all_three (Some clients) (Some places) (Some silence) = Some (clients, places, silence)
-
-abbrev pub numbers_of : Members → Option (ℕ × ℕ × ℕ)
-numbers_of ms = all_three (number_or_default number.Clients ms) (number_or_default number.Places ms) (number_or_default number.Silence ms)
-
 -- a lane's limits, where each is in its range
 abbrev pub all_four : Option ℕ → Option ℕ → Option ℕ → Option ℕ → Option Limits
 all_four None window client history = None
@@ -146,13 +136,15 @@ accounts_of ds = faulty fault.Account (stated_after account_in [] ds)
 abbrev pub config_of : Members → Result Settings ConfigFault
 config_of ms =
     on (ok_or (text_at text.Listen ms) fault.Listen) (λ listen.
-    on (ok_or (numbers_of ms) fault.Numbers) (λ numbers.
+    on (ok_or (number_or_default number.Clients ms) fault.Numbers) (λ clients.
+    on (ok_or (number_or_default number.Places ms) fault.Numbers) (λ places.
+    on (ok_or (number_or_default number.Silence ms) fault.Numbers) (λ silence.
     on (ok_or (limits_at ms) fault.Limits) (λ limits.
     on (ok_or (tables_at (codes "upstream") 16 ms) fault.Upstreams) (λ upstreams.
     on (upstreams_of upstreams) (λ upstream.
     on (ok_or (tables_at (codes "account") 256 ms) fault.Accounts) (λ accounts.
     on (accounts_of accounts) (λ account.
-    Ok (record { listen = listen; clients = numbers.0; places = numbers.1; silence = numbers.2; limits = limits; upstream = upstream; account = account }))))))))
+    Ok (record { listen = listen; clients = clients; places = places; silence = silence; limits = limits; upstream = upstream; account = account }))))))))))
 
 -- the settings that a text states, or its first fault
 abbrev pub settings_of : List ℕ → Result Settings ConfigFault
