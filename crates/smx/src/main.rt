@@ -41,6 +41,7 @@ fn main(rt: HostRuntime) -> ExitCode {
         Ok(Asked::Relay(None)) => relaying::run_input(&rt, rt.stdin().is_terminal()),
         Ok(Asked::Relay(Some(path))) => relaying::run_file(&rt, path),
         Ok(Asked::Check(path)) => config_file::run(&rt, path),
+        Ok(Asked::Keys) => config_file::tell_keys(&rt),
         Ok(Asked::Serve(path, always_reads)) => {
             let Some(config) = config_of(&rt, path) else {
                 return ExitCode::FAILURE;
