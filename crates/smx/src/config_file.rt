@@ -1,6 +1,8 @@
 //! The check of a configuration's file.
 use crate::watched::{Because, Watched};
-use smx_config::{Config, ConfigFault, FileFault, advice, check, read, read_text, reject, unread};
+use smx_config::{
+    Config, ConfigFault, FileFault, advice, check, key_table, read, read_text, reject, unread,
+};
 use std::process::ExitCode;
 use std::rt::Files;
 use std::{fs, io};
@@ -108,6 +110,21 @@ pub(crate) fn run<R: Files + Print + Eprint + AllocGlobal>(rt: &R, path: &str) -
         }
         Err(fault) => {
             refuse(rt, fault);
+            ExitCode::FAILURE
+        }
+    }
+}
+
+/// Writes the table of the keys that a configuration may have to standard output.
+pub(crate) fn tell_keys<R: Print + Eprint + AllocGlobal>(rt: &R) -> ExitCode {
+    let Ok(table) = key_table(rt.alloc()) else {
+        let _ = eprintln!(rt; "out of memory");
+        return ExitCode::FAILURE;
+    };
+    match print!(rt; "{table}") {
+        Ok(()) => ExitCode::SUCCESS,
+        Err(error) => {
+            let _ = eprintln!(rt; "{error}");
             ExitCode::FAILURE
         }
     }

@@ -14,6 +14,9 @@ use std::io::IsTerminal;
 use std::process::ExitCode;
 use std::thread;
 
+/// The status where `serve` has no configuration to run by: EX_CONFIG of sysexits.h.
+const CONFIG: u8 = 78;
+
 fn main(rt: HostRuntime) -> ExitCode {
     let words = match words_of(&rt) {
         Ok(words) => words,
@@ -23,9 +26,10 @@ fn main(rt: HostRuntime) -> ExitCode {
         Ok(Asked::Relay(None)) => relaying::run_input(&rt, rt.stdin().is_terminal()),
         Ok(Asked::Relay(Some(path))) => relaying::run_file(&rt, path),
         Ok(Asked::Check(path)) => config_file::run(&rt, path),
+        Ok(Asked::Keys) => config_file::tell_keys(&rt),
         Ok(Asked::Serve(path, always_reads)) => {
             let Some(config) = config_of(&rt, path) else {
-                return ExitCode::FAILURE;
+                return ExitCode::from(CONFIG);
             };
             let Some(server) = Server::new(&rt, rt.alloc()) else {
                 let _ = eprintln!(rt; "{}", Ended::NoEvents);

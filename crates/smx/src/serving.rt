@@ -1,6 +1,6 @@
 //! The proxy, what stops it, and who writes its lines.
 use smx_config::Config;
-use smx_serve::{Ended, Log, Remote, Server};
+use smx_serve::{Ended, Log, Notice, Remote, Server};
 use std::io::{ErrorKind, Read, Write};
 use std::net::{Net, TcpListener, TcpStream};
 use std::process::ExitCode;
@@ -82,7 +82,7 @@ where
     let ended = server.serve(&rt, rt.alloc(), config);
     let is_stopped = ended == Ended::Stopped;
     if !is_stopped {
-        log.say(&rt, ended);
+        log.say(&rt, Notice::Ended(ended));
     }
     log.finish(&rt);
     if is_stopped {

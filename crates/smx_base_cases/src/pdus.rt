@@ -6,4 +6,5 @@ mod clients;
 mod codec;
 mod frames;
 mod spelling;
+mod statuses;
 mod upstreams;

@@ -41,7 +41,7 @@ mark_keeps a WriteFailed b h = kept a b _ h (record { asked = refl; told = refl;
 mark_keeps a Waited b h = kept a b _ h (record { asked = refl; told = refl; events = refl; parts = refl; polls = refl })
 mark_keeps a Clogs b h = kept a b _ h.1 (record { asked = refl; told = refl; events = refl; parts = refl; polls = refl })
 mark_keeps a NoRoom b h = kept a b _ h.1 (record { asked = refl; told = refl; events = refl; parts = refl; polls = refl })
-mark_keeps a Part b h = kept a b _ h (record { asked = refl; told = refl; events = refl; parts = refl; polls = refl })
+mark_keeps a Part b h = kept a b _ h.1 (record { asked = refl; told = refl; events = refl; parts = refl; polls = refl })
 mark_keeps a (Entered account whole) b h = kept a b _ h.1 (record { asked = refl; told = refl; events = refl; parts = refl; polls = refl })
 
 step_asked : (n : ℕ) (a : Scene) (s : Step Mark Event) (b : Scene) → Acts n a s b → b.asked ≡ a.asked ++ ask_of n s
@@ -80,7 +80,7 @@ mark_fails a WriteFailed b h = ap (λ o. o.failures) h
 mark_fails a Waited b h = let k = ap (λ o. o.failures) h in omega (arith, k)
 mark_fails a Clogs b h = let k = ap (λ o. o.failures) h.1 in omega (arith, k)
 mark_fails a NoRoom b h = let k = ap (λ o. o.failures) h.1 in omega (arith, k)
-mark_fails a Part b h = let k = ap (λ o. o.failures) h in omega (arith, k)
+mark_fails a Part b h = let k = ap (λ o. o.failures) h.1 in omega (arith, k)
 mark_fails a (Entered account whole) b h = let k = ap (λ o. o.failures) h.1 in omega (arith, k)
 
 step_fails : (n : ℕ) (a : Scene) (s : Step Mark Event) (b : Scene) → Acts n a s b → b.failures ≡ a.failures + fault_of s
@@ -101,7 +101,7 @@ mark_offers a WriteFailed b h = (a.unsent, ap (λ o. o.offered) h)
 mark_offers a Waited b h = no_more a b (ap (λ o. o.offered) h)
 mark_offers a Clogs b h = no_more a b (ap (λ o. o.offered) h.1)
 mark_offers a NoRoom b h = no_more a b (ap (λ o. o.offered) h.1)
-mark_offers a Part b h = no_more a b (ap (λ o. o.offered) h)
+mark_offers a Part b h = no_more a b (ap (λ o. o.offered) h.1)
 mark_offers a (Entered account whole) b h = no_more a b (ap (λ o. o.offered) h.1)
 
 step_offers : (n : ℕ) (a : Scene) (s : Step Mark Event) (b : Scene) → Acts n a s b → More a b

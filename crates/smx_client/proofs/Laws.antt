@@ -1,5 +1,5 @@
 -- What a chain of events comes to.
-use Rattle.std.proofs.Common.{◌≡◌, ◌<◌, ℕ, List, [], ◌∷◌, ◌++◌, Option, sym, ◌∙◌, ap, subst, append_assoc}
+use Rattle.std.proofs.Common.{◌≡◌, ◌<◌, ℕ, List, [], ◌∷◌, ◌++◌, length, Option, sym, ◌∙◌, ap, subst, append_assoc}
 use Rattle.std.proofs.lemmas.List.{append-nil}
 use Rattle.std.proofs.Math.Logic.{∥∥₁_map, ∥∥₁_elim}
 use Rattle.std.proofs.Props.{props}
@@ -9,12 +9,12 @@ use Rattle.smx_shared.specs.Offers.{Accepted}
 use Rattle.smx_shared.specs.Ports.{HasAccepted}
 use Rattle.smx_turns.specs.Runs.{Runs}
 use Rattle.smx_client.specs.declared.event.Event.{Event}
-use Rattle.smx_client.specs.Replies.{parked_on}
+use Rattle.smx_client.specs.Replies.{put_in, parked_on}
 use Rattle.smx_client.specs.Events.{out_of, event_accepts, event_answers, outs, accepts, answers}
 use Rattle.smx_client.specs.Parts.{Parts, Does, Chain}
 
 abbrev due : ℕ → Parts → List (Option Pdu)
-due k a = a.put k ++ parked_on k a.parked
+due k a = put_in a.senders k ++ parked_on k a.parked
 
 runs_says : (a b : Parts) (es : List Event) → Runs Does a es b → b.said ≡ a.said ++ flat_map out_of es
 unfolding Runs
@@ -22,7 +22,7 @@ runs_says a b [] r = ap (λ x. x.said) r ∙ sym (append-nil a.said)
 runs_says a b (e ∷ es) r =
     runs_says r.0 b es r.2 ∙ ap (λ l. l ++ flat_map out_of es) r.1.says ∙ append_assoc a.said (out_of e) (flat_map out_of es)
 
-runs_answers : (k : ℕ) (a b : Parts) (es : List Event) → k < a.lanes → Runs Does a es b → due k b ≡ due k a ++ flat_map (event_answers k) es
+runs_answers : (k : ℕ) (a b : Parts) (es : List Event) → k < length a.senders → Runs Does a es b → due k b ≡ due k a ++ flat_map (event_answers k) es
 unfolding Runs
 runs_answers k a b [] within r = ap (λ x. due k x) r ∙ sym (append-nil (due k a))
 runs_answers k a b (e ∷ es) within r =
@@ -40,7 +40,7 @@ pub chain_says : (a b : Parts) (es : List Event) → Chain a es b → b.said ≡
 unfolding outs
 chain_says a b es ran = ∥∥₁_elim ran (hlevel props) (λ r. runs_says a b es r)
 
-pub chain_answers : (k : ℕ) (a b : Parts) (es : List Event) → k < a.lanes → Chain a es b → due k b ≡ due k a ++ answers k es
+pub chain_answers : (k : ℕ) (a b : Parts) (es : List Event) → k < length a.senders → Chain a es b → due k b ≡ due k a ++ answers k es
 unfolding answers
 chain_answers k a b es within ran = ∥∥₁_elim ran (hlevel props) (λ r. runs_answers k a b es within r)
 

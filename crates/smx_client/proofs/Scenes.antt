@@ -14,7 +14,7 @@ use Rattle.smx_client.specs.declared.mark.Mark.{Mark}
 use Rattle.smx_client.specs.declared.event.Event.{Event}
 use Rattle.smx_client.specs.Events.{out_of, tells_of}
 use Rattle.smx_client.specs.Parts.{Parts, Does}
-use Rattle.smx_client.specs.Turns.{Scene, scene, Happens, Offers, Acts, Changes, is_some_left}
+use Rattle.smx_client.specs.Turns.{Scene, scene, Fits, Happens, Offers, Acts, Changes, is_some_left}
 
 -- one step more
 pub step_more : (n : ℕ) (a b : Scene) (ss ss' : List (Step Mark Event)) (s : Step Mark Event) (base : Scene) → ss' ≡ ss ++ s ∷ [] → Acts n a s b → Changes n base ss a → Changes n base ss' b
@@ -32,9 +32,10 @@ asks q q' t t' queries es v u o ps f x asked told =
 module _ {L : Type 0} (offered : L → List ℕ) (polls : L → List (Result Polled LinkFault)) (failures : L → ℕ) where
   -- an event
   pub happens : (asked asked' : List Question) (told told' : List Party) (queries : List Query) (es es' : List Event) (v v' : Parts) (u u' : List ℕ) (l l' : L) (e : Event)
-      → Does v e v' → asked' ≡ asked → told' ≡ told ++ tells_of e → es' ≡ es ++ e ∷ [] → u' ≡ u ++ spellings (out_of e) → l' ≡ l
+      → Fits u e → Does v e v' → asked' ≡ asked → told' ≡ told ++ tells_of e → es' ≡ es ++ e ∷ [] → u' ≡ u ++ spellings (out_of e) → l' ≡ l
       → Happens (scene asked told queries es v u (offered l) (polls l) (failures l)) e (scene asked' told' queries es' v' u' (offered l') (polls l') (failures l'))
-  happens asked asked' told told' queries es es' v v' u u' l l' e does same tells grown says link = record {
+  happens asked asked' told told' queries es es' v v' u u' l l' e fits does same tells grown says link = record {
+    fits = fits;
     does = does;
     same = ap (λ o. scene o told' queries es' v' u' (offered l') (polls l') (failures l')) same
         ∙ ap (λ o. scene asked o queries es' v' u' (offered l') (polls l') (failures l')) tells

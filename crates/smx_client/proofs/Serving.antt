@@ -1,5 +1,5 @@
 -- What a worker keeps by one event more.
-use Rattle.std.proofs.Common.{◌≡◌, ◌≢◌, List, [], ◌∷◌, ◌++◌, Bool, true, false, true≢false, Option, Some, None, Result, sym, ◌∙◌, ap, subst, append_assoc}
+use Rattle.std.proofs.Common.{◌≡◌, ◌≢◌, ◌<◌, List, [], ◌∷◌, ◌++◌, length, Bool, true, false, true≢false, Option, Some, None, Result, sym, ◌∙◌, ap, subst, append_assoc}
 use Rattle.std.specs.List.{flat_map}
 use Rattle.smx_pdu.specs.declared.pdu.Pdu.{Pdu}
 use Rattle.smx_frame.specs.Stream.{HasNone}
@@ -29,6 +29,10 @@ decides h h' p q same had none = ap (λ o. q ∷ held_list o) none ∙ ap (λ (x
 -- not every whole PDU was decided
 pub undecided : {A : Type 0} (b : Bool) → b ≡ false → b ≡ true → A
 undecided b some_left none_left = absurd (true≢false (sym none_left ∙ some_left))
+
+-- fewer than 65,536 octets wait of the same worker
+pub as_below : {L : Type 0} (v w : Serving L) → v ≡ w → length w.wire.unsent < 65536 → length v.wire.unsent < 65536
+as_below {L = L} v w same below = subst (λ (x : Serving L). length x.wire.unsent < 65536) (sym same) below
 
 module _ {L : Type 0} (polls : L → List (Result Polled LinkFault)) where
   -- over the same link it is closed as before

@@ -2,9 +2,10 @@
 use Rattle.std.specs.Prelude.{ℕ, Bool, true, false, List, [], ◌∷◌, ◌++◌, Option, Some, None, Result, Ok, Err}
 use Rattle.std.specs.List.{flat_map}
 use Rattle.smx_pdu.specs.declared.pdu.Pdu.{Pdu}
-use Rattle.smx_pdu.specs.declared.status.TheConstants.{ESME_RSYSERR, ESME_RMSGQFUL}
 use Rattle.smx_pdu.specs.Command.{response_of}
-use Rattle.smx_pdu.specs.Answers.{response}
+use Rattle.smx_history.specs.declared.telling.Unaccepted.{Unaccepted}
+use Rattle.smx_history.specs.declared.telling.Unaccepted.TheVariants.{AllFull, UsedUp}
+use Rattle.smx_history.specs.Failures.{refusal_of}
 use Rattle.smx_session.specs.declared.act.Act.{Act}
 use Rattle.smx_session.specs.declared.act.Act.TheVariants as act
 use Rattle.smx_shared.specs.declared.offer.Offer.{Offer}
@@ -29,11 +30,11 @@ use Rattle.smx_client.specs.declared.reply.Reply.{Reply}
 use Rattle.smx_client.specs.declared.reply.Reply.TheVariants as reply
 use Rattle.smx_client.specs.Replies.{answer_up, refused_up, on_lane, if_taken, parked_on}
 
--- the status that answers a refused request
-abbrev pub status_of : SubmitFault → ℕ
-status_of submit.Exhausted = ESME_RSYSERR
-status_of submit.Spent = ESME_RSYSERR
-status_of submit.AllFull = ESME_RMSGQFUL
+-- why no lane accepted a request, as its client is told
+abbrev pub why_unaccepted : SubmitFault → Unaccepted
+why_unaccepted submit.Exhausted = UsedUp
+why_unaccepted submit.Spent = UsedUp
+why_unaccepted submit.AllFull = AllFull
 
 -- what the session's act says
 abbrev pub act_out : Act → List Pdu
@@ -48,7 +49,7 @@ act_out act.Ignore = []
 -- the answer to a refused request
 abbrev pub refusal_out : Pdu → Result ℕ (Offer × SubmitFault) → List Pdu
 refusal_out p (Ok lane) = []
-refusal_out p (Err e) = response p (status_of e.1) [] ∷ []
+refusal_out p (Err e) = refusal_of (why_unaccepted e.1) p.command p.number ∷ []
 
 abbrev pub fate_out : Pdu → Fate → List Pdu
 fate_out p Own = []

@@ -12,10 +12,9 @@ use Rattle.smx_turns.specs.Runs.{Runs}
 use Rattle.smx_turns.specs.declared.mo_item.MoItem.{MoItem}
 use Rattle.smx_client.specs.declared.reply.Parked.{Parked}
 use Rattle.smx_client.specs.declared.reply.Reply.{Reply}
-use Rattle.smx_client.specs.declared.reply.Reply.TheVariants.{Nobody}
 use Rattle.smx_client.specs.declared.leaver.Leaving.{Leaving}
 use Rattle.smx_client.specs.declared.leaver.Leaving.TheVariants.{Kept, Row, Item}
-use Rattle.smx_client.specs.Replies.{refused_up, is_answer_taken, PutSo, AnswersSo}
+use Rattle.smx_client.specs.Replies.{refused_up, is_answer_taken, PutSo, AnswersSo, ItemAnswersSo}
 
 -- what is left to be answered
 pub record Rest : Type 0 where
@@ -27,11 +26,6 @@ pub record Rest : Type 0 where
 
 abbrev pub rest_of : Option Parked → Window → Receiving MoItem → List (Sending Pdu) → Rest
 rest_of parked window inbox senders = record { parked = parked; window = window; inbox = inbox; senders = senders }
-
--- the answer to what the box gave, where it is an item, was put so
-abbrev pub ItemAnswersSo : Result (Got MoItem) Spent → Reply → List (Sending Pdu) → List (Sending Pdu) → Type 0
-ItemAnswersSo (Ok (found.Item p n item)) reply ss tt = AnswersSo item.lane (refused_up (response_of item.pdu.command) item.number) reply ss tt
-ItemAnswersSo _ reply ss tt = (reply ≡ Nobody) × (tt ≡ ss)
 
 -- one step of the box served a get, which is never spent
 abbrev pub GivesItem : Receiving MoItem → Result (Got MoItem) Spent → Receiving MoItem → Type 0

@@ -32,7 +32,7 @@ use Rattle.smx_client.specs.declared.event.Fate.{Fate}
 use Rattle.smx_client.specs.declared.event.Fate.TheVariants.{Own, Submitted, Settled}
 use Rattle.smx_client.specs.declared.event.Delivery.{Delivery}
 use Rattle.smx_client.specs.declared.event.Delivery.TheVariants.{Given, Refused, Dropped}
-use Rattle.smx_client.specs.Replies.{Parks, put_in, parked_on}
+use Rattle.smx_client.specs.Replies.{PutSo, ItemAnswersSo, SettlesSo, Parks, put_in, parked_on}
 use Rattle.smx_client.specs.Events.{out_of, event_accepts, event_answers, puts_of}
 
 -- the offer is the request that the PDU asks for
@@ -132,6 +132,24 @@ inbox_step client lanes a (Collected k r) b = b ≡ a
 inbox_step client lanes a (Fetched g d) b = Gets client lanes a g.value d b
 inbox_step client lanes a (PutAgain lane reply) b = b ≡ a
 
+abbrev pub fate_senders : Pdu → Fate → List (Sending Pdu) → List (Sending Pdu) → Type 0
+fate_senders p Own ss tt = tt ≡ ss
+fate_senders p (Submitted o r) ss tt = tt ≡ ss
+fate_senders p (Settled found reply) ss tt = SettlesSo p found reply ss tt
+
+abbrev pub delivery_senders : Result (Got MoItem) BoxSpent → Delivery → List (Sending Pdu) → List (Sending Pdu) → Type 0
+delivery_senders r (Given number) ss tt = tt ≡ ss
+delivery_senders r (Refused reply) ss tt = ItemAnswersSo r reply ss tt
+delivery_senders r Dropped ss tt = tt ≡ ss
+
+-- an answer to a message is put into its lane's return box by one step, or that step found no place, or the sender is spent, or there is none
+abbrev pub senders_step : Option Parked → List (Sending Pdu) → Event → List (Sending Pdu) → Type 0
+senders_step h ss (Decided p a f) tt = fate_senders p.value f ss tt
+senders_step h ss (Broke a) tt = tt ≡ ss
+senders_step h ss (Collected k r) tt = tt ≡ ss
+senders_step h ss (Fetched g d) tt = delivery_senders g.value d ss tt
+senders_step h ss (PutAgain lane reply) tt = (a : Parked) × (h ≡ Some a) × PutSo a.lane a.answer reply ss tt
+
 abbrev pub fate_parks : Fate → Option Parked → Option Parked → Type 0
 fate_parks Own h i = i ≡ h
 fate_parks (Submitted o r) h i = i ≡ h
@@ -158,10 +176,9 @@ pub record Parts : Type 0 where
   pub session : ClientState
   pub window : Window
   pub inbox : Receiving MoItem
-  -- what the return box of each lane was put, the answer that waits for one, and how many there are
-  pub put : ℕ → List (Option Pdu)
+  -- a sender for the return box of each lane, and the answer that waits for one
+  pub senders : List (Sending Pdu)
   pub parked : Option Parked
-  pub lanes : ℕ
 
 -- one event is one step of the parts, as their own contracts say
 pub record Does (v : Parts) (e : Event) (w : Parts) : Type 0 where
@@ -170,12 +187,13 @@ pub record Does (v : Parts) (e : Event) (w : Parts) : Type 0 where
   pub lists : (all : List Accepted) → HasAccepted v.port all → HasAccepted w.port (all ++ event_accepts e)
   pub session : session_step v.desk.accounts.items v.session e w.session
   pub window : window_step v.window e w.window
-  pub inbox : inbox_step v.port.client v.lanes v.inbox e w.inbox
-  pub puts : (k : ℕ) → k < v.lanes → w.put k ≡ v.put k ++ puts_of k v.parked e
-  pub answers : (k : ℕ) → k < v.lanes → w.put k ++ parked_on k w.parked ≡ v.put k ++ parked_on k v.parked ++ event_answers k e
+  pub inbox : inbox_step v.port.client (length v.senders) v.inbox e w.inbox
+  pub senders : senders_step v.parked v.senders e w.senders
+  pub puts : (k : ℕ) → k < length v.senders → put_in w.senders k ≡ put_in v.senders k ++ puts_of k v.parked e
+  pub answers : (k : ℕ) → k < length v.senders → put_in w.senders k ++ parked_on k w.parked ≡ put_in v.senders k ++ parked_on k v.parked ++ event_answers k e
   pub parked : parked_step v.parked e w.parked
   pub desk : w.desk ≡ v.desk
-  pub lanes : w.lanes ≡ v.lanes
+  pub lanes : length w.senders ≡ length v.senders
 
 abbrev pub parts : Desk → List Pdu → PortView → ClientState → Window → Receiving MoItem → List (Sending Pdu) → Option Parked → Parts
 parts desk said port session window inbox senders parked = record {
@@ -185,9 +203,8 @@ parts desk said port session window inbox senders parked = record {
   session = session;
   window = window;
   inbox = inbox;
-  put = put_in senders;
+  senders = senders;
   parked = parked;
-  lanes = length senders;
 }
 
 -- from the parts a the events lead to the parts b

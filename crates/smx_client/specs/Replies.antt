@@ -1,8 +1,13 @@
 -- Answers to messages, for the return boxes of the lanes.
-use Rattle.std.specs.Prelude.{◌≡◌, ◌==◌, ◌<◌, ℕ, Bool, true, false, List, [], ◌∷◌, length, map, Option, Some, None, IsSome, slice_get, if◌then◌else◌}
+use Rattle.std.specs.Prelude.{◌≡◌, ◌==◌, ◌<◌, ℕ, Bool, true, false, List, [], ◌∷◌, length, map, Option, Some, None, IsSome, Result, Ok, slice_get, if◌then◌else◌}
 use Rattle.smx_pdu.specs.declared.pdu.Pdu.{Pdu}
 use Rattle.smx_pdu.specs.declared.status.TheConstants.{ESME_RX_T_APPN}
+use Rattle.smx_pdu.specs.Command.{response_of}
+use Rattle.smx_box.specs.declared.fault.Spent.{Spent as BoxSpent}
+use Rattle.smx_box.specs.declared.receiver.Got.{Got}
+use Rattle.smx_box.specs.declared.receiver.Got.TheVariants.{Item}
 use Rattle.smx_box.specs.Boxes.{Sending}
+use Rattle.smx_turns.specs.declared.mo_item.MoItem.{MoItem}
 use Rattle.smx_turns.specs.Puts.{AtIndex, Puts, FindsFull, FindsSpent, contents_in}
 use Rattle.smx_client.specs.declared.reply.Parked.{Parked}
 use Rattle.smx_client.specs.declared.reply.Reply.{Reply}
@@ -42,6 +47,16 @@ PutSo lane answer Nobody ss tt = ¬ (lane < length ss) × (tt ≡ ss)
 abbrev pub AnswersSo : ℕ → List Pdu → Reply → List (Sending Pdu) → List (Sending Pdu) → Type 0
 AnswersSo lane [] reply ss tt = (reply ≡ Nobody) × (tt ≡ ss)
 AnswersSo lane (p ∷ ps) reply ss tt = PutSo lane p reply ss tt
+
+-- the answer to what the box gave, where it is an item, was put so
+abbrev pub ItemAnswersSo : Result (Got MoItem) BoxSpent → Reply → List (Sending Pdu) → List (Sending Pdu) → Type 0
+ItemAnswersSo (Ok (Item p n item)) reply ss tt = AnswersSo item.lane (refused_up (response_of item.pdu.command) item.number) reply ss tt
+ItemAnswersSo _ reply ss tt = (reply ≡ Nobody) × (tt ≡ ss)
+
+-- the client's answer to a message, where it answers one, was put so under the centre's number
+abbrev pub SettlesSo : Pdu → Option (ℕ × ℕ) → Reply → List (Sending Pdu) → List (Sending Pdu) → Type 0
+SettlesSo p None reply ss tt = (reply ≡ Nobody) × (tt ≡ ss)
+SettlesSo p (Some found) reply ss tt = PutSo found.0 (answer_up p found.1) reply ss tt
 
 -- the answer waits then where its box refused it
 abbrev pub Parks : Reply → Option Parked → Type 0

@@ -1,5 +1,5 @@
 -- What the steps of a turn change.
-use Rattle.std.specs.Prelude.{◌≡◌, ◌==◌, ◌≤◌, ℕ, ◌+◌, Bool, true, false, not, List, [], ◌∷◌, ◌++◌, length, Result}
+use Rattle.std.specs.Prelude.{◌≡◌, ◌==◌, ◌≤◌, ◌<◌, ℕ, ◌+◌, Bool, true, false, not, List, [], ◌∷◌, ◌++◌, length, Result}
 use Rattle.smx_link.specs.declared.link.Polled.{Polled}
 use Rattle.smx_link.specs.declared.link.LinkFault.{LinkFault}
 use Rattle.smx_link.specs.Links.{fault_count}
@@ -13,6 +13,7 @@ use Rattle.smx_turns.specs.Runs.{Runs}
 use Rattle.smx_client.specs.declared.mark.Mark.{Mark}
 use Rattle.smx_client.specs.declared.mark.Mark.TheVariants.{Offered, WriteFailed, Waited, NoRoom, Part, Entered, Full as Clogs}
 use Rattle.smx_client.specs.declared.event.Event.{Event}
+use Rattle.smx_client.specs.declared.event.Event.TheVariants.{Decided, Broke, Collected, PutAgain, Got as Fetched}
 use Rattle.smx_client.specs.Events.{out_of, tells_of}
 use Rattle.smx_client.specs.Parts.{Parts, Does}
 use Rattle.smx_client.specs.Prefixes.{Adds, account_prefixes}
@@ -62,12 +63,21 @@ Marks a WriteFailed b = b ≡ record a { unsent = b.unsent; offered = a.offered 
 Marks a Waited b = b ≡ a
 Marks a Clogs b = (65536 ≤ length a.unsent) × (b ≡ a)
 Marks a NoRoom b = (length a.parts.window.waiting ≡ a.parts.window.places) × (b ≡ a)
-Marks a Part b = b ≡ a
+Marks a Part b = (length a.unsent < 65536) × (b ≡ a)
 Marks a (Entered account whole) b =
     Adds a.parts.port.client (account_prefixes a.parts.desk.prefixes.items account) a.queries b.queries whole × (b ≡ record a { queries = b.queries })
 
+-- fewer than 65,536 octets wait where a PDU is decided, collected or got, or a bad length answered
+abbrev pub Fits : List ℕ → Event → Type 0
+Fits unsent (Decided p a f) = length unsent < 65536
+Fits unsent (Broke a) = length unsent < 65536
+Fits unsent (Collected lane r) = length unsent < 65536
+Fits unsent (Fetched g d) = length unsent < 65536
+Fits unsent (PutAgain lane reply) = Unit {0}
+
 -- an event is a step of the parts, tells the gate, and what it says waits to be written
 pub record Happens (a : Scene) (e : Event) (b : Scene) : Type 0 where
+  pub fits : Fits a.unsent e
   pub does : Does a.parts e b.parts
   pub same : b ≡ record a { told = a.told ++ tells_of e; events = a.events ++ e ∷ []; parts = b.parts; unsent = a.unsent ++ spellings (out_of e) }
 

@@ -1,8 +1,8 @@
 //! What becomes of a client's messages when it leaves.
 ghost use Rattle.std.specs.Prelude.{◌≡◌, ◌+◌, ◌++◌, ◌<◌, [], ◌∷◌, length, None, true, false};
 ghost use Rattle.smx_pdu.specs.Command.{response_of};
-ghost use Rattle.smx_client.specs.Replies.{refused_up, PutSo, AnswersSo};
-ghost use Rattle.smx_client.specs.Leaving.{Left, rest_of, ItemAnswersSo, gets, is_answered, FoundNothing, IsEmptied, IsNothing};
+ghost use Rattle.smx_client.specs.Replies.{refused_up, PutSo, AnswersSo, ItemAnswersSo};
+ghost use Rattle.smx_client.specs.Leaving.{Left, rest_of, gets, is_answered, FoundNothing, IsEmptied, IsNothing};
 
 use crate::reply::{Parked, Reply};
 use smx_box::{Got, PutFault, Receiver, Sender, Spent};

@@ -2,7 +2,7 @@
 ghost use Rattle.std.specs.Prelude.{◌≡◌, ◌++◌, ◌<◌, [], ◌∷◌, ℕ, length, slice_get, IfErr, None};
 ghost use Rattle.smx_pdu.specs.declared.pdu.Pdu.{Pdu};
 ghost use Rattle.smx_pdu.specs.Command.{response_of};
-ghost use Rattle.smx_client.specs.Replies.{answer_up, refused_up, on_lane, if_taken, is_answer_taken, Parks, put_in, parked_on};
+ghost use Rattle.smx_client.specs.Replies.{answer_up, refused_up, on_lane, if_taken, is_answer_taken, PutSo, AnswersSo, SettlesSo, Parks, put_in, parked_on};
 ghost use Rattle.smx_client.specs.Events.{settled_out, is_refused, lane_told, settled_told};
 ghost use Rattle.smx_client.specs.Table.{Phase, IsPart, after_reply, progress_of};
 
@@ -99,6 +99,7 @@ pub(crate) fn put_or_park<R: Wait>(
 ) -> Reply
     requires none { parked.old ≡ None }
     ensures count { length senders.new.items ≡ length senders.old.items }
+    ensures so { PutSo lane answer result senders.old.items senders.new.items }
     ensures parks { Parks result parked.new }
     ensures put { (k : ℕ) → k < length senders.old.items
         → put_in senders.new.items k
@@ -133,6 +134,7 @@ pub(crate) fn answer_settled<R: Wait, G: Gate>(
 ) -> Reply
     requires none { parked.old ≡ None }
     ensures count { length senders.new.items ≡ length senders.old.items }
+    ensures so { SettlesSo pdu found result senders.old.items senders.new.items }
     ensures parks { Parks result parked.new }
     ensures put { (k : ℕ) → k < length senders.old.items
         → put_in senders.new.items k
@@ -163,6 +165,8 @@ pub(crate) fn refuse<R: Wait>(
 ) -> Reply
     requires none { parked.old ≡ None }
     ensures count { length senders.new.items ≡ length senders.old.items }
+    ensures so { AnswersSo lane (refused_up (response_of command) number) result
+        senders.old.items senders.new.items }
     ensures parks { Parks result parked.new }
     ensures put { (k : ℕ) → k < length senders.old.items
         → put_in senders.new.items k

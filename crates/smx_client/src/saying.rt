@@ -1,16 +1,16 @@
 //! What is said to a client.
-ghost use Rattle.std.specs.Prelude.{◌≡◌, ◌++◌, ◌≤◌, ◌<◌, [], ◌∷◌, true, length};
+ghost use Rattle.std.specs.Prelude.{◌≡◌, ◌++◌, ◌≤◌, [], ◌∷◌, true, length};
 ghost use Rattle.smx_pdu.specs.Command.{is_forwarded};
-ghost use Rattle.smx_client.specs.Events.{act_out, refusal_out, response_out, status_of, is_none_found, submit_told};
+ghost use Rattle.smx_client.specs.Events.{act_out, refusal_out, response_out, why_unaccepted, is_none_found};
+ghost use Rattle.smx_client.specs.Events.{submit_told};
 ghost use Rattle.smx_client.specs.Parts.{IsOfferOf};
 ghost use Rattle.smx_client.specs.Sayings.{Spoke, IsVerdict, asked_of};
 
 use crate::event::Verdict;
+use smx_history::{Unaccepted, refusal_of};
 use smx_link::{Link, Wire};
 use smx_lock::Spent;
 use smx_pdu::Pdu;
-use smx_pdu::command::RESPONSE;
-use smx_pdu::status::{ESME_RMSGQFUL, ESME_RSYSERR};
 use smx_session::Act;
 use smx_shared::{Offer, SubmitFault};
 use smx_turns::{Gate, Party};
@@ -62,12 +62,12 @@ pub(crate) fn say_act<L: Link + Drop>(wire: &mut Wire<L>, act: &Act)
     }
 }
 
-fn status_of(fault: SubmitFault) -> u32
-    ensures { result ≡ status_of fault }
+fn why_unaccepted(fault: SubmitFault) -> Unaccepted
+    ensures { result ≡ why_unaccepted fault }
 {
     match fault {
-        SubmitFault::Exhausted | SubmitFault::Spent => ESME_RSYSERR,
-        SubmitFault::AllFull => ESME_RMSGQFUL,
+        SubmitFault::Exhausted | SubmitFault::Spent => Unaccepted::UsedUp,
+        SubmitFault::AllFull => Unaccepted::AllFull,
     }
 }
 
@@ -80,13 +80,12 @@ pub(crate) fn say_refusal<L: Link + Drop>(
     landed: &Result<usize, (Offer, SubmitFault)>,
 )
     requires room { 65536 ≤ wire.old.room }
-    requires request { command < RESPONSE }
     ensures { Spoke wire.old wire.new (refusal_out (asked_of command number) landed.now) }
 {
     match landed {
         Ok(_) => say_none(wire),
         Err((_, fault)) => {
-            let answer = Pdu::header_only(alloc, RESPONSE + command, status_of(*fault), number);
+            let answer = refusal_of(alloc, why_unaccepted(*fault), command, number);
             say_one(wire, &answer);
         }
     }

@@ -1,90 +1,88 @@
--- The keys of a configuration: how they are written, and what their values may be.
-use Rattle.std.specs.Prelude.{ℕ, List, length, Bool, true, false, not, ◌&&◌, ◌||◌, ◌==◌, nat_le, codes}
+-- The keys of a configuration: where they stand, how they are written, and what their values may be.
+use Rattle.std.specs.Prelude.{ℕ, List, [], ◌∷◌, length, Bool, true, false, not, ◌&&◌, ◌||◌, ◌==◌, nat_le, codes}
 use Rattle.std.specs.List.{list_any}
+use Rattle.std.specs.Str.{bytes_eq}
+use Rattle.smx_config.specs.declared.section.Section.{Section}
+use Rattle.smx_config.specs.declared.section.Section.TheVariants.{Top, Limits, Upstream, Account}
 use Rattle.smx_config.specs.declared.number.Number.{Number}
 use Rattle.smx_config.specs.declared.number.Number.TheVariants.{Clients, Places, Silence, Queue, Window, Client, History}
 use Rattle.smx_config.specs.declared.text.Text.{Text}
 use Rattle.smx_config.specs.declared.text.Text.TheVariants.{Listen, Address, SystemId, Password, Prefix}
 
--- the key as a file writes it
-abbrev pub number_key : Number → List ℕ
-number_key Clients = codes "clients"
-number_key Places = codes "box"
-number_key Silence = codes "silence"
-number_key Queue = codes "queue"
-number_key Window = codes "window"
-number_key Client = codes "client"
-number_key History = codes "history"
+-- a key with a number: the table where it stands, how a file writes it, the least number that may
+-- stand there and the greatest, and the number where the key is absent
+pub record NumberRow : Type 0 where
+  pub section : Section
+  pub key : List ℕ
+  pub least : ℕ
+  pub most : ℕ
+  pub default : ℕ
 
--- the least number that may stand at the key; silence is in milliseconds
-abbrev pub least_of : Number → ℕ
-least_of Clients = 1
-least_of Places = 1
-least_of Silence = 1
-least_of Queue = 1
-least_of Window = 1
-least_of Client = 1
-least_of History = 1000
-
--- the greatest
-abbrev pub most_of : Number → ℕ
-most_of Clients = 256
-most_of Places = 256
-most_of Silence = 3600000
-most_of Queue = 65535
-most_of Window = 1024
-most_of Client = 256
-most_of History = 1000000
-
--- the number where the key is absent
-abbrev pub default_of : Number → ℕ
-default_of Clients = 8
-default_of Places = 16
-default_of Silence = 30000
-default_of Queue = 100
-default_of Window = 10
-default_of Client = 20
-default_of History = 100000
+-- silence is in milliseconds
+abbrev pub number_row : Number → NumberRow
+number_row Clients = record { section = Top; key = codes "clients"; least = 1; most = 256; default = 8 }
+number_row Places = record { section = Top; key = codes "box"; least = 1; most = 256; default = 16 }
+number_row Silence = record { section = Top; key = codes "silence"; least = 1; most = 3600000; default = 30000 }
+number_row Queue = record { section = Limits; key = codes "queue"; least = 1; most = 65535; default = 100 }
+number_row Window = record { section = Limits; key = codes "window"; least = 1; most = 1024; default = 10 }
+number_row Client = record { section = Limits; key = codes "client"; least = 1; most = 256; default = 20 }
+number_row History = record { section = Limits; key = codes "history"; least = 1000; most = 1000000; default = 100000 }
 
 -- the number may stand at the key
 abbrev pub is_number : Number → ℕ → Bool
-is_number key n = nat_le (least_of key) n && nat_le n (most_of key)
+is_number key n = nat_le (number_row key).least n && nat_le n (number_row key).most
 
--- the key as a file writes it
-abbrev pub text_key : Text → List ℕ
-text_key Listen = codes "listen"
-text_key Address = codes "address"
-text_key SystemId = codes "system_id"
-text_key Password = codes "password"
-text_key Prefix = codes "prefixes"
+-- a key with a text, or, of prefixes, with a list of texts: the tables where it stands, how a file
+-- writes it, the fewest octets of a text and the most, and whether one of them may be 0, with which
+-- texts of a bind end
+pub record TextRow : Type 0 where
+  pub sections : List Section
+  pub key : List ℕ
+  pub fewest : ℕ
+  pub longest : ℕ
+  pub may_have_zero : Bool
 
--- the fewest octets of a text
-abbrev pub fewest_of : Text → ℕ
-fewest_of Listen = 1
-fewest_of Address = 1
-fewest_of SystemId = 1
-fewest_of Password = 0
-fewest_of Prefix = 0
-
--- the most octets of a text
-abbrev pub longest_of : Text → ℕ
-longest_of Listen = 255
-longest_of Address = 255
-longest_of SystemId = 15
-longest_of Password = 8
-longest_of Prefix = 64
-
--- whether a text may have the octet 0, with which texts of a bind end
-abbrev pub may_have_zero : Text → Bool
-may_have_zero Listen = true
-may_have_zero Address = true
-may_have_zero SystemId = false
-may_have_zero Password = false
-may_have_zero Prefix = true
+abbrev pub text_row : Text → TextRow
+text_row Listen = record { sections = Top ∷ []; key = codes "listen"; fewest = 1; longest = 255; may_have_zero = true }
+text_row Address = record { sections = Upstream ∷ []; key = codes "address"; fewest = 1; longest = 255; may_have_zero = true }
+text_row SystemId = record { sections = Upstream ∷ Account ∷ []; key = codes "system_id"; fewest = 1; longest = 15; may_have_zero = false }
+text_row Password = record { sections = Upstream ∷ Account ∷ []; key = codes "password"; fewest = 0; longest = 8; may_have_zero = false }
+text_row Prefix = record { sections = Account ∷ []; key = codes "prefixes"; fewest = 0; longest = 64; may_have_zero = true }
 
 abbrev pub has_zero : List ℕ → Bool
 has_zero s = list_any (λ b. b == 0) s
 
 -- the text may stand at the key
 abbrev pub is_text : Text → List ℕ → Bool
-is_text key s = (nat_le (fewest_of key) (length s) && nat_le (length s) (longest_of key)) && (may_have_zero key || not (has_zero s))
+is_text key s = (nat_le (text_row key).fewest (length s) && nat_le (length s) (text_row key).longest) && ((text_row key).may_have_zero || not (has_zero s))
+
+abbrev pub all_numbers : List Number
+all_numbers = Clients ∷ Places ∷ Silence ∷ Queue ∷ Window ∷ Client ∷ History ∷ []
+
+abbrev pub all_texts : List Text
+all_texts = Listen ∷ Address ∷ SystemId ∷ Password ∷ Prefix ∷ []
+
+abbrev pub is_same : Section → Section → Bool
+is_same Top Top = true
+is_same Limits Limits = true
+is_same Upstream Upstream = true
+is_same Account Account = true
+is_same _ _ = false
+
+abbrev pub stands_in : Section → Text → Bool
+stands_in section text = list_any (is_same section) (text_row text).sections
+
+-- the key is that of a number in this table, or of a text, or of another table
+abbrev pub is_number_key : Section → List ℕ → Bool
+is_number_key section key = list_any (λ n. is_same section (number_row n).section && bytes_eq key (number_row n).key) all_numbers
+
+abbrev pub is_text_key : Section → List ℕ → Bool
+is_text_key section key = list_any (λ t. stands_in section t && bytes_eq key (text_row t).key) all_texts
+
+abbrev pub is_table_key : Section → List ℕ → Bool
+is_table_key Top key = bytes_eq key (codes "limits") || (bytes_eq key (codes "upstream") || bytes_eq key (codes "account"))
+is_table_key _ key = false
+
+-- the key is read where it stands in this table
+abbrev pub is_read : Section → List ℕ → Bool
+is_read section key = is_number_key section key || (is_text_key section key || is_table_key section key)

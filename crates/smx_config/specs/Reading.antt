@@ -13,7 +13,7 @@ use Rattle.smx_config.specs.declared.text.Text.{Text}
 use Rattle.smx_config.specs.declared.text.Text.TheVariants as text
 use Rattle.smx_config.specs.declared.fault.ConfigFault.{ConfigFault}
 use Rattle.smx_config.specs.declared.fault.ConfigFault.TheVariants as fault
-use Rattle.smx_config.specs.Keys.{number_key, default_of, is_number, text_key, is_text}
+use Rattle.smx_config.specs.Keys.{number_row, is_number, text_row, is_text}
 use Rattle.smx_config.specs.Settings.{UpstreamSettings, AccountSettings, Settings}
 
 -- an integer as a number that may stand at the key
@@ -27,7 +27,7 @@ number_of key d = option_and_then (number_within key) (as_integer d)
 
 -- the number at a key, or its default where the key is absent
 abbrev pub number_or_default : Number → Members → Option ℕ
-number_or_default key ms = option_map_or (number_of key) (get_member (number_key key) ms) (Some (default_of key))
+number_or_default key ms = option_map_or (number_of key) (get_member (number_row key).key ms) (Some (number_row key).default)
 
 -- the text, where it may stand at the key
 abbrev pub text_within : Text → List ℕ → Option (List ℕ)
@@ -38,20 +38,10 @@ text_of key d = option_and_then (text_within key) (as_str d)
 
 -- the text at a key of a table, and of a value
 abbrev pub text_at : Text → Members → Option (List ℕ)
-text_at key ms = option_and_then (text_of key) (get_member (text_key key) ms)
+text_at key ms = option_and_then (text_of key) (get_member (text_row key).key ms)
 
 abbrev pub text_in : Text → Data → Option (List ℕ)
-text_in key d = option_and_then (text_of key) (get (text_key key) d)
-
--- clients, box and silence, where each is in its range
-abbrev pub all_three : Option ℕ → Option ℕ → Option ℕ → Option (ℕ × ℕ × ℕ)
-all_three None places silence = None
-all_three (Some clients) None silence = None
-all_three (Some clients) (Some places) None = None
-all_three (Some clients) (Some places) (Some silence) = Some (clients, places, silence)
-
-abbrev pub numbers_of : Members → Option (ℕ × ℕ × ℕ)
-numbers_of ms = all_three (number_or_default number.Clients ms) (number_or_default number.Places ms) (number_or_default number.Silence ms)
+text_in key d = option_and_then (text_of key) (get (text_row key).key d)
 
 -- a lane's limits, where each is in its range
 abbrev pub all_four : Option ℕ → Option ℕ → Option ℕ → Option ℕ → Option Limits
@@ -111,7 +101,7 @@ prefixes_of ds = if nat_le (item_count ds) 16 then result_ok (stated_after prefi
 
 -- the prefixes of an account, of which it may have none
 abbrev pub prefixes_in : Data → Option (List (List ℕ))
-prefixes_in d = option_map_or (λ p. option_and_then prefixes_of (as_array p)) (get (text_key text.Prefix) d) (Some [])
+prefixes_in d = option_map_or (λ p. option_and_then prefixes_of (as_array p)) (get (text_row text.Prefix).key d) (Some [])
 
 abbrev pub account_from : Option (List ℕ) → Option (List ℕ) → Option (List (List ℕ)) → Option AccountSettings
 account_from None password prefixes = None
@@ -146,13 +136,15 @@ accounts_of ds = faulty fault.Account (stated_after account_in [] ds)
 abbrev pub config_of : Members → Result Settings ConfigFault
 config_of ms =
     on (ok_or (text_at text.Listen ms) fault.Listen) (λ listen.
-    on (ok_or (numbers_of ms) fault.Numbers) (λ numbers.
+    on (ok_or (number_or_default number.Clients ms) fault.Numbers) (λ clients.
+    on (ok_or (number_or_default number.Places ms) fault.Numbers) (λ places.
+    on (ok_or (number_or_default number.Silence ms) fault.Numbers) (λ silence.
     on (ok_or (limits_at ms) fault.Limits) (λ limits.
     on (ok_or (tables_at (codes "upstream") 16 ms) fault.Upstreams) (λ upstreams.
     on (upstreams_of upstreams) (λ upstream.
     on (ok_or (tables_at (codes "account") 256 ms) fault.Accounts) (λ accounts.
     on (accounts_of accounts) (λ account.
-    Ok (record { listen = listen; clients = numbers.0; places = numbers.1; silence = numbers.2; limits = limits; upstream = upstream; account = account }))))))))
+    Ok (record { listen = listen; clients = clients; places = places; silence = silence; limits = limits; upstream = upstream; account = account }))))))))))
 
 -- the settings that a text states, or its first fault
 abbrev pub settings_of : List ℕ → Result Settings ConfigFault

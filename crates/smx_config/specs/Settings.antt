@@ -2,8 +2,9 @@
 use Rattle.std.specs.Prelude.{◌≢◌, ◌≤◌, ℕ, List, length, All, AllPairs, IsTrue}
 use Rattle.smx_history.specs.declared.limits.Limits.{Limits}
 use Rattle.smx_history.specs.Room.{AreLimits}
+use Rattle.smx_config.specs.declared.number.Number.TheVariants as number
 use Rattle.smx_config.specs.declared.text.Text.TheVariants as text
-use Rattle.smx_config.specs.Keys.{is_text}
+use Rattle.smx_config.specs.Keys.{is_number, is_text}
 
 pub record UpstreamSettings : Type 0 where
   pub address : List ℕ
@@ -44,9 +45,9 @@ pub record IsAccount (a : AccountSettings) : Type 0 where
 -- what every `Config` keeps
 pub record IsConfig (s : Settings) : Type 0 where
   pub listen : IsTrue (is_text text.Listen s.listen)
-  pub clients : (1 ≤ s.clients) × (s.clients ≤ 256)
-  pub places : (1 ≤ s.places) × (s.places ≤ 256)
-  pub silence : (1 ≤ s.silence) × (s.silence ≤ 3600000)
+  pub clients : IsTrue (is_number number.Clients s.clients)
+  pub places : IsTrue (is_number number.Places s.places)
+  pub silence : IsTrue (is_number number.Silence s.silence)
   pub limits : AreLimits s.limits
   pub upstream : (1 ≤ length s.upstream) × (length s.upstream ≤ 16)
   pub account : (1 ≤ length s.account) × (length s.account ≤ 256)

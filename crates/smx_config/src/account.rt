@@ -121,7 +121,7 @@ fn prefixes_within(alloc: Global, value: &Value) -> Result<Option<Vec<String>>, 
         ≡ prefixes_in (view value.now)) }
     ensures kept { IfOk result (λ r. IfSome r (λ list. ArePrefixes (map string_bytes list.items))) }
 {
-    match value.get(Text::Prefix.key()) {
+    match value.get(Text::Prefix.rule().key) {
         Some(value) => match value.as_array() {
             Some(values) => read_prefixes(alloc, values.as_slice()),
             None => Ok(None),

@@ -5,10 +5,11 @@ ghost use Rattle.smx_config.specs.Lines.{fault_place};
 use crate::account::MAX_PREFIXES;
 use crate::fault::ConfigFault;
 use crate::listing::{on_prefixes, on_table_list};
-use crate::number::Number;
+use crate::number::{Number, NumberRule};
 use crate::reading::{MAX_ACCOUNTS, MAX_UPSTREAMS};
+use crate::section::Section;
 use crate::table::find;
-use crate::text::Text;
+use crate::text::{Text, TextRule};
 use std::alloc::{AllocError, Global};
 use toml::{Table, Value};
 
@@ -40,7 +41,8 @@ fn text_wrong(alloc: Global, key: Text, value: &Value) -> Result<String, AllocEr
         return String::from_str(alloc, "is no text");
     };
     let length = text.len();
-    if key.fewest() <= length && length <= key.longest() {
+    let rule = key.rule();
+    if rule.fewest <= length && length <= rule.longest {
         return String::from_str(alloc, "has an octet 0");
     }
     format!(in alloc; "has {length} octets")
@@ -53,11 +55,15 @@ fn on_text(alloc: Global, key: Text, value: Option<&Value>) -> Result<Option<Str
         Some(value) => text_wrong(alloc, key, value)?,
         None => String::from_str(alloc, "is missing")?,
     };
-    let name = key.key();
+    let TextRule {
+        key: name,
+        fewest,
+        longest,
+        may_have_zero,
+        ..
+    } = key.rule();
     let sample = sample(key);
-    let fewest = key.fewest();
-    let longest = key.longest();
-    let zeros = if key.may_have_zero() {
+    let zeros = if may_have_zero {
         ""
     } else {
         ", none of them 0"
@@ -70,7 +76,14 @@ fn on_text(alloc: Global, key: Text, value: Option<&Value>) -> Result<Option<Str
 
 // Words on the number at a key, unless it is as it may be.
 fn on_number(alloc: Global, key: Number, table: &Table) -> Result<Option<String>, AllocError> {
-    let Some(value) = find(table, key.key()) else {
+    let NumberRule {
+        key: name,
+        least,
+        most,
+        default,
+        ..
+    } = key.rule();
+    let Some(value) = find(table, name) else {
         return Ok(None);
     };
     let what = match key.of(value) {
@@ -83,22 +96,24 @@ fn on_number(alloc: Global, key: Number, table: &Table) -> Result<Option<String>
             }
         }
     };
-    let name = key.key();
-    let least = key.least();
-    let most = key.most();
-    let default = key.default();
     let words = format!(in alloc;
         "{name} {what}: write {name} = {default}, or another number from {least} to {most}"
     )?;
     Ok(Some(words))
 }
 
-// Words on the first number that isn't as it may be.
-fn on_numbers(alloc: Global, keys: &[Number], table: &Table) -> Result<Option<String>, AllocError> {
-    for key in keys {
-        let words = on_number(alloc, *key, table)?;
-        if words.is_some() {
-            return Ok(words);
+// Words on the first number of a table that isn't as it may be.
+fn on_numbers(
+    alloc: Global,
+    section: Section,
+    table: &Table,
+) -> Result<Option<String>, AllocError> {
+    for key in Number::all() {
+        if section.is(key.rule().section) {
+            let words = on_number(alloc, *key, table)?;
+            if words.is_some() {
+                return Ok(words);
+            }
         }
     }
     Ok(None)
@@ -114,21 +129,27 @@ fn on_limits(alloc: Global, table: &Table) -> Result<Option<String>, AllocError>
             "limits is no table: write [limits] and its keys below it",
         )?));
     };
-    let keys = [
-        Number::Queue,
-        Number::Window,
-        Number::Client,
-        Number::History,
-    ];
-    on_numbers(alloc, &keys, limits)
+    on_numbers(alloc, Section::Limits, limits)
 }
 
-// Words on the first of these fields of a table that isn't as it may be.
-fn on_texts(alloc: Global, keys: &[Text], value: &Value) -> Result<Option<String>, AllocError> {
-    for key in keys {
-        let words = on_text(alloc, *key, value.get(key.key()))?;
-        if words.is_some() {
-            return Ok(words);
+// Words on what stands at a key of a value, unless it is as it may be.
+fn on_field(alloc: Global, key: Text, value: &Value) -> Result<Option<String>, AllocError> {
+    let field = value.get(key.rule().key);
+    match (key, field) {
+        (Text::Prefix, Some(prefixes)) => on_prefixes(alloc, prefixes, MAX_PREFIXES),
+        (Text::Prefix, None) => Ok(None),
+        _ => on_text(alloc, key, field),
+    }
+}
+
+// Words on the first of the texts of a table that isn't as it may be.
+fn on_texts(alloc: Global, section: Section, value: &Value) -> Result<Option<String>, AllocError> {
+    for key in Text::all() {
+        if key.stands_in(section) {
+            let words = on_field(alloc, *key, value)?;
+            if words.is_some() {
+                return Ok(words);
+            }
         }
     }
     Ok(None)
@@ -147,11 +168,7 @@ fn nth<'a>(table: &'a Table, key: &str, index: usize) -> Option<&'a Value> {
 
 fn on_upstream(alloc: Global, table: &Table, index: usize) -> Result<Option<String>, AllocError> {
     match nth(table, "upstream", index) {
-        Some(value) => on_texts(
-            alloc,
-            &[Text::Address, Text::SystemId, Text::Password],
-            value,
-        ),
+        Some(value) => on_texts(alloc, Section::Upstream, value),
         None => Ok(None),
     }
 }
@@ -163,10 +180,10 @@ fn on_twin(
     index: usize,
     value: &Value,
 ) -> Result<String, AllocError> {
-    let name = value.get(Text::SystemId.key());
+    let name = value.get(Text::SystemId.rule().key);
     for before in 0..index {
         if let Some(other) = nth(table, "account", before) {
-            if name.is_some() && other.get(Text::SystemId.key()) == name {
+            if name.is_some() && other.get(Text::SystemId.rule().key) == name {
                 return format!(in alloc;
                     "system_id is that of account {before}: write another one"
                 );
@@ -183,15 +200,9 @@ fn on_account(alloc: Global, table: &Table, index: usize) -> Result<Option<Strin
     let Some(value) = nth(table, "account", index) else {
         return Ok(None);
     };
-    let words = on_texts(alloc, &[Text::SystemId, Text::Password], value)?;
+    let words = on_texts(alloc, Section::Account, value)?;
     if words.is_some() {
         return Ok(words);
-    }
-    if let Some(prefixes) = value.get(Text::Prefix.key()) {
-        let words = on_prefixes(alloc, prefixes, MAX_PREFIXES)?;
-        if words.is_some() {
-            return Ok(words);
-        }
     }
     Ok(Some(on_twin(alloc, table, index, value)?))
 }
@@ -203,11 +214,8 @@ fn on_fault(
     fault: ConfigFault,
 ) -> Result<Option<String>, AllocError> {
     match fault {
-        ConfigFault::Listen => on_text(alloc, Text::Listen, find(table, Text::Listen.key())),
-        ConfigFault::Numbers => {
-            let keys = [Number::Clients, Number::Places, Number::Silence];
-            on_numbers(alloc, &keys, table)
-        }
+        ConfigFault::Listen => on_text(alloc, Text::Listen, find(table, Text::Listen.rule().key)),
+        ConfigFault::Numbers => on_numbers(alloc, Section::Top, table),
         ConfigFault::Limits => on_limits(alloc, table),
         ConfigFault::Upstreams => on_table_list(alloc, "upstream", MAX_UPSTREAMS, table),
         ConfigFault::Upstream(index) => on_upstream(alloc, table, index),

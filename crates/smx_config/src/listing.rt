@@ -79,7 +79,7 @@ fn on_prefix(
         return Ok(Some(words));
     };
     let length = text.len();
-    let longest = Text::Prefix.longest();
+    let longest = Text::Prefix.rule().longest;
     if length > longest {
         let words = format!(in alloc;
             "prefixes: item {index} has {length} octets: write at most {longest}"

@@ -1,9 +1,10 @@
 //! The numbers of a configuration.
 ghost use Rattle.std.specs.Prelude.{◌≡◌, IfSome, IsTrue};
 ghost use Rattle.toml.specs.View.{table_view, view};
-ghost use Rattle.smx_config.specs.Keys.{number_key, least_of, most_of, default_of, is_number};
+ghost use Rattle.smx_config.specs.Keys.{number_row, all_numbers, is_number, is_read};
 ghost use Rattle.smx_config.specs.Reading.{number_of, number_or_default};
 
+use crate::section::Section;
 use crate::table::find;
 use toml::{Table, Value};
 
@@ -19,63 +20,91 @@ pub(crate) enum Number {
     History,
 }
 
-impl Number {
-    pub(crate) fn key(self) -> &'static str
-        ensures { result.now ≡ number_key self }
-    {
-        match self {
-            Number::Clients => "clients",
-            Number::Places => "box",
-            Number::Silence => "silence",
-            Number::Queue => "queue",
-            Number::Window => "window",
-            Number::Client => "client",
-            Number::History => "history",
-        }
-    }
-
-    pub(crate) fn least(self) -> u32
-        ensures { result ≡ least_of self }
-    {
-        match self {
-            Number::History => 1_000,
-            _ => 1,
-        }
-    }
-
-    pub(crate) fn most(self) -> u32
-        ensures { result ≡ most_of self }
-    {
-        match self {
-            Number::Clients => 256,
-            Number::Places => 256,
-            Number::Silence => 3_600_000,
-            Number::Queue => 65_535,
-            Number::Window => 1_024,
-            Number::Client => 256,
-            Number::History => 1_000_000,
-        }
-    }
-
+/// The range of a key with a number, and where it stands.
+#[derive(Clone, Copy, Debug)]
+pub(crate) struct NumberRule {
+    /// The table where the key stands.
+    pub(crate) section: Section,
+    /// The key as a file writes it.
+    pub(crate) key: &'static str,
+    pub(crate) least: u32,
+    pub(crate) most: u32,
     /// The number where the key is absent.
-    pub(crate) fn default(self) -> u32
-        ensures { result ≡ default_of self }
+    pub(crate) default: u32,
+}
+
+fn row(section: Section, key: &'static str, least: u32, most: u32, default: u32) -> NumberRule
+    ensures section { result.section ≡ section }
+    ensures key { result.key.now ≡ key.now }
+    ensures least { result.least ≡ least }
+    ensures most { result.most ≡ most }
+    ensures default { result.default ≡ default }
+{
+    NumberRule {
+        section,
+        key,
+        least,
+        most,
+        default,
+    }
+}
+
+impl Number {
+    /// Every key with a number, in the order in which they are told of.
+    pub(crate) fn all() -> &'static [Number]
+        ensures { result.now ≡ all_numbers }
     {
+        use Number::{Client, Clients, History, Places, Queue, Silence, Window};
+        &[Clients, Places, Silence, Queue, Window, Client, History]
+    }
+
+    /// The row of the key.
+    pub(crate) fn rule(self) -> NumberRule
+        ensures section { result.section ≡ (number_row self).section }
+        ensures key { result.key.now ≡ (number_row self).key }
+        ensures least { result.least ≡ (number_row self).least }
+        ensures most { result.most ≡ (number_row self).most }
+        ensures default { result.default ≡ (number_row self).default }
+        ensures read { IsTrue (is_read (number_row self).section (number_row self).key) }
+    {
+        use Section::{Limits, Top};
         match self {
-            Number::Clients => 8,
-            Number::Places => 16,
-            Number::Silence => 30_000,
-            Number::Queue => 100,
-            Number::Window => 10,
-            Number::Client => 20,
-            Number::History => 100_000,
+            Number::Clients => row(Top, "clients", 1, 256, 8),
+            Number::Places => row(Top, "box", 1, 256, 16),
+            Number::Silence => row(Top, "silence", 1, 3_600_000, 30_000),
+            Number::Queue => row(Limits, "queue", 1, 65_535, 100),
+            Number::Window => row(Limits, "window", 1, 1_024, 10),
+            Number::Client => row(Limits, "client", 1, 256, 20),
+            Number::History => row(Limits, "history", 1_000, 1_000_000, 100_000),
+        }
+    }
+
+    /// What the number is, in words for a person.
+    pub(crate) fn means(self) -> &'static str {
+        match self {
+            Number::Clients => "connections of clients at a time",
+            Number::Places => {
+                "messages that wait for a client; as many again that it was sent and has not answered"
+            }
+            Number::Silence => {
+                "milliseconds without an octet of a centre before it is enquired; also how long a \
+                 connection to it, its bind and its answer to the enquiry may take, and the pause \
+                 before the next try"
+            }
+            Number::Queue => "requests accepted and not sent yet",
+            Number::Window => "requests sent and not answered yet",
+            Number::Client => {
+                "requests of one client that were accepted and whose responses it has not got"
+            }
+            Number::History => "entries that the lane stores, with the room that must be left",
         }
     }
 
     fn allows(self, number: u32) -> bool
         ensures { result ≡ is_number self number }
     {
-        self.least() <= number && number <= self.most()
+        let rule = self.rule();
+        rule.least <= number && number <= rule.most
     }
 
     /// The number that a value is, where it may stand at this key.
@@ -103,9 +132,10 @@ impl Number {
         ensures value { result ≡ number_or_default self (table_view table.now) }
         ensures kept { IfSome result (λ n. IsTrue (is_number self n)) }
     {
-        match find(table, self.key()) {
+        let rule = self.rule();
+        match find(table, rule.key) {
             Some(value) => self.of(value),
-            None => Some(self.default()),
+            None => Some(rule.default),
         }
     }
 }

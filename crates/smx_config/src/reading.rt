@@ -1,9 +1,10 @@
 //! A text read as a configuration.
-ghost use Rattle.std.specs.Prelude.{◌≡◌, ◌≢◌, ◌⊎◌, ◌≤◌, IfOk, IfErr, IfSome, IsErrOf, MatchResult};
+ghost use Rattle.std.specs.Prelude.{◌≡◌, ◌≢◌, ◌⊎◌, IfOk, IfErr, IfSome, IsTrue, IsErrOf, MatchResult, ok_or};
 ghost use Rattle.toml.specs.Parse.{parse_document};
 ghost use Rattle.toml.specs.View.{table_view};
 ghost use Rattle.smx_history.specs.Room.{AreLimits};
-ghost use Rattle.smx_config.specs.Reading.{numbers_of, stated_limits, limits_at, config_of, settings_of};
+ghost use Rattle.smx_config.specs.Keys.{is_number};
+ghost use Rattle.smx_config.specs.Reading.{number_or_default, stated_limits, limits_at, config_of, settings_of};
 
 use crate::account::read_accounts;
 use crate::config::Config;
@@ -21,17 +22,16 @@ pub(crate) const MAX_UPSTREAMS: usize = 16;
 /// The most accounts.
 pub(crate) const MAX_ACCOUNTS: usize = 256;
 
-// clients, box and silence.
-fn numbers(table: &Table) -> Option<(u32, u32, u32)>
-    ensures value { result ≡ numbers_of (table_view table.now) }
-    ensures clients { IfSome result (λ n. (1 ≤ n.0) × (n.0 ≤ 256)) }
-    ensures places { IfSome result (λ n. (1 ≤ n.1) × (n.1 ≤ 256)) }
-    ensures silence { IfSome result (λ n. (1 ≤ n.2) × (n.2 ≤ 3600000)) }
+// The number at a key of the whole file, or its default.
+fn number_at(table: &Table, key: Number) -> Result<u32, ConfigFault>
+    ensures value { result ≡ ok_or (number_or_default key (table_view table.now))
+        ConfigFault.Numbers }
+    ensures kept { IfOk result (λ n. IsTrue (is_number key n)) }
 {
-    let clients = Number::Clients.at(table)?;
-    let places = Number::Places.at(table)?;
-    let silence = Number::Silence.at(table)?;
-    Some((clients, places, silence))
+    match key.at(table) {
+        Some(number) => Ok(number),
+        None => Err(ConfigFault::Numbers),
+    }
 }
 
 // What the keys of a table say of a lane's limits.
@@ -72,9 +72,9 @@ fn read_table(alloc: Global, table: &Table) -> Result<Config, ConfigFault>
     let Some(listen) = Text::Listen.at(table) else {
         return Err(ConfigFault::Listen);
     };
-    let Some((clients, places, silence)) = numbers(table) else {
-        return Err(ConfigFault::Numbers);
-    };
+    let clients = number_at(table, Number::Clients)?;
+    let places = number_at(table, Number::Places)?;
+    let silence = number_at(table, Number::Silence)?;
     let Some(limits) = limits(alloc, table) else {
         return Err(ConfigFault::Limits);
     };

@@ -1,23 +1,13 @@
 //! Keys that nobody reads, in words for a person.
+ghost use Rattle.std.specs.Prelude.{◌≡◌, ◌+◌, length, IfOk, OnOk};
+ghost use Rattle.toml.specs.View.{table_view, view, items_view};
+ghost use Rattle.smx_config.specs.Unread.{unread_in, unread_within, unread_below, unread_among, unread_listed, unread_of, unread_count};
 
+use crate::section::Section;
 use crate::table::find;
 use std::alloc::{AllocError, Global};
 use strsim::levenshtein;
 use toml::{Table, Value};
-
-/// The keys of a whole configuration.
-const TOP: [&str; 7] = [
-    "listen", "clients", "box", "silence", "limits", "upstream", "account",
-];
-
-/// The keys of `limits`.
-const LIMITS: [&str; 4] = ["queue", "window", "client", "history"];
-
-/// The keys of an upstream.
-const UPSTREAM: [&str; 3] = ["address", "system_id", "password"];
-
-/// The keys of an account.
-const ACCOUNT: [&str; 3] = ["system_id", "password", "prefixes"];
 
 // The first of the names that is nearest to a key.
 fn nearest(alloc: Global, key: &str, names: &[&'static str]) -> Result<&'static str, AllocError> {
@@ -33,16 +23,17 @@ fn nearest(alloc: Global, key: &str, names: &[&'static str]) -> Result<&'static 
     Ok(best)
 }
 
-// Words on a key that isn't among the names. Of its value they show a number alone, since a text may
+// Words on a key that isn't read in its table. Of its value they show a number alone, since a text may
 // be a password.
 fn on_key(
     alloc: Global,
     place: &str,
     key: &str,
     value: &Value,
-    names: &[&'static str],
+    section: Section,
 ) -> Result<String, AllocError> {
-    let best = nearest(alloc, key, names)?;
+    let names = section.keys(alloc)?;
+    let best = nearest(alloc, key, &names)?;
     match value.as_integer() {
         Some(number) => {
             format!(in alloc; "{place}{key} = {number} is not read: did you mean {best}?")
@@ -51,19 +42,79 @@ fn on_key(
     }
 }
 
-// Adds words on each key of a table that isn't among the names.
+// Adds words on each key of a table that isn't read there.
 fn on_table(
     alloc: Global,
     place: &str,
     table: &Table,
-    names: &[&'static str],
+    section: Section,
     all: &mut Vec<String>,
-) -> Result<(), AllocError> {
+) -> Result<(), AllocError>
+    ensures { OnOk result (length all.new.items
+        ≡ length all.old.items + unread_in section (table_view table.now)) }
+{
     for (key, value) in table.iter() {
         let key = key.as_str();
-        if !names.contains(&key) {
-            all.push(on_key(alloc, place, key, value, names)?)?;
+        if !section.reads(key) {
+            all.push(on_key(alloc, place, key, value, section)?)?;
         }
+    }
+    Ok(())
+}
+
+// The same of a value, where that is a table.
+fn on_value(
+    alloc: Global,
+    place: &str,
+    value: &Value,
+    section: Section,
+    all: &mut Vec<String>,
+) -> Result<(), AllocError>
+    ensures { OnOk result (length all.new.items
+        ≡ length all.old.items + unread_within section (view value.now)) }
+{
+    match value.as_table() {
+        Some(table) => on_table(alloc, place, table, section, all),
+        None => Ok(()),
+    }
+}
+
+// The same of the table at a key.
+fn on_member(
+    alloc: Global,
+    key: &str,
+    table: &Table,
+    section: Section,
+    all: &mut Vec<String>,
+) -> Result<(), AllocError>
+    ensures { OnOk result (length all.new.items
+        ≡ length all.old.items + unread_below section key.now (table_view table.now)) }
+{
+    match find(table, key) {
+        Some(value) => {
+            let place = format!(in alloc; "{key}: ")?;
+            on_value(alloc, place.as_str(), value, section, all)
+        }
+        None => Ok(()),
+    }
+}
+
+// The same of each of these values that is a table, the items of the list at a key.
+fn on_items(
+    alloc: Global,
+    key: &str,
+    values: &[Value],
+    section: Section,
+    all: &mut Vec<String>,
+) -> Result<(), AllocError>
+    ensures { OnOk result (length all.new.items
+        ≡ length all.old.items + unread_among section (items_view values.now)) }
+{
+    let mut index = 0_usize;
+    for value in values {
+        let place = format!(in alloc; "{key} {index}: ")?;
+        on_value(alloc, place.as_str(), value, section, all)?;
+        index = index.saturating_add(1);
     }
     Ok(())
 }
@@ -73,40 +124,41 @@ fn on_list(
     alloc: Global,
     key: &str,
     table: &Table,
-    names: &[&'static str],
+    section: Section,
     all: &mut Vec<String>,
-) -> Result<(), AllocError> {
-    let Some(value) = find(table, key) else {
-        return Ok(());
-    };
-    let Some(values) = value.as_array() else {
-        return Ok(());
-    };
-    for (index, value) in values.iter().enumerate() {
-        if let Some(item) = value.as_table() {
-            let place = format!(in alloc; "{key} {index}: ")?;
-            on_table(alloc, place.as_str(), item, names, all)?;
-        }
+) -> Result<(), AllocError>
+    ensures { OnOk result (length all.new.items
+        ≡ length all.old.items + unread_listed section key.now (table_view table.now)) }
+{
+    match find(table, key) {
+        Some(value) => match value.as_array() {
+            Some(values) => on_items(alloc, key, values.as_slice(), section, all),
+            None => Ok(()),
+        },
+        None => Ok(()),
     }
-    Ok(())
+}
+
+// A sentence on each key of a whole configuration that nobody reads.
+fn on_whole(alloc: Global, table: &Table) -> Result<Vec<String>, AllocError>
+    ensures { IfOk result (λ all. length all.items ≡ unread_of (table_view table.now)) }
+{
+    let mut all = Vec::new(alloc);
+    on_table(alloc, "", table, Section::Top, &mut all)?;
+    on_member(alloc, "limits", table, Section::Limits, &mut all)?;
+    on_list(alloc, "upstream", table, Section::Upstream, &mut all)?;
+    on_list(alloc, "account", table, Section::Account, &mut all)?;
+    Ok(all)
 }
 
 /// A sentence on each key of a text that nobody reads, with the known key that is nearest. There is
 /// none where the text isn't TOML. Of the words no clause says anything.
-pub fn unread(alloc: Global, text: &str) -> Result<Vec<String>, AllocError> {
-    let mut all = Vec::new(alloc);
-    let table = match toml::table_from_str(alloc, text) {
-        Ok(table) => table,
-        Err(error) if error.is_memory() => return Err(AllocError),
-        Err(_) => return Ok(all),
-    };
-    on_table(alloc, "", &table, &TOP, &mut all)?;
-    if let Some(value) = find(&table, "limits") {
-        if let Some(limits) = value.as_table() {
-            on_table(alloc, "limits: ", limits, &LIMITS, &mut all)?;
-        }
+pub fn unread(alloc: Global, text: &str) -> Result<Vec<String>, AllocError>
+    ensures count { IfOk result (λ all. length all.items ≡ unread_count text.now) }
+{
+    match toml::table_from_str(alloc, text) {
+        Ok(table) => on_whole(alloc, &table),
+        Err(error) if error.is_memory() => Err(AllocError),
+        Err(_) => Ok(Vec::new(alloc)),
     }
-    on_list(alloc, "upstream", &table, &UPSTREAM, &mut all)?;
-    on_list(alloc, "account", &table, &ACCOUNT, &mut all)?;
-    Ok(all)
 }

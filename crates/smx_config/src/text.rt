@@ -1,9 +1,11 @@
 //! The texts of a configuration.
 ghost use Rattle.std.specs.Prelude.{◌≡◌, IfSome, IsTrue, option_copied};
+ghost use Rattle.std.specs.List.{list_all};
 ghost use Rattle.toml.specs.View.{table_view, view};
-ghost use Rattle.smx_config.specs.Keys.{text_key, fewest_of, longest_of, may_have_zero, has_zero, is_text};
+ghost use Rattle.smx_config.specs.Keys.{text_row, all_texts, stands_in, has_zero, is_text, is_read};
 ghost use Rattle.smx_config.specs.Reading.{text_of, text_at, text_in};
 
+use crate::section::Section;
 use crate::table::find;
 use toml::{Table, Value};
 
@@ -17,58 +19,103 @@ pub(crate) enum Text {
     Prefix,
 }
 
-impl Text {
-    pub(crate) fn key(self) -> &'static str
-        ensures { result.now ≡ text_key self }
-    {
-        match self {
-            Text::Listen => "listen",
-            Text::Address => "address",
-            Text::SystemId => "system_id",
-            Text::Password => "password",
-            Text::Prefix => "prefixes",
-        }
-    }
-
+/// What holds of a key with a text.
+#[derive(Clone, Copy, Debug)]
+pub(crate) struct TextRule {
+    /// The tables where the key stands.
+    pub(crate) sections: &'static [Section],
+    /// The key as a file writes it.
+    pub(crate) key: &'static str,
     /// The fewest octets of such a text.
-    pub(crate) fn fewest(self) -> usize
-        ensures { result ≡ fewest_of self }
-    {
-        match self {
-            Text::Listen | Text::Address | Text::SystemId => 1,
-            Text::Password | Text::Prefix => 0,
-        }
-    }
-
+    pub(crate) fewest: usize,
     /// The most octets of such a text.
-    pub(crate) fn longest(self) -> usize
-        ensures { result ≡ longest_of self }
+    pub(crate) longest: usize,
+    /// Whether such a text may have the octet 0.
+    pub(crate) may_have_zero: bool,
+}
+
+fn row(
+    sections: &'static [Section],
+    key: &'static str,
+    fewest: usize,
+    longest: usize,
+    may_have_zero: bool,
+) -> TextRule
+    ensures sections { result.sections.now ≡ sections.now }
+    ensures key { result.key.now ≡ key.now }
+    ensures fewest { result.fewest ≡ fewest }
+    ensures longest { result.longest ≡ longest }
+    ensures may_have_zero { result.may_have_zero ≡ may_have_zero }
+{
+    TextRule {
+        sections,
+        key,
+        fewest,
+        longest,
+        may_have_zero,
+    }
+}
+
+impl Text {
+    /// Every key with texts, in the order in which they are told of.
+    pub(crate) fn all() -> &'static [Text]
+        ensures { result.now ≡ all_texts }
     {
+        use Text::{Address, Listen, Password, Prefix, SystemId};
+        &[Listen, Address, SystemId, Password, Prefix]
+    }
+
+    /// The row of the key.
+    pub(crate) fn rule(self) -> TextRule
+        ensures sections { result.sections.now ≡ (text_row self).sections }
+        ensures key { result.key.now ≡ (text_row self).key }
+        ensures fewest { result.fewest ≡ (text_row self).fewest }
+        ensures longest { result.longest ≡ (text_row self).longest }
+        ensures may_have_zero { result.may_have_zero ≡ (text_row self).may_have_zero }
+        ensures read { IsTrue (list_all (λ section. is_read section (text_row self).key)
+            (text_row self).sections) }
+    {
+        use Section::{Account, Top, Upstream};
         match self {
-            Text::Listen | Text::Address => 255,
-            Text::SystemId => 15,
-            Text::Password => 8,
-            Text::Prefix => 64,
+            Text::Listen => row(&[Top], "listen", 1, 255, true),
+            Text::Address => row(&[Upstream], "address", 1, 255, true),
+            Text::SystemId => row(&[Upstream, Account], "system_id", 1, 15, false),
+            Text::Password => row(&[Upstream, Account], "password", 0, 8, false),
+            Text::Prefix => row(&[Account], "prefixes", 0, 64, true),
         }
     }
 
-    /// Whether such a text may have the octet 0.
-    pub(crate) fn may_have_zero(self) -> bool
-        ensures { result ≡ may_have_zero self }
-    {
-        match self {
-            Text::Listen | Text::Address | Text::Prefix => true,
-            Text::SystemId | Text::Password => false,
+    /// What the text is in a table, in words for a person.
+    pub(crate) fn means(self, section: Section) -> &'static str {
+        match (self, section) {
+            (Text::Listen, _) => "where clients connect, as `\"127.0.0.1:2775\"`",
+            (Text::Address, _) => "where the centre listens, as `\"127.0.0.1:2776\"`",
+            (Text::SystemId, Section::Account) => "what the client calls itself",
+            (Text::SystemId, _) => "the proxy's own name there (SMPP 3.4, section 5.2.1)",
+            (Text::Password, Section::Account) => "",
+            (Text::Password, _) => "the proxy's own password there (section 5.2.2)",
+            (Text::Prefix, _) => {
+                "the client gets messages whose destination begins with one of these; `\"\"` begins \
+                 every address"
+            }
         }
+    }
+
+    /// Whether the key stands in this table.
+    pub(crate) fn stands_in(self, section: Section) -> bool
+        ensures { result ≡ stands_in section self }
+    {
+        self.rule().sections.iter().any(|own| section.is(*own))
     }
 
     fn allows(self, text: &str) -> bool
         ensures { result ≡ is_text self text.now }
     {
+        let rule = self.rule();
         let length = text.len();
-        self.fewest() <= length
-            && length <= self.longest()
-            && (self.may_have_zero() || !has_zero(text.as_bytes()))
+        rule.fewest <= length
+            && length <= rule.longest
+            && (rule.may_have_zero || !has_zero(text.as_bytes()))
     }
 
     /// The text that a value is, where it may stand at this key.
@@ -87,7 +134,7 @@ impl Text {
         ensures value { option_copied result ≡ text_at self (table_view table.now) }
         ensures kept { IfSome result (λ s. IsTrue (is_text self s.now)) }
     {
-        match find(table, self.key()) {
+        match find(table, self.rule().key) {
             Some(value) => self.of(value),
             None => None,
         }
@@ -98,7 +145,7 @@ impl Text {
         ensures value { option_copied result ≡ text_in self (view value.now) }
         ensures kept { IfSome result (λ s. IsTrue (is_text self s.now)) }
     {
-        match value.get(self.key()) {
+        match value.get(self.rule().key) {
             Some(value) => self.of(value),
             None => None,
         }

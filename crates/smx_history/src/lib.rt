@@ -20,4 +20,4 @@ pub use reply::{
 };
 pub use request::Request;
 pub use response::Response;
-pub use telling::{failure, failure_command};
+pub use telling::{Unaccepted, failure, failure_command, refusal_of};

@@ -1,11 +1,12 @@
-//! What tells a client that a request of its own failed.
+//! What tells a client that a request of its own failed, or was accepted by no lane.
 ghost use Rattle.std.specs.Prelude.{◌≡◌};
 ghost use Rattle.smx_history.specs.Failures.{failure_command as command_of_failure, failure as failure_of};
+ghost use Rattle.smx_history.specs.Failures.{refusal_of, refusal_status};
 
 use crate::place::Place;
 use smx_pdu::Pdu;
 use smx_pdu::command::{DATA_SM, GENERIC_NACK, RESPONSE, SUBMIT_MULTI, SUBMIT_SM};
-use smx_pdu::status::{ESME_RSUBMITFAIL, ESME_RSYSERR};
+use smx_pdu::status::{ESME_RMSGQFUL, ESME_RSUBMITFAIL, ESME_RSYSERR};
 use std::alloc::Global;
 
 /// The command_id of what tells the client of a request with this command_id that the request failed: that of its
@@ -33,4 +34,31 @@ pub fn failure(alloc: Global, place: &Place) -> Pdu
         ESME_RSUBMITFAIL
     };
     Pdu::header_only(alloc, command, status, place.upstream)
+}
+
+/// Why no lane accepts a client's request.
+#[derive(Clone, Copy, Debug, PartialEq, Eq)]
+pub enum Unaccepted {
+    /// Each lane refused it: full for the client, in its queue or in its history, or down.
+    AllFull,
+    /// A count that never starts again is used up: of the client's ordinals, or of a lane's tickets.
+    UsedUp,
+}
+
+fn refusal_status(why: Unaccepted) -> u32
+    ensures { result ≡ refusal_status why }
+{
+    match why {
+        Unaccepted::AllFull => ESME_RMSGQFUL,
+        Unaccepted::UsedUp => ESME_RSYSERR,
+    }
+}
+
+/// What the client of a request with this command_id and sequence_number gets where no lane accepts it, for this
+/// reason: its response without a body, or generic_nack where it has none (section 4.3), with ESME_RMSGQFUL where each
+/// lane is full or down and ESME_RSYSERR where a count is used up (section 5.1.3). It takes no memory.
+pub fn refusal_of(alloc: Global, why: Unaccepted, command: u32, number: u32) -> Pdu
+    ensures { result ≡ refusal_of why command number }
+{
+    Pdu::refusal(alloc, command, refusal_status(why), number)
 }

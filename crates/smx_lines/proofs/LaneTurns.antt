@@ -74,7 +74,7 @@ pub took_none : (h : List Note) (old new : Content) (at moment : ℕ) (text : Li
     → text ≡ text_line (codes "take " ++ (decimal at ++ codes " empty")) → (n : ℕ) × IsFreeNumber h n × TurnsLane (take_on old.limits moment n at h) old new text
 unfolding take_on
 took_none h old new at moment text a up refused same e =
-    let free = some_free h in
+    let free = some_free h a.numbered.placed in
     let queue : queue_after h ≡ [] = sym a.after.queue ∙ (takable old).empty refused in
     let up' : is_up (entries_of h) ≡ true = sym a.after.up ∙ up in
     (free.0, free.1, rw (up', queue) (record { text = e; agrees = rw same a; limits_are = ap (λ (v : Content). v.limits) same }))
@@ -87,7 +87,7 @@ pub took_full : (h : List Note) (old new : Content) (at moment : ℕ) (text : Li
     → text ≡ text_line (codes "take " ++ (decimal at ++ codes " full")) → (n : ℕ) × IsFreeNumber h n × TurnsLane (take_on old.limits moment n at h) old new text
 unfolding take_on
 took_full h old new at moment text a up refused same e =
-    let free = some_free h in
+    let free = some_free h a.numbered.placed in
     let full = (takable old).full refused in
     let none : nat_lt (length (window_after h)) old.limits.window ≡ false = le-ltb (length (window_after h)) old.limits.window (omega (arith, window_length h old a, full.0)) in
     let some : length (queue_after h) ≢ 0 = λ zero. full.1 (ap length a.after.queue ∙ zero) in
@@ -97,7 +97,7 @@ took_full h old new at moment text a up refused same e =
 pub took_down : (h : List Note) (v : Content) (at moment : ℕ) (text : List ℕ) → AgreesWith h v → v.up ≡ false → text ≡ down_line at → (n : ℕ) × IsFreeNumber h n × TurnsLane (take_on v.limits moment n at h) v v text
 unfolding take_on
 took_down h v at moment text a down e =
-    let free = some_free h in
+    let free = some_free h a.numbered.placed in
     let down' : is_up (entries_of h) ≡ false = sym a.after.up ∙ down in
     (free.0, free.1, rw down' (record { text = e; agrees = a; limits_are = refl }))
 

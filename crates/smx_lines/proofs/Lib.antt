@@ -1,6 +1,8 @@
 pub mod Offers
 pub mod Printing
 pub mod FreeNumbers
+pub mod Placing
+pub mod PlacedTurns
 pub mod LaneTurns
 pub mod GivingUp
 pub mod Expiring

@@ -1,4 +1,4 @@
--- From each state a line may print something.
+-- From each state whose takes are placed a line may print something.
 use Rattle.std.proofs.Common.{ℕ, Bool, true, false, List, ◌∷◌, Option, Some, None, refl}
 use Rattle.smx_script.specs.declared.command.Action.{Action}
 use Rattle.smx_script.specs.declared.command.Action.TheVariants.{Client, Prefix, In, Take, Back, Collect, History, Turn, Lose, Bind, Moment, Expire}
@@ -18,6 +18,8 @@ use Rattle.smx_routes.specs.Routing.{Route, route}
 use Rattle.smx_lines.specs.Turns.{AddRoute, is_bad_route, RouteOf, RouteTurn, TakeTurn, ExpireTurn, Acts, Does, OnCommand, Lines}
 use Rattle.smx_lines.proofs.Receiving.{some_received}
 use Rattle.smx_lines.proofs.FreeNumbers.{some_free}
+use Rattle.smx_lines.proofs.PlacedTurns.{placed_begun}
+use Rattle.smx_lines.proofs.Placing.{ArePlacedOn, placed_at}
 use Rattle.smx_lines.proofs.StateTurns.{some_expired_on}
 
 abbrev Some_of : (Option (List ℕ × Relay) → Type 0) → Type 0
@@ -73,9 +75,9 @@ some_back : (s : Relay) (i : ℕ) (octets : List ℕ) → Some_of (BackTurn s i 
 unfolding BackTurn
 some_back s i octets = some_index s i octets (has_lane s i)
 
-some_take : (s : Relay) (i : ℕ) → Some_of (TakeTurn s i)
-some_take s i =
-    let u = some_free (history_of s i) in
+some_take : (s : Relay) (i : ℕ) → ArePlacedOn s.lanes → Some_of (TakeTurn s i)
+some_take s i placed =
+    let u = some_free (history_of s i) (placed_at s.lanes i placed) in
     (_, (u.0, u.1, refl))
 
 some_expired : (s : Relay) (i age : ℕ) → Some_of (ExpireTurn s i age)
@@ -95,31 +97,31 @@ some_route : (s : Relay) (c : ℕ) (prefix : List ℕ) → Some_of (RouteTurn s 
 unfolding RouteTurn
 some_route s c prefix = some_route_of s c prefix (client_of s.clients c)
 
-some_act : (s : Relay) (action : Action) → Some_of (Acts s action)
+some_act : (s : Relay) (action : Action) → ArePlacedOn s.lanes → Some_of (Acts s action)
 unfolding Acts
-some_act s (Client kind) = (_, refl)
-some_act s (Prefix c prefix) = some_route s c prefix
-some_act s (In c octets) = some_in s c octets
-some_act s (Take i) = some_take s i
-some_act s (Back i octets) = some_back s i octets
-some_act s (Collect c) = (_, refl)
-some_act s (History i) = (_, refl)
-some_act s (Turn i) = (_, refl)
-some_act s (Lose i) = some_lost s i
-some_act s (Bind i) = (_, refl)
-some_act s (Moment moment) = (_, refl)
-some_act s (Expire i age) = some_expired s i age
+some_act s (Client kind) placed = (_, refl)
+some_act s (Prefix c prefix) placed = some_route s c prefix
+some_act s (In c octets) placed = some_in s c octets
+some_act s (Take i) placed = some_take s i placed
+some_act s (Back i octets) placed = some_back s i octets
+some_act s (Collect c) placed = (_, refl)
+some_act s (History i) placed = (_, refl)
+some_act s (Turn i) placed = (_, refl)
+some_act s (Lose i) placed = some_lost s i
+some_act s (Bind i) placed = (_, refl)
+some_act s (Moment moment) placed = (_, refl)
+some_act s (Expire i age) placed = some_expired s i age
 
-some_does : (s : Relay) (command : Command) → Some_of (Does s command)
+some_does : (s : Relay) (command : Command) → ArePlacedOn s.lanes → Some_of (Does s command)
 unfolding Does
-some_does s Skip = (_, refl)
-some_does s (Set setting) = (_, refl)
-some_does s (Run action) = some_act (begin_lanes s) action
+some_does s Skip placed = (_, refl)
+some_does s (Set setting) placed = (_, refl)
+some_does s (Run action) placed = some_act (begin_lanes s) action (placed_begun s placed)
 
-some_command : (s : Relay) (o : Option Command) → Some_of (OnCommand s o)
-some_command s None = (None, refl)
-some_command s (Some command) = some_does s command
+some_command : (s : Relay) (o : Option Command) → ArePlacedOn s.lanes → Some_of (OnCommand s o)
+some_command s None placed = (None, refl)
+some_command s (Some command) placed = some_does s command placed
 
-pub some_line : (s : Relay) (line : List ℕ) → Some_of (Lines s line)
+pub some_line : (s : Relay) (line : List ℕ) → ArePlacedOn s.lanes → Some_of (Lines s line)
 unfolding Lines
-some_line s line = some_command s (command_of line)
+some_line s line placed = some_command s (command_of line) placed

@@ -7,13 +7,15 @@ use Rattle.std.proofs.lemmas.List.{map-set}
 use Rattle.smx_pdu.specs.declared.pdu.Pdu.{Pdu}
 use Rattle.smx_history.specs.declared.request.Request.{Request}
 use Rattle.smx_history.specs.declared.note.Note.{Note}
+use Rattle.smx_history.specs.declared.telling.Unaccepted.TheVariants.{AllFull}
 use Rattle.smx_history.specs.declared.note.Event.TheVariants.{Accept}
 use Rattle.smx_history.specs.History.{entry_by, note}
 use Rattle.smx_history.specs.Contents.{AgreesWith, Content, content_after}
+use Rattle.smx_history.specs.Failures.{refusal_of}
 use Rattle.smx_history.specs.Replies.{accept_refusal}
 use Rattle.smx_history.proofs.Refusals.{accept_refusal_same}
 use Rattle.smx_lines.specs.declared.state.State.{State}
-use Rattle.smx_lines.specs.Texts.{text_line, pdu_line, to_client, refusal_of}
+use Rattle.smx_lines.specs.Texts.{text_line, pdu_line, to_client}
 use Rattle.smx_lines.specs.declared.state.LinkedLane.{LinkedLane}
 use Rattle.smx_lines.specs.declared.state.LinkedClient.{LinkedClient}
 use Rattle.smx_lines.specs.Relay.{Relay, client_at, client_of, going_on, history_of, lane_after, lane_at, lane_for, in_turn_at, new_lane, request_of, with_client, with_request}
@@ -130,7 +132,7 @@ offered_some old new s last at r x k after text a next is e =
 
 pub offered_none : (old new : State) (s : Relay) (last : ℕ) (r : Request) (p : Pdu) (text : List ℕ) → StandsFor old s → find (λ i. accepts_in r.client (slice_get old.lanes.items i)) (ring (last % length old.lanes.items) (length old.lanes.items)) ≡ None
     → new.lanes.items ≡ old.lanes.items → new.clients.list.items ≡ old.clients.list.items → KeepsSettings old new
-    → p ≡ refusal_of r → text ≡ pdu_line (to_client r.client) p → TurnLeaves (in_turn_at s r (lane_for s r.client last)) new text
+    → p ≡ refusal_of AllFull r.command r.own → text ≡ pdu_line (to_client r.client) p → TurnLeaves (in_turn_at s r (lane_for s r.client last)) new text
 offered_none old new s last r p text a none lanes clients keeps is e =
     let found : lane_for s r.client last ≡ None = lane_same old s r.client last a ∙ none in
     rw found (record {

@@ -20,6 +20,7 @@ use Rattle.smx_lines.proofs.Lanes.{zip-length, zip-at, zip-set, lane_goes}
 use Rattle.smx_lines.proofs.OwnNotes.{own_take, own_back, own_expired, own_turn}
 use Rattle.smx_lines.proofs.Expiring.{ExpiresLane}
 use Rattle.smx_lines.proofs.FreeNumbers.{some_free}
+use Rattle.smx_lines.proofs.Placing.{placed_at, stands_placed}
 use Rattle.smx_lines.proofs.Keeping.{KeepsSettings, kept_routes}
 
 -- there is no such lane
@@ -81,7 +82,7 @@ take_turns s i new text takes = (known_lane_turn s i (take_on s.limits s.moment 
 
 pub takes_none : (old new : State) (s : Relay) (i : ℕ) → StandsFor old s → length old.lanes.items ≤ i → Takes s i new None
 takes_none old new s i a past =
-    let u = some_free (history_of s i) in
+    let u = some_free (history_of s i) (placed_at s.lanes i (stands_placed old s a)) in
     (u.0, u.1, no_lane old new s i (take_on s.limits s.moment u.0 i) a past)
 
 -- the lane gave some free number

@@ -10,10 +10,12 @@ use Rattle.smx_history.specs.declared.limits.Limits.{Limits}
 use Rattle.smx_history.specs.declared.request.Request.{Request}
 use Rattle.smx_history.specs.declared.place.Place.{Place}
 use Rattle.smx_history.specs.declared.note.Note.{Note}
+use Rattle.smx_history.specs.declared.telling.Unaccepted.TheVariants.{AllFull}
 use Rattle.smx_history.specs.declared.note.Event.TheVariants as event
 use Rattle.smx_history.specs.History.{note, shift, stored_of, entries_of, latest_after}
 use Rattle.smx_history.specs.Entries.{is_up}
 use Rattle.smx_history.specs.Contents.{content_after, queue_after, window_after}
+use Rattle.smx_history.specs.Failures.{refusal_of}
 use Rattle.smx_history.specs.Ring.{ring}
 use Rattle.smx_history.specs.Replies.{accept_refusal, admit_refusal, answers_place, is_present, waiting_after}
 use Rattle.smx_routes.specs.Routing.{Route}
@@ -21,7 +23,7 @@ use Rattle.smx_script.specs.declared.command.Setting.{Setting}
 use Rattle.smx_script.specs.declared.command.Setting.TheVariants.{Sizes, Lanes, Places, Account}
 use Rattle.smx_lines.specs.declared.state.LinkedClient.{LinkedClient}
 use Rattle.smx_lines.specs.Links.{ClientLink, CentreLink, new_link, bound_centre}
-use Rattle.smx_lines.specs.Texts.{text_line, pdu_line, to_client, up_lane, refusal_of, upstream_of, entry_line, turned_line, down_line}
+use Rattle.smx_lines.specs.Texts.{text_line, pdu_line, to_client, up_lane, upstream_of, entry_line, turned_line, down_line}
 
 -- a lane: what happened on it since it was made, and its link to the centre
 pub record RelayLane : Type 0 where
@@ -168,7 +170,7 @@ with_request r h = h ++ note 0 (event.Accept r) ∷ []
 
 -- the ordinal is used where a lane accepts
 abbrev pub in_turn_at : Relay → Request → Option ℕ → List ℕ × Relay
-in_turn_at s r None = (pdu_line (to_client r.client) (refusal_of r), s)
+in_turn_at s r None = (pdu_line (to_client r.client) (refusal_of AllFull r.command r.own), s)
 in_turn_at s r (Some i) = (
   text_line (codes "accepted " ++ (decimal r.client ++ (codes " " ++ decimal i))),
   with_client (going_on s i (with_request r)) r.client (record (client_at s r.client) { last = r.ordinal }),

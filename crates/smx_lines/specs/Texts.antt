@@ -3,9 +3,7 @@ use Rattle.std.specs.Prelude.{ℕ, List, [], ◌∷◌, ◌++◌, codes}
 use Rattle.std.specs.Fmt.{decimal}
 use Rattle.hex.specs.Hex.{encode_lower}
 use Rattle.smx_pdu.specs.declared.pdu.Pdu.{Pdu}
-use Rattle.smx_pdu.specs.declared.status.TheConstants.{ESME_RMSGQFUL}
 use Rattle.smx_pdu.specs.Pdu.{spelling}
-use Rattle.smx_pdu.specs.Answers.{refusal}
 use Rattle.smx_history.specs.declared.entry.Kind.{Kind}
 use Rattle.smx_history.specs.declared.entry.Kind.TheVariants.{Admit, Accept, Take, Answer, Late, Collect, Retire, Fail, Down, Up}
 use Rattle.smx_history.specs.declared.entry.Entry.{Entry}
@@ -56,10 +54,6 @@ kept_line lane = text_line (codes "kept " ++ decimal lane)
 -- a lane goes on without so many entries
 abbrev pub turned_line : ℕ → ℕ → List ℕ
 turned_line lane count = text_line (codes "turned " ++ (decimal lane ++ (codes " " ++ decimal count)))
-
--- the answer to a request that each lane refuses: the queue is full (SMPP 3.4, section 5.1.3)
-abbrev pub refusal_of : Request → Pdu
-refusal_of r = refusal r.command ESME_RMSGQFUL r.own
 
 -- a request as it goes upstream
 abbrev pub upstream_of : Request → ℕ → Pdu

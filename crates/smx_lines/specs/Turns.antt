@@ -1,5 +1,5 @@
 -- What a line may print and leave; none at a bad line.
-use Rattle.std.specs.Prelude.{◌≡◌, ◌++◌, ◌||◌, ◌==◌, ◌<◌, ◌≤◌, ℕ, Bool, true, false, not, nat_lt, List, [], ◌∷◌, length, IsPermutation, codes, Option, Some, None, slice_get, if◌then◌else◌}
+use Rattle.std.specs.Prelude.{◌≡◌, ◌++◌, ◌||◌, ◌==◌, ◌<◌, ◌≤◌, ℕ, Bool, true, false, not, nat_lt, List, [], ◌∷◌, length, IsPermutation, codes, Option, Some, None, if◌then◌else◌}
 use Rattle.std.specs.List.{list_any}
 use Rattle.std.specs.Fmt.{decimal}
 use Rattle.smx_routes.specs.Routing.{Route, route, has_route}
@@ -8,7 +8,7 @@ use Rattle.smx_history.specs.Prefixes.{SameCounts}
 use Rattle.smx_history.specs.declared.entry.Entry.{Entry}
 use Rattle.smx_history.specs.declared.note.Note.{Note}
 use Rattle.smx_history.specs.Entries.{numbers, unanswered_takes}
-use Rattle.smx_history.specs.Numbers.{recent}
+use Rattle.smx_history.specs.Numbers.{place_in, generation_in, generation_after, recent}
 use Rattle.smx_history.specs.History.{entries_of}
 use Rattle.smx_history.specs.Contents.{window_after}
 use Rattle.smx_script.specs.declared.command.Command.{Command}
@@ -32,11 +32,13 @@ pub record MayBear (es : List Entry) (u : ℕ) : Type 0 where
   pub unused : list_any (λ t. t.number == u) (unanswered_takes es) ≡ false
   pub spaced : list_any (λ n. n == u) (recent (numbers es)) ≡ false
 
--- the number is free, where the window has room: it has at most 1,024 places, so with room in it there is such a number
-abbrev pub IsFreeNumber : List Note → ℕ → Type 0
-IsFreeNumber h u = length (window_after h) < 1024 → MayBear (entries_of h) u
+-- the number is its place's next, the k-th take of a place bearing its k-th number, and it is free where the window has room:
+-- that has at most 1,024 places, so with room in it there is such a number
+pub record IsFreeNumber (h : List Note) (u : ℕ) : Type 0 where
+  pub placed : generation_in u ≡ generation_after (place_in u) (numbers (entries_of h))
+  pub free : length (window_after h) < 1024 → MayBear (entries_of h) u
 
--- a request that is taken gets some free number
+-- a request that is taken gets the next number of some place that is free
 abbrev pub TakeTurn : Relay → ℕ → Option (List ℕ × Relay) → Type 0
 TakeTurn s i x = (u : ℕ) × IsFreeNumber (history_of s i) u × (x ≡ known_lane_turn s i (take_on s.limits s.moment u i))
 

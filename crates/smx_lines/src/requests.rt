@@ -7,7 +7,6 @@ ghost use Rattle.smx_history.specs.Contents.{AgreesWith, Content};
 ghost use Rattle.smx_history.specs.Ring.{ring};
 ghost use Rattle.smx_lines.specs.declared.state.LinkedClient.{LinkedClient};
 ghost use Rattle.smx_lines.specs.declared.state.LinkedLane.{LinkedLane};
-ghost use Rattle.smx_lines.specs.Texts.{refusal_of};
 ghost use Rattle.smx_lines.specs.Relay.{Relay, client_of, in_turn_at, lane_for, request_of};
 ghost use Rattle.smx_lines.specs.Relay.{with_request};
 ghost use Rattle.smx_lines.specs.ClientTurn.{forward};
@@ -17,8 +16,7 @@ ghost use Rattle.smx_lines.specs.Private.Lanes.{MayAcceptNext, accepts_in};
 use crate::on_lane::CALLER;
 use crate::state::{LinkedLane, State};
 use crate::texts::{accepted_line, to_line};
-use smx_history::Request;
-use smx_pdu::status::ESME_RMSGQFUL;
+use smx_history::{Request, Unaccepted, refusal_of};
 use smx_pdu::{Pdu, is_forwarded};
 use std::alloc::{AllocError, Global};
 
@@ -84,7 +82,7 @@ fn offer(
 {
     let client = request.client;
     let ordinal = request.ordinal;
-    let refusal = Pdu::refusal(alloc, request.command, ESME_RMSGQFUL, request.own);
+    let refusal = refusal_of(alloc, Unaccepted::AllFull, request.command, request.own);
     match accept_in_ring(&mut state.lanes, last, request) {
         Some(at) => {
             state.clients.known_mut(client).last = ordinal;

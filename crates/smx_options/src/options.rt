@@ -19,6 +19,8 @@ const STDIN: &str = "stdin";
 
 const VERBOSE: &str = "verbose";
 
+const KEYS: &str = "keys";
+
 /// What the command line asks for.
 #[derive(Clone, Copy, Debug, PartialEq, Eq)]
 pub enum Asked<'a> {
@@ -26,6 +28,8 @@ pub enum Asked<'a> {
     Relay(Option<&'a str>),
     /// Checks the configuration in the file with this path.
     Check(&'a str),
+    /// Says which keys a configuration may have.
+    Keys,
     /// Runs the proxy by the configuration in the file with this path, and reads standard input also
     /// where that is a terminal, or only where it is none.
     Serve(&'a str, bool),
@@ -97,7 +101,13 @@ fn command<'a>(alloc: Global) -> Result<Command<'a>, AllocError> {
         "check",
         "Checks a configuration, and says what would be right",
         "Example: smx check /etc/smx/smx.toml",
-    )?;
+    )?
+    .arg(flag(
+        alloc,
+        KEYS,
+        "Say which keys a configuration may have, and read no file",
+    )
+    .exclusive(true))?;
     Command::new(alloc, "smx")
         .about(ABOUT)
         .version(VERSION)
@@ -115,6 +125,9 @@ pub(crate) fn read<'a>(alloc: Global, words: &'a [String]) -> Result<Asked<'a>, 
     let Some((name, found)) = matches.subcommand() else {
         return Ok(Asked::Nothing);
     };
+    if name == "check" && found.get_flag(KEYS) {
+        return Ok(Asked::Keys);
+    }
     let path = found.get_str("FILE");
     if name == "relay" {
         return Ok(Asked::Relay(path));

@@ -1,5 +1,5 @@
 -- A run, a line at a time.
-use Rattle.std.proofs.Common.{◌≡◌, ℕ, ◌+◌, List, [], ◌∷◌, ◌++◌, Option, Some, None, true, false, refl, sym, ap, subst, ◌∙◌, append_assoc}
+use Rattle.std.proofs.Common.{◌≡◌, ℕ, ◌+◌, List, [], ◌∷◌, ◌++◌, Option, Some, None, false, refl, sym, ap, subst, ◌∙◌, append_assoc}
 use Rattle.std.proofs.lemmas.List.{append-nil}
 use Rattle.smx_lines.specs.Texts.{bad_line}
 use Rattle.smx_lines.specs.Relay.{Relay, new_relay}
@@ -7,6 +7,8 @@ use Rattle.smx_lines.specs.Turns.{Lines}
 use Rattle.smx_relay.specs.Runs.{Runs, RunsTo}
 use Rattle.smx_relay.specs.Sizes.{is_too_large}
 use Rattle.smx_lines.proofs.Lining.{some_line}
+use Rattle.smx_lines.proofs.Placing.{ArePlacedOn}
+use Rattle.smx_lines.proofs.PlacedTurns.{placed_line}
 
 pub runs_end : (n : ℕ) (s : Relay) → Runs n s [] [] None
 unfolding Runs
@@ -20,15 +22,15 @@ pub runs_more : (n : ℕ) (s : Relay) (line : List ℕ) (lines : List (List ℕ)
 unfolding Runs
 runs_more n s line lines x rest stop does r = (Some x, does, (rest, r, refl))
 
--- from each state the lines may print something
-pub runs_on : (n : ℕ) (s : Relay) (lines : List (List ℕ)) → (out : List ℕ) × (stop : Option ℕ) × Runs n s lines out stop
-runs_on n s [] = ([], None, runs_end n s)
-runs_on n s (line ∷ lines) =
-    let turn = some_line s line in
+-- from each state whose takes are placed the lines may print something
+pub runs_on : (n : ℕ) (s : Relay) (lines : List (List ℕ)) → ArePlacedOn s.lanes → (out : List ℕ) × (stop : Option ℕ) × Runs n s lines out stop
+runs_on n s [] placed = ([], None, runs_end n s)
+runs_on n s (line ∷ lines) placed =
+    let turn = some_line s line placed in
     (elim turn.0 as (λ x. Lines s line x → (out : List ℕ) × (stop : Option ℕ) × Runs n s (line ∷ lines) out stop) [
       | None ↦ λ bad. (bad_line n, Some n, runs_bad n s line lines bad)
       | Some x ↦ λ does.
-          let others = runs_on (n + 1) x.1 lines in
+          let others = runs_on (n + 1) x.1 lines (placed_line s line (Some x) placed does) in
           (x.0 ++ others.0, others.1, runs_more n s line lines x others.0 others.1 does others.2)
     ]) turn.1
 
@@ -55,15 +57,15 @@ pub so_far_bad : (n : ℕ) (s : Relay) (line : List ℕ) (lines all : List (List
 so_far_bad n s line lines all written so_far bad = so_far.goes_on (bad_line n) (Some n) (runs_bad n s line lines bad)
 
 -- what was written is a front of what all lines print
-pub so_far_front : (n : ℕ) (s : Relay) (lines all : List (List ℕ)) (written : List ℕ) → SoFar n s lines all written → (more : List ℕ) × (stop : Option ℕ) × Runs 1 new_relay all (written ++ more) stop
-so_far_front n s lines all written so_far =
-    let others = runs_on n s lines in
+pub so_far_front : (n : ℕ) (s : Relay) (lines all : List (List ℕ)) (written : List ℕ) → ArePlacedOn s.lanes → SoFar n s lines all written → (more : List ℕ) × (stop : Option ℕ) × Runs 1 new_relay all (written ++ more) stop
+so_far_front n s lines all written placed so_far =
+    let others = runs_on n s lines placed in
     (others.0, others.1, so_far.goes_on others.0 others.1 others.2)
 
 -- so it is with a front of what the next line prints
-pub so_far_part : (front : List ℕ) (octet : ℕ) (back text : List ℕ) (n : ℕ) (s : Relay) (lines all : List (List ℕ)) (written : List ℕ) → text ≡ front ++ octet ∷ back → SoFar n s lines all (written ++ text) → (more : List ℕ) × (stop : Option ℕ) × Runs 1 new_relay all ((written ++ front) ++ octet ∷ more) stop
-so_far_part front octet back text n s lines all written e so_far =
-    let whole = so_far_front n s lines all (written ++ text) so_far in
+pub so_far_part : (front : List ℕ) (octet : ℕ) (back text : List ℕ) (n : ℕ) (s : Relay) (lines all : List (List ℕ)) (written : List ℕ) → text ≡ front ++ octet ∷ back → ArePlacedOn s.lanes → SoFar n s lines all (written ++ text) → (more : List ℕ) × (stop : Option ℕ) × Runs 1 new_relay all ((written ++ front) ++ octet ∷ more) stop
+so_far_part front octet back text n s lines all written e placed so_far =
+    let whole = so_far_front n s lines all (written ++ text) placed so_far in
     let P : List ℕ → Type 0 = λ w. Runs 1 new_relay all w whole.1 in
     (back ++ whole.0, whole.1, subst P (ap (λ (t : List ℕ). (written ++ t) ++ whole.0) e ∙ simp append_assoc) whole.2)
 

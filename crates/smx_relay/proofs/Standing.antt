@@ -15,6 +15,7 @@ use Rattle.smx_lines.specs.Relay.{Relay, new_relay}
 use Rattle.smx_lines.specs.Turns.{Lines}
 use Rattle.smx_relay.specs.Runs.{Runs, RunsTo, Relays, StopsAt}
 use Rattle.smx_lines.specs.States.{StandsFor, TurnLeaves, MayPrint}
+use Rattle.smx_lines.proofs.Placing.{stands_placed}
 use Rattle.smx_relay.specs.Ends.{BeginsRelay, BreaksOff}
 use Rattle.smx_relay.proofs.Running.{SoFar, so_far_start, so_far_more, so_far_end, so_far_bad, so_far_front, so_far_part, runs_on, runs_to_start, runs_to_more}
 use Rattle.smx_relay.specs.Sizes.{is_too_large}
@@ -64,14 +65,14 @@ stands_end a b state i lines script past same stands =
 
 pub stands_front : (a b : Option (List ℕ)) (state : State) (i : ℕ) (lines : List (List ℕ)) (script : List ℕ) → lines ≡ lines_of script → Stands a b state i lines → (out : List ℕ) × Appends a b out × BeginsRelay script out
 stands_front a b state i lines script same stands =
-    let whole = so_far_front (i + 1) stands.0 (drop i lines) lines stands.2 stands.4 in
+    let whole = so_far_front (i + 1) stands.0 (drop i lines) lines stands.2 (stands_placed state stands.0 stands.1) stands.4 in
     (stands.2, stands.3, (whole.0, whole.1, subst (λ (ls : List (List ℕ)). Runs 1 new_relay ls (stands.2 ++ whole.0) whole.1) same whole.2))
 
 -- the run is too large before the next line
 pub stands_stop : (a b : Option (List ℕ)) (state : State) (i n : ℕ) (lines : List (List ℕ)) (script : List ℕ) → n ≡ i + 1 → lines ≡ lines_of script → Stands a b state i lines → Sizes state true
     → (out : List ℕ) × Appends a b out × (StopsAt script n out × BeginsRelay script out)
 stands_stop a b state i n lines script e same stands large =
-    let whole = so_far_front (i + 1) stands.0 (drop i lines) lines stands.2 stands.4 in
+    let whole = so_far_front (i + 1) stands.0 (drop i lines) lines stands.2 (stands_placed state stands.0 stands.1) stands.4 in
     let front : BeginsRelay script stands.2 = (whole.0, whole.1, subst (λ (ls : List (List ℕ)). Runs 1 new_relay ls (stands.2 ++ whole.0) whole.1) same whole.2) in
     let before : take i lines ≡ take (n - 1) (lines_of script) = ap (λ (ls : List (List ℕ)). take i ls) same ∙ ap (λ (k : ℕ). take k (lines_of script)) (omega (arith, e)) in
     let ran : RunsTo new_relay (take (n - 1) (lines_of script)) stands.2 stands.0 = subst (λ (ls : List (List ℕ)). RunsTo new_relay ls stands.2 stands.0) before stands.5 in
@@ -85,7 +86,7 @@ stands_part a b c old new i lines script line text same at stands turns wrote =
     let found = prints_some (Lines s line) new text (turns s stands.1) in
     let here : SoFar (i + 1) s (line ∷ drop (i + 1) lines) lines stands.2 = subst (λ (ls : List (List ℕ)). SoFar (i + 1) s ls lines stands.2) at stands.4 in
     let next = so_far_more (i + 1) s line (drop (i + 1) lines) lines stands.2 found.0 here found.1 in
-    let whole = so_far_part wrote.0 wrote.1 wrote.2 found.0.0 (i + 1 + 1) found.0.1 (drop (i + 1) lines) lines stands.2 (sym found.2.text ∙ wrote.3) next in
+    let whole = so_far_part wrote.0 wrote.1 wrote.2 found.0.0 (i + 1 + 1) found.0.1 (drop (i + 1) lines) lines stands.2 (sym found.2.text ∙ wrote.3) (stands_placed new found.0.1 found.2.left) next in
     (stands.2 ++ wrote.0, Appends-trans a b c stands.2 wrote.0 stands.3 wrote.4, (wrote.1, whole.0, whole.1, subst (λ (ls : List (List ℕ)). Runs 1 new_relay ls ((stands.2 ++ wrote.0) ++ wrote.1 ∷ whole.0) whole.1) same whole.2))
 
 pub stands_bad : (a b c : Option (List ℕ)) (old new : State) (i : ℕ) (lines : List (List ℕ)) (script line text : List ℕ) → lines ≡ lines_of script → drop i lines ≡ line ∷ drop (i + 1) lines → Stands a b old i lines → Turns old line new None → text ≡ bad_line (i + 1) → Appends b c text
@@ -108,7 +109,7 @@ stands_bad_part a b c old new i lines script line text same at stands turns e wr
 -- nothing was written
 pub stands_nothing : (known : Option (List ℕ)) (script : List ℕ) → (out : List ℕ) × Appends known known out × BeginsRelay script out
 stands_nothing known script =
-    let whole = runs_on 1 new_relay (lines_of script) in
+    let whole = runs_on 1 new_relay (lines_of script) tt in
     ([], Appends-nil known, (whole.0, whole.1, whole.2))
 
 -- the lines from the i-th on

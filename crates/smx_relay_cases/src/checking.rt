@@ -4,7 +4,7 @@
 //! line that takes the place of the one that begins with the same word, or, behind a `-`, a word whose
 //! line is left out.
 
-use smx_config::{Account, Config, Upstream, advice, check, read, unread};
+use smx_config::{Account, Config, Upstream, advice, check, key_table, read, unread};
 use std::alloc::{AllocError, Global};
 use std::io;
 use std::io::{ErrorKind, Write};
@@ -106,6 +106,17 @@ pub fn tell_keys(alloc: Global, text: &str, out: &mut Vec<u8>) -> io::Result<()>
         writeln!(out, "{} unread", all.len())?;
         for words in all.iter() {
             writeln!(out, "{words}")?;
+        }
+    }
+    Ok(())
+}
+
+/// The lines of the table of keys that begin with one of these lines.
+pub fn tell_table(alloc: Global, text: &str, out: &mut Vec<u8>) -> io::Result<()> {
+    let table = key_table(alloc)?;
+    for front in text.lines() {
+        for line in table.lines().filter(|line| line.starts_with(front)) {
+            writeln!(out, "{line}")?;
         }
     }
     Ok(())

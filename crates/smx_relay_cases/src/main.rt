@@ -32,6 +32,7 @@ fn tell_case(alloc: Global, kind: &str, text: &str, out: &mut Vec<u8>) -> io::Re
         "configurations, their lines" => checking::tell_changes(alloc, text, out),
         "configurations, advice" => checking::tell_advice(alloc, text, out),
         "configurations, keys that nobody reads" => checking::tell_keys(alloc, text, out),
+        "configurations, the table of keys" => checking::tell_table(alloc, text, out),
         "configurations, values" => checking::tell_values(alloc, text, out),
         "configurations, files" => files::tell_files(alloc, text, out),
         "configurations, writers that fail" => failing::tell_check_writers(alloc, text, out),

@@ -42,10 +42,19 @@ impl Course {
         !self.addresses.is_empty()
     }
 
-    /// The name is looked up anew, but not before this moment.
-    pub fn delay(&mut self, due: u64) {
+    /// The next link begins anew so many milliseconds after this moment, at which the last one did.
+    pub fn delay(&mut self, begun: u64, silence: u64) {
         self.addresses.clear();
-        self.due = due;
+        self.due = begun.saturating_add(silence);
+    }
+
+    /// In how many milliseconds from this moment the next link begins.
+    pub fn rest(&self, now: u64) -> u64 {
+        if self.has_more() {
+            0
+        } else {
+            self.due.saturating_sub(now)
+        }
     }
 
     // What the look-up found, where it is over.

@@ -2,11 +2,10 @@
 
 use crate::addresses::Addresses;
 use crate::guests::{Guest, Guests};
-use crate::notice::{Notice, Words};
+use crate::notice::{ClientName, ClientNews, Notice, TurnedAway};
 use crate::pace::Moment;
 use crate::queues::Queues;
 use crate::seats::{Gateway, Member};
-use crate::teller::Teller;
 use mio::net::{TcpListener, TcpStream};
 use mio::{Registry, Token};
 use smx_client::Desk;
@@ -79,9 +78,6 @@ pub(crate) fn wire(
     }
 }
 
-/// What is said of a connection that the loop can't watch, or that there is no memory for.
-const UNWATCHED: Words = Words::Said("it can't be watched");
-
 // A client that was let in, its worker and its socket.
 #[derive(Drop)]
 struct Entered<'d> {
@@ -92,7 +88,7 @@ struct Entered<'d> {
 
 impl Gateway {
     // Enters a client over this connection, with the ends of its slot, and makes its worker. Where
-    // that can't be the ends come back, and what is said.
+    // that can't be the ends come back, and why.
     fn admit<'d, R: Wait>(
         &mut self,
         rt: &R,
@@ -101,7 +97,7 @@ impl Gateway {
         stream: TcpStream,
         party: usize,
         ends: ClientEnds,
-    ) -> Result<Entered<'d>, (ClientEnds, Words)> {
+    ) -> Result<Entered<'d>, (ClientEnds, TurnedAway)> {
         let Moment {
             alloc,
             config,
@@ -110,12 +106,12 @@ impl Gateway {
         } = moment;
         let entrant = match self.enter(rt) {
             Ok(entrant) => entrant,
-            Err(fault) => return Err((ends, Words::Unentered(fault))),
+            Err(fault) => return Err((ends, TurnedAway::NotEntered(fault))),
         };
         let client = entrant.client();
         let Some((socket, link)) = wire(alloc, registry, stream, party) else {
             entrant.leave(rt);
-            return Err((ends, UNWATCHED));
+            return Err((ends, TurnedAway::Unwatched));
         };
         match Member::new(rt, alloc, entrant, desk, ends, config.places, link) {
             Ok(member) => Ok(Entered {
@@ -123,32 +119,28 @@ impl Gateway {
                 member,
                 socket,
             }),
-            Err(ends) => Err((ends, UNWATCHED)),
+            Err(ends) => Err((ends, TurnedAway::Unwatched)),
         }
     }
 }
 
-fn refuse<R: Wait>(rt: &R, moment: Moment<'_>, address: &str, words: Words) {
-    let Moment { teller, now, .. } = moment;
-    let notice = Notice::Refused(address, words);
-    teller.refused.say(rt, &teller.log, now, notice);
-}
-
 fn say_connected<R: Wait>(rt: &R, moment: Moment<'_>, client: u64, address: &str) {
-    let Moment { teller, now, .. } = moment;
-    let notice = Notice::Client(client, address, "", Words::Said("connected"));
-    teller.came.say(rt, &teller.log, now, notice);
+    let name = ClientName {
+        client,
+        system_id: None,
+        address,
+    };
+    moment.say(rt, Notice::Client(name, ClientNews::Connected));
 }
 
 impl Entrance {
     // The next connection, or none for now. A want of descriptors is said once.
-    fn accept<R: Wait>(&mut self, rt: &R, teller: &Teller) -> Option<(TcpStream, SocketAddr)> {
+    fn accept<R: Wait>(&mut self, rt: &R, moment: Moment<'_>) -> Option<(TcpStream, SocketAddr)> {
         let next = next_of(&self.listener);
         let was_short = self.short;
         self.short = matches!(next, Next::Short);
         if self.short && !was_short {
-            let notice = Notice::Plain("no connection can be accepted now");
-            teller.log.say(rt, notice);
+            moment.say(rt, Notice::NoDescriptor);
         }
         match next {
             Next::Came(stream, address) => Some((stream, address)),
@@ -169,8 +161,7 @@ impl Entrance {
         address: String,
     ) {
         let Some((slot, ends)) = guests.slots.pick() else {
-            let words = Words::Said("no slot is free");
-            refuse(rt, moment, address.as_str(), words);
+            moment.say(rt, Notice::Refused(address.as_str(), TurnedAway::NoSlot));
             return;
         };
         let party = queues.party(slot);
@@ -184,9 +175,9 @@ impl Entrance {
                 queues.ready.add(party);
                 guests.seat(slot, guest_of(entered, address, moment.desk));
             }
-            Err((ends, words)) => {
+            Err((ends, reason)) => {
                 guests.slots.give_back(slot, ends);
-                refuse(rt, moment, address.as_str(), words);
+                moment.say(rt, Notice::Refused(address.as_str(), reason));
             }
         }
     }
@@ -208,7 +199,7 @@ impl Entrance {
             return;
         }
         for _ in 0..u64::MAX {
-            let Some((stream, address)) = self.accept(rt, moment.teller) else {
+            let Some((stream, address)) = self.accept(rt, moment) else {
                 return;
             };
             if let Ok(address) = format!(in moment.alloc; "{address}") {
@@ -233,6 +224,6 @@ fn guest_of<'d>(entered: Entered<'d>, address: String, desk: &'d Desk) -> Guest<
         member,
         socket,
         desk,
-        name: "",
+        name: None,
     }
 }

@@ -3,13 +3,13 @@
 use crate::addresses::Addresses;
 use crate::heard::bound_name;
 use crate::lane::TURNS;
-use crate::notice::{Notice, Words};
+use crate::notice::{ClientName, ClientNews, Notice};
 use crate::pace::Moment;
 use crate::queues::Queues;
 use crate::seating::Seating;
 use crate::seats::Member;
 use smx_client::Desk;
-use smx_session::ClientState;
+use smx_session::{ClientState, Kind};
 use smx_slots::{Bell, ClientEnds, Guide, Slots};
 use smx_socket::{Drained, Flushed, Socket};
 use smx_turns::RunEnd;
@@ -29,18 +29,18 @@ pub(crate) struct Guest<'d> {
     pub socket: Rc<Socket>,
     pub desk: &'d Desk,
     // The system_id of its account, once it is bound.
-    pub name: &'d str,
+    pub name: Option<&'d str>,
 }
 
 /// The end of what is written where the proxy hangs up: generic_nack of a bad length.
 pub(crate) const NACK: u64 = 0x0000_0002_0000_0000;
 
-// As what a client is bound, in words; None where it isn't.
-fn kind_of(state: ClientState) -> Option<&'static str> {
+// As what a client is bound; None where it isn't.
+fn kind_of(state: ClientState) -> Option<Kind> {
     match state {
-        ClientState::BoundTx => Some("transmitter"),
-        ClientState::BoundRx => Some("receiver"),
-        ClientState::BoundTrx => Some("transceiver"),
+        ClientState::BoundTx => Some(Kind::Tx),
+        ClientState::BoundRx => Some(Kind::Rx),
+        ClientState::BoundTrx => Some(Kind::Trx),
         ClientState::Opened | ClientState::Ended => None,
     }
 }
@@ -86,42 +86,42 @@ impl Guest<'_> {
         (socket, ends)
     }
 
-    // Says why its client is gone.
-    fn say_gone<R: Wait>(&self, rt: &R, moment: Moment<'_>, end: RunEnd) {
-        let words = match end {
-            RunEnd::Fault(fault) => Words::Fault(fault),
-            _ if self.socket.has_ended() => Words::Said("closed its connection"),
-            RunEnd::Left if self.socket.tail() == NACK => Words::Said("hung up, a bad length"),
-            _ => Words::Said("left"),
+    // Says what becomes of its client.
+    fn say<R: Wait>(&self, rt: &R, moment: Moment<'_>, news: ClientNews) {
+        let name = ClientName {
+            client: self.client,
+            system_id: self.name,
+            address: self.address.as_str(),
         };
-        let notice = Notice::Client(self.client, self.address.as_str(), self.name, words);
-        let Moment { teller, now, .. } = moment;
-        teller.gone.say(rt, &teller.log, now, notice);
+        moment.say(rt, Notice::Client(name, news));
+    }
+
+    // Why its client is gone.
+    fn farewell(&self, end: RunEnd) -> ClientNews {
+        match end {
+            RunEnd::Fault(fault) => ClientNews::Fault(fault),
+            _ if self.socket.has_ended() => ClientNews::Closed,
+            RunEnd::Left if self.socket.tail() == NACK => ClientNews::BadLength,
+            _ => ClientNews::Left,
+        }
     }
 
     // Says as what its client is bound, and by which account, where it is and that wasn't said.
     fn say_bound<R: Wait>(&mut self, rt: &R, moment: Moment<'_>, state: ClientState) {
-        let Moment {
-            alloc,
-            teller,
-            now,
-            ..
-        } = moment;
         let Some(kind) = kind_of(state) else {
             return;
         };
-        if !self.name.is_empty() {
+        if self.name.is_some() {
             return;
         }
-        self.name = match self.socket.head(alloc) {
+        let name = match self.socket.head(moment.alloc) {
             Some(octets) => {
                 bound_name(octets.as_slice(), self.desk.accounts.as_slice()).unwrap_or(UNNAMED)
             }
             None => UNNAMED,
         };
-        let words = Words::Bound(kind);
-        let notice = Notice::Client(self.client, self.address.as_str(), self.name, words);
-        teller.bound.say(rt, &teller.log, now, notice);
+        self.name = Some(name);
+        self.say(rt, moment, ClientNews::Bound(kind));
     }
 }
 
@@ -265,7 +265,7 @@ impl<'d> Guests<'d> {
         let Some(guest) = self.take(slot) else {
             return;
         };
-        guest.say_gone(rt, moment, end);
+        guest.say(rt, moment, guest.farewell(end));
         let (socket, ends) = guest.close(rt, queues, addresses);
         self.part(queues, slot, socket, ends, moment.now);
     }

@@ -5,7 +5,7 @@ use crate::addresses::Addresses;
 use crate::course::{Course, Way};
 use crate::guests::NACK;
 use crate::heard::bind_status;
-use crate::notice::Words;
+use crate::notice::LinkLoss;
 use crate::pace::Moment;
 use crate::queues::Queues;
 use crate::seats::{Carrier, Drawer};
@@ -62,13 +62,11 @@ pub(crate) struct Turned {
     pub newly_bound: bool,
 }
 
-/// How a link was lost: why, how many requests failed with it, and in how many milliseconds it is
-/// tried again.
+/// How a link was lost, and how many requests failed with it.
 #[derive(Clone, Copy)]
-pub(crate) struct Loss {
-    pub words: Words,
+pub(crate) struct Lost {
+    pub loss: LinkLoss,
     pub failed: usize,
-    pub again: u64,
 }
 
 /// Why no link could be begun.
@@ -83,9 +81,6 @@ pub(crate) enum Unlinked {
 /// How often a worker is turned before the next one is.
 pub(crate) const TURNS: u64 = 16;
 
-/// What is said of an upstream to which no connection comes about.
-pub(crate) const UNREACHED: Words = Words::Said("can't be reached");
-
 impl Linked {
     // Whether an octet came from the centre.
     fn has_heard(&self, alloc: Global) -> bool {
@@ -95,37 +90,41 @@ impl Linked {
         }
     }
 
-    // Why it has ended, where it wasn't told to.
-    fn farewell(&self, alloc: Global, end: RunEnd) -> Words {
-        if let RunEnd::Fault(fault) = end {
-            if fault == Fault::Link && !self.has_heard(alloc) {
-                return UNREACHED;
-            }
-            return Words::Fault(fault);
-        }
-        if let Some(octets) = self.socket.head(alloc) {
-            match bind_status(octets.as_slice()) {
-                Some(status) if status != ESME_ROK => return Words::Status(status),
-                _ => {}
-            }
-        }
-        if self.socket.has_ended() {
-            return Words::Said("ended, it closed the connection");
-        }
-        if self.socket.tail() == NACK {
-            return Words::Said("ended, it sent a bad length");
-        }
-        if self.state == UpstreamState::Bound {
-            return Words::Said("ended, it answered no enquire_link");
-        }
-        Words::Said("ended, it unbound")
-    }
-}
-
-impl Linked {
     // Whether its address could not be reached, where its worker ended so.
     fn is_unreached(&self, alloc: Global, end: RunEnd) -> bool {
         end == RunEnd::Fault(Fault::Link) && !self.has_heard(alloc)
+    }
+
+    // The status with which the centre refused the bind, where it did.
+    fn refusal(&self, alloc: Global) -> Option<u32> {
+        let status = bind_status(self.socket.head(alloc)?.as_slice())?;
+        if status == ESME_ROK {
+            None
+        } else {
+            Some(status)
+        }
+    }
+
+    // Why it has ended, where it wasn't told to.
+    fn farewell(&self, alloc: Global, end: RunEnd) -> LinkLoss {
+        if self.is_unreached(alloc, end) {
+            return LinkLoss::Unreached;
+        }
+        if let RunEnd::Fault(fault) = end {
+            return LinkLoss::Fault(fault);
+        }
+        if let Some(status) = self.refusal(alloc) {
+            return LinkLoss::Refused(status);
+        }
+        if self.socket.has_ended() {
+            LinkLoss::Closed
+        } else if self.socket.tail() == NACK {
+            LinkLoss::BadLength
+        } else if self.state == UpstreamState::Bound {
+            LinkLoss::Silent
+        } else {
+            LinkLoss::Unbound
+        }
     }
 
     // Turns the worker until it is idle, at most so often; who is told of something is ready then.
@@ -250,31 +249,28 @@ impl Lane {
 
     // Parts from its link, whose worker has ended so. Nothing is to be said of it where another
     // address of its name is tried at once.
-    pub fn lose<R: Wait>(&mut self, rt: &R, moment: Moment<'_>, end: RunEnd) -> Option<Loss> {
+    pub fn lose<R: Wait>(&mut self, rt: &R, moment: Moment<'_>, end: RunEnd) -> Option<Lost> {
         let Moment {
             alloc,
             config,
             now,
             ..
         } = moment;
-        let (words, is_unreached, begun) = match &self.link {
-            Some(linked) => {
-                let words = linked.farewell(alloc, end);
-                (words, linked.is_unreached(alloc, end), linked.begun)
-            }
+        let (loss, begun) = match &self.link {
+            Some(linked) => (linked.farewell(alloc, end), linked.begun),
             None => return None,
         };
         let failed = self.part(rt, now);
-        if is_unreached && self.course.has_more() {
+        if matches!(loss, LinkLoss::Unreached) && self.course.has_more() {
             return None;
         }
-        let due = now.max(begun.saturating_add(config.silence));
-        self.course.delay(due);
-        Some(Loss {
-            words,
-            failed,
-            again: due.saturating_sub(now),
-        })
+        self.course.delay(begun, config.silence);
+        Some(Lost { loss, failed })
+    }
+
+    // In how many milliseconds from this moment it is tried again, where it has no link.
+    pub fn rest(&self, now: u64) -> u64 {
+        self.course.rest(now)
     }
 
     // Where its link was lost so long ago that no request waits longer, what is queued here fails: how
@@ -334,7 +330,6 @@ impl Lane {
         lane: usize,
     ) -> Result<(), Unlinked> {
         let Moment { config, now, .. } = moment;
-        let due = now.saturating_add(config.silence);
         for _ in 0..MOST {
             if self.spare.is_none() {
                 return Ok(());
@@ -345,14 +340,14 @@ impl Lane {
             {
                 Way::Waits => return Ok(()),
                 Way::Unknown(reason) => {
-                    self.course.delay(due);
+                    self.course.delay(now, config.silence);
                     return Err(Unlinked::Unknown(reason));
                 }
                 Way::To(address) => address,
             };
             let is_begun = self.link_to(rt, registry, moment, upstream, address);
             if !is_begun && !self.course.has_more() {
-                self.course.delay(due);
+                self.course.delay(now, config.silence);
                 return Err(Unlinked::Unreached);
             }
         }

@@ -4,11 +4,13 @@
 mod addresses;
 mod course;
 mod desk;
+mod ended;
 mod entrance;
 mod guests;
 mod heard;
 mod lane;
 mod linking;
+mod listening;
 mod log;
 mod lookup;
 mod notice;
@@ -24,8 +26,11 @@ mod teller;
 mod turning;
 mod upstreams;
 
+pub use ended::Ended;
 pub use log::Log;
 pub use lookup::{Lookups, is_name};
-pub use notice::Ended;
+pub use notice::{
+    ClientName, ClientNews, LinkLoss, MeteredKind, Notice, TurnedAway, UpstreamName, UpstreamNews,
+};
 pub use remote::Remote;
 pub use serve::Server;

@@ -1,8 +1,8 @@
 //! How the loop turns each upstream's worker, and keeps each upstream connected.
 
 use crate::addresses::Addresses;
-use crate::lane::{Lane, Loss, UNREACHED, Unlinked};
-use crate::notice::{Notice, Words};
+use crate::lane::{Lane, Lost, Unlinked};
+use crate::notice::{LinkLoss, Notice, UpstreamName, UpstreamNews};
 use crate::pace::Moment;
 use crate::queues::Queues;
 use mio::Registry;
@@ -11,31 +11,29 @@ use smx_turns::RunEnd;
 use std::net::Net;
 use std::sync::Wait;
 
-// Says something of a lane.
-fn say_of_lane<R: Wait>(rt: &R, moment: Moment<'_>, lane: usize, words: Words) {
-    let Moment { config, teller, .. } = moment;
+// Says what becomes of a lane's upstream.
+fn say<'x, R: Wait>(rt: &R, moment: Moment<'x>, lane: usize, news: UpstreamNews<'x>) {
+    let Moment { config, .. } = moment;
     if let Some(upstream) = config.upstream.get(lane) {
-        let address = upstream.address.as_str();
-        let name = upstream.system_id.as_str();
-        let notice = Notice::Lane(lane, address, name, words);
-        teller.log.say(rt, notice);
+        let name = UpstreamName {
+            lane,
+            system_id: upstream.system_id.as_str(),
+            address: upstream.address.as_str(),
+        };
+        moment.say(rt, Notice::Upstream(name, news));
     }
 }
 
-// Says what became of a link.
-fn say_lost<R: Wait>(rt: &R, moment: Moment<'_>, lane: usize, loss: Loss) {
-    let Moment { config, teller, .. } = moment;
-    if let Some(upstream) = config.upstream.get(lane) {
-        let address = upstream.address.as_str();
-        let name = upstream.system_id.as_str();
-        let Loss {
-            words,
-            failed,
-            again,
-        } = loss;
-        let notice = Notice::Lost(lane, address, name, words, failed, again);
-        teller.log.say(rt, notice);
-    }
+// Says that a lane has no link, and when it is tried again.
+fn say_lost<R: Wait>(rt: &R, moment: Moment<'_>, lane: usize, place: &Lane, lost: Lost) {
+    let Lost { loss, failed } = lost;
+    let again = place.rest(moment.now);
+    let news = UpstreamNews::Lost {
+        loss,
+        failed,
+        again,
+    };
+    say(rt, moment, lane, news);
 }
 
 /// Turns a lane's worker until it is idle, at most so often. One that has ended loses its link, and
@@ -52,19 +50,19 @@ pub(crate) fn turn_lane<R: Wait>(
         return;
     };
     if turned.newly_bound {
-        say_of_lane(rt, moment, lane, Words::Said("bound"));
+        say(rt, moment, lane, UpstreamNews::Bound);
     }
     match turned.end {
         RunEnd::Idle | RunEnd::Turns => {}
         RunEnd::Left | RunEnd::Fault(_) if moment.stopping => {
-            say_of_lane(rt, moment, lane, Words::Said("unbound"));
+            say(rt, moment, lane, UpstreamNews::Unbound);
         }
         end @ (RunEnd::Left | RunEnd::Fault(_)) => {
-            let loss = place.lose(rt, moment, end);
+            let lost = place.lose(rt, moment, end);
             // Each client may have a response that tells of its request.
             queues.add_slots();
-            match loss {
-                Some(loss) => say_lost(rt, moment, lane, loss),
+            match lost {
+                Some(lost) => say_lost(rt, moment, lane, place, lost),
                 None => queues.hurry(),
             }
         }
@@ -83,13 +81,12 @@ fn end_late<R: Wait>(
     if !place.is_late(now, config.silence) {
         return;
     }
-    let loss = Loss {
-        words: Words::Said("answered no bind"),
+    let lost = Lost {
+        loss: LinkLoss::Unanswered,
         failed: place.part(rt, now),
-        again: 0,
     };
     queues.add_slots();
-    say_lost(rt, moment, lane, loss);
+    say_lost(rt, moment, lane, place, lost);
 }
 
 // Answers what is queued on a lane whose link was lost too long ago.
@@ -108,7 +105,7 @@ fn give_up<R: Wait>(
     let failed = place.give_up_queued(rt, now, response_timer);
     if failed > 0 {
         queues.add_slots();
-        say_of_lane(rt, moment, lane, Words::GivenUp(failed));
+        say(rt, moment, lane, UpstreamNews::GivenUp { failed });
     }
 }
 
@@ -121,23 +118,21 @@ fn connect<R: Wait + Net>(
     lane: usize,
     place: &mut Lane,
 ) {
-    let Moment { config, teller, .. } = moment;
-    let again = config.silence;
     match place.connect(rt, registry, moment, upstream, lane) {
         Ok(()) => {}
         Err(Unlinked::Unreached) => {
-            let loss = Loss {
-                words: UNREACHED,
+            let lost = Lost {
+                loss: LinkLoss::Unreached,
                 failed: 0,
-                again,
             };
-            say_lost(rt, moment, lane, loss);
+            say_lost(rt, moment, lane, place, lost);
         }
         Err(Unlinked::Unknown(reason)) => {
-            let address = upstream.address.as_str();
-            let name = upstream.system_id.as_str();
-            let notice = Notice::Unknown(lane, address, name, reason.as_str(), again);
-            teller.log.say(rt, notice);
+            let news = UpstreamNews::Unknown {
+                reason: reason.as_str(),
+                again: place.rest(moment.now),
+            };
+            say(rt, moment, lane, news);
         }
     }
 }

@@ -1,8 +1,8 @@
 //! Lines on their way to whoever reads them.
 
+use crate::notice::Notice;
 use std::alloc::{AllocError, Global};
 use std::collections::VecDeque;
-use std::fmt::Display;
 use std::io::{self, Write};
 use std::rt::Clock;
 use std::sync::{Condvar, Mutex, Wait};
@@ -85,7 +85,7 @@ impl Waiting {
 fn write_line<W: Write>(writer: &mut W, line: &Line) -> io::Result<()> {
     match line {
         Line::Said(text) => writer.write_all(text.as_bytes()),
-        Line::LeftOut(count) => writeln!(writer, "{count} lines left out"),
+        Line::LeftOut(count) => writeln!(writer, "{}", Notice::Unwritten(*count)),
     }
 }
 
@@ -118,8 +118,8 @@ impl Log {
     }
 
     /// Says a line.
-    pub fn say<R: Wait, L: Display + Drop>(&self, rt: &R, line: L) {
-        let text = format!(in self.alloc; "{line}\n").ok();
+    pub fn say<R: Wait>(&self, rt: &R, notice: Notice<'_>) {
+        let text = format!(in self.alloc; "{notice}\n").ok();
         self.waiting.lock(rt).add(text);
         self.came.notify_one();
     }

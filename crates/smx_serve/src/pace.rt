@@ -1,11 +1,13 @@
 //! The moments of the loop, and what is due at each.
 
 use crate::lookup::Lookups;
+use crate::notice::Notice;
 use crate::teller::Teller;
 use smx_client::Desk;
 use smx_config::Config;
 use std::alloc::Global;
 use std::rt::Clock;
+use std::sync::Wait;
 use std::time::Instant;
 
 /// After so many passes over those that are ready, events are asked for in any case.
@@ -31,6 +33,13 @@ pub(crate) struct Moment<'d> {
     pub response_timer: u64,
     pub now: u64,
     pub stopping: bool,
+}
+
+impl Moment<'_> {
+    /// Says a line at this moment.
+    pub fn say<R: Wait>(self, rt: &R, notice: Notice<'_>) {
+        self.teller.say(rt, self.now, notice);
+    }
 }
 
 /// The moment, and what is counted from one to the next.

@@ -2,22 +2,23 @@
 
 use crate::addresses::Addresses;
 use crate::desk::desk_of;
+use crate::ended::Ended;
 use crate::entrance::Entrance;
 use crate::guests::Guests;
 use crate::lane::Lane;
+use crate::listening::{await_listener, port_of};
 use crate::log::Log;
 use crate::lookup::Lookups;
-use crate::notice::{Ended, Notice};
+use crate::notice::Notice;
 use crate::pace::{Moment, Pace};
-use crate::parties::{LISTENER, WAKER};
+use crate::parties::WAKER;
 use crate::queues::Queues;
 use crate::remote::Remote;
 use crate::seats::{Drawer, Gateway};
 use crate::teller::Teller;
 use crate::turning::Loop;
 use crate::upstreams::drawers_of;
-use mio::net::TcpListener;
-use mio::{Events, Interest, Poll, Token, Waker};
+use mio::{Events, Poll, Token, Waker};
 use smx_config::Config;
 use smx_shared::Exchange;
 use smx_slots::{ClientEnds, LaneEnds, Slots, ends_of};
@@ -37,50 +38,6 @@ pub struct Server {
     poll: Poll,
     shared: Shared,
     response_timer: u64,
-}
-
-// Where clients connect, watched.
-fn listen<R>(rt: &R, poll: &Poll, address: &str) -> Option<TcpListener>
-where
-    R: Net<Listener = std::net::TcpListener, Stream = TcpStream>,
-{
-    let Ok(listener) = std::net::TcpListener::bind(rt, address) else {
-        return None;
-    };
-    if listener.set_nonblocking(true).is_err() {
-        return None;
-    }
-    let mut listener = TcpListener::from_std(listener);
-    let registry = poll.registry();
-    match registry.register(&mut listener, Token(LISTENER), Interest::READABLE) {
-        Ok(()) => Some(listener),
-        Err(_) => None,
-    }
-}
-
-// The same of a configuration's address; where nobody can listen there, that is said.
-fn announce<R>(rt: &R, poll: &Poll, moment: Moment<'_>) -> Result<TcpListener, Ended>
-where
-    R: Wait + Net<Listener = std::net::TcpListener, Stream = TcpStream>,
-{
-    let Moment { config, teller, .. } = moment;
-    let address = config.listen.as_str();
-    match listen(rt, poll, address) {
-        Some(listener) => Ok(listener),
-        None => {
-            let notice = Notice::Door("no connections can be awaited at", address);
-            teller.log.say(rt, notice);
-            Err(Ended::NotListening)
-        }
-    }
-}
-
-// The port, and 0 where the system doesn't say it.
-fn port_of(listener: &TcpListener) -> u16 {
-    match listener.local_addr() {
-        Ok(found) => found.port(),
-        Err(_) => 0,
-    }
 }
 
 // The lanes: their door, and each tap beside the exchange.
@@ -167,23 +124,31 @@ fn tables_of(alloc: Global, lanes: usize, slots: usize) -> Result<Tables, AllocE
     })
 }
 
-// The loop, which listens and is not connected yet.
-fn loop_of<'d, R>(rt: &R, pace: Pace<'d>, poll: Poll) -> Result<Loop<'d>, Ended>
+// The loop, once it listens; it is not connected yet. Its first moment is that one.
+fn loop_of<'d, R>(
+    rt: &R,
+    mut poll: Poll,
+    moment: Moment<'d>,
+    remote: &Remote,
+) -> Result<Loop<'d>, Ended>
 where
-    R: Wait + Net<Listener = std::net::TcpListener, Stream = TcpStream>,
+    R: Clock + Wait + Net<Listener = std::net::TcpListener, Stream = TcpStream>,
 {
-    let Moment { alloc, config, .. } = pace.moment;
+    let Moment { alloc, config, .. } = moment;
     let Wiring {
         gateway,
         lanes,
         guests,
     } = wiring_of(rt, alloc, config)?;
-    let listener = announce(rt, &poll, pace.moment)?;
     let Tables {
-        events,
+        mut events,
         queues,
         addresses,
     } = tables_of(alloc, lanes.len(), guests.slots.count())?;
+    let listener = await_listener(rt, &mut poll, &mut events, moment, remote)?;
+    let Ok(start) = Instant::now(rt) else {
+        return Err(Ended::NoEvents);
+    };
     let entrance = Entrance {
         listener,
         gateway,
@@ -191,7 +156,7 @@ where
         is_open: false,
     };
     Ok(Loop {
-        pace,
+        pace: Pace::new(moment, start),
         poll,
         events,
         lanes,
@@ -279,8 +244,9 @@ impl Server {
         }
     }
 
-    /// Serves by this configuration until it is told to stop, on this thread alone. An upstream that
-    /// can't be reached, refuses the bind or ends is tried again after the configuration's silence.
+    /// Serves by this configuration until it is told to stop, on this thread alone. An address to listen
+    /// at that can't be had is tried again every two seconds; an upstream that can't be reached, refuses
+    /// the bind or ends, after the configuration's silence.
     pub fn serve<R>(self, rt: &R, alloc: Global, config: &Config) -> Ended
     where
         R: Clock + Wait + Net<Listener = std::net::TcpListener, Stream = TcpStream>,
@@ -323,13 +289,9 @@ fn open<R>(rt: &R, poll: Poll, moment: Moment<'_>, remote: &Remote) -> Result<En
 where
     R: Clock + Wait + Net<Listener = std::net::TcpListener, Stream = TcpStream>,
 {
-    let Moment { config, teller, .. } = moment;
-    let Ok(start) = Instant::now(rt) else {
-        return Err(Ended::NoEvents);
-    };
-    let mut turning = loop_of(rt, Pace::new(moment, start), poll)?;
-    let notice = Notice::Door("listening on", config.listen.as_str());
-    teller.log.say(rt, notice);
+    let mut turning = loop_of(rt, poll, moment, remote)?;
+    let Moment { config, .. } = moment;
+    moment.say(rt, Notice::Listening(config.listen.as_str()));
     remote.listen(port_of(&turning.entrance.listener));
     Ok(turning.run(rt, remote))
 }

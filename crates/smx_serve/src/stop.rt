@@ -1,6 +1,7 @@
 //! The end in order.
 
-use crate::notice::{Ended, Notice};
+use crate::ended::Ended;
+use crate::notice::Notice;
 use crate::parties::{are_idle, are_settled};
 use crate::turning::Loop;
 use std::net::Net;
@@ -53,7 +54,7 @@ impl<'d> Loop<'d> {
     pub fn stop<R: Wait + Clock + Net>(&mut self, rt: &R) -> Ended {
         self.pace.moment.stopping = true;
         let moment = self.pace.moment;
-        moment.teller.log.say(rt, Notice::Plain("stopping"));
+        moment.say(rt, Notice::Stopping);
         self.guests
             .dismiss(rt, moment, &mut self.queues, &mut self.addresses);
         match self.end(rt) {

@@ -1,7 +1,7 @@
 //! Lines that may come often: so many of a kind are said a second, and the others are counted.
 
 use crate::log::Log;
-use crate::notice::Notice;
+use crate::notice::{MeteredKind, Notice};
 use std::cell::Cell;
 use std::sync::{Arc, Wait};
 
@@ -10,9 +10,8 @@ const MOST: u64 = 20;
 
 /// Lines of one kind.
 #[derive(Drop)]
-pub(crate) struct Meter {
-    // What the lines say, for that on those left out.
-    kind: &'static str,
+struct Meter {
+    kind: MeteredKind,
     // The second of the last line, and how many were said and left out since it began.
     second: Cell<u64>,
     said: Cell<u64>,
@@ -20,7 +19,7 @@ pub(crate) struct Meter {
 }
 
 impl Meter {
-    fn new(kind: &'static str) -> Meter {
+    fn new(kind: MeteredKind) -> Meter {
         Meter {
             kind,
             second: Cell::new(0),
@@ -37,50 +36,59 @@ impl Meter {
         }
         let count = self.left_out.get();
         if count > 0 {
-            log.say(rt, Notice::More(count, self.kind));
+            log.say(rt, Notice::TooMany(count, self.kind));
         }
         self.second.set(second);
         self.said.set(0);
         self.left_out.set(0);
     }
 
-    // Says a line at this moment, in milliseconds, or leaves it out.
-    pub fn say<R: Wait>(&self, rt: &R, log: &Log, now: u64, notice: Notice<'_>) {
+    // Whether one more line may be said at this moment, in milliseconds, which counts it.
+    fn allows<R: Wait>(&self, rt: &R, log: &Log, now: u64) -> bool {
         self.settle(rt, log, now);
         let said = self.said.get();
         if said >= MOST {
             self.left_out.set(self.left_out.get().saturating_add(1));
-            return;
+            return false;
         }
         self.said.set(said + 1);
-        log.say(rt, notice);
+        true
     }
 }
 
-/// Where lines are said, and the kinds of those that clients cause.
+/// Where lines are said, and a meter of each kind that clients cause.
 #[derive(Drop)]
 pub(crate) struct Teller {
-    pub log: Arc<Log>,
-    pub came: Meter,
-    pub bound: Meter,
-    pub gone: Meter,
-    pub refused: Meter,
+    log: Arc<Log>,
+    meters: [Meter; 4],
 }
 
 impl Teller {
     pub fn new(log: Arc<Log>) -> Teller {
         Teller {
             log,
-            came: Meter::new("clients connected"),
-            bound: Meter::new("clients bound"),
-            gone: Meter::new("clients gone"),
-            refused: Meter::new("connections refused"),
+            meters: [
+                Meter::new(MeteredKind::Connected),
+                Meter::new(MeteredKind::Bound),
+                Meter::new(MeteredKind::Gone),
+                Meter::new(MeteredKind::Refused),
+            ],
         }
+    }
+
+    // Says a line at this moment, in milliseconds, or counts it where too many of its kind came.
+    pub fn say<R: Wait>(&self, rt: &R, now: u64, notice: Notice<'_>) {
+        for meter in &self.meters {
+            if notice.metered_kind() == Some(meter.kind) && !meter.allows(rt, &self.log, now) {
+                return;
+            }
+        }
+        self.log.say(rt, notice);
     }
 
     // Says of each kind how many lines were left out, once their second is over.
     pub fn settle<R: Wait>(&self, rt: &R, now: u64) {
-        for meter in [&self.came, &self.bound, &self.gone, &self.refused] {
+        for meter in &self.meters {
             meter.settle(rt, &self.log, now);
         }
     }

@@ -1,11 +1,11 @@
 //! The loop: it turns who has something to do, writes, and waits for events.
 
 use crate::addresses::Addresses;
+use crate::ended::Ended;
 use crate::entrance::Entrance;
 use crate::guests::Guests;
 use crate::lane::Lane;
 use crate::linking::tend_all;
-use crate::notice::Ended;
 use crate::pace::{GRACE, Pace, TICK};
 use crate::parties::{are_idle, flush, heed, pass};
 use crate::queues::Queues;

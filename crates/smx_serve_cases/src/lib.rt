@@ -7,6 +7,8 @@ mod cells;
 #[cfg(test)]
 mod hostile;
 #[cfg(test)]
+mod lines;
+#[cfg(test)]
 mod loopback;
 #[cfg(test)]
 mod returning;

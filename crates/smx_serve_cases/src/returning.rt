@@ -7,6 +7,9 @@ use std::process::Abort;
 use std::test::Fail;
 use std::thread;
 
+// After so many milliseconds the proxy gives up a bind, and connects again.
+const SILENCE: u64 = 1_000;
+
 // Connections that the proxy makes one after another: the centre closes the first two, and never
 // answers the bind on the last two.
 fn rebound(rt: &impl Abort, centre: &TcpListener) -> Result<(TcpStream, TcpStream), Fail> {
@@ -22,7 +25,7 @@ fn rebound(rt: &impl Abort, centre: &TcpListener) -> Result<(TcpStream, TcpStrea
 #[test]
 fn centre_comes_back(rt: HostRuntime) -> Result<(), Fail> {
     let centre = TcpListener::bind(&rt, "127.0.0.1:0")?;
-    let config = config_for(rt.alloc(), &centre, 300)?;
+    let config = config_for(rt.alloc(), &centre, SILENCE)?;
     let (server, remote) = server(&rt, rt.alloc());
     let proxy = thread::spawn(&rt, move || server.serve(&rt, rt.alloc(), &config))?;
     let _links = rebound(&rt, &centre)?;

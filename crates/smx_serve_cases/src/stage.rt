@@ -8,6 +8,16 @@ use std::net::{Net, TcpListener, TcpStream};
 use std::process::Abort;
 use std::sync::Arc;
 use std::test::Fail;
+use std::time::Duration;
+
+// How long what has only to end may take, in milliseconds.
+pub(crate) const PATIENCE: u64 = 30_000;
+
+// The same connection, whose reads don't wait forever.
+pub(crate) fn patient(stream: TcpStream) -> Result<TcpStream, Fail> {
+    stream.set_read_timeout(Some(Duration::from_millis(PATIENCE)))?;
+    Ok(stream)
+}
 
 // The proxy's own bind, and the centre's answer (SMPP 3.4, sections 4.1.5 and 4.1.6).
 pub(crate) const OWN_BIND: &[u8] =
@@ -39,7 +49,8 @@ pub(crate) fn server<R: Net + Abort>(rt: &R, alloc: Global) -> (Server, Arc<Remo
 
 // The connection that the proxy makes to the centre, which hears its bind.
 pub(crate) fn binding(rt: &impl Abort, centre: &TcpListener) -> Result<TcpStream, Fail> {
-    let (mut up, _) = centre.accept()?;
+    let (up, _) = centre.accept()?;
+    let mut up = patient(up)?;
     assert!(rt; comes(&mut up, OWN_BIND));
     Ok(up)
 }
@@ -58,7 +69,7 @@ pub(crate) fn connected<R: Net<Stream = TcpStream>>(
     remote: &Remote,
 ) -> Result<TcpStream, Fail> {
     let address = format!(in alloc; "127.0.0.1:{}", remote.port())?;
-    Ok(TcpStream::connect(rt, address.as_str())?)
+    patient(TcpStream::connect(rt, address.as_str())?)
 }
 
 // Whether these octets come next.

@@ -6,6 +6,7 @@ mod directory;
 mod end;
 mod gate;
 mod mo_item;
+mod outcome;
 mod put;
 mod step;
 
@@ -13,5 +14,6 @@ pub use directory::{Directory, Place, Query};
 pub use end::{Fault, RunEnd, TurnEnd};
 pub use gate::{Gate, Party, Point, Question};
 pub use mo_item::MoItem;
+pub use outcome::Outcome;
 pub use put::put_at;
 pub use step::{Deed, Log, Step, ask};

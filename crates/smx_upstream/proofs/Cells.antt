@@ -1,6 +1,7 @@
 -- The turn's table, cell by cell.
-use Rattle.std.proofs.Common.{◌≡◌, ◌↔◌, ℕ, List, [], ◌∷◌, ◌++◌, Bool, true, false, not, Option, is_some, Result, Ok, Err, IsErr, IsErrAnd, IsTrue, if◌then◌else◌, sym, ◌∙◌, ap, refl, subst, true≢false}
+use Rattle.std.proofs.Common.{◌≡◌, ◌↔◌, ℕ, List, [], ◌∷◌, ◌++◌, Bool, true, false, not, Option, Some, None, is_some, Result, Ok, Err, IsErr, IsErrAnd, IsTrue, if◌then◌else◌, sym, ◌∙◌, ap, refl, subst, true≢false}
 use Rattle.std.proofs.lemmas.Bool.{eq-eqb}
+use Rattle.std.specs.Result.{is_err}
 use Rattle.smx_pdu.specs.declared.pdu.Pdu.{Pdu}
 use Rattle.smx_link.specs.declared.link.Polled.{Polled}
 use Rattle.smx_link.specs.declared.link.LinkFault.{LinkFault}
@@ -16,10 +17,7 @@ use Rattle.smx_upstream.specs.declared.mark.Mark.TheVariants.{Offered, WriteFail
 use Rattle.smx_upstream.specs.declared.event.Event.{Event}
 use Rattle.smx_upstream.specs.declared.event.Event.TheVariants.{Opened, Looked, Expired, Shifted, Sought, Decided, Took, Broke}
 use Rattle.smx_upstream.specs.declared.event.Fate.{Fate}
-use Rattle.smx_upstream.specs.declared.event.Fate.TheVariants as fate
-use Rattle.smx_upstream.specs.Ending.{is_last}
-use Rattle.smx_upstream.specs.Events.{kept_by}
-use Rattle.smx_upstream.specs.Spent.{is_spent_fate, is_spent_expiry, is_spent_shift, is_spent_get, is_spent_take}
+use Rattle.smx_upstream.specs.Events.{kept_by, fate_worth, event_ends, is_spent_expiry, is_spent_shift, is_spent_take}
 use Rattle.smx_upstream.specs.Phases.{Phase, Before, some_wait, Opening, Ready, Written, Clogged, Watched, Swept, Clear, Sated, Brimming, MayRead, Failed, Deciding, Closing, Settled, MayTake, HasTried, Stopped, Refrained, Gone, Drained, Wrong, go, from_opening, from_ready, from_written, from_watched, from_swept, from_clear, from_sated, from_may_read, from_deciding, from_closing, from_settled, from_may_take, phase_from, phase_of, unless_spent, at_moment, if_so, after_offer, unless_left, when_looked, when_kept, when_decided, when_part, when_full, when_read, when_may_read, when_may_take, end_of, quiet_end, Waits, IsOver, IsTurnEnd, IsTurn, EndsEarly, IsPart, LeadsTo, Faulted, MayWant}
 
 phase_append : (t : Before) (p : Phase) (xs ys : List (Step Mark Event)) → phase_from t p (xs ++ ys) ≡ phase_from t (phase_from t p xs) ys
@@ -90,7 +88,7 @@ pub cell_shifted : (t : Before) (left : Bool) (least : _) (r : _) → go t (Swep
 unfolding go from_swept
 cell_shifted t left least r = refl
 
-pub cell_sought : (t : Before) (r : _) (under : _) → go t Clear (Did (Sought r under)) ≡ unless_spent (is_spent_get r.value) Sated
+pub cell_sought : (t : Before) (r : _) (under : _) → go t Clear (Did (Sought r under)) ≡ unless_spent (is_err r.value) Sated
 unfolding go from_clear
 cell_sought t r under = refl
 
@@ -106,7 +104,7 @@ pub cell_read : (t : Before) (r : Result Polled LinkFault) → go t MayRead (Rea
 unfolding go from_may_read
 cell_read t r = refl
 
-pub cell_decided : (t : Before) (ended : Bool) (p : _) (now : _) (a : _) (f : _) → go t (Deciding ended) (Did (Decided p now a f)) ≡ at_moment t now (unless_spent (is_spent_fate f) (when_decided ended (is_last a.value f)))
+pub cell_decided : (t : Before) (ended : Bool) (p : _) (now : _) (a : _) (f : _) → go t (Deciding ended) (Did (Decided p now a f)) ≡ at_moment t now (unless_spent (fate_worth p.value f).spent (when_decided ended (event_ends (Decided p now a f))))
 unfolding go from_deciding
 cell_decided t ended p now a f = refl
 
@@ -131,17 +129,12 @@ unfolding go from_may_take
 cell_took t r = refl
 
 -- a PDU waits just after an answer that is spent
-pub kept_spent : (p : Pdu) (f : Fate) → is_spent_fate f ≡ is_some (kept_by p f)
-kept_spent p fate.Own = refl
-kept_spent p (fate.Up rise) = refl
-kept_spent p (fate.Lane lane a) = refl
-kept_spent p fate.LaneSpent = refl
-kept_spent p fate.Unread = refl
-kept_spent p (fate.Unrouted found) = refl
-kept_spent p (fate.Put place n given) = refl
-kept_spent p (fate.Full place) = refl
-kept_spent p (fate.Crowded place) = refl
-kept_spent p (fate.BoxSpent place) = refl
+pub kept_spent : (p : Pdu) (f : Fate) → (fate_worth p f).spent ≡ is_some (kept_by p f)
+kept_spent p f = by_spent (fate_worth p f).spent
+  where
+    by_spent : (b : Bool) → b ≡ is_some (if b then Some p else None)
+    by_spent true = refl
+    by_spent false = refl
 
 abbrev pub fault_or : {A : Type 0} → Result A Fault → Fault
 fault_or (Ok x) = fault.NoMemory

@@ -1,5 +1,5 @@
 -- One event more, and what a worker keeps.
-use Rattle.std.proofs.Common.{◌≡◌, ◌≢◌, ◌<◌, length, is_some, ℕ, List, [], ◌∷◌, ◌++◌, Bool, true, false, ◌||◌, true≢false, Option, IfSome, Some, None, Result, Ok, Err, IfOk, IsOk, sym, ◌∙◌, ap, refl, subst, append_assoc, ◌⊎◌, ⊎_elim}
+use Rattle.std.proofs.Common.{◌≡◌, ◌≢◌, ◌<◌, length, is_some, ℕ, List, [], ◌∷◌, ◌++◌, Bool, true, false, ◌||◌, true≢false, Option, IfSome, Some, None, Result, Ok, Err, IfOk, IsOk, if◌then◌else◌, sym, ◌∙◌, ap, refl, subst, append_assoc, ◌⊎◌, ⊎_elim}
 use Rattle.std.proofs.lemmas.List.Folds.{list_any-append}
 use Rattle.std.specs.List.{flat_map, list_any}
 use Rattle.smx_pdu.specs.declared.pdu.Pdu.{Pdu}
@@ -31,9 +31,8 @@ use Rattle.smx_upstream.specs.declared.mark.Mark.{Mark}
 use Rattle.smx_upstream.specs.declared.event.Event.{Event}
 use Rattle.smx_upstream.specs.declared.event.Event.TheVariants.{Began, Opened, Looked, Expired, Shifted, Sought, Decided, Took, Broke, Unbound}
 use Rattle.smx_upstream.specs.declared.event.Fate.{Fate}
-use Rattle.smx_upstream.specs.declared.event.Fate.TheVariants as fate
-use Rattle.smx_upstream.specs.Ending.{event_ends, has_ended, event_breaks, has_broken, is_last}
-use Rattle.smx_upstream.specs.Events.{ins, outs, in_of, out_of, those, tell_of, find_of, unless_kept, kept_by}
+use Rattle.smx_turns.specs.Worth.{those}
+use Rattle.smx_upstream.specs.Events.{ins, outs, in_of, out_of, tell_of, find_of, unless_kept, kept_by, fate_worth, event_ends, has_ended, event_breaks, has_broken}
 use Rattle.smx_upstream.specs.Standing.{Stand, Does, Gets, HoldNone, stand}
 use Rattle.smx_upstream.specs.Writing.{Writes, Marks, Sends, writing, has_link_ended, is_end_answer}
 use Rattle.smx_upstream.specs.Working.{Working, IsWorker, Scene, Changes, LeadsOn, is_bad_front}
@@ -98,7 +97,7 @@ breaks_ends (e ∷ es) h = first e (list_any event_breaks es) (list_any event_en
     first (Expired lane r) a b more h = more h
     first (Shifted least r) a b more h = more h
     first (Sought r under) a b more h = more h
-    first (Decided p now x f) a b more h = rest_ends a b (is_last x.value f) more h
+    first (Decided p now x f) a b more h = rest_ends a b (event_ends (Decided p now x f)) more h
     first (Took r) a b more h = more h
     first (Unbound p) a b more h = more h
 
@@ -201,16 +200,11 @@ goes_then n a b c ss ss' ss'' f g = λ start t. g start (f start t)
 
 -- a PDU is decided, or waits
 pub kept_or_in : (p : Pdu) (f : Fate) → unless_kept p (kept_by p f) ++ those (kept_by p f) ≡ p ∷ []
-kept_or_in p fate.Own = refl
-kept_or_in p (fate.Up rise) = refl
-kept_or_in p (fate.Lane lane a) = refl
-kept_or_in p fate.LaneSpent = refl
-kept_or_in p fate.Unread = refl
-kept_or_in p (fate.Unrouted found) = refl
-kept_or_in p (fate.Put place n given) = refl
-kept_or_in p (fate.Full place) = refl
-kept_or_in p (fate.Crowded place) = refl
-kept_or_in p (fate.BoxSpent place) = refl
+kept_or_in p f = by_spent (fate_worth p f).spent
+  where
+    by_spent : (b : Bool) → unless_kept p (if b then Some p else None) ++ those (if b then Some p else None) ≡ p ∷ []
+    by_spent true = refl
+    by_spent false = refl
 
 -- what the contract of a get says
 pub gets_from : (a b : Receiving Pdu) (r : Result (Got Pdu) Spent) → IfOk r (Hands a.got b.got) → IfOk r (GetServes a b.front) → IsOk r → Gets a b r

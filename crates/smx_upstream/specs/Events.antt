@@ -1,57 +1,91 @@
--- What an event decided, what it sends, what it asks the directory and whom it tells.
-use Rattle.std.specs.Prelude.{ℕ, List, [], ◌∷◌, ◌++◌, Option, Some, None, Result, Ok, Err}
-use Rattle.std.specs.List.{flat_map}
+-- What an event is worth: what it decided and sends, whom it tells, what it asks the directory, whether nothing came of it, and what it ends.
+use Rattle.std.specs.Prelude.{ℕ, Bool, true, false, ◌||◌, List, [], ◌∷◌, ◌++◌, Option, Some, None, Result, Ok, Err, if◌then◌else◌}
+use Rattle.std.specs.List.{flat_map, list_any}
+use Rattle.std.specs.Result.{is_err}
+use Rattle.std.specs.declared.vec.Vec.{Vec}
+use Rattle.std.specs.declared.alloc.Global.{Global}
 use Rattle.smx_pdu.specs.declared.pdu.Pdu.{Pdu}
 use Rattle.smx_pdu.specs.declared.status.TheConstants.{ESME_RINVCMDLEN, ESME_RMSGQFUL, ESME_RX_T_APPN}
 use Rattle.smx_pdu.specs.Reading.{destination_at}
 use Rattle.smx_pdu.specs.declared.body_fault.BodyFault.{BodyFault}
+use Rattle.smx_pdu.specs.Answers.{refusal, nack_of_undecoded}
+use Rattle.smx_history.specs.declared.entry.Entry.{Entry}
+use Rattle.smx_history.specs.declared.reply.Failed.{Failed}
+use Rattle.smx_history.specs.declared.reply.Failed.TheVariants as failed
+use Rattle.smx_history.specs.declared.reply.Answered.{Answered}
+use Rattle.smx_history.specs.declared.reply.Answered.TheVariants as answered
 use Rattle.smx_lane.specs.declared.sent.Sent.{Sent}
 use Rattle.smx_box.specs.declared.fault.Spent.{Spent}
 use Rattle.smx_box.specs.declared.receiver.Got.{Got}
 use Rattle.smx_box.specs.declared.receiver.Got.TheVariants as got
-use Rattle.smx_shared.specs.declared.fault.TakeFault.{TakeFault}
-use Rattle.smx_pdu.specs.Answers.{refusal, nack_of_undecoded}
 use Rattle.smx_session.specs.declared.up_act.UpAct.{UpAct}
 use Rattle.smx_session.specs.declared.up_act.UpAct.TheVariants as act
+use Rattle.smx_shared.specs.declared.fault.ExpiryFault.{ExpiryFault}
+use Rattle.smx_shared.specs.declared.fault.ExpiryFault.TheVariants as expires
+use Rattle.smx_shared.specs.declared.fault.TakeFault.{TakeFault}
+use Rattle.smx_shared.specs.declared.fault.TakeFault.TheVariants as takes
+use Rattle.smx_shared.specs.declared.fault.TurnFault.{TurnFault}
+use Rattle.smx_shared.specs.declared.fault.TurnFault.TheVariants as turns
 use Rattle.smx_turns.specs.declared.directory.Query.{Query}
 use Rattle.smx_turns.specs.declared.directory.Query.TheVariants.{Found}
 use Rattle.smx_turns.specs.declared.gate.Party.{Party}
 use Rattle.smx_turns.specs.declared.gate.Party.TheVariants.{Client, Slot}
-use Rattle.smx_history.specs.declared.reply.Failed.{Failed}
-use Rattle.smx_history.specs.declared.reply.Failed.TheVariants as failed
-use Rattle.smx_shared.specs.declared.fault.ExpiryFault.{ExpiryFault}
-use Rattle.smx_history.specs.declared.reply.Answered.{Answered}
-use Rattle.smx_history.specs.declared.reply.Answered.TheVariants as answered
+use Rattle.smx_turns.specs.declared.directory.Place.{Place}
+use Rattle.smx_turns.specs.Worth.{Worth, no_worth, spent_worth, says}
 use Rattle.smx_upstream.specs.declared.event.Event.{Event}
 use Rattle.smx_upstream.specs.declared.event.Event.TheVariants.{Began, Opened, Looked, Expired, Shifted, Sought, Decided, Took, Broke, Unbound}
 use Rattle.smx_upstream.specs.declared.event.Fate.{Fate}
 use Rattle.smx_upstream.specs.declared.event.Fate.TheVariants as fate
-
-abbrev pub those : {A : Type 0} → Option A → List A
-those (Some x) = x ∷ []
-those None = []
+use Rattle.smx_upstream.specs.Rising.{said_last, stays_down}
 
 -- a request taken goes upstream as its command, status 0, the number given and its body
 abbrev pub face_up : Sent → Pdu
 face_up s = record { command = s.request.command; status = 0; number = s.upstream; body = s.request.body }
 
-abbrev pub taken_out : Result Sent TakeFault → List Pdu
-taken_out (Ok s) = face_up s ∷ []
-taken_out (Err e) = []
+abbrev pub request_up : Result Sent TakeFault → Option Pdu
+request_up (Ok s) = Some (face_up s)
+request_up (Err e) = None
+
+abbrev pub is_spent_take : Result Sent TakeFault → Bool
+is_spent_take (Ok s) = false
+is_spent_take (Err (takes.Refused e)) = false
+is_spent_take (Err takes.Spent) = true
 
 -- an answer of a client to a message of this link goes upstream under the centre's number, and any other is dropped
 abbrev pub answer_out : Pdu → Option ℕ → List Pdu
 answer_out p (Some number) = record p { number = number } ∷ []
 answer_out p None = []
 
-abbrev pub found_out : Got Pdu → Option ℕ → List Pdu
-found_out (got.Item k n p) under = answer_out p under
-found_out (got.Shut k) under = []
-found_out got.Empty under = []
-
 abbrev pub got_out : Result (Got Pdu) Spent → Option ℕ → List Pdu
-got_out (Ok found) under = found_out found under
+got_out (Ok (got.Item k n p)) under = answer_out p under
+got_out (Ok (got.Shut k)) under = []
+got_out (Ok got.Empty) under = []
 got_out (Err e) under = []
+
+abbrev pub finds_nothing : Result (Got Pdu) Spent → Bool
+finds_nothing (Ok (got.Item k n p)) = false
+finds_nothing (Ok (got.Shut k)) = false
+finds_nothing (Ok got.Empty) = true
+finds_nothing (Err e) = true
+
+-- who is to hear that its request was given up
+abbrev pub failed_tells : ℕ → Failed → List Party
+failed_tells lane (failed.Queued c) = Client c lane ∷ []
+failed_tells lane failed.Late = []
+
+abbrev pub expiry_tells : ℕ → Result Failed ExpiryFault → List Party
+expiry_tells lane (Ok f) = failed_tells lane f
+expiry_tells lane (Err e) = []
+
+abbrev pub is_spent_expiry : Result Failed ExpiryFault → Bool
+is_spent_expiry (Ok f) = false
+is_spent_expiry (Err (expires.Refused e)) = false
+is_spent_expiry (Err expires.Spent) = true
+
+abbrev pub is_spent_shift : Result (Option (Vec Entry Global)) TurnFault → Bool
+is_spent_shift (Ok o) = false
+is_spent_shift (Err turns.Spent) = true
+is_spent_shift (Err turns.NoMemory) = false
 
 -- what the session's act sends
 abbrev pub act_out : UpAct → List Pdu
@@ -64,61 +98,104 @@ act_out act.Mo = []
 act_out act.Closed = []
 act_out act.Ignore = []
 
--- what a message that no client gets is answered
-abbrev pub fate_out : Pdu → Fate → List Pdu
-fate_out p fate.Own = []
-fate_out p (fate.Up rise) = []
-fate_out p (fate.Lane lane a) = []
-fate_out p fate.LaneSpent = []
-fate_out p fate.Unread = refusal p.command ESME_RINVCMDLEN p.number ∷ []
-fate_out p (fate.Unrouted found) = refusal p.command ESME_RX_T_APPN p.number ∷ []
-fate_out p (fate.Put place n given) = []
-fate_out p (fate.Full place) = refusal p.command ESME_RMSGQFUL p.number ∷ []
-fate_out p (fate.Crowded place) = refusal p.command ESME_RMSGQFUL p.number ∷ []
-fate_out p (fate.BoxSpent place) = []
+-- whether nothing is decided after this act
+abbrev pub ends : UpAct → Bool
+ends act.Up = false
+ends (act.Failed status) = true
+ends act.ToLane = false
+ends act.Mo = false
+ends (act.Answer p) = false
+ends (act.Leave p) = true
+ends act.Closed = true
+ends act.Ignore = false
 
--- the PDUs that an event sends
-abbrev pub out_of : Event → List Pdu
-out_of (Began p) = p.value ∷ []
-out_of (Opened n) = []
-out_of (Looked now due silent) = those due.value
-out_of (Expired lane r) = []
-out_of (Shifted least r) = []
-out_of (Sought r under) = got_out r.value under
-out_of (Decided p now a f) = act_out a.value ++ fate_out p.value f
-out_of (Took r) = taken_out r.value
-out_of Broke = nack_of_undecoded ∷ []
-out_of (Unbound p) = those p.value
+-- the destination that is read
+abbrev pub read_of : Result (List ℕ) BodyFault → List ℕ
+read_of (Ok d) = d
+read_of (Err e) = []
 
--- the PDU that still waits after this fate
+-- the directory was asked for the destination, and found this
+abbrev pub finding : Pdu → Option Place → List Query
+finding p found = Found (read_of (destination_at p.body)) found ∷ []
+
+-- whom an answer of the lane is for
+abbrev pub answer_tells : ℕ → Answered → List Party
+answer_tells lane (answered.Queued c) = Client c lane ∷ []
+answer_tells lane answered.Late = []
+answer_tells lane (answered.Unknown back) = []
+
+-- a message that no client gets is answered with this status
+abbrev pub refused_worth : Pdu → ℕ → Worth
+refused_worth p status = says (Some (refusal p.command status p.number))
+
+-- what became of a PDU, beside what the session did; a lane that stays down ends the session's work
+abbrev pub fate_worth : Pdu → Fate → Worth
+fate_worth p fate.Own = no_worth
+fate_worth p (fate.Up rise) = record no_worth { ends = stays_down (said_last rise.value) }
+fate_worth p (fate.Lane lane a) = record no_worth { tells = answer_tells lane a.value }
+fate_worth p fate.LaneSpent = spent_worth
+fate_worth p fate.Unread = refused_worth p ESME_RINVCMDLEN
+fate_worth p (fate.Unrouted found) = record (refused_worth p ESME_RX_T_APPN) { finds = finding p found }
+fate_worth p (fate.Put place n given) = record no_worth { finds = finding p (Some place); tells = Slot place.slot ∷ [] }
+fate_worth p (fate.Full place) = record (refused_worth p ESME_RMSGQFUL) { finds = finding p (Some place) }
+fate_worth p (fate.Crowded place) = record (refused_worth p ESME_RMSGQFUL) { finds = finding p (Some place) }
+fate_worth p (fate.BoxSpent place) = record spent_worth { finds = finding p (Some place) }
+
+-- the PDU that still waits, where a lane or a box takes no more calls
 abbrev pub kept_by : Pdu → Fate → Option Pdu
-kept_by p fate.Own = None
-kept_by p (fate.Up rise) = None
-kept_by p (fate.Lane lane a) = None
-kept_by p fate.LaneSpent = Some p
-kept_by p fate.Unread = None
-kept_by p (fate.Unrouted found) = None
-kept_by p (fate.Put place n given) = None
-kept_by p (fate.Full place) = None
-kept_by p (fate.Crowded place) = None
-kept_by p (fate.BoxSpent place) = Some p
+kept_by p f = if (fate_worth p f).spent then Some p else None
 
 abbrev pub unless_kept : Pdu → Option Pdu → List Pdu
 unless_kept p None = p ∷ []
 unless_kept p (Some q) = []
 
--- the PDUs that an event decided, those apart that still wait
+-- what a PDU that the session decided so is worth, of which this came
+abbrev pub decided_worth : Pdu → UpAct → Fate → Worth
+decided_worth p a f = record (fate_worth p f) {
+  decided = unless_kept p (kept_by p f);
+  said = act_out a ++ (fate_worth p f).said;
+  quiet = false;
+  ends = ends a || (fate_worth p f).ends;
+  breaks = false;
+}
+
+-- what an event is worth
+abbrev pub worth : Event → Worth
+worth (Began p) = says (Some p.value)
+worth (Opened n) = no_worth
+worth (Looked now due silent) = says due.value
+worth (Expired lane r) = record no_worth { tells = expiry_tells lane r.value; quiet = is_err r.value; spent = is_spent_expiry r.value }
+worth (Shifted least r) = record no_worth { spent = is_spent_shift r.value }
+worth (Sought r under) = record no_worth { said = got_out r.value under; quiet = finds_nothing r.value; spent = is_err r.value }
+worth (Decided p now a f) = decided_worth p.value a.value f
+worth (Took r) = record (says (request_up r.value)) { spent = is_spent_take r.value }
+worth Broke = record (says (Some nack_of_undecoded)) { ends = true; breaks = true }
+worth (Unbound p) = says p.value
+
+-- each by its name
 abbrev pub in_of : Event → List Pdu
-in_of (Began p) = []
-in_of (Opened n) = []
-in_of (Looked now due silent) = []
-in_of (Expired lane r) = []
-in_of (Shifted least r) = []
-in_of (Sought r under) = []
-in_of (Decided p now a f) = unless_kept p.value (kept_by p.value f)
-in_of (Took r) = []
-in_of Broke = []
-in_of (Unbound p) = []
+in_of e = (worth e).decided
+
+abbrev pub out_of : Event → List Pdu
+out_of e = (worth e).said
+
+abbrev pub find_of : Event → List Query
+find_of e = (worth e).finds
+
+abbrev pub tell_of : Event → List Party
+tell_of e = (worth e).tells
+
+abbrev pub is_quiet_event : Event → Bool
+is_quiet_event e = (worth e).quiet
+
+abbrev pub event_ends : Event → Bool
+event_ends e = (worth e).ends
+
+abbrev pub event_breaks : Event → Bool
+event_breaks e = (worth e).breaks
+
+abbrev pub is_spent : Event → Bool
+is_spent e = (worth e).spent
 
 -- In: the PDUs that these events decided
 unfoldable pub ins : List Event → List Pdu
@@ -128,73 +205,10 @@ ins es = flat_map in_of es
 unfoldable pub outs : List Event → List Pdu
 outs es = flat_map out_of es
 
--- the destination that is read
-abbrev pub read_of : Result (List ℕ) BodyFault → List ℕ
-read_of (Ok d) = d
-read_of (Err e) = []
+-- whether one of them answered a bad length
+unfoldable pub has_broken : List Event → Bool
+has_broken es = list_any event_breaks es
 
--- what the directory was asked for a PDU of this fate
-abbrev pub fate_finds : Pdu → Fate → List Query
-fate_finds p fate.Own = []
-fate_finds p (fate.Up rise) = []
-fate_finds p (fate.Lane lane a) = []
-fate_finds p fate.LaneSpent = []
-fate_finds p fate.Unread = []
-fate_finds p (fate.Unrouted found) = Found (read_of (destination_at p.body)) found ∷ []
-fate_finds p (fate.Put place n given) = Found (read_of (destination_at p.body)) (Some place) ∷ []
-fate_finds p (fate.Full place) = Found (read_of (destination_at p.body)) (Some place) ∷ []
-fate_finds p (fate.Crowded place) = Found (read_of (destination_at p.body)) (Some place) ∷ []
-fate_finds p (fate.BoxSpent place) = Found (read_of (destination_at p.body)) (Some place) ∷ []
-
-abbrev pub find_of : Event → List Query
-find_of (Began p) = []
-find_of (Opened n) = []
-find_of (Looked now due silent) = []
-find_of (Expired lane r) = []
-find_of (Shifted least r) = []
-find_of (Sought r under) = []
-find_of (Decided p now a f) = fate_finds p.value f
-find_of (Took r) = []
-find_of Broke = []
-find_of (Unbound p) = []
-
--- whom an answer of the lane is for
-abbrev pub answer_tells : ℕ → Answered → List Party
-answer_tells lane (answered.Queued c) = Client c lane ∷ []
-answer_tells lane answered.Late = []
-answer_tells lane (answered.Unknown back) = []
-
--- for whom something waits after this fate
-abbrev pub fate_tells : Fate → List Party
-fate_tells fate.Own = []
-fate_tells (fate.Up rise) = []
-fate_tells (fate.Lane lane a) = answer_tells lane a.value
-fate_tells fate.LaneSpent = []
-fate_tells fate.Unread = []
-fate_tells (fate.Unrouted found) = []
-fate_tells (fate.Put place n given) = Slot place.slot ∷ []
-fate_tells (fate.Full place) = []
-fate_tells (fate.Crowded place) = []
-fate_tells (fate.BoxSpent place) = []
-
--- who is to hear that its request was given up
-abbrev pub failed_tells : ℕ → Failed → List Party
-failed_tells lane (failed.Queued c) = Client c lane ∷ []
-failed_tells lane failed.Late = []
-
-abbrev pub expiry_tells : ℕ → Result Failed ExpiryFault → List Party
-expiry_tells lane (Ok f) = failed_tells lane f
-expiry_tells lane (Err e) = []
-
--- whom the gate is told of
-abbrev pub tell_of : Event → List Party
-tell_of (Began p) = []
-tell_of (Opened n) = []
-tell_of (Looked now due silent) = []
-tell_of (Expired lane r) = expiry_tells lane r.value
-tell_of (Shifted least r) = []
-tell_of (Sought r under) = []
-tell_of (Decided p now a f) = fate_tells f
-tell_of (Took r) = []
-tell_of Broke = []
-tell_of (Unbound p) = []
+-- whether one of them was the last that decides
+unfoldable pub has_ended : List Event → Bool
+has_ended es = list_any event_ends es

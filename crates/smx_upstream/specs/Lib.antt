@@ -1,8 +1,6 @@
 pub mod Events
 pub mod Quiet
-pub mod Spent
 pub mod Rising
-pub mod Ending
 pub mod Ages
 pub mod Standing
 pub mod Phases

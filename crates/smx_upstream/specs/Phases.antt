@@ -11,8 +11,7 @@ use Rattle.smx_turns.specs.declared.end.Fault.{Fault}
 use Rattle.smx_turns.specs.declared.end.Fault.TheVariants as fault
 use Rattle.smx_turns.specs.declared.step.Step.{Step}
 use Rattle.smx_turns.specs.declared.step.Step.TheVariants.{Asked, Read, Marked, Did}
-use Rattle.smx_upstream.specs.Ending.{is_last}
-use Rattle.smx_upstream.specs.Spent.{is_spent_fate, is_spent_expiry, is_spent_shift, is_spent_get, is_spent_take}
+use Rattle.smx_upstream.specs.Events.{event_ends, is_spent}
 use Rattle.smx_upstream.specs.declared.wiring.Front.{Front}
 use Rattle.smx_upstream.specs.declared.wiring.Front.TheVariants as front
 use Rattle.smx_upstream.specs.declared.turning.Next.{Next}
@@ -165,15 +164,15 @@ from_written t left (Did (Looked now due silent)) = at_moment t now (when_looked
 from_written t left _ = Wrong
 
 unfoldable pub from_watched : Bool → Step Mark Event → Phase
-from_watched left (Did (Expired lane r)) = unless_spent (is_spent_expiry r.value) (Swept left)
+from_watched left (Did (Expired lane r)) = unless_spent (is_spent (Expired lane r)) (Swept left)
 from_watched left _ = Wrong
 
 unfoldable pub from_swept : Bool → Step Mark Event → Phase
-from_swept left (Did (Shifted least r)) = unless_spent (is_spent_shift r.value) (when_kept left)
+from_swept left (Did (Shifted least r)) = unless_spent (is_spent (Shifted least r)) (when_kept left)
 from_swept left _ = Wrong
 
 unfoldable pub from_clear : Step Mark Event → Phase
-from_clear (Did (Sought r under)) = unless_spent (is_spent_get r.value) Sated
+from_clear (Did (Sought r under)) = unless_spent (is_spent (Sought r under)) Sated
 from_clear _ = Wrong
 
 unfoldable pub from_sated : Step Mark Event → Phase
@@ -186,7 +185,7 @@ from_may_read (Read r) = when_read r
 from_may_read _ = Wrong
 
 unfoldable pub from_deciding : Before → Bool → Step Mark Event → Phase
-from_deciding t ended (Did (Decided p now a f)) = at_moment t now (unless_spent (is_spent_fate f) (when_decided ended (is_last a.value f)))
+from_deciding t ended (Did (Decided p now a f)) = at_moment t now (unless_spent (is_spent (Decided p now a f)) (when_decided ended (event_ends (Decided p now a f))))
 from_deciding t ended (Did Broke) = Closing
 from_deciding t ended (Marked Part) = when_part ended
 from_deciding t ended (Marked Full) = when_full ended
@@ -202,7 +201,7 @@ from_settled (Asked Taking answer) = when_may_take answer
 from_settled _ = Wrong
 
 unfoldable pub from_may_take : Step Mark Event → Phase
-from_may_take (Did (Took r)) = unless_spent (is_spent_take r.value) HasTried
+from_may_take (Did (Took r)) = unless_spent (is_spent (Took r)) HasTried
 from_may_take _ = Wrong
 
 -- the table of an upstream turn

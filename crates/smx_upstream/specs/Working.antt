@@ -15,8 +15,8 @@ use Rattle.smx_turns.specs.Runs.{Runs}
 use Rattle.smx_turns.specs.Steps.{Side, side, Turned}
 use Rattle.smx_upstream.specs.declared.mark.Mark.{Mark}
 use Rattle.smx_upstream.specs.declared.event.Event.{Event}
-use Rattle.smx_upstream.specs.Ending.{has_ended, has_broken}
-use Rattle.smx_upstream.specs.Events.{ins, outs, those, tell_of, find_of}
+use Rattle.smx_turns.specs.Worth.{those}
+use Rattle.smx_upstream.specs.Events.{ins, outs, tell_of, find_of, has_ended, has_broken}
 use Rattle.smx_upstream.specs.Phases.{Before, before}
 use Rattle.smx_upstream.specs.Writing.{Writing, Writes, writing, has_link_ended}
 use Rattle.smx_upstream.specs.Standing.{Stand, Does, HoldNone}

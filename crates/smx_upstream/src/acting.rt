@@ -1,18 +1,18 @@
 //! What a worker does once: each of these is one event.
 ghost use Rattle.std.specs.Prelude.{◌≡◌, ◌≢◌, ◌≤◌, [], true, false, is_some, slice_get, Some, Err, OnErr, IsSome};
 ghost use Rattle.smx_session.specs.Moments.{is_bound};
-ghost use Rattle.smx_upstream.specs.Events.{those, got_out, taken_out};
-ghost use Rattle.smx_upstream.specs.Quiet.{finds_nothing, takes_nothing};
+ghost use Rattle.smx_turns.specs.Worth.{those};
+ghost use Rattle.smx_upstream.specs.Events.{got_out, finds_nothing, request_up};
 ghost use Rattle.smx_upstream.specs.Ages.{next_turn};
 ghost use Rattle.smx_upstream.specs.Standing.{Answers, Settles};
 ghost use Rattle.smx_upstream.specs.Working.{scene_of, writing_of, LeadsOn};
 ghost use Rattle.smx_upstream.specs.Writing.{MayDecide};
 ghost use Rattle.smx_upstream.specs.Phases.{phase_of, when_looked, when_kept, when_decided, unless_spent, Before, LeadsTo, Opening, Ready, Written, Swept, Clear, Sated, Deciding, MayTake, HasTried};
 
-use crate::carry::{Outcome, carry};
+use crate::carry::carry;
 use crate::event::Event;
 use crate::mark::Mark;
-use crate::spent::{is_spent_get, is_spent_shift, is_spent_take, unless_spent};
+use crate::spent::{is_spent_shift, is_spent_take, unless_spent};
 use crate::worker::{UpstreamWorker, jot, note};
 use smx_box::{Got, Spent};
 use smx_lane::Sent;
@@ -20,7 +20,7 @@ use smx_link::Link;
 use smx_pdu::Pdu;
 use smx_routes::MoWindow;
 use smx_shared::{Exchange, TakeFault};
-use smx_turns::{Directory, Fault, Gate, Log};
+use smx_turns::{Directory, Fault, Gate, Log, Outcome};
 use std::snapshot::Snapshot;
 use std::sync::Wait;
 
@@ -80,16 +80,9 @@ fn answer_in(found: Result<Got<Pdu>, Spent>, under: Option<u32>) -> Option<Pdu>
     }
 }
 
-// Whether a take took nothing.
-fn takes_nothing(taken: &Result<Sent, TakeFault>) -> bool
-    ensures { result ≡ takes_nothing taken.now }
-{
-    taken.is_err()
-}
-
 // What a take sends.
 fn request_in(taken: Result<Sent, TakeFault>) -> Option<Pdu>
-    ensures { taken_out taken ≡ those result }
+    ensures { result ≡ request_up taken }
 {
     match taken {
         Ok(Sent { request, upstream }) => Some(Pdu {
@@ -125,9 +118,14 @@ impl<L: Link + Drop> UpstreamWorker<L> {
         let due = self.session.on_moment(now);
         let silent = self.session.is_silent(now);
         let event = Event::Looked(now, Snapshot::of(&due), silent);
-        let quiet = due.is_none();
-        note(event, quiet, &due, &mut self.wire, &mut self.events, log);
-        silent
+        let outcome = Outcome {
+            event,
+            quiet: due.is_none(),
+            sent: due,
+            ends: false,
+            answer: silent,
+        };
+        note(outcome, &mut self.wire, &mut self.events, log)
     }
 
     // Begins a turn, and answers its number.
@@ -203,12 +201,14 @@ impl<L: Link + Drop> UpstreamWorker<L> {
     {
         let found = self.answers.get(rt);
         let under = settle(&mut self.owed, &found);
-        let event = Event::Sought(Snapshot::of(&found), under);
-        let spent = is_spent_get(&found);
-        let quiet = finds_nothing(&found);
-        let answer = answer_in(found, under);
-        note(event, quiet, &answer, &mut self.wire, &mut self.events, log);
-        unless_spent(spent)
+        let outcome = Outcome {
+            event: Event::Sought(Snapshot::of(&found), under),
+            quiet: finds_nothing(&found),
+            ends: false,
+            answer: found.is_err(),
+            sent: answer_in(found, under),
+        };
+        unless_spent(note(outcome, &mut self.wire, &mut self.events, log))
     }
 
     // Takes at most one request, where the session is bound.
@@ -243,17 +243,15 @@ impl<L: Link + Drop> UpstreamWorker<L> {
         let taken = self.tap.take(at, rt, self.session.latest());
         let event = Event::Took(Snapshot::of(&taken));
         let spent = is_spent_take(&taken);
-        let quiet = takes_nothing(&taken);
-        let request = request_in(taken);
-        note(
+        let sent = request_in(taken);
+        let outcome = Outcome {
             event,
-            quiet,
-            &request,
-            &mut self.wire,
-            &mut self.events,
-            log,
-        );
-        unless_spent(spent)
+            quiet: sent.is_none(),
+            sent,
+            ends: false,
+            answer: spent,
+        };
+        unless_spent(note(outcome, &mut self.wire, &mut self.events, log))
     }
 
     // Decides the PDU that waits, which waits still where a lane or a box is spent. True where nothing
@@ -307,10 +305,11 @@ impl<L: Link + Drop> UpstreamWorker<L> {
         let act = self.session.on_pdu(&pdu, now);
         let chosen = Snapshot::of(&act);
         let Outcome {
-            fate,
+            event: fate,
+            sent,
+            ends,
             answer,
-            back,
-            over,
+            ..
         } = carry(
             self.alloc,
             &mut self.tap,
@@ -323,10 +322,15 @@ impl<L: Link + Drop> UpstreamWorker<L> {
             act,
             pdu,
         );
-        self.held = back;
-        self.ending = over;
-        let event = Event::Decided(read, now, chosen, fate);
-        note(event, false, &answer, &mut self.wire, &mut self.events, log);
-        over
+        self.held = answer;
+        self.ending = ends;
+        let outcome = Outcome {
+            event: Event::Decided(read, now, chosen, fate),
+            quiet: false,
+            sent,
+            ends,
+            answer: ends,
+        };
+        note(outcome, &mut self.wire, &mut self.events, log)
     }
 }

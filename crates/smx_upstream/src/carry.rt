@@ -2,11 +2,9 @@
 ghost use Rattle.std.specs.Prelude.{◌≡◌, ◌≢◌, ◌++◌, ◌∷◌, ◌<◌, [], slice_get, length, false, Some, None, IfSome, IfNone};
 ghost use Rattle.smx_session.specs.declared.up_act.UpAct.TheVariants as act;
 ghost use Rattle.smx_pdu.specs.Answers.{refusal};
-ghost use Rattle.smx_pdu.specs.Reading.{destination_at};
 ghost use Rattle.smx_routes.specs.Window.{Window, IsFirstFree};
-ghost use Rattle.smx_turns.specs.declared.directory.Query.TheVariants.{Found};
-ghost use Rattle.smx_upstream.specs.Events.{those, act_out, fate_out, fate_finds, fate_tells, kept_by, read_of};
-ghost use Rattle.smx_upstream.specs.Ending.{fate_ends, is_last};
+ghost use Rattle.smx_turns.specs.Worth.{IsWorth};
+ghost use Rattle.smx_upstream.specs.Events.{fate_worth, decided_worth, kept_by, finding};
 ghost use Rattle.smx_upstream.specs.Standing.{AtSlot, Becomes, Owes, Reads};
 
 use crate::event::Fate;
@@ -18,32 +16,42 @@ use smx_pdu::{Pdu, read_destination};
 use smx_routes::MoWindow;
 use smx_session::UpAct;
 use smx_shared::{Exchange, Tap};
-use smx_turns::{Directory, Gate, MoItem, Party, Place, put_at};
+use smx_turns::{Directory, Gate, MoItem, Outcome, Party, Place, put_at};
 use std::alloc::Global;
 use std::snapshot::Snapshot;
 use std::sync::Wait;
 
-// What became of a PDU, its answer, and the PDU itself where it waits.
-#[derive(Drop)]
-pub(crate) struct Outcome {
-    pub fate: Fate,
-    pub answer: Option<Pdu>,
-    pub back: Option<Pdu>,
-    // Whether nothing is decided after it.
-    pub over: bool,
-}
+// What became of a PDU, and the PDU itself where it waits.
+type Carried = Outcome<Fate, Option<Pdu>>;
 
-fn settled(fate: Fate, answer: Option<Pdu>, over: bool) -> Outcome
-    ensures fate { result.fate ≡ fate }
-    ensures answer { result.answer ≡ answer }
-    ensures back { result.back ≡ None }
-    ensures over { result.over ≡ over }
+fn settled(fate: Fate, sent: Option<Pdu>, ends: bool) -> Carried
+    ensures fate { result.event ≡ fate }
+    ensures sent { result.sent ≡ sent }
+    ensures ends { (result.ends ≡ ends) × (result.quiet ≡ false) }
+    ensures back { result.answer ≡ None }
 {
     Outcome {
-        fate,
-        answer,
-        back: None,
-        over,
+        event: fate,
+        quiet: false,
+        sent,
+        ends,
+        answer: None,
+    }
+}
+
+// It waits, since a lane or a box takes no more calls.
+fn kept(fate: Fate, pdu: Pdu) -> Carried
+    ensures fate { result.event ≡ fate }
+    ensures sent { result.sent ≡ None }
+    ensures ends { (result.ends ≡ false) × (result.quiet ≡ false) }
+    ensures back { result.answer ≡ Some pdu }
+{
+    Outcome {
+        event: fate,
+        quiet: false,
+        sent: None,
+        ends: false,
+        answer: Some(pdu),
     }
 }
 
@@ -54,17 +62,16 @@ pub(crate) fn to_lane<R: Wait, G: Gate>(
     rt: &R,
     gate: &mut G,
     pdu: Pdu,
-) -> Outcome
+) -> Carried
     requires lock { slice_get at.now tap.old.lane ≡ Some tap.old.front.lock }
     ensures lock { (tap.new.lane ≡ tap.old.lane) × (tap.new.front.lock ≡ tap.old.front.lock) }
-    ensures becomes { (ss : _) → Becomes pdu act.ToLane result.fate tap.old ss tap.new ss }
-    ensures owes { (w : _) → Owes tap.old.lane pdu result.fate w w }
-    ensures answer { fate_out pdu result.fate ≡ those result.answer }
-    ensures back { result.back ≡ kept_by pdu result.fate }
-    ensures finds { fate_finds pdu result.fate ≡ [] }
+    ensures becomes { (ss : _) → Becomes pdu act.ToLane result.event tap.old ss tap.new ss }
+    ensures owes { (w : _) → Owes tap.old.lane pdu result.event w w }
+    ensures worth { IsWorth result (decided_worth pdu act.ToLane result.event) }
+    ensures back { result.answer ≡ kept_by pdu result.event }
+    ensures finds { (fate_worth pdu result.event).finds ≡ [] }
     ensures asked { G.asked gate.new ≡ G.asked gate.old }
-    ensures told { G.told gate.new ≡ G.told gate.old ++ fate_tells result.fate }
-    ensures over { result.over ≡ fate_ends result.fate }
+    ensures told { G.told gate.new ≡ G.told gate.old ++ (fate_worth pdu result.event).tells }
 {
     let lane = tap.lane();
     match tap.answer(at, rt, pdu) {
@@ -75,30 +82,18 @@ pub(crate) fn to_lane<R: Wait, G: Gate>(
                     lane,
                 });
             }
-            Outcome {
-                fate: Fate::Lane(lane, Snapshot::of(&answered)),
-                answer: None,
-                back: None,
-                over: false,
-            }
+            settled(Fate::Lane(lane, Snapshot::of(&answered)), None, false)
         }
-        Err((pdu, _)) => Outcome {
-            fate: Fate::LaneSpent,
-            answer: None,
-            back: Some(pdu),
-            over: false,
-        },
+        Err((pdu, _)) => kept(Fate::LaneSpent, pdu),
     }
 }
 
 // A message whose client has no sender here, or no place for it, is answered.
-fn refused(alloc: Global, pdu: &Pdu, fate: Fate, status: u32) -> Outcome
-    requires out { fate_out pdu.now fate ≡ refusal pdu.now.command status pdu.now.number ∷ [] }
-    requires none { kept_by pdu.now fate ≡ None }
-    ensures fate { result.fate ≡ fate }
-    ensures answer { fate_out pdu.now result.fate ≡ those result.answer }
-    ensures back { result.back ≡ kept_by pdu.now result.fate }
-    ensures over { result.over ≡ false }
+fn refused(alloc: Global, pdu: &Pdu, fate: Fate, status: u32) -> Carried
+    ensures fate { result.event ≡ fate }
+    ensures sent { result.sent ≡ Some (refusal pdu.now.command status pdu.now.number) }
+    ensures ends { (result.ends ≡ false) × (result.quiet ≡ false) }
+    ensures back { result.answer ≡ None }
 {
     let answer = Pdu::refusal(alloc, pdu.command, status, pdu.number);
     settled(fate, Some(answer), false)
@@ -148,18 +143,16 @@ pub(crate) fn to_box<R: Wait, G: Gate>(
     gate: &mut G,
     place: Place,
     pdu: Pdu,
-) -> Outcome
+) -> Carried
     requires slot { place.slot < length senders.old.items }
     requires read { Reads pdu }
-    ensures becomes { Becomes pdu act.Mo result.fate tap.now senders.old.items tap.now senders.new.items }
-    ensures owes { Owes tap.now.lane pdu result.fate owed.old.items owed.new.items }
-    ensures answer { fate_out pdu result.fate ≡ those result.answer }
-    ensures back { result.back ≡ kept_by pdu result.fate }
-    ensures finds { fate_finds pdu result.fate
-        ≡ Found (read_of (destination_at pdu.body)) (Some place) ∷ [] }
+    ensures becomes { Becomes pdu act.Mo result.event tap.now senders.old.items tap.now senders.new.items }
+    ensures owes { Owes tap.now.lane pdu result.event owed.old.items owed.new.items }
+    ensures worth { IsWorth result (decided_worth pdu act.Mo result.event) }
+    ensures back { result.answer ≡ kept_by pdu result.event }
+    ensures finds { (fate_worth pdu result.event).finds ≡ finding pdu (Some place) }
     ensures asked { G.asked gate.new ≡ G.asked gate.old }
-    ensures told { G.told gate.new ≡ G.told gate.old ++ fate_tells result.fate }
-    ensures over { result.over ≡ fate_ends result.fate }
+    ensures told { G.told gate.new ≡ G.told gate.old ++ (fate_worth pdu result.event).tells }
 {
     let Some(given) = number_at(owed, place.slot) else {
         return refused(alloc, &pdu, Fate::Crowded(place), ESME_RMSGQFUL);
@@ -178,12 +171,7 @@ pub(crate) fn to_box<R: Wait, G: Gate>(
             settled(Fate::Put(place, nth, given), None, false)
         }
         Err((item, PutFault::Full)) => refused(alloc, &item.pdu, Fate::Full(place), ESME_RMSGQFUL),
-        Err((item, PutFault::Spent)) => Outcome {
-            fate: Fate::BoxSpent(place),
-            answer: None,
-            back: Some(item.pdu),
-            over: false,
-        },
+        Err((item, PutFault::Spent)) => kept(Fate::BoxSpent(place), item.pdu),
     }
 }
 
@@ -197,16 +185,15 @@ pub(crate) fn route<R: Wait, G: Gate, D: Directory>(
     gate: &mut G,
     directory: &mut D,
     pdu: Pdu,
-) -> Outcome
-    ensures becomes { Becomes pdu act.Mo result.fate tap.now senders.old.items tap.now senders.new.items }
-    ensures owes { Owes tap.now.lane pdu result.fate owed.old.items owed.new.items }
-    ensures answer { fate_out pdu result.fate ≡ those result.answer }
-    ensures back { result.back ≡ kept_by pdu result.fate }
+) -> Carried
+    ensures becomes { Becomes pdu act.Mo result.event tap.now senders.old.items tap.now senders.new.items }
+    ensures owes { Owes tap.now.lane pdu result.event owed.old.items owed.new.items }
+    ensures worth { IsWorth result (decided_worth pdu act.Mo result.event) }
+    ensures back { result.answer ≡ kept_by pdu result.event }
     ensures finds { D.queries directory.new
-        ≡ D.queries directory.old ++ fate_finds pdu result.fate }
+        ≡ D.queries directory.old ++ (fate_worth pdu result.event).finds }
     ensures asked { G.asked gate.new ≡ G.asked gate.old }
-    ensures told { G.told gate.new ≡ G.told gate.old ++ fate_tells result.fate }
-    ensures over { result.over ≡ fate_ends result.fate }
+    ensures told { G.told gate.new ≡ G.told gate.old ++ (fate_worth pdu result.event).tells }
 {
     let found = match read_destination(pdu.body.as_slice()) {
         Ok(destination) => directory.find(rt, destination),
@@ -233,30 +220,24 @@ pub(crate) fn carry<R: Wait, G: Gate, D: Directory>(
     directory: &mut D,
     act: UpAct,
     pdu: Pdu,
-) -> Outcome
+) -> Carried
     requires lock { slice_get at.now tap.old.lane ≡ Some tap.old.front.lock }
     ensures lock { (tap.new.lane ≡ tap.old.lane) × (tap.new.front.lock ≡ tap.old.front.lock) }
-    ensures becomes { Becomes pdu act result.fate tap.old senders.old.items tap.new senders.new.items }
-    ensures owes { Owes tap.old.lane pdu result.fate owed.old.items owed.new.items }
-    ensures answer { act_out act ++ fate_out pdu result.fate ≡ those result.answer }
-    ensures back { result.back ≡ kept_by pdu result.fate }
+    ensures becomes { Becomes pdu act result.event tap.old senders.old.items tap.new senders.new.items }
+    ensures owes { Owes tap.old.lane pdu result.event owed.old.items owed.new.items }
+    ensures worth { IsWorth result (decided_worth pdu act result.event) }
+    ensures back { result.answer ≡ kept_by pdu result.event }
     ensures finds { D.queries directory.new
-        ≡ D.queries directory.old ++ fate_finds pdu result.fate }
+        ≡ D.queries directory.old ++ (fate_worth pdu result.event).finds }
     ensures asked { G.asked gate.new ≡ G.asked gate.old }
-    ensures told { G.told gate.new ≡ G.told gate.old ++ fate_tells result.fate }
-    ensures over { result.over ≡ is_last act result.fate }
+    ensures told { G.told gate.new ≡ G.told gate.old ++ (fate_worth pdu result.event).tells }
 {
     match act {
         UpAct::ToLane => to_lane(tap, at, rt, gate, pdu),
         UpAct::Mo => route(alloc, tap, senders, owed, rt, gate, directory, pdu),
         UpAct::Up => {
             let rise = raise(tap, at, rt);
-            Outcome {
-                fate: Fate::Up(Snapshot::of(&rise)),
-                answer: None,
-                back: None,
-                over: stays_down(&rise),
-            }
+            settled(Fate::Up(Snapshot::of(&rise)), None, stays_down(&rise))
         }
         UpAct::Answer(answer) => settled(Fate::Own, Some(answer), false),
         UpAct::Leave(answer) => settled(Fate::Own, Some(answer), true),

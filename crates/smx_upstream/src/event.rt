@@ -1,5 +1,5 @@
 //! What a worker did.
-ghost use Rattle.smx_upstream.specs.Quiet.{is_quiet_event};
+ghost use Rattle.smx_upstream.specs.Events.{is_quiet_event};
 
 use smx_box::{Got, Spent};
 use smx_history::{Answered, Entry, Failed};

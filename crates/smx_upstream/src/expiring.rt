@@ -2,7 +2,6 @@
 ghost use Rattle.std.specs.Prelude.{◌≡◌, ◌++◌, slice_get, Some, Err, OnErr};
 ghost use Rattle.smx_upstream.specs.Events.{expiry_tells};
 ghost use Rattle.smx_upstream.specs.Phases.{phase_of, Before, LeadsTo, Watched, Swept};
-ghost use Rattle.smx_upstream.specs.Quiet.{expires_nothing};
 ghost use Rattle.smx_upstream.specs.Working.{scene_of, LeadsOn};
 
 use crate::event::Event;
@@ -15,13 +14,6 @@ use smx_shared::{Exchange, ExpiryFault};
 use smx_turns::{Fault, Gate, Log, Party};
 use std::snapshot::Snapshot;
 use std::sync::Wait;
-
-// Whether no request was given up.
-fn expires_nothing(failed: &Result<Failed, ExpiryFault>) -> bool
-    ensures { result ≡ expires_nothing failed.now }
-{
-    failed.is_err()
-}
 
 // Tells the gate of the client that is to hear of it.
 fn tell<G: Gate>(gate: &mut G, lane: usize, failed: &Result<Failed, ExpiryFault>)
@@ -67,8 +59,7 @@ impl<L: Link + Drop> UpstreamWorker<L> {
         let failed = self.tap.fail_expired(at, rt, now, self.age.response_timer);
         tell(gate, lane, &failed);
         let event = Event::Expired(lane, Snapshot::of(&failed));
-        let quiet = expires_nothing(&failed);
-        jot(event, quiet, &mut self.events, log);
+        jot(event, failed.is_err(), &mut self.events, log);
         unless_spent(is_spent_expiry(&failed))
     }
 }

@@ -1,12 +1,10 @@
 //! Answers of a lane or a box that takes no more calls.
 ghost use Rattle.std.specs.Prelude.{◌≡◌, Err, OnErr};
 ghost use Rattle.smx_upstream.specs.Phases.{Phase, LeadsTo, unless_spent};
-ghost use Rattle.smx_upstream.specs.Spent.{is_spent_expiry, is_spent_shift, is_spent_get, is_spent_take};
+ghost use Rattle.smx_upstream.specs.Events.{is_spent_expiry, is_spent_shift, is_spent_take};
 
-use smx_box::{Got, Spent};
 use smx_history::{Entry, Failed};
 use smx_lane::Sent;
-use smx_pdu::Pdu;
 use smx_shared::{ExpiryFault, TakeFault, TurnFault};
 use smx_turns::Fault;
 
@@ -20,12 +18,6 @@ pub(crate) fn is_spent_shift(entries: &Result<Option<Vec<Entry>>, TurnFault>) ->
     ensures { result ≡ is_spent_shift entries.now }
 {
     matches!(entries, Err(TurnFault::Spent))
-}
-
-pub(crate) fn is_spent_get(found: &Result<Got<Pdu>, Spent>) -> bool
-    ensures { result ≡ is_spent_get found.now }
-{
-    found.is_err()
 }
 
 pub(crate) fn is_spent_take(taken: &Result<Sent, TakeFault>) -> bool

@@ -3,7 +3,7 @@ ghost use Rattle.std.specs.Prelude.{◌≡◌, ◌≤◌, ◌++◌, [], ◌∷�
 ghost use Rattle.smx_link.specs.Wiring.{spellings};
 ghost use Rattle.smx_session.specs.Moments.{is_bound, farewell, state_after_stop};
 ghost use Rattle.smx_upstream.specs.declared.event.Event.TheVariants.{Unbound};
-ghost use Rattle.smx_upstream.specs.Events.{those};
+ghost use Rattle.smx_turns.specs.Worth.{those};
 
 use crate::event::Event;
 use crate::turning::is_bound;

@@ -17,7 +17,7 @@ use smx_frame::FrameFault;
 use smx_link::{Link, Polled, Wire};
 use smx_pdu::Pdu;
 use smx_trace::Trace;
-use smx_turns::{Fault, Log, Step};
+use smx_turns::{Fault, Log, Outcome, Step};
 use std::alloc::Global;
 
 // What stands at the front of what was read.
@@ -73,8 +73,15 @@ fn break_off<L: Link + Drop>(
     ensures events { events.new ≡ events.old ++ Broke ∷ [] }
     ensures log { log.new ≡ log.old ++ Did Broke ∷ [] }
 {
-    let nack = Some(Pdu::undecoded(alloc));
-    note(Event::Broke, false, &nack, wire, events, log);
+    let nack = Pdu::undecoded(alloc);
+    let outcome = Outcome {
+        event: Event::Broke,
+        quiet: false,
+        sent: Some(nack),
+        ends: true,
+        answer: (),
+    };
+    note(outcome, wire, events, log);
 }
 
 impl<L: Link + Drop> UpstreamWorker<L> {

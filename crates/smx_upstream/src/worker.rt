@@ -5,8 +5,8 @@ ghost use Rattle.smx_pdu.specs.Pdu.{spelling};
 ghost use Rattle.smx_session.specs.declared.upstream_state.UpstreamState.TheVariants.{Binding};
 ghost use Rattle.smx_turns.specs.declared.step.Step.TheVariants.{Did};
 ghost use Rattle.smx_upstream.specs.Ages.{new_age};
-ghost use Rattle.smx_upstream.specs.Events.{out_of, those};
-ghost use Rattle.smx_upstream.specs.Quiet.{is_quiet_event};
+ghost use Rattle.smx_turns.specs.Worth.{those, IsWorth};
+ghost use Rattle.smx_upstream.specs.Events.{worth, out_of, is_quiet_event};
 ghost use Rattle.smx_upstream.specs.Standing.{bind_of, stand, AreEmptied};
 
 use crate::age::Age;
@@ -19,7 +19,7 @@ use smx_routes::MoWindow;
 use smx_session::{UpstreamSession, UpstreamState};
 use smx_shared::Tap;
 use smx_trace::Trace;
-use smx_turns::{Fault, Log, MoItem, Step, TurnEnd};
+use smx_turns::{Fault, Log, MoItem, Outcome, Step, TurnEnd};
 use std::alloc::Global;
 use std::marker::Model;
 use std::snapshot::Snapshot;
@@ -159,30 +159,30 @@ pub(crate) fn send<L: Link + Drop>(sent: &Option<Pdu>, wire: &mut Wire<L>)
     }
 }
 
-// Writes down an event, and says what it sends.
-pub(crate) fn note<L: Link + Drop>(
-    event: Event,
-    quiet: bool,
-    sent: &Option<Pdu>,
+// Writes down an event, says what it sends, and hands back what its caller learns.
+pub(crate) fn note<L: Link + Drop, A: Drop>(
+    outcome: Outcome<Event, A>,
     wire: &mut Wire<L>,
     events: &mut Trace<Event>,
     log: &mut Log<Mark, Event>,
-)
+) -> A
     requires room { 65536 ≤ wire.old.room }
-    requires sent { out_of event ≡ those sent.now }
-    requires quiet { quiet ≡ is_quiet_event event }
-    ensures said { wire.new.said ≡ wire.old.said ++ out_of event }
-    ensures unsent { wire.new.unsent ≡ wire.old.unsent ++ flat_map spelling (out_of event) }
+    requires worth { IsWorth outcome (worth outcome.event) }
+    ensures answer { result ≡ outcome.answer }
+    ensures said { wire.new.said ≡ wire.old.said ++ out_of outcome.event }
+    ensures unsent { wire.new.unsent
+        ≡ wire.old.unsent ++ flat_map spelling (out_of outcome.event) }
     ensures same { wire.new ≡ record wire.old {
       said = wire.new.said;
       unsent = wire.new.unsent;
       room = wire.new.room;
     } }
-    ensures events { events.new ≡ events.old ++ event ∷ [] }
-    ensures log { log.new ≡ log.old ++ Did event ∷ [] }
+    ensures events { events.new ≡ events.old ++ outcome.event ∷ [] }
+    ensures log { log.new ≡ log.old ++ Did outcome.event ∷ [] }
 {
-    send(sent, wire);
-    jot(event, quiet, events, log);
+    send(&outcome.sent, wire);
+    jot(outcome.event, outcome.quiet, events, log);
+    outcome.answer
 }
 
 // Lets all that waits go.

@@ -143,7 +143,7 @@ def early_signals_to_smx_serve(program, _):
 
 
 def faults_of_smx_serve(program, _):
-    """A file at fault is called by the name given, and the status is 78."""
+    """A file at fault is called by the name given, and the status is 78, of the program alone too."""
     with tempfile.TemporaryDirectory() as folder:
         file = pathlib.Path(folder) / "smx.toml"
         file.write_text('listen = "127.0.0.1:2775"\n')
@@ -151,6 +151,8 @@ def faults_of_smx_serve(program, _):
             ran = subprocess.run([*service(program), of, "/etc/smx/smx.toml"], capture_output=True, text=True,
                                  env={**os.environ, "SMX": str(program)}, timeout=PATIENCE)
             assert ran.returncode == 78 and ran.stderr.startswith(words), ran
+            alone = subprocess.run([program, "serve", of], stdin=subprocess.DEVNULL, capture_output=True, timeout=PATIENCE)
+            assert alone.returncode == 78, alone
 
 
 def service(_):

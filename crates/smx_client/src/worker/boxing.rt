@@ -1,5 +1,5 @@
 //! The box's part of a turn: the answer that waits is put again, or an item is got.
-ghost use Rattle.std.specs.Prelude.{◌≡◌, ◌≢◌, ◌≤◌, ℕ, List, length, Some, None, Ok, IsSome, true, false};
+ghost use Rattle.std.specs.Prelude.{◌≡◌, ◌≢◌, ◌≤◌, ◌<◌, ℕ, List, length, Some, None, Ok, IsSome, true, false};
 ghost use Rattle.smx_turns.specs.declared.directory.Query.{Query};
 ghost use Rattle.smx_turns.specs.declared.step.Step.TheVariants as step;
 ghost use Rattle.smx_client.specs.declared.event.Event.TheVariants as event;
@@ -79,6 +79,7 @@ impl<'d, L: Link + Drop> ClientWorker<'d, L> {
         log: &mut Log<Mark, Event>,
     ) -> Result<Option<Progress>, Fault>
         requires room { 65536 ≤ self.old.wire.room }
+        requires below { length self.old.wire.unsent < 65536 }
         requires none { self.old.parked ≡ None }
         requires free { length self.old.window.waiting ≢ self.old.window.places }
         ensures leads { (n : ℕ) (queries : List Query) → Leads n

@@ -1,5 +1,5 @@
 //! The first part of a turn: what waits is offered, and each lane is asked for a response.
-ghost use Rattle.std.specs.Prelude.{◌≡◌, ◌≢◌, ◌≤◌, ◌<◌, ℕ, List, [], length, true, false, not, ◌==◌, None, Some, Ok, IfOk, OnOk, OnErr, IsTrue, ◌↔◌};
+ghost use Rattle.std.specs.Prelude.{◌≡◌, ◌≢◌, ◌≤◌, ◌<◌, ℕ, List, [], length, true, false, not, ◌==◌, None, Some, Ok, IfOk, OnOk, OnErr};
 ghost use Rattle.smx_shared.specs.Views.{locks_of};
 ghost use Rattle.smx_turns.specs.declared.directory.Query.{Query};
 ghost use Rattle.smx_client.specs.Scenes.{scene_of, Moves};
@@ -84,7 +84,8 @@ impl<'d, L: Link + Drop> ClientWorker<'d, L> {
 
     // Whether as many octets wait as a PDU can have.
     pub(super) fn is_clogged(&self) -> bool
-        ensures { IsTrue result ↔ (65536 ≤ length self.now.wire.unsent) }
+        ensures clogged { result ≡ true → 65536 ≤ length self.now.wire.unsent }
+        ensures below { result ≡ false → length self.now.wire.unsent < 65536 }
     {
         self.wire.unsent() >= MAX_PDU
     }
@@ -100,6 +101,7 @@ impl<'d, L: Link + Drop> ClientWorker<'d, L> {
         requires locks { locks_of self.old.port.fronts ≡ at.now }
         requires lane { lane < length self.old.port.fronts }
         requires room { 65536 ≤ self.old.wire.room }
+        requires below { length self.old.wire.unsent < 65536 }
         ensures moves { Moves L.offered L.polls L.failures self.old log.old self.new log.new }
         ensures phase { (t : Before) → phase_of t log.old ≡ MayCollect lane
             → IsCollectedFrom lane result (phase_of t log.new) }

@@ -89,6 +89,7 @@ impl<'d, L: Link + Drop> ClientWorker<'d, L> {
     // Ends the session at a bad length.
     fn break_off(&mut self, log: &mut Log<Mark, Event>)
         requires room { 65536 ≤ self.old.wire.room }
+        requires below { length self.old.wire.unsent < 65536 }
         requires bad { IsBad self.old.wire }
         ensures moves { Moves L.offered L.polls L.failures self.old log.old self.new log.new }
         ensures phase { (t : Before) (ended : Bool) → phase_of t log.old ≡ Deciding ended
@@ -116,6 +117,7 @@ impl<'d, L: Link + Drop> ClientWorker<'d, L> {
         ended: bool,
         log: &mut Log<Mark, Event>,
     ) -> Result<Option<Progress>, Fault>
+        requires below { length self.old.wire.unsent < 65536 }
         requires goes_on { self.old.wire.failed ≡ None }
         requires going { self.old.stage ≢ Stage.Closed }
         ensures moves { Moves L.offered L.polls L.failures self.old log.old self.new log.new }
@@ -126,6 +128,7 @@ impl<'d, L: Link + Drop> ClientWorker<'d, L> {
             × (weight self.new.held self.new.wire.rest ≤ weight self.old.held
             self.old.wire.rest) }
         ensures undecided { result ≡ Ok None → self.new.settled ≡ false }
+        ensures unsaid { result ≡ Ok None → self.new.wire.unsent ≡ self.old.wire.unsent }
         ensures settled { result ≡ Ok (Some Progress.Settled)
             → (self.new.settled ≡ true) × (self.new.held ≡ None)
             × HasNone 65536 self.new.wire.rest }
@@ -165,6 +168,7 @@ impl<'d, L: Link + Drop> ClientWorker<'d, L> {
     // Decides the PDU that waits, as far as the session alone does.
     pub(super) fn decide(&mut self, log: &mut Log<Mark, Event>) -> Result<Verdict, Fault>
         requires room { 65536 ≤ self.old.wire.room }
+        requires below { length self.old.wire.unsent < 65536 }
         requires some { IsSome self.old.held }
         requires undecided { self.old.settled ≡ false }
         requires going { self.old.stage ≢ Stage.Closed }
@@ -231,6 +235,7 @@ impl<'d, L: Link + Drop> ClientWorker<'d, L> {
     )
         requires locks { locks_of self.old.port.fronts ≡ at.now }
         requires room { 65536 ≤ self.old.wire.room }
+        requires below { length self.old.wire.unsent < 65536 }
         requires held { IfSome self.old.held (λ p.
             client_decides self.old.desk.accounts.items self.old.session p
             ≡ (Act.Forward, self.old.session)) }
@@ -282,6 +287,7 @@ impl<'d, L: Link + Drop> ClientWorker<'d, L> {
         gate: &mut G,
         log: &mut Log<Mark, Event>,
     ) -> Result<Option<Progress>, Fault>
+        requires below { length self.old.wire.unsent < 65536 }
         requires none { self.old.parked ≡ None }
         requires held { IfSome self.old.held (λ p.
             client_decides self.old.desk.accounts.items self.old.session p

@@ -216,6 +216,7 @@ impl<'d, L: Link + Drop> ClientWorker<'d, L> {
     ) -> Result<Option<Progress>, Fault>
         requires locks { locks_of self.old.port.fronts ≡ at.now }
         requires none { self.old.parked ≡ None }
+        requires below { length self.old.wire.unsent < 65536 }
         requires some { IsSome self.old.held }
         requires undecided { self.old.settled ≡ false }
         requires going { self.old.stage ≢ Stage.Closed }

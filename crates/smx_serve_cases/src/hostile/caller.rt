@@ -1,5 +1,5 @@
 //! A connection, of a client or of a centre, over which PDUs are said and heard.
-use crate::stage::comes;
+use crate::stage::{PATIENCE, comes};
 use smx_pdu::command::{ENQUIRE_LINK, RESPONSE, SUBMIT_SM};
 use smx_pdu::{Header, read_header};
 use std::cmp::Ord;
@@ -11,14 +11,8 @@ use std::rt::Clock;
 use std::thread::sleep;
 use std::time::Duration;
 
-// How long a read waits, in milliseconds.
-const PATIENCE: u64 = 10_000;
-
-// How long a write waits until nobody takes its octets, in milliseconds.
-const STALL: u64 = 500;
-
-// How often a client connects at most, until it has a slot.
-const TRIES: u32 = 500;
+// How often a client connects at most, until it has a slot, ten milliseconds one after the other.
+const TRIES: u32 = 3_000;
 
 // The body of a submit_sm (SMPP 3.4, section 4.4.1): all fields are empty or 0 but for the
 // destination, `1`.
@@ -58,10 +52,16 @@ impl Caller {
         let patience = Duration::from_millis(PATIENCE);
         let reads = stream.set_read_timeout(Some(patience));
         reads.expect(rt, "a connection whose reads wait forever");
-        let stall = Duration::from_millis(STALL);
-        let writes = stream.set_write_timeout(Some(stall));
+        let writes = stream.set_write_timeout(Some(patience));
         writes.expect(rt, "a connection whose writes wait forever");
         Caller { stream }
+    }
+
+    // Its writes wait so many milliseconds from now on.
+    pub(crate) fn writes_for(&self, rt: &impl Abort, milliseconds: u64) {
+        let time = Duration::from_millis(milliseconds);
+        let writes = self.stream.set_write_timeout(Some(time));
+        writes.expect(rt, "a connection whose writes wait forever");
     }
 
     // A new connection to this address, which may be closed for want of a slot.

@@ -23,6 +23,9 @@ const CLOSED: u32 = 10_000;
 
 const BETWEEN: u32 = 50;
 
+// How often it is asked at most whether they are closed, ten milliseconds one after the other.
+const TRIES: u32 = 3_000;
+
 // A word of octets by chance. Every second one has a PDU's length and a command below 32.
 fn random_octets(chance: &mut Pcg32, is_pdu: bool) -> [u8; 64] {
     let mut octets = [0u8; 64];
@@ -107,7 +110,7 @@ fn falls_to<R>(rt: &R, address: &str, before: i32)
 where
     R: Net<Stream = TcpStream> + Clock + Abort,
 {
-    for _ in 0..500 {
+    for _ in 0..TRIES {
         if second_descriptor(rt, address) <= before {
             return;
         }

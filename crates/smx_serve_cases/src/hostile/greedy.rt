@@ -22,6 +22,9 @@ const LONG: u32 = 4;
 // How often the one that never reads sends enquiries, 65,536 octets of them each time.
 const ROUNDS: u32 = 2_000;
 
+// How long its octets aren't taken where they are taken no more, in milliseconds.
+const STALL: u64 = 2_000;
+
 // How many octets the slow one sends a second after the other.
 const SLOW: usize = 10;
 
@@ -144,6 +147,7 @@ where
 {
     let octets = enquiries(rt, alloc);
     let mut caller = Caller::bound(rt, address, 2);
+    caller.writes_for(rt, STALL);
     assert!(rt;
         caller.stalls(&octets),
         "a client that never reads: all its octets are taken"

@@ -13,8 +13,8 @@ use std::time::Duration;
 // How many PDUs of 65,536 octets are sent to a centre that doesn't read.
 const LONG: u32 = 100;
 
-// How often the honest client asks, until a centre answers.
-const TRIES: u32 = 200;
+// How often the honest client asks, until a centre answers, fifty milliseconds one after the other.
+const TRIES: u32 = 600;
 
 impl Caller {
     // Each of ten requests has to be answered once and well, beside these peers.

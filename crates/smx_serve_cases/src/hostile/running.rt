@@ -1,7 +1,7 @@
 //! A proxy beside a centre, and what is tried there, each in threads of their own.
 use super::Trial;
 use super::playing::play;
-use crate::stage::server;
+use crate::stage::{PATIENCE, server};
 use smx_config::{Config, read};
 use smx_serve::{Ended, Remote, Server};
 use std::alloc::Global;
@@ -13,13 +13,21 @@ use std::sync::atomic::{AtomicBool, Ordering};
 use std::thread::{Threads, join, sleep};
 use std::time::Duration;
 
-// How long the clients wait for the proxy, in milliseconds.
-const PATIENCE: u32 = 10_000;
+impl Trial {
+    // The silence of the upstream in milliseconds. A short one ends a link to a centre that never reads,
+    // and is how long it takes until the next link after one that ended; all others have only to end.
+    const fn silence(self) -> u64 {
+        match self {
+            Trial::Deaf | Trial::Short => 1_000,
+            Trial::Unread | Trial::Clients | Trial::Lying => PATIENCE,
+        }
+    }
+}
 
-// The text of a configuration at any free port, with eight accounts and one upstream.
-fn text_of(rt: &impl Abort, alloc: Global, port: u16) -> String {
+// The text of a configuration at any free port, with eight accounts and one upstream of this silence.
+fn text_of(rt: &impl Abort, alloc: Global, silence: u64, port: u16) -> String {
     let mut text = format!(in alloc;
-        "listen = \"127.0.0.1:0\"\nclients = 256\nsilence = 300\n\
+        "listen = \"127.0.0.1:0\"\nclients = 256\nsilence = {silence}\n\
          [limits]\nqueue = 1000\nwindow = 200\nclient = 200\n\
          [[upstream]]\naddress = \"127.0.0.1:{port}\"\nsystem_id = \"proxy\"\npassword = \"pw\"\n"
     )
@@ -33,11 +41,11 @@ fn text_of(rt: &impl Abort, alloc: Global, port: u16) -> String {
     text
 }
 
-fn config_for(rt: &impl Abort, alloc: Global, listener: &TcpListener) -> Config {
+fn config_for(rt: &impl Abort, alloc: Global, silence: u64, listener: &TcpListener) -> Config {
     let address = listener
         .local_addr()
         .expect(rt, "the listener has no address");
-    let text = text_of(rt, alloc, address.port());
+    let text = text_of(rt, alloc, silence, address.port());
     read(alloc, text.as_str()).expect(rt, "the configuration can't be read")
 }
 
@@ -95,7 +103,7 @@ where
     R: Net<Listener = TcpListener, Stream = TcpStream> + Clock + Wait + Threads + Abort + Sync,
 {
     let listener = listen(rt);
-    let config = config_for(rt, alloc, &listener);
+    let config = config_for(rt, alloc, trial.silence(), &listener);
     let (server, remote) = server(rt, alloc);
     let over = AtomicBool::new(false);
     join(

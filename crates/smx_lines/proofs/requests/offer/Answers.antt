@@ -25,4 +25,4 @@ returns-in-Some c = λ s a.
     (record { known = c.known_mut.ensures.value; last_is = last_is; found = search rules; here = w.2; lanes = w.3; limits_kept = w.4; goes = w.5; clients = refl; keeps = record { limits = refl; count = refl; started = refl; accounts = refl; places = refl; routes = refl; moment = refl } }) e) c.accepted_line.ensures
 
 pub returns : goal.returns
-returns c = λ s a. IfOk-weaker c.to_line.result _ _ (λ text e. offered_none c.args.state.now _ s c.args.last c.args.request c.refusal-refusal.result text.items a (search rules) (search rules) refl (record { limits = refl; count = refl; started = refl; accounts = refl; places = refl; routes = refl; moment = refl }) (search rules) e) c.to_line.ensures
+returns c = λ s a. IfOk-weaker c.to_line.result _ _ (λ text e. offered_none c.args.state.now _ s c.args.last c.args.request c.refusal_of-refusal.result text.items a (search rules) (search rules) refl (record { limits = refl; count = refl; started = refl; accounts = refl; places = refl; routes = refl; moment = refl }) (search rules) e) c.to_line.ensures

@@ -1,7 +1,8 @@
 use Rattle.std.proofs.Common.{◌||◌, refl, sym, ap, subst}
 use Rattle.smx_turns.proofs.Chains.{chain_push}
 use Rattle.smx_client.specs.declared.leaver.Leaving.TheVariants.{Item}
-use Rattle.smx_client.specs.Leaving.{answers_next, GivesItem, ItemAnswersSo}
+use Rattle.smx_client.specs.Leaving.{answers_next, GivesItem}
+use Rattle.smx_client.specs.Replies.{ItemAnswersSo}
 use Rattle.smx_client.proofs.Leavings.{gets_push, gives_is, answered_push}
 use Rattle.smx_client.proofs.leaver.Leaver.refuse_item.Goals as goal
 

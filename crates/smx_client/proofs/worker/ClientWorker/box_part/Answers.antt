@@ -15,7 +15,7 @@ returns-then-is_full-clause-phase g c = λ t at parked.
     c.mark.ensures.phase t _ at ∙ cell.boxed_full t (parked ∙ ap (λ w. is_there w.parked) (sym c.self.view_is) ∙ sym c.if-is_waiting.ensures.there)
 
 pub returns-then-is_clogged-clause-leads : goal.returns-then-is_clogged-clause-leads
-returns-then-is_clogged-clause-leads g c = λ n queries base was. c.mark-then-is_clogged.ensures.leads n _ _ (c.if-is_clogged.ensures.0 refl, refl) base was
+returns-then-is_clogged-clause-leads g c = λ n queries base was. c.mark-then-is_clogged.ensures.leads n _ _ (c.if-is_clogged.ensures.clogged refl, refl) base was
 
 pub returns-then-is_clogged-clause-phase : goal.returns-then-is_clogged-clause-phase
 returns-then-is_clogged-clause-phase g c = λ t at parked. c.mark-then-is_clogged.ensures.phase t _ at ∙ cell.clogs_collect t _

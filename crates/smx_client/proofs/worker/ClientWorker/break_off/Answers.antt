@@ -9,7 +9,7 @@ use Rattle.smx_client.proofs.Breaking.{bad_as}
 use Rattle.smx_client.proofs.Cells as cell
 use Rattle.smx_client.proofs.Doings as doing
 use Rattle.smx_client.proofs.Scenes.{happens}
-use Rattle.smx_client.proofs.Serving.{did}
+use Rattle.smx_client.proofs.Serving.{did, as_below}
 use Rattle.smx_client.proofs.Settling.{still}
 use Rattle.smx_client.proofs.worker.ClientWorker.break_off.Goals as goal
 
@@ -26,7 +26,7 @@ invariant_of-self g c =
 pub returns-clause-moves : goal.returns-clause-moves
 returns-clause-moves g c = rw (← c.self.view_is) (λ n asked told queries base was.
     let s = c.self.inside in
-    c.note.ensures.leads n _ _ (happens g.L.Link.offered g.L.Link.polls g.L.Link.failures asked asked told told queries _ _ _ _ _ _ _ _ (Broke c.of.result)
+    c.note.ensures.leads n _ _ (happens g.L.Link.offered g.L.Link.polls g.L.Link.failures asked asked told told queries _ _ _ _ _ _ _ _ (Broke c.of.result) (as_below _ _ c.self.view_is c.requires.below)
     (doing.broke _ _ _ _ _ _ _ _ _ _ _ c.of.result c.of.ensures c.on_fault-act.ensures.act c.on_fault-act.ensures.state c.say_act.ensures.said)
     refl (sym (append-nil told)) c.note.ensures.events (c.say_act.ensures.unsent ∙ ap (λ a. s.wire.unsent ++ spellings (act_out a)) (sym c.of.ensures))
     (ap (λ w. w.link) c.say_act.ensures.same)) base was)

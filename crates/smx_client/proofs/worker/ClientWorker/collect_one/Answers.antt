@@ -7,7 +7,7 @@ use Rattle.smx_client.specs.Table.{IsCollectedFrom}
 use Rattle.smx_client.proofs.Cells.{collects}
 use Rattle.smx_client.proofs.Doings.{collected}
 use Rattle.smx_client.proofs.Scenes.{happens}
-use Rattle.smx_client.proofs.Serving.{did, as_closed}
+use Rattle.smx_client.proofs.Serving.{did, as_below, as_closed}
 use Rattle.smx_client.proofs.Settling.{still}
 use Rattle.smx_client.proofs.worker.ClientWorker.collect_one.Goals as goal
 
@@ -23,7 +23,7 @@ invariant_of-self g c =
 pub returns-clause-moves : goal.returns-clause-moves
 returns-clause-moves g c = rw (← c.self.view_is) (λ n asked told queries base was.
     let s = c.self.inside in
-    c.note.ensures.leads n _ _ (happens g.L.Link.offered g.L.Link.polls g.L.Link.failures asked asked told told queries _ _ _ _ _ _ _ _ (Collected c.args.lane c.of.result)
+    c.note.ensures.leads n _ _ (happens g.L.Link.offered g.L.Link.polls g.L.Link.failures asked asked told told queries _ _ _ _ _ _ _ _ (Collected c.args.lane c.of.result) (as_below _ _ c.self.view_is c.requires.below)
     (collected _ _ _ _ _ _ _ _ _ _ _ _ c.of.result c.of.ensures c.say_found-none.ensures.spoke.said (c.collect-found.ensures.served, c.collect-found.ensures.same) c.collect-found.ensures.listed)
     refl (sym (append-nil told)) c.note.ensures.events (c.say_found-none.ensures.spoke.unsent ∙ ap (λ r. s.wire.unsent ++ spellings (response_out r)) (sym c.of.ensures))
     (ap (λ w. w.link) c.say_found-none.ensures.spoke.same)) base was)

@@ -12,7 +12,7 @@ use Rattle.smx_client.proofs.Cells as cell
 use Rattle.smx_client.proofs.Doings as doing
 use Rattle.smx_client.proofs.Fates.{own_out, says_session, ends_session}
 use Rattle.smx_client.proofs.Scenes.{happens}
-use Rattle.smx_client.proofs.Serving.{did, decides, undecided}
+use Rattle.smx_client.proofs.Serving.{did, as_below, decides, undecided}
 use Rattle.smx_client.proofs.worker.ClientWorker.decide.Goals as goal
 
 pub invariant_of-self-in-Answer-1 : goal.invariant_of-self-in-Answer-1
@@ -31,7 +31,7 @@ invariant_of-self-in-Answer-1 g c =
 pub returns-in_default-act-clause-moves : goal.returns-in_default-act-clause-moves
 returns-in_default-act-clause-moves g c = rw (← c.self.view_is) (λ n asked told queries base was.
     let s = c.self.inside in
-    c.note.ensures.leads n _ _ (happens g.L.Link.offered g.L.Link.polls g.L.Link.failures asked asked told told queries _ _ _ _ _ _ _ _ (Decided c.of.result c.of-in_default-act.result Own)
+    c.note.ensures.leads n _ _ (happens g.L.Link.offered g.L.Link.polls g.L.Link.failures asked asked told told queries _ _ _ _ _ _ _ _ (Decided c.of.result c.of-in_default-act.result Own) (as_below _ _ c.self.view_is c.requires.below)
     (doing.owned _ _ _ _ _ _ _ _ _ _ c.of.result c.of-in_default-act.result (c.say_act.ensures.said ∙ ap (λ l. s.wire.said ++ l) (own_out _ _ c.of-in_default-act.ensures))
     (subst (λ (l : List Login). ((c.of-in_default-act.result.value, c.on_pdu.new.self) ≡ client_decides l s.session c.of.result.value) × Suits c.of-in_default-act.result.value Own) c.as_slice.ensures.value
     (says_session _ _ _ c.in-Some.pdu _ c.in-Ok.act _ c.of.ensures c.of-in_default-act.ensures c.in-Ok.ensures.act c.in-Ok.ensures.state c.in_default-act.not-Forward c.in_default-act.not-MoAnswer)))

@@ -10,7 +10,7 @@ use Rattle.smx_client.proofs.Cells as cell
 use Rattle.smx_client.proofs.Doings as doing
 use Rattle.smx_client.proofs.Fates.{forward_out, forward_port, forward_lists, stays}
 use Rattle.smx_client.proofs.Scenes.{happens}
-use Rattle.smx_client.proofs.Serving.{did, decides, undecided, as_closed}
+use Rattle.smx_client.proofs.Serving.{did, as_below, decides, undecided, as_closed}
 use Rattle.smx_client.proofs.worker.ClientWorker.forward.Goals as goal
 
 pub invariant_of-self : goal.invariant_of-self
@@ -33,7 +33,7 @@ invariant_of-self g c =
 pub returns-clause-leads : goal.returns-clause-leads
 returns-clause-leads g c = rw (← c.self.view_is) (λ n queries base was.
     let s = c.self.inside in
-    c.note.ensures.leads n _ _ (happens g.L.Link.offered g.L.Link.polls g.L.Link.failures _ _ _ _ queries _ _ _ _ _ _ _ _ (Decided c.of-read.result c.of-2.result (Submitted c.of-offered.result c.of.result))
+    c.note.ensures.leads n _ _ (happens g.L.Link.offered g.L.Link.polls g.L.Link.failures _ _ _ _ queries _ _ _ _ _ _ _ _ (Decided c.of-read.result c.of-2.result (Submitted c.of-offered.result c.of.result)) (as_below _ _ c.self.view_is c.requires.below)
     (doing.submitted _ _ _ _ _ _ _ _ _ _ c.of-read.result c.of-2.result c.of-offered.result c.of.result
     (c.say_refusal.ensures.said ∙ ap (λ l. s.wire.said ++ l) (forward_out c.in-Some.pdu _ _ c.submit-landed.result _ c.of-2.ensures c.of-read.ensures c.of.ensures))
     (forward_port c.in-Some.pdu _ c.offer_of-offer.result _ c.submit-landed.result _ _ _ c.of-read.ensures c.of-offered.ensures c.of.ensures

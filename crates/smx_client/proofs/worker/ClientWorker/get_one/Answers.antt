@@ -10,7 +10,7 @@ use Rattle.smx_client.specs.Table.{IsPart, Clear, after_got}
 use Rattle.smx_client.proofs.Cells as cell
 use Rattle.smx_client.proofs.Doings as doing
 use Rattle.smx_client.proofs.Scenes.{happens}
-use Rattle.smx_client.proofs.Serving.{did, as_closed}
+use Rattle.smx_client.proofs.Serving.{did, as_below, as_closed}
 use Rattle.smx_client.proofs.Settling.{still}
 use Rattle.smx_client.proofs.worker.ClientWorker.get_one.Goals as goal
 
@@ -28,7 +28,7 @@ invariant_of-self-in-Ok g c =
       subst (λ r. IfOk r (λ f. Hands s.inbox.got c.get-found.new.self.got f)) c.in-Ok.is c.get-found.ensures.got,
       subst (λ n. IsDelivered n (length s.senders.items) c.in-Ok.got c.deliver-delivery.result) c.client.ensures d.delivered,
     )
-    d.parks d.count d.put d.answer)
+    d.so d.parks d.count d.put d.answer)
     (still _ _ _ _ (ap (λ (w : Wiring g.row.L.Denot). w.rest) e) c.self.invariant.settled)
     (ap (λ (w : Wiring g.row.L.Denot). w.failed) e) (ap (λ (w : Wiring g.row.L.Denot). w.rest) e) (λ told. absurd (cc))
     (as_closed g.L.Link.polls _ _ _ _ _ (ap (λ w. w.link) e) c.self.invariant.closed)
@@ -41,13 +41,13 @@ returns-in-Ok-clause-leads g c = rw (← c.self.view_is) (λ n queries base was.
     let s = c.self.inside in
     let d = c.deliver-delivery.ensures in
     let seen = c.of-seen.ensures ∙ c.in-Ok.is in
-    c.note-in-Ok.ensures.leads n _ _ (happens g.L.Link.offered g.L.Link.polls g.L.Link.failures _ _ _ _ queries _ _ _ _ _ _ _ _ (Got c.of-seen.result c.deliver-delivery.result)
+    c.note-in-Ok.ensures.leads n _ _ (happens g.L.Link.offered g.L.Link.polls g.L.Link.failures _ _ _ _ queries _ _ _ _ _ _ _ _ (Got c.of-seen.result c.deliver-delivery.result) (as_below _ _ c.self.view_is c.requires.below)
     (doing.got _ _ _ _ _ _ _ _ _ _ _ _ _ (Ok c.in-Ok.got) c.of-seen.result c.deliver-delivery.result (c.of-seen.ensures ∙ c.in-Ok.is) d.says.said d.window (
       subst (λ r. IfOk r (λ f. GetServes s.inbox c.get-found.new.self.front f)) c.in-Ok.is c.get-found.ensures.served,
       subst (λ r. IfOk r (λ f. Hands s.inbox.got c.get-found.new.self.got f)) c.in-Ok.is c.get-found.ensures.got,
       subst (λ n. IsDelivered n (length s.senders.items) c.in-Ok.got c.deliver-delivery.result) c.client.ensures d.delivered,
     )
-    d.parks d.count d.put d.answer)
+    d.so d.parks d.count d.put d.answer)
     d.asked (d.told ∙ ap (λ r. g.G.Gate.told c.args.gate.now ++ got_told r c.deliver-delivery.result) (sym seen)) c.note-in-Ok.ensures.events
     (d.says.unsent ∙ ap (λ r. s.wire.unsent ++ spellings (got_out r c.deliver-delivery.result)) (sym seen)) (ap (λ w. w.link) d.says.same)) base was)
 

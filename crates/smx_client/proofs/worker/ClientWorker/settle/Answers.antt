@@ -12,7 +12,7 @@ use Rattle.smx_client.proofs.Doings as doing
 use Rattle.smx_client.proofs.Fates.{own_out, stays, settles, settle_window}
 use Rattle.smx_client.proofs.Replying.{waits, clears, others}
 use Rattle.smx_client.proofs.Scenes.{happens}
-use Rattle.smx_client.proofs.Serving.{did, decides, undecided, as_closed}
+use Rattle.smx_client.proofs.Serving.{did, as_below, decides, undecided, as_closed}
 use Rattle.smx_client.proofs.worker.ClientWorker.settle.Goals as goal
 
 pub invariant_of-self : goal.invariant_of-self
@@ -27,7 +27,7 @@ invariant_of-self g c =
     (settles _ _ s.held c.in-Some.pdu c.in-Some.ensures.value
     (subst (λ (w : Serving g.row.L.Denot). IfSome w.held (λ p. client_decides w.desk.accounts.items w.session p ≡ (act.MoAnswer p.number, w.session))) (sym c.self.view_is) c.requires.held)))
     (settle_window c.in-Some.pdu _ c.settle-found.result _ _ c.of-read.ensures c.settle-found.ensures.settled c.settle-found.ensures.none)
-    (ap (λ (w : Serving g.row.L.Denot). w.parked) c.self.view_is ∙ c.requires.none) e.parks e.count e.put e.answer)
+    e.so (ap (λ (w : Serving g.row.L.Denot). w.parked) c.self.view_is ∙ c.requires.none) e.parks e.count e.put e.answer)
     (undecided _ (ap (λ (w : Serving g.row.L.Denot). w.settled) c.self.view_is ∙ c.requires.undecided))
     refl refl (λ told. absurd (cc))
     (as_closed g.L.Link.polls _ _ _ _ _ refl c.self.invariant.closed)
@@ -36,14 +36,14 @@ pub returns-clause-leads : goal.returns-clause-leads
 returns-clause-leads g c = rw (← c.self.view_is) (λ n queries base was.
     let s = c.self.inside in
     let e = c.answer_settled-reply.ensures in
-    c.note.ensures.leads n _ _ (happens g.L.Link.offered g.L.Link.polls g.L.Link.failures _ _ _ _ queries _ _ _ _ _ _ _ _ (Decided c.of-read.result c.of.result (Settled c.settle-found.result c.answer_settled-reply.result))
+    c.note.ensures.leads n _ _ (happens g.L.Link.offered g.L.Link.polls g.L.Link.failures _ _ _ _ queries _ _ _ _ _ _ _ _ (Decided c.of-read.result c.of.result (Settled c.settle-found.result c.answer_settled-reply.result)) (as_below _ _ c.self.view_is c.requires.below)
     (doing.settled _ _ _ _ _ _ _ _ _ _ _ _ c.in-Some.pdu c.of-read.result c.of.result c.settle-found.result c.answer_settled-reply.result c.of-read.ensures
     (sym (append-nil s.wire.said) ∙ ap (λ l. s.wire.said ++ l) (own_out (act.MoAnswer c.in-Some.pdu.number) _ c.of.ensures))
     (stays _ _ s.held c.in-Some.pdu _ (act.MoAnswer c.in-Some.pdu.number) _ (Settled c.settle-found.result c.answer_settled-reply.result) c.in-Some.ensures.value c.of-read.ensures c.of.ensures tt
     (settles _ _ s.held c.in-Some.pdu c.in-Some.ensures.value
     (subst (λ (w : Serving g.row.L.Denot). IfSome w.held (λ p. client_decides w.desk.accounts.items w.session p ≡ (act.MoAnswer p.number, w.session))) (sym c.self.view_is) c.requires.held)))
     (settle_window c.in-Some.pdu _ c.settle-found.result _ _ c.of-read.ensures c.settle-found.ensures.settled c.settle-found.ensures.none)
-    (ap (λ (w : Serving g.row.L.Denot). w.parked) c.self.view_is ∙ c.requires.none) e.parks e.count e.put e.answer)
+    e.so (ap (λ (w : Serving g.row.L.Denot). w.parked) c.self.view_is ∙ c.requires.none) e.parks e.count e.put e.answer)
     e.asked e.told c.note.ensures.events
     (sym (append-nil s.wire.unsent) ∙ ap (λ l. s.wire.unsent ++ spellings l) (own_out (act.MoAnswer c.in-Some.pdu.number) _ c.of.ensures)) refl) base was)
 

@@ -4,9 +4,9 @@ use Rattle.smx_session.specs.Moments.{act_on, after_pdu}
 use Rattle.smx_session.specs.declared.up_act.UpAct.{UpAct}
 use Rattle.smx_turns.specs.declared.step.Step.TheVariants.{Did}
 use Rattle.smx_upstream.specs.declared.event.Event.TheVariants.{Decided}
-use Rattle.smx_upstream.specs.Events.{those, unless_kept, kept_by, fate_finds}
+use Rattle.smx_turns.specs.Worth.{those}
+use Rattle.smx_upstream.specs.Events.{unless_kept, kept_by, fate_worth, decided_worth}
 use Rattle.smx_upstream.specs.Standing.{Becomes, Owes}
-use Rattle.smx_upstream.specs.Ending.{is_last}
 use Rattle.smx_upstream.specs.Phases.{Deciding, when_decided, unless_spent}
 use Rattle.smx_upstream.specs.Working.{writing_of}
 use Rattle.smx_upstream.specs.Writing.{MayDecide, has_link_ended}
@@ -16,35 +16,39 @@ use Rattle.smx_upstream.proofs.worker.UpstreamWorker.decide.Goals as goal
 
 pub invariant_of-self : goal.invariant_of-self
 invariant_of-self g c =
-    did _ _ (Decided c.of-read.result c.args.now c.of-chosen.result c.carry-fate.result.fate) c.self.invariant c.note.ensures.events (ap (λ w. w.heard) c.note.ensures.same)
-    (ap (λ (p : Pdu). unless_kept p (kept_by p c.carry-fate.result.fate) ++ those c.carry-fate.result.back) c.of-read.ensures
-    ∙ ap (λ o. unless_kept c.in-Some.pdu (kept_by c.in-Some.pdu c.carry-fate.result.fate) ++ those o) c.carry-fate.ensures.back
-    ∙ kept_or_in c.in-Some.pdu c.carry-fate.result.fate ∙ ap those c.in-Some.ensures.value)
+    did _ _ (Decided c.of-read.result c.args.now c.of-chosen.result c.carry-fate.result.event) c.self.invariant c.note.ensures.events (ap (λ w. w.heard) c.note.ensures.same)
+    (ap (λ (p : Pdu). unless_kept p (kept_by p c.carry-fate.result.event) ++ those c.carry-fate.result.answer) c.of-read.ensures
+    ∙ ap (λ o. unless_kept c.in-Some.pdu (kept_by c.in-Some.pdu c.carry-fate.result.event) ++ those o) c.carry-fate.ensures.back
+    ∙ kept_or_in c.in-Some.pdu c.carry-fate.result.event ∙ ap those c.in-Some.ensures.value)
     c.note.ensures.said refl (
       c.of-chosen.ensures ∙ c.on_pdu-act.ensures.act ∙ ap (act_on c.self.inside.session) (sym c.of-read.ensures),
-      subst (λ (p : Pdu). Becomes p c.of-chosen.result.value c.carry-fate.result.fate c.self.inside.tap c.self.inside.senders.items c.carry-fate.new.tap c.carry-fate.new.senders.items) (sym c.of-read.ensures)
-          (subst (λ (a : UpAct). Becomes c.in-Some.pdu a c.carry-fate.result.fate c.self.inside.tap c.self.inside.senders.items c.carry-fate.new.tap c.carry-fate.new.senders.items) (sym c.of-chosen.ensures) c.carry-fate.ensures.becomes),
-      subst (λ (p : Pdu). Owes c.self.inside.tap.lane p c.carry-fate.result.fate c.self.inside.owed.items c.carry-fate.new.owed.items) (sym c.of-read.ensures) c.carry-fate.ensures.owes,
+      subst (λ (p : Pdu). Becomes p c.of-chosen.result.value c.carry-fate.result.event c.self.inside.tap c.self.inside.senders.items c.carry-fate.new.tap c.carry-fate.new.senders.items) (sym c.of-read.ensures)
+          (subst (λ (a : UpAct). Becomes c.in-Some.pdu a c.carry-fate.result.event c.self.inside.tap c.self.inside.senders.items c.carry-fate.new.tap c.carry-fate.new.senders.items) (sym c.of-chosen.ensures) c.carry-fate.ensures.becomes),
+      subst (λ (p : Pdu). Owes c.self.inside.tap.lane p c.carry-fate.result.event c.self.inside.owed.items c.carry-fate.new.owed.items) (sym c.of-read.ensures) c.carry-fate.ensures.owes,
       stands_same (c.on_pdu-act.ensures.session ∙ ap (λ (p : Pdu). after_pdu c.self.inside.session p c.args.now) (sym c.of-read.ensures)) refl refl refl refl refl,
     )
     (λ h. ap (λ w. w.failed) c.note.ensures.same ∙ c.self.invariant.goes_on (ap (λ w. w.ending) c.self.view_is ∙ c.requires.goes_on))
-    (c.carry-fate.ensures.over ∙ ap (λ (a : UpAct). is_last a c.carry-fate.result.fate) (sym c.of-chosen.ensures)
-    ∙ ap (λ b. b || is_last c.of-chosen.result.value c.carry-fate.result.fate) (sym (ap (λ w. w.ending) c.self.view_is ∙ c.requires.goes_on))) (front_same refl (ap (λ w. w.rest) c.note.ensures.same))
+    (c.carry-fate.ensures.worth.2 ∙ ap (λ (p : Pdu). (decided_worth p c.on_pdu-act.result c.carry-fate.result.event).ends) (sym c.of-read.ensures)
+    ∙ ap (λ (a : UpAct). (decided_worth c.of-read.result.value a c.carry-fate.result.event).ends) (sym c.of-chosen.ensures)
+    ∙ ap (λ b. b || (decided_worth c.of-read.result.value c.of-chosen.result.value c.carry-fate.result.event).ends) (sym (ap (λ w. w.ending) c.self.view_is ∙ c.requires.goes_on))) (front_same refl (ap (λ w. w.rest) c.note.ensures.same))
 
 pub returns-clause-goes : goal.returns-clause-goes
 returns-clause-goes g c = rw (← c.self.view_is)
-    (λ turn. goes_did turn _ _ _ _ (Decided c.of-read.result c.args.now c.of-chosen.result c.carry-fate.result.fate) c.note.ensures.log c.carry-fate.ensures.asked c.carry-fate.ensures.told
-    (c.carry-fate.ensures.finds ∙ ap (λ (p : Pdu). g.D.Directory.queries c.args.directory.now ++ fate_finds p c.carry-fate.result.fate) (sym c.of-read.ensures)) c.note.ensures.events (
+    (λ turn. goes_did turn _ _ _ _ (Decided c.of-read.result c.args.now c.of-chosen.result c.carry-fate.result.event) c.note.ensures.log c.carry-fate.ensures.asked
+    (c.carry-fate.ensures.told ∙ ap (λ (p : Pdu). g.G.Gate.told c.args.gate.now ++ (fate_worth p c.carry-fate.result.event).tells) (sym c.of-read.ensures))
+    (c.carry-fate.ensures.finds ∙ ap (λ (p : Pdu). g.D.Directory.queries c.args.directory.now ++ (fate_worth p c.carry-fate.result.event).finds) (sym c.of-read.ensures)) c.note.ensures.events (
       c.of-chosen.ensures ∙ c.on_pdu-act.ensures.act ∙ ap (act_on c.self.inside.session) (sym c.of-read.ensures),
-      subst (λ (p : Pdu). Becomes p c.of-chosen.result.value c.carry-fate.result.fate c.self.inside.tap c.self.inside.senders.items c.carry-fate.new.tap c.carry-fate.new.senders.items) (sym c.of-read.ensures)
-          (subst (λ (a : UpAct). Becomes c.in-Some.pdu a c.carry-fate.result.fate c.self.inside.tap c.self.inside.senders.items c.carry-fate.new.tap c.carry-fate.new.senders.items) (sym c.of-chosen.ensures) c.carry-fate.ensures.becomes),
-      subst (λ (p : Pdu). Owes c.self.inside.tap.lane p c.carry-fate.result.fate c.self.inside.owed.items c.carry-fate.new.owed.items) (sym c.of-read.ensures) c.carry-fate.ensures.owes,
+      subst (λ (p : Pdu). Becomes p c.of-chosen.result.value c.carry-fate.result.event c.self.inside.tap c.self.inside.senders.items c.carry-fate.new.tap c.carry-fate.new.senders.items) (sym c.of-read.ensures)
+          (subst (λ (a : UpAct). Becomes c.in-Some.pdu a c.carry-fate.result.event c.self.inside.tap c.self.inside.senders.items c.carry-fate.new.tap c.carry-fate.new.senders.items) (sym c.of-chosen.ensures) c.carry-fate.ensures.becomes),
+      subst (λ (p : Pdu). Owes c.self.inside.tap.lane p c.carry-fate.result.event c.self.inside.owed.items c.carry-fate.new.owed.items) (sym c.of-read.ensures) c.carry-fate.ensures.owes,
       stands_same (c.on_pdu-act.ensures.session ∙ ap (λ (p : Pdu). after_pdu c.self.inside.session p c.args.now) (sym c.of-read.ensures)) refl refl refl refl refl,
     ) (ap (λ w. g.L.Link.polls w.link) c.note.ensures.same) (record { fits = (subst (λ w. MayDecide (writing_of g.L.Link.polls g.L.Link.offered w)) (sym c.self.view_is) c.requires.may); same = writes_same c.note.ensures.unsent (ap (λ w. g.L.Link.offered w.link) c.note.ensures.same) (ap (λ w. has_link_ended (g.L.Link.polls w.link)) c.note.ensures.same) }))
 
 pub returns-clause-phase : goal.returns-clause-phase
 returns-clause-phase g c = λ t ended same was.
-    stepped t _ _ (Did (Decided c.of-read.result c.args.now c.of-chosen.result c.carry-fate.result.fate)) (Deciding ended) _ c.note.ensures.log (cell_decided t ended _ _ _ _ ∙ at_its_moment t _ _ same) was
-    ∙ ap (λ b. unless_spent b (when_decided ended (is_last c.of-chosen.result.value c.carry-fate.result.fate)))
-    (kept_spent c.in-Some.pdu c.carry-fate.result.fate ∙ ap is_some (sym c.carry-fate.ensures.back))
-    ∙ ap (λ b. unless_spent (is_some c.carry-fate.result.back) (when_decided ended b)) (ap (λ (a : UpAct). is_last a c.carry-fate.result.fate) c.of-chosen.ensures ∙ sym c.carry-fate.ensures.over)
+    stepped t _ _ (Did (Decided c.of-read.result c.args.now c.of-chosen.result c.carry-fate.result.event)) (Deciding ended) _ c.note.ensures.log (cell_decided t ended _ _ _ _ ∙ at_its_moment t _ _ same) was
+    ∙ ap (λ b. unless_spent b (when_decided ended (decided_worth c.of-read.result.value c.of-chosen.result.value c.carry-fate.result.event).ends))
+    (ap (λ (p : Pdu). (fate_worth p c.carry-fate.result.event).spent) c.of-read.ensures ∙ kept_spent c.in-Some.pdu c.carry-fate.result.event ∙ ap is_some (sym c.carry-fate.ensures.back))
+    ∙ ap (λ b. unless_spent (is_some c.carry-fate.result.answer) (when_decided ended b))
+    (ap (λ (p : Pdu). (decided_worth p c.of-chosen.result.value c.carry-fate.result.event).ends) c.of-read.ensures
+    ∙ ap (λ (a : UpAct). (decided_worth c.in-Some.pdu a c.carry-fate.result.event).ends) c.of-chosen.ensures ∙ sym c.carry-fate.ensures.worth.2 ∙ sym c.note.ensures.answer)

@@ -3,9 +3,8 @@ use Rattle.std.proofs.lemmas.List.{append-nil}
 use Rattle.smx_shared.specs.Serving.{Expires}
 use Rattle.smx_turns.specs.declared.step.Step.TheVariants.{Did}
 use Rattle.smx_upstream.specs.declared.event.Event.TheVariants.{Expired}
-use Rattle.smx_upstream.specs.Events.{expiry_tells}
 use Rattle.smx_upstream.specs.Phases.{Watched, Swept, unless_spent}
-use Rattle.smx_upstream.specs.Spent.{is_spent_expiry}
+use Rattle.smx_upstream.specs.Events.{expiry_tells, is_spent_expiry}
 use Rattle.smx_upstream.proofs.Eventful.{did, front_same, goes_did, goes_on, writes_same}
 use Rattle.smx_upstream.proofs.Cells.{stepped, cell_expired}
 use Rattle.smx_upstream.proofs.worker.UpstreamWorker.expire.Goals as goal

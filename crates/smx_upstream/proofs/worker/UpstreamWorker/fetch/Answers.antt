@@ -3,7 +3,8 @@ use Rattle.std.proofs.lemmas.List.{append-nil}
 use Rattle.smx_turns.specs.declared.step.Step.TheVariants.{Marked, Did}
 use Rattle.smx_upstream.specs.declared.mark.Mark.TheVariants.{Part}
 use Rattle.smx_upstream.specs.declared.event.Event.TheVariants.{Broke}
-use Rattle.smx_upstream.specs.Events.{ins, out_of, those}
+use Rattle.smx_turns.specs.Worth.{those}
+use Rattle.smx_upstream.specs.Events.{ins, out_of}
 use Rattle.smx_upstream.specs.Phases.{Deciding}
 use Rattle.smx_link.specs.Wiring.{spellings}
 use Rattle.smx_upstream.specs.Working.{is_bad_front, writing_of}

@@ -3,7 +3,7 @@ use Rattle.std.proofs.lemmas.List.{append-nil}
 use Rattle.smx_session.specs.Moments.{at, is_silent}
 use Rattle.smx_turns.specs.declared.step.Step.TheVariants.{Did}
 use Rattle.smx_upstream.specs.declared.event.Event.TheVariants.{Looked}
-use Rattle.smx_upstream.specs.Phases.{Written}
+use Rattle.smx_upstream.specs.Phases.{Written, when_looked}
 use Rattle.smx_upstream.specs.Writing.{has_link_ended}
 use Rattle.smx_upstream.proofs.Eventful.{did, front_same, goes_did, stands_same, goes_on, writes_same}
 use Rattle.smx_upstream.proofs.Cells.{stepped, cell_looked, at_its_moment}
@@ -21,5 +21,5 @@ returns-clause-goes g c = rw (← c.self.view_is)
     (c.of.ensures ∙ c.on_moment-due.ensures.enquiry, c.is_silent-silent.ensures.silent ∙ ap (λ u. is_silent u c.args.now) c.on_moment-due.ensures.session, stands_same (c.is_silent-silent.ensures.session ∙ ap (λ u. at u c.args.now) c.on_moment-due.ensures.session) refl refl refl refl refl) (ap (λ w. g.L.Link.polls w.link) c.note.ensures.same) (record { fits = tt; same = writes_same c.note.ensures.unsent (ap (λ w. g.L.Link.offered w.link) c.note.ensures.same) (ap (λ w. has_link_ended (g.L.Link.polls w.link)) c.note.ensures.same) }))
 
 pub returns-clause-phase : goal.returns-clause-phase
-returns-clause-phase g c = λ t left same.
-    stepped t _ _ (Did (Looked c.args.now c.of.result c.is_silent-silent.result)) (Written left) _ c.note.ensures.log (cell_looked t left _ _ _ ∙ at_its_moment t _ _ same)
+returns-clause-phase g c = λ t left same was.
+    stepped t _ _ (Did (Looked c.args.now c.of.result c.is_silent-silent.result)) (Written left) _ c.note.ensures.log (cell_looked t left _ _ _ ∙ at_its_moment t _ _ same) was ∙ ap (when_looked left) (sym c.note.ensures.answer)

@@ -4,7 +4,7 @@ use Rattle.smx_turns.specs.declared.step.Step.TheVariants.{Did}
 use Rattle.smx_upstream.specs.declared.event.Event.TheVariants.{Shifted}
 use Rattle.smx_upstream.specs.Standing.{Shifts}
 use Rattle.smx_upstream.specs.Phases.{Swept, when_kept, unless_spent}
-use Rattle.smx_upstream.specs.Spent.{is_spent_shift}
+use Rattle.smx_upstream.specs.Events.{is_spent_shift}
 use Rattle.smx_upstream.proofs.Eventful.{did, front_same, goes_did, goes_on, writes_same}
 use Rattle.smx_upstream.proofs.Cells.{stepped, cell_shifted}
 use Rattle.std.specs.Prelude.{Option, Result}

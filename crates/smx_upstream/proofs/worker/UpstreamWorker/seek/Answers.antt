@@ -1,10 +1,10 @@
 use Rattle.std.proofs.Common.{refl, sym, ap, ◌∙◌, subst}
 use Rattle.std.proofs.lemmas.List.{append-nil}
+use Rattle.std.specs.Result.{is_err}
 use Rattle.smx_turns.specs.declared.step.Step.TheVariants.{Did}
 use Rattle.smx_upstream.specs.declared.event.Event.TheVariants.{Sought}
 use Rattle.smx_upstream.specs.Standing.{Gets, Settles}
 use Rattle.smx_upstream.specs.Phases.{Clear, Sated, unless_spent}
-use Rattle.smx_upstream.specs.Spent.{is_spent_get}
 use Rattle.smx_upstream.specs.Writing.{has_link_ended}
 use Rattle.smx_upstream.proofs.Eventful.{did, front_same, goes_did, gets_from, goes_on, writes_same}
 use Rattle.smx_upstream.proofs.Cells.{stepped, cell_sought}
@@ -24,4 +24,4 @@ returns-clause-goes g c = rw (← c.self.view_is)
 pub returns-clause-phase : goal.returns-clause-phase
 returns-clause-phase g c = λ t was.
     c.unless_spent.ensures.leads Sated _ (stepped t _ _ (Did (Sought c.of.result c.settle-under.result)) Clear _ c.note.ensures.log (cell_sought t _ _) was
-    ∙ ap (λ b. unless_spent b Sated) (ap is_spent_get c.of.ensures ∙ sym c.is_spent_get-spent.ensures))
+    ∙ ap (λ b. unless_spent b Sated) (ap is_err c.of.ensures ∙ sym c.is_err.ensures.value ∙ sym c.note.ensures.answer))

@@ -5,7 +5,7 @@ use Rattle.smx_shared.specs.Serving.{Takes}
 use Rattle.smx_turns.specs.declared.step.Step.TheVariants.{Did}
 use Rattle.smx_upstream.specs.declared.event.Event.TheVariants.{Took}
 use Rattle.smx_upstream.specs.Phases.{MayTake, HasTried, unless_spent}
-use Rattle.smx_upstream.specs.Spent.{is_spent_take}
+use Rattle.smx_upstream.specs.Events.{is_spent_take}
 use Rattle.smx_upstream.specs.Writing.{has_link_ended}
 use Rattle.smx_upstream.proofs.Eventful.{did, front_same, goes_did, goes_on, writes_same}
 use Rattle.smx_upstream.proofs.Cells.{stepped, cell_took}
@@ -25,4 +25,4 @@ returns-clause-goes g c = rw (← c.self.view_is)
 pub returns-clause-phase : goal.returns-clause-phase
 returns-clause-phase g c = λ t was.
     c.unless_spent.ensures.leads HasTried _ (stepped t _ _ (Did (Took c.of.result)) MayTake _ c.note.ensures.log (cell_took t _) was
-    ∙ ap (λ b. unless_spent b HasTried) (ap is_spent_take c.of.ensures ∙ sym c.is_spent_take-spent.ensures))
+    ∙ ap (λ b. unless_spent b HasTried) (ap is_spent_take c.of.ensures ∙ sym c.is_spent_take-spent.ensures ∙ sym c.note.ensures.answer))

@@ -1,6 +1,6 @@
 use Rattle.std.proofs.Common.{◌++◌, refl, sym, ap, ◌∙◌}
 use Rattle.smx_upstream.specs.declared.event.Event.TheVariants.{Unbound}
-use Rattle.smx_upstream.specs.Events.{those}
+use Rattle.smx_turns.specs.Worth.{those}
 use Rattle.smx_upstream.proofs.Eventful.{did, front_same, stands_same, goes_on}
 use Rattle.smx_upstream.proofs.worker.UpstreamWorker.unbind.Goals as goal
 

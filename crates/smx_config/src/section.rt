@@ -1,0 +1,87 @@
+//! The tables of a configuration in which keys stand.
+ghost use Rattle.std.specs.Prelude.{◌≡◌};
+ghost use Rattle.smx_config.specs.Keys.{is_same, is_number_key, is_text_key, is_table_key, is_read};
+
+use crate::number::Number;
+use crate::text::Text;
+use std::alloc::{AllocError, Global};
+
+/// The keys of tables.
+const TABLES: [&str; 3] = ["limits", "upstream", "account"];
+
+/// A table, or, of upstreams and accounts, each table of a list.
+#[derive(Clone, Copy, Debug, PartialEq, Eq)]
+pub(crate) enum Section {
+    /// The whole file.
+    Top,
+    Limits,
+    Upstream,
+    Account,
+}
+
+impl Section {
+    /// Every table, in the order in which they are told of.
+    pub(crate) fn all() -> &'static [Section] {
+        use Section::{Account, Limits, Top, Upstream};
+        &[Top, Limits, Upstream, Account]
+    }
+
+    pub(crate) fn is(self, other: Section) -> bool
+        ensures { result ≡ is_same self other }
+    {
+        self == other
+    }
+
+    fn has_number(self, key: &str) -> bool
+        ensures { result ≡ is_number_key self key.now }
+    {
+        Number::all().iter().any(|number| {
+            let rule = number.rule();
+            self.is(rule.section) && key == rule.key
+        })
+    }
+
+    fn has_text(self, key: &str) -> bool
+        ensures { result ≡ is_text_key self key.now }
+    {
+        Text::all()
+            .iter()
+            .any(|text| text.stands_in(self) && key == text.rule().key)
+    }
+
+    fn has_table(self, key: &str) -> bool
+        ensures { result ≡ is_table_key self key.now }
+    {
+        match self {
+            Section::Top => key == "limits" || key == "upstream" || key == "account",
+            Section::Limits | Section::Upstream | Section::Account => false,
+        }
+    }
+
+    /// Whether the key is read where it stands in this table.
+    pub(crate) fn reads(self, key: &str) -> bool
+        ensures { result ≡ is_read self key.now }
+    {
+        self.has_number(key) || self.has_text(key) || self.has_table(key)
+    }
+
+    /// The keys that are read in this table.
+    pub(crate) fn keys(self, alloc: Global) -> Result<Vec<&'static str>, AllocError> {
+        let mut keys = Vec::new(alloc);
+        for text in Text::all() {
+            if text.stands_in(self) {
+                keys.push(text.rule().key)?;
+            }
+        }
+        for number in Number::all() {
+            let rule = number.rule();
+            if self.is(rule.section) {
+                keys.push(rule.key)?;
+            }
+        }
+        if self.is(Section::Top) {
+            keys.extend_from_slice(&TABLES)?;
+        }
+        Ok(keys)
+    }
+}

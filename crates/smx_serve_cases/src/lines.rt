@@ -1,0 +1,5 @@
+//! The lines that a proxy says, each as the table *Lines* of docs/OPERATING.md has it.
+mod clients;
+mod told;
+mod upstreams;
+mod words;

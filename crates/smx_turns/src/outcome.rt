@@ -1,0 +1,15 @@
+//! What an event leads to.
+use smx_pdu::Pdu;
+
+/// What an event of a worker leads to, and what its caller learns beside.
+#[derive(Drop)]
+pub struct Outcome<E: Drop, A: Drop> {
+    pub event: E,
+    /// Nothing came of it.
+    pub quiet: bool,
+    /// What is to be said over the link.
+    pub sent: Option<Pdu>,
+    /// Nothing is decided after it.
+    pub ends: bool,
+    pub answer: A,
+}
