@@ -1,6 +1,7 @@
 //! What is said of the proxy's run: one line an event. The table *Lines* of docs/OPERATING.md has each.
 
 use crate::ended::Ended;
+use smx_pdu::status::Status;
 use smx_session::Kind;
 use smx_shared::EnterFault;
 use smx_turns::Fault;
@@ -170,7 +171,7 @@ impl fmt::Display for LinkLoss {
     fn fmt<W: fmt::Write>(&self, f: &mut fmt::Formatter<W>) -> fmt::Result {
         match *self {
             LinkLoss::Unreached => f.write_str("can't be reached"),
-            LinkLoss::Refused(status) => write!(f, "bind refused with status 0x{status:02x}"),
+            LinkLoss::Refused(status) => write!(f, "bind refused with status {}", Status(status)),
             LinkLoss::Closed => f.write_str("ended, it closed the connection"),
             LinkLoss::Unbound => f.write_str("ended, it unbound"),
             LinkLoss::BadLength => f.write_str("ended, it sent a bad length"),

@@ -46,7 +46,7 @@ fn lines() -> [(Notice<'static>, &'static str); 17] {
         ),
         (
             lost(LinkLoss::Refused(0x0D), 3, 1),
-            "upstream 2 proxy at smsc.example:2775: bind refused with status 0x0d; 3 requests failed; it is tried again in 1 ms",
+            "upstream 2 proxy at smsc.example:2775: bind refused with status 0x0D ESME_RBINDFAIL; 3 requests failed; it is tried again in 1 ms",
         ),
         (
             lost(LinkLoss::Fault(Fault::NoMemory), 3, 1),
