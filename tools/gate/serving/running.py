@@ -151,7 +151,8 @@ def faults_of_smx_serve(program, _):
             ran = subprocess.run([*service(program), of, "/etc/smx/smx.toml"], capture_output=True, text=True,
                                  env={**os.environ, "SMX": str(program)}, timeout=PATIENCE)
             assert ran.returncode == 78 and ran.stderr.startswith(words), ran
-            alone = subprocess.run([program, "serve", of], stdin=subprocess.DEVNULL, capture_output=True, timeout=PATIENCE)
+            words = [program, "serve", of]
+            alone = subprocess.run(words, stdin=subprocess.DEVNULL, capture_output=True, timeout=PATIENCE)
             assert alone.returncode == 78, alone
 
 
