@@ -67,7 +67,10 @@ fn binds_that_fail(rt: HostRuntime) -> Result<(), Fail> {
     let mut told = Told::new(rt, LONG, address_of(&rt, &centre)?, PATIENCE)?;
     let mut up = binding(&rt, &centre)?;
     up.write_all(REFUSAL)?;
-    told.upstream_waits(&rt, "bind refused with status 0x0D ESME_RBINDFAIL; 0 requests failed")?;
+    told.upstream_waits(
+        &rt,
+        "bind refused with status 0x0D ESME_RBINDFAIL; 0 requests failed",
+    )?;
     told.stops(&rt);
     told.is_over(&rt);
     let mut told = Told::new(rt, "silence = 300", address_of(&rt, &centre)?, PATIENCE)?;
