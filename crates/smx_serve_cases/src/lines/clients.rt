@@ -136,11 +136,11 @@ fn connections_that_are_refused(rt: HostRuntime) -> Result<(), Fail> {
     for _ in 0..REFUSED {
         drop(connected(&rt, rt.alloc(), &told.remote)?);
     }
-    let mut told_of = 0;
+    let mut told_of = 0_u64;
     let mut any = false;
     for _ in 0..REFUSED {
         let (count, counts) = refused_by(&rt, &mut told);
-        told_of += count;
+        told_of = told_of.saturating_add(count);
         any |= counts;
         if told_of >= REFUSED {
             break;
