@@ -3,31 +3,28 @@
 import collections
 import threading
 
-from .peers import HOST, Answering, Centre, Proxy, free_port, text_of
+from .peers import HOST, Answering, Centre, Proxy, free_port, one_lane, text_of
 from .smpp import (DELIVER_SM, ENQUIRE_LINK, GENERIC_NACK, INVALID_LENGTH, OK, RESPONSE, TEMPORARY_ERROR, UNBIND,
                    message, octets_of, request, response)
 
 
 def answers_stay_on_their_link(program, _):
     """An answer to a message of a lost link goes nowhere, also where the new link's message has its number."""
-    port = free_port()
-    with Centre() as centre:
-        text = text_of(port, [f"{HOST}:{centre.port}"], keys="silence = 3000")
-        with Proxy(program, port, text) as proxy:
-            first = centre.bound()
-            with proxy.client() as client:
-                first.say(message(DELIVER_SM, 7, "49"))
-                old = client.hear()
-                first.stream.close()
-                second, bind = centre.binding()
-                client.say(response(old, body=b"\0"))
-                assert second.is_quiet(), "something went out before the bind was answered"
-                second.say(response(bind, body=b"centre\0"), message(DELIVER_SM, 7, "49"))
-                new = client.hear()
-                assert second.is_quiet(), "a message was answered that no client had answered"
-                client.say(response(new, body=b"\0"))
-                assert second.hear_but_enquiries()[:3] == (DELIVER_SM | RESPONSE, OK, 7)
-                assert second.is_quiet(), "a message was answered twice"
+    with one_lane(program, keys="silence = 3000") as (centre, proxy):
+        first = centre.bound()
+        with proxy.client() as client:
+            first.say(message(DELIVER_SM, 7, "49"))
+            old = client.hear()
+            first.stream.close()
+            second, bind = centre.binding()
+            client.say(response(old, body=b"\0"))
+            assert second.is_quiet(), "something went out before the bind was answered"
+            second.say(response(bind, body=b"centre\0"), message(DELIVER_SM, 7, "49"))
+            new = client.hear()
+            assert second.is_quiet(), "a message was answered that no client had answered"
+            client.say(response(new, body=b"\0"))
+            assert second.hear_but_enquiries()[:3] == (DELIVER_SM | RESPONSE, OK, 7)
+            assert second.is_quiet(), "a message was answered twice"
 
 
 def clients_leave_with_messages(program, _):

@@ -1,6 +1,6 @@
 """Clients that come and go, and lanes that can't be had."""
 
-from .peers import HOST, Answering, Centre, Proxy, free_port, text_of
+from .peers import HOST, Answering, Centre, Proxy, free_port, one_lane, text_of
 from .smpp import (BIND_TRANSCEIVER, OK, RESPONSE, SUBMIT_FAILED, SUBMIT_SM, UNBIND, bind_of, long_message, message,
                    octets_of, request)
 
@@ -30,26 +30,19 @@ def are_answered(link, count):
     assert link.is_quiet()
 
 
-def door_beside_an_idle_lane(program, clients):
-    """Clients come and go, and each is bound, though nothing else happens on the one lane."""
-    port = free_port()
-    with Answering() as centre, Proxy(program, port, text_of(port, [f"{HOST}:{centre.port}"], limits=SMALL)) as proxy:
-        proxy.waits_for("bound")
-        come_and_go(proxy, clients)
-        with proxy.client() as link:
-            are_answered(link, 8)
-
-
-def door_beside_a_lane_that_is_down(program, clients):
-    """The same beside a lane whose centre can't be reached."""
-    port = free_port()
-    with Answering() as centre:
-        addresses = [f"{HOST}:{centre.port}", f"{HOST}:{free_port()}"]
-        with Proxy(program, port, text_of(port, addresses, limits=SMALL)) as proxy:
-            proxy.waits_for("bound")
-            come_and_go(proxy, clients)
-            with proxy.client() as link:
-                are_answered(link, 8)
+def door_beside(others):
+    """A case: clients come and go, and each is bound, though nothing else happens on the lane that is bound; beside
+    it stand lanes with these addresses."""
+    def case(program, clients):
+        port = free_port()
+        with Answering() as centre:
+            text = text_of(port, [f"{HOST}:{centre.port}", *others()], limits=SMALL)
+            with Proxy(program, port, text) as proxy:
+                proxy.waits_for("bound")
+                come_and_go(proxy, clients)
+                with proxy.client() as link:
+                    are_answered(link, 8)
+    return case
 
 
 def door_beside_a_lane_that_is_clogged(program, clients):
@@ -82,26 +75,23 @@ def unreachable(address):
 
 def queued_requests_of_a_lost_lane(program, _):
     """What is queued on a lane that stays without a link is answered once the response timer ended."""
-    port = free_port()
-    with Centre() as centre:
-        text = text_of(port, [f"{HOST}:{centre.port}"], limits="window = 1")
-        with Proxy(program, port, text) as proxy:
-            up = centre.bound()
-            with proxy.client() as link:
-                link.say(*(message(SUBMIT_SM, it, "49") for it in (5, 6, 7)))
-                assert up.hear_but_enquiries().command == SUBMIT_SM
-                centre.listener.close()
-                up.stream.close()
-                # The one that was sent at once, the others after 60 seconds.
-                assert link.hear()[:3] == (SUBMIT_SM | RESPONSE, SUBMIT_FAILED, 5)
-                for number in (6, 7):
-                    assert link.hear(75)[:3] == (SUBMIT_SM | RESPONSE, SUBMIT_FAILED, number)
-                assert link.is_quiet()
+    with one_lane(program, limits="window = 1") as (centre, proxy):
+        up = centre.bound()
+        with proxy.client() as link:
+            link.say(*(message(SUBMIT_SM, it, "49") for it in (5, 6, 7)))
+            assert up.hear_but_enquiries().command == SUBMIT_SM
+            centre.listener.close()
+            up.stream.close()
+            # The one that was sent at once, the others after 60 seconds.
+            assert link.hear()[:3] == (SUBMIT_SM | RESPONSE, SUBMIT_FAILED, 5)
+            for number in (6, 7):
+                assert link.hear(75)[:3] == (SUBMIT_SM | RESPONSE, SUBMIT_FAILED, number)
+            assert link.is_quiet()
 
 
 CASES = {
-    "a door beside an idle lane": door_beside_an_idle_lane,
-    "a door beside a lane that is down": door_beside_a_lane_that_is_down,
+    "a door beside an idle lane": door_beside(lambda: []),
+    "a door beside a lane that is down": door_beside(lambda: [f"{HOST}:{free_port()}"]),
     "a door beside a lane that is clogged": door_beside_a_lane_that_is_clogged,
     "an upstream of an unknown name": unreachable("nobody.invalid:2775"),
     "an upstream without a port": unreachable(HOST),

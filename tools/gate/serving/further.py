@@ -11,7 +11,7 @@ import subprocess
 import tempfile
 import threading
 
-from .peers import HOST, Answering, Centre, Proxy, free_port, is_free, state_of, text_of
+from .peers import HOST, Answering, Centre, Proxy, free_port, is_free, one_lane, state_of, text_of
 from .running import TOP
 from .smpp import (DELIVER_SM, ENQUIRE_LINK, OK, PATIENCE, RESPONSE, SUBMIT_FAILED, SUBMIT_SM, Gone, message, request,
                    response)
@@ -25,10 +25,8 @@ LINKS = 2_500
 
 def queued_requests_go_on(program, _):
     """Where a link is lost what was sent fails at once, and what is queued goes out on the next one."""
-    port = free_port()
-    with Centre() as centre:
-        text = text_of(port, [f"{HOST}:{centre.port}"], keys="silence = 2000", limits="window = 2")
-        with Proxy(program, port, text) as proxy, centre.bound() as first, proxy.client() as link:
+    with one_lane(program, keys="silence = 2000", limits="window = 2") as (centre, proxy):
+        with centre.bound() as first, proxy.client() as link:
             link.say(*(message(SUBMIT_SM, it, "49") for it in range(2, 8)))
             sent = [first.hear_but_enquiries().body for _ in range(2)]
             assert link.ask(request(ENQUIRE_LINK, 90)).status == OK
@@ -63,24 +61,21 @@ def next_message(centre, client, old, when):
 
 def old_answers_at_any_time(program, _):
     """An answer to a message of a lost link goes nowhere, whenever it comes."""
-    port = free_port()
-    with Centre() as centre:
-        text = text_of(port, [f"{HOST}:{centre.port}"], keys="silence = 3000")
-        with Proxy(program, port, text) as proxy:
-            link = centre.bound()
-            with proxy.client() as client:
+    with one_lane(program, keys="silence = 3000") as (centre, proxy):
+        link = centre.bound()
+        with proxy.client() as client:
+            link.say(message(DELIVER_SM, 7, "49"))
+            old = client.hear()
+            for when in ("before the link", "before the bind's answer", "behind the new message"):
+                lost = proxy.said().count("tried again")
+                link.stream.close()
+                proxy.waits_for_more("tried again", lost)
+                link, new = next_message(centre, client, old, when)
+                client.say(response(new, THROTTLED, b"\0"))
+                assert link.hear_but_enquiries()[:3] == (DELIVER_SM | RESPONSE, THROTTLED, 7)
                 link.say(message(DELIVER_SM, 7, "49"))
                 old = client.hear()
-                for when in ("before the link", "before the bind's answer", "behind the new message"):
-                    lost = proxy.said().count("tried again")
-                    link.stream.close()
-                    proxy.waits_for_more("tried again", lost)
-                    link, new = next_message(centre, client, old, when)
-                    client.say(response(new, THROTTLED, b"\0"))
-                    assert link.hear_but_enquiries()[:3] == (DELIVER_SM | RESPONSE, THROTTLED, 7)
-                    link.say(message(DELIVER_SM, 7, "49"))
-                    old = client.hear()
-            link.stream.close()
+        link.stream.close()
 
 
 def close_each(centre, enough):

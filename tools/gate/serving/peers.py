@@ -165,6 +165,16 @@ class Proxy:
         return link
 
 
+@contextlib.contextmanager
+def one_lane(program, keys="", limits=""):
+    """A centre that is told by the test, and a proxy with one lane, which leads there."""
+    port = free_port()
+    with Centre() as centre:
+        text = text_of(port, [f"{HOST}:{centre.port}"], keys=keys, limits=limits)
+        with Proxy(program, port, text) as proxy:
+            yield centre, proxy
+
+
 def state_of(process):
     """The state of a process as the system has it: R, S, T (stopped), ..."""
     return pathlib.Path(f"/proc/{process}/stat").read_text().rpartition(")")[2].split()[0]
