@@ -1,17 +1,19 @@
 -- One event more: what is known of a bad length.
 use Rattle.std.proofs.Common.{◌≡◌, ◌≢◌, List, [], ◌∷◌, ◌++◌, ◌⊎◌, ⊎_elim, Bool, true, false, ◌||◌, true≢false, Some, None, IsSome, sym, ◌∙◌, ap, subst, refl}
-use Rattle.std.proofs.Math.Bool.{or-false, or_assoc}
+use Rattle.std.proofs.Math.Bool.{or-false}
+use Rattle.std.proofs.lemmas.List.Folds.{list_any-append}
+use Rattle.std.specs.List.{list_any}
 use Rattle.smx_frame.specs.declared.fault.FrameFault.{FrameFault}
 use Rattle.smx_frame.specs.declared.fault.FrameFault.TheVariants.{NoMemory}
 use Rattle.smx_frame.specs.Stream.{fault_at}
 use Rattle.smx_link.specs.Wiring.{Wiring}
 use Rattle.smx_client.specs.declared.event.Event.{Event}
-use Rattle.smx_client.specs.Breaking.{is_broken, has_broken, IsBad}
+use Rattle.smx_client.specs.Breaking.{IsBad}
+use Rattle.smx_client.specs.Events.{is_broken, has_broken}
 
 broken_more : (es : List Event) (e : Event) → has_broken (es ++ e ∷ []) ≡ (has_broken es || is_broken e)
 unfolding has_broken
-broken_more [] e = or-false (is_broken e)
-broken_more (x ∷ es) e = ap (λ b. is_broken x || b) (broken_more es e) ∙ sym (or_assoc (is_broken x) (has_broken es) (is_broken e))
+broken_more es e = list_any-append is_broken es (e ∷ []) ∙ ap (λ b. list_any is_broken es || b) (or-false (is_broken e))
 
 -- the same wire, as far as a bad length goes
 pub bad_as : {L : Type 0} (v w : Wiring L) → w.failed ≡ v.failed → w.rest ≡ v.rest → IsBad v → IsBad w

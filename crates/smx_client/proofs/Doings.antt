@@ -26,8 +26,8 @@ use Rattle.smx_client.specs.declared.reply.Reply.{Reply}
 use Rattle.smx_client.specs.declared.event.Event.TheVariants.{Decided, Broke, Collected, PutAgain, Got as Fetched}
 use Rattle.smx_client.specs.declared.event.Fate.TheVariants.{Own, Submitted, Settled}
 use Rattle.smx_client.specs.declared.event.Delivery.{Delivery}
-use Rattle.smx_client.specs.Replies.{PutSo, SettlesSo, Parks, put_in, parked_on, if_taken, on_lane}
-use Rattle.smx_client.specs.Events.{act_out, refusal_out, response_out, got_out, got_answers, delivery_puts, settled_out}
+use Rattle.smx_client.specs.Replies.{PutSo, SettlesSo, Parks, put_in, parked_on, on_lane}
+use Rattle.smx_client.specs.Events.{act_out, refusal_out, response_out, got_out, got_answers, settled_out}
 use Rattle.smx_client.specs.Parts.{parts, Does, Suits, collect_step, submit_step, settle_step, got_step, Gets, delivery_senders, delivery_parks, IsOfferOf}
 
 -- nothing is put, and nothing is to be answered
@@ -51,7 +51,6 @@ module _ (d : Desk) (said said' : List Pdu) (s : ClientState) (w : Window) (i : 
     window = refl;
     inbox = refl;
     senders = refl;
-    puts = λ k within. still (put_in x k);
     answers = λ k within. same_put x h k;
     parked = refl;
     desk = refl;
@@ -68,7 +67,6 @@ module _ (d : Desk) (said said' : List Pdu) (s : ClientState) (w : Window) (i : 
     window = refl;
     inbox = refl;
     senders = refl;
-    puts = λ k within. still (put_in x k);
     answers = λ k within. same_put x h k;
     parked = refl;
     desk = refl;
@@ -86,7 +84,6 @@ module _ (d : Desk) (said said' : List Pdu) (s : ClientState) (w : Window) (i : 
     window = refl;
     inbox = refl;
     senders = refl;
-    puts = λ k within. still (put_in x k);
     answers = λ k within. same_put x h k;
     parked = refl;
     desk = refl;
@@ -106,7 +103,6 @@ module _ (d : Desk) (said said' : List Pdu) (s : ClientState) (w : Window) (i : 
     window = refl;
     inbox = refl;
     senders = refl;
-    puts = λ k within. still (put_in x k);
     answers = λ k within. same_put x h k;
     parked = refl;
     desk = refl;
@@ -116,10 +112,9 @@ module _ (d : Desk) (said said' : List Pdu) (s : ClientState) (w : Window) (i : 
   pub settled : (p : PortView) (w' : Window) (x' : List (Sending Pdu)) (h' : Option Parked) (p0 : Pdu) (q : Snapshot Pdu) (a : Snapshot Act) (found : Option (ℕ × ℕ)) (reply : Reply)
       → q.value ≡ p0 → said' ≡ said ++ (act_out a.value ++ []) → ((a.value, s) ≡ client_decides d.accounts.items s q.value) × Suits a.value (Settled found reply)
       → settle_step q.value found w w' → SettlesSo p0 found reply x x' → h ≡ None → Parks reply h' → length x' ≡ length x
-      → ((k : ℕ) → k < length x → put_in x' k ≡ put_in x k ++ if_taken reply (settled_out k p0 found))
       → ((k : ℕ) → k < length x → put_in x' k ++ parked_on k h' ≡ put_in x k ++ parked_on k h ++ settled_out k p0 found)
       → Does (parts d said p s w i x h) (Decided q a (Settled found reply)) (parts d said' p s w' i x' h')
-  settled p w' x' h' p0 q a found reply seen says session window so none parks count puts answers = record {
+  settled p w' x' h' p0 q a found reply seen says session window so none parks count answers = record {
     says = says;
     port = refl;
     lists = λ all has. no_accept p all has;
@@ -127,7 +122,6 @@ module _ (d : Desk) (said said' : List Pdu) (s : ClientState) (w : Window) (i : 
     window = window;
     inbox = refl;
     senders = subst (λ o. SettlesSo o found reply x x') (sym seen) so;
-    puts = λ k within. puts k within ∙ ap (λ o. put_in x k ++ if_taken reply (settled_out k o found)) (sym seen);
     answers = λ k within. answers k within ∙ ap (λ o. put_in x k ++ parked_on k h ++ settled_out k o found) (sym seen);
     parked = (none, parks);
     desk = refl;
@@ -136,10 +130,9 @@ module _ (d : Desk) (said said' : List Pdu) (s : ClientState) (w : Window) (i : 
 
   pub got : (p : PortView) (w' : Window) (i' : Receiving MoItem) (x' : List (Sending Pdu)) (h' : Option Parked) (r0 : Result (Got MoItem) BoxSpent) (r : Snapshot (Result (Got MoItem) BoxSpent)) (e : Delivery)
       → r.value ≡ r0 → said' ≡ said ++ got_out r0 e → got_step r0 e w w' → Gets p.client (length x) i r0 e i' → delivery_senders r0 e x x' → delivery_parks e h h' → length x' ≡ length x
-      → ((k : ℕ) → k < length x → put_in x' k ≡ put_in x k ++ delivery_puts k r0 e)
       → ((k : ℕ) → k < length x → put_in x' k ++ parked_on k h' ≡ put_in x k ++ parked_on k h ++ got_answers k r0 e)
       → Does (parts d said p s w i x h) (Fetched r e) (parts d said' p s w' i' x' h')
-  got p w' i' x' h' r0 r e seen says window gets so parks count puts answers = record {
+  got p w' i' x' h' r0 r e seen says window gets so parks count answers = record {
     says = says ∙ ap (λ o. said ++ got_out o e) (sym seen);
     port = refl;
     lists = λ all has. no_accept p all has;
@@ -147,7 +140,6 @@ module _ (d : Desk) (said said' : List Pdu) (s : ClientState) (w : Window) (i : 
     window = subst (λ o. got_step o e w w') (sym seen) window;
     inbox = subst (λ o. Gets p.client (length x) i o e i') (sym seen) gets;
     senders = subst (λ o. delivery_senders o e x x') (sym seen) so;
-    puts = λ k within. puts k within ∙ ap (λ o. put_in x k ++ delivery_puts k o e) (sym seen);
     answers = λ k within. answers k within ∙ ap (λ o. put_in x k ++ parked_on k h ++ got_answers k o e) (sym seen);
     parked = parks;
     desk = refl;
@@ -165,10 +157,9 @@ again x x' h h0 h' a k had none was =
 
 pub put_again : (d : Desk) (said : List Pdu) (s : ClientState) (w : Window) (i : Receiving MoItem) (x x' : List (Sending Pdu)) (h h0 h' : Option Parked) (p : PortView) (a : Parked) (reply : Reply)
     → Some a ≡ h → h0 ≡ None → PutSo a.lane a.answer reply x x' → Parks reply h' → length x' ≡ length x
-    → ((k : ℕ) → k < length x → put_in x' k ≡ put_in x k ++ if_taken reply (on_lane k a.lane (a.answer ∷ [])))
     → ((k : ℕ) → k < length x → put_in x' k ++ parked_on k h' ≡ put_in x k ++ parked_on k h0 ++ on_lane k a.lane (a.answer ∷ []))
     → Does (parts d said p s w i x h) (PutAgain a.lane reply) (parts d said p s w i x' h')
-put_again d said s w i x x' h h0 h' p a reply had none so parks count puts answers = record {
+put_again d said s w i x x' h h0 h' p a reply had none so parks count answers = record {
   says = sym (append-nil said);
   port = refl;
   lists = λ all has. no_accept p all has;
@@ -176,7 +167,6 @@ put_again d said s w i x x' h h0 h' p a reply had none so parks count puts answe
   window = refl;
   inbox = refl;
   senders = (a, sym had, so);
-  puts = λ k within. puts k within ∙ ap (λ o. put_in x k ++ if_taken reply (parked_on k o)) had;
   answers = λ k within. again x x' h h0 h' a k had none (answers k within);
   parked = (a, sym had, refl, parks);
   desk = refl;

@@ -11,8 +11,8 @@ use Rattle.smx_turns.proofs.Chains.{pushed, chain_push}
 use Rattle.smx_client.specs.declared.event.Event.{Event}
 use Rattle.smx_client.specs.declared.mark.Stage.{Stage}
 use Rattle.smx_client.specs.declared.mark.Stage.TheVariants.{Closed}
-use Rattle.smx_client.specs.Breaking.{is_broken, IsBad}
-use Rattle.smx_client.specs.Events.{in_of, ins, held_list}
+use Rattle.smx_client.specs.Breaking.{IsBad}
+use Rattle.smx_client.specs.Events.{in_of, ins, held_list, is_broken}
 use Rattle.smx_client.specs.Parts.{Parts, Does, Chain}
 use Rattle.smx_client.specs.Serving.{Serving, IsServing, parts_of, first_of}
 use Rattle.smx_client.specs.Stages.{has_ended}

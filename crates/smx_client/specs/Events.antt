@@ -1,6 +1,7 @@
--- In, Out and the other filters of a worker's events.
-use Rattle.std.specs.Prelude.{ℕ, Bool, true, false, List, [], ◌∷◌, ◌++◌, Option, Some, None, Result, Ok, Err}
-use Rattle.std.specs.List.{flat_map}
+-- What an event is worth: what it decided and says, whom it tells, whether nothing came of it, and what it ends.
+use Rattle.std.specs.Prelude.{ℕ, Bool, true, false, ◌||◌, List, [], ◌∷◌, ◌++◌, Option, Some, None, Result, Ok, Err}
+use Rattle.std.specs.List.{flat_map, list_any}
+use Rattle.std.specs.Result.{is_err}
 use Rattle.smx_pdu.specs.declared.pdu.Pdu.{Pdu}
 use Rattle.smx_pdu.specs.Command.{response_of}
 use Rattle.smx_history.specs.declared.telling.Unaccepted.{Unaccepted}
@@ -19,16 +20,16 @@ use Rattle.smx_box.specs.declared.receiver.Got.TheVariants.{Item, Shut, Empty}
 use Rattle.smx_turns.specs.declared.mo_item.MoItem.{MoItem}
 use Rattle.smx_turns.specs.declared.gate.Party.{Party}
 use Rattle.smx_turns.specs.declared.gate.Party.TheVariants.{Lane}
+use Rattle.smx_turns.specs.Worth.{Worth, no_worth, says}
 use Rattle.smx_client.specs.declared.event.Event.{Event}
 use Rattle.smx_client.specs.declared.event.Event.TheVariants.{Decided, Broke, Collected, PutAgain, Got as Fetched}
 use Rattle.smx_client.specs.declared.event.Fate.{Fate}
 use Rattle.smx_client.specs.declared.event.Fate.TheVariants.{Own, Submitted, Settled}
 use Rattle.smx_client.specs.declared.event.Delivery.{Delivery}
 use Rattle.smx_client.specs.declared.event.Delivery.TheVariants.{Given, Refused, Dropped}
-use Rattle.smx_client.specs.declared.reply.Parked.{Parked}
 use Rattle.smx_client.specs.declared.reply.Reply.{Reply}
 use Rattle.smx_client.specs.declared.reply.Reply.TheVariants as reply
-use Rattle.smx_client.specs.Replies.{answer_up, refused_up, on_lane, if_taken, parked_on}
+use Rattle.smx_client.specs.Replies.{answer_up, refused_up, on_lane}
 
 -- why no lane accepted a request, as its client is told
 abbrev pub why_unaccepted : SubmitFault → Unaccepted
@@ -36,25 +37,23 @@ why_unaccepted submit.Exhausted = UsedUp
 why_unaccepted submit.Spent = UsedUp
 why_unaccepted submit.AllFull = AllFull
 
--- what the session's act says
+-- what the session's act says, and whether nothing is decided after it
+abbrev pub act_worth : Act → Worth
+act_worth (act.Answer p) = says (Some p)
+act_worth (act.Bind k i p) = says (Some p)
+act_worth act.Forward = no_worth
+act_worth (act.MoAnswer n) = no_worth
+act_worth (act.Leave p) = record (says (Some p)) { ends = true }
+act_worth (act.Hangup p) = record (says (Some p)) { ends = true }
+act_worth act.Ignore = no_worth
+
 abbrev pub act_out : Act → List Pdu
-act_out (act.Answer p) = p ∷ []
-act_out (act.Bind k i p) = p ∷ []
-act_out act.Forward = []
-act_out (act.MoAnswer n) = []
-act_out (act.Leave p) = p ∷ []
-act_out (act.Hangup p) = p ∷ []
-act_out act.Ignore = []
+act_out a = (act_worth a).said
 
 -- the answer to a refused request
 abbrev pub refusal_out : Pdu → Result ℕ (Offer × SubmitFault) → List Pdu
 refusal_out p (Ok lane) = []
 refusal_out p (Err e) = refusal_of (why_unaccepted e.1) p.command p.number ∷ []
-
-abbrev pub fate_out : Pdu → Fate → List Pdu
-fate_out p Own = []
-fate_out p (Submitted o r) = refusal_out p r.value
-fate_out p (Settled found reply) = []
 
 abbrev pub response_out : Result (Option Pdu) Spent → List Pdu
 response_out (Ok (Some p)) = p ∷ []
@@ -72,22 +71,6 @@ item_out _ _ = []
 abbrev pub got_out : Result (Got MoItem) BoxSpent → Delivery → List Pdu
 got_out (Ok found) d = item_out found d
 got_out (Err e) d = []
-
--- the PDUs that an event says to the client
-abbrev pub out_of : Event → List Pdu
-out_of (Decided p a f) = act_out a.value ++ fate_out p.value f
-out_of (Broke a) = act_out a.value
-out_of (Collected lane r) = response_out r.value
-out_of (Fetched g d) = got_out g.value d
-out_of (PutAgain lane reply) = []
-
--- the PDUs that an event decided
-abbrev pub in_of : Event → List Pdu
-in_of (Decided p a f) = p.value ∷ []
-in_of (Broke a) = []
-in_of (Collected lane r) = []
-in_of (Fetched g d) = []
-in_of (PutAgain lane reply) = []
 
 -- the accepts that an event leaves in the port's notes
 abbrev pub fate_accepts : Fate → List Accepted
@@ -127,24 +110,6 @@ event_answers k (Collected lane r) = []
 event_answers k (Fetched g d) = got_answers k g.value d
 event_answers k (PutAgain lane reply) = []
 
-abbrev pub fate_puts : ℕ → Pdu → Fate → List (Option Pdu)
-fate_puts k p Own = []
-fate_puts k p (Submitted o r) = []
-fate_puts k p (Settled found reply) = if_taken reply (settled_out k p found)
-
-abbrev pub delivery_puts : ℕ → Result (Got MoItem) BoxSpent → Delivery → List (Option Pdu)
-delivery_puts k r (Given number) = []
-delivery_puts k r (Refused reply) = if_taken reply (got_answers k r (Refused reply))
-delivery_puts k r Dropped = []
-
--- what an event puts into the return box of lane k, where this answer waits
-abbrev pub puts_of : ℕ → Option Parked → Event → List (Option Pdu)
-puts_of k h (Decided p a f) = fate_puts k p.value f
-puts_of k h (Broke a) = []
-puts_of k h (Collected lane r) = []
-puts_of k h (Fetched g d) = delivery_puts k g.value d
-puts_of k h (PutAgain lane reply) = if_taken reply (parked_on k h)
-
 -- the lane, where its return box took an answer
 abbrev pub lane_told : ℕ → Reply → List Party
 lane_told lane reply.Taken = Lane lane ∷ []
@@ -161,11 +126,6 @@ abbrev pub settled_told : Option (ℕ × ℕ) → Reply → List Party
 settled_told None reply = []
 settled_told (Some found) reply = lane_told found.0 reply
 
-abbrev pub fate_told : Fate → List Party
-fate_told Own = []
-fate_told (Submitted o r) = submit_told r.value
-fate_told (Settled found reply) = settled_told found reply
-
 abbrev pub item_told : Got MoItem → Reply → List Party
 item_told (Item p n item) reply = lane_told item.lane reply
 item_told (Shut p) reply = []
@@ -179,18 +139,6 @@ abbrev pub got_told : Result (Got MoItem) BoxSpent → Delivery → List Party
 got_told r (Given number) = []
 got_told r (Refused reply) = refused_told r reply
 got_told r Dropped = []
-
--- for whom something waits after an event
-abbrev pub tells_of : Event → List Party
-tells_of (Decided p a f) = fate_told f
-tells_of (Broke a) = []
-tells_of (Collected lane r) = []
-tells_of (Fetched g d) = got_told g.value d
-tells_of (PutAgain lane reply) = lane_told lane reply
-
--- in order
-unfoldable pub tells : List Event → List Party
-tells es = flat_map tells_of es
 
 abbrev pub is_none_found : Result (Option Pdu) Spent → Bool
 is_none_found (Ok (Some p)) = false
@@ -209,19 +157,80 @@ is_refused reply.Full = true
 is_refused reply.Spent = true
 is_refused reply.Nobody = false
 
--- whether nothing came of an event
-abbrev pub is_quiet_event : Event → Bool
-is_quiet_event (Decided p a f) = false
-is_quiet_event (Broke a) = false
-is_quiet_event (Collected lane r) = is_none_found r.value
-is_quiet_event (Fetched g d) = is_empty_got g.value
-is_quiet_event (PutAgain lane reply) = is_refused reply
+-- whether a return box takes no more calls
+abbrev pub is_spent_reply : Reply → Bool
+is_spent_reply reply.Spent = true
+is_spent_reply _ = false
 
+abbrev pub is_spent_delivery : Delivery → Bool
+is_spent_delivery (Refused reply) = is_spent_reply reply
+is_spent_delivery _ = false
+
+abbrev pub is_spent_fault : SubmitFault → Bool
+is_spent_fault submit.Spent = true
+is_spent_fault _ = false
+
+abbrev pub is_spent_submit : Result ℕ (Offer × SubmitFault) → Bool
+is_spent_submit (Ok lane) = false
+is_spent_submit (Err e) = is_spent_fault e.1
+
+-- what became of a PDU, beside what the session did
+abbrev pub fate_worth : Pdu → Fate → Worth
+fate_worth p Own = no_worth
+fate_worth p (Submitted o r) = record no_worth { said = refusal_out p r.value; tells = submit_told r.value; spent = is_spent_submit r.value }
+fate_worth p (Settled found reply) = record no_worth { tells = settled_told found reply; spent = is_spent_reply reply }
+
+-- what a PDU that the session decided so is worth, of which this came
+abbrev pub decided_worth : Pdu → Act → Fate → Worth
+decided_worth p a f = record no_worth {
+  decided = p ∷ [];
+  said = act_out a ++ (fate_worth p f).said;
+  tells = (fate_worth p f).tells;
+  quiet = false;
+  ends = (act_worth a).ends;
+  spent = (fate_worth p f).spent;
+}
+
+-- what an event is worth
+abbrev pub worth : Event → Worth
+worth (Decided p a f) = decided_worth p.value a.value f
+worth (Broke a) = record no_worth { said = act_out a.value; quiet = false; ends = true; breaks = true }
+worth (Collected lane r) = record no_worth { said = response_out r.value; quiet = is_none_found r.value; spent = is_err r.value }
+worth (Fetched g d) = record no_worth { said = got_out g.value d; tells = got_told g.value d; quiet = is_empty_got g.value; spent = is_err g.value || is_spent_delivery d }
+worth (PutAgain lane reply) = record no_worth { tells = lane_told lane reply; quiet = is_refused reply; spent = is_spent_reply reply }
+
+-- each by its name: the PDUs that an event decided, and those that it says to the client
+abbrev pub in_of : Event → List Pdu
+in_of e = (worth e).decided
+
+abbrev pub out_of : Event → List Pdu
+out_of e = (worth e).said
+
+-- for whom something waits after it
+abbrev pub tells_of : Event → List Party
+tells_of e = (worth e).tells
+
+-- whether nothing came of it
+abbrev pub is_quiet_event : Event → Bool
+is_quiet_event e = (worth e).quiet
+
+-- whether it is that of a bad length
+abbrev pub is_broken : Event → Bool
+is_broken e = (worth e).breaks
+
+-- in order
 unfoldable pub ins : List Event → List Pdu
 ins es = flat_map in_of es
 
 unfoldable pub outs : List Event → List Pdu
 outs es = flat_map out_of es
+
+unfoldable pub tells : List Event → List Party
+tells es = flat_map tells_of es
+
+-- whether one of the events is that of a bad length
+unfoldable pub has_broken : List Event → Bool
+has_broken es = list_any is_broken es
 
 unfoldable pub accepts : List Event → List Accepted
 accepts es = flat_map event_accepts es

@@ -11,7 +11,6 @@ use Rattle.smx_routes.specs.Window.{Window, IsFirst, without}
 use Rattle.smx_turns.specs.Runs.{Runs}
 use Rattle.smx_turns.specs.declared.mo_item.MoItem.{MoItem}
 use Rattle.smx_client.specs.declared.reply.Parked.{Parked}
-use Rattle.smx_client.specs.declared.reply.Reply.{Reply}
 use Rattle.smx_client.specs.declared.leaver.Leaving.{Leaving}
 use Rattle.smx_client.specs.declared.leaver.Leaving.TheVariants.{Kept, Row, Item}
 use Rattle.smx_client.specs.Replies.{refused_up, is_answer_taken, PutSo, AnswersSo, ItemAnswersSo}

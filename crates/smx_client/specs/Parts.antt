@@ -33,7 +33,7 @@ use Rattle.smx_client.specs.declared.event.Fate.TheVariants.{Own, Submitted, Set
 use Rattle.smx_client.specs.declared.event.Delivery.{Delivery}
 use Rattle.smx_client.specs.declared.event.Delivery.TheVariants.{Given, Refused, Dropped}
 use Rattle.smx_client.specs.Replies.{PutSo, ItemAnswersSo, SettlesSo, Parks, put_in, parked_on}
-use Rattle.smx_client.specs.Events.{out_of, event_accepts, event_answers, puts_of}
+use Rattle.smx_client.specs.Events.{out_of, event_accepts, event_answers}
 
 -- the offer is the request that the PDU asks for
 pub record IsOfferOf (p : Pdu) (o : Offer) : Type 0 where
@@ -189,7 +189,6 @@ pub record Does (v : Parts) (e : Event) (w : Parts) : Type 0 where
   pub window : window_step v.window e w.window
   pub inbox : inbox_step v.port.client (length v.senders) v.inbox e w.inbox
   pub senders : senders_step v.parked v.senders e w.senders
-  pub puts : (k : ℕ) → k < length v.senders → put_in w.senders k ≡ put_in v.senders k ++ puts_of k v.parked e
   pub answers : (k : ℕ) → k < length v.senders → put_in w.senders k ++ parked_on k w.parked ≡ put_in v.senders k ++ parked_on k v.parked ++ event_answers k e
   pub parked : parked_step v.parked e w.parked
   pub desk : w.desk ≡ v.desk

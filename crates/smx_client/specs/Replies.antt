@@ -32,10 +32,6 @@ is_answer_taken Full = false
 is_answer_taken Spent = false
 is_answer_taken Nobody = false
 
--- those that a return box took
-abbrev pub if_taken : Reply → List (Option Pdu) → List (Option Pdu)
-if_taken reply ps = if is_answer_taken reply then ps else []
-
 -- an answer for this lane: one step of its return box put it, or found each place taken, or the sender's numbers are spent; or the lane has no sender
 abbrev pub PutSo : ℕ → Pdu → Reply → List (Sending Pdu) → List (Sending Pdu) → Type 0
 PutSo lane answer Taken ss tt = AtIndex lane ss tt (λ x y. (n : ℕ) × Puts answer n x y)

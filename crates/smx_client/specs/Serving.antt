@@ -19,8 +19,8 @@ use Rattle.smx_client.specs.declared.mark.Stage.{Stage}
 use Rattle.smx_client.specs.declared.mark.Stage.TheVariants.{Open, Drained, Closed}
 use Rattle.smx_client.specs.declared.reply.Parked.{Parked}
 use Rattle.smx_client.specs.declared.worker.Origin.{Origin}
-use Rattle.smx_client.specs.Breaking.{has_broken, IsBad}
-use Rattle.smx_client.specs.Events.{ins, held_list}
+use Rattle.smx_client.specs.Breaking.{IsBad}
+use Rattle.smx_client.specs.Events.{ins, held_list, has_broken}
 use Rattle.smx_client.specs.Parts.{Parts, parts, Chain}
 use Rattle.smx_client.specs.Stages.{has_ended}
 use Rattle.smx_client.specs.Table.{step_of}

@@ -36,6 +36,7 @@ use Rattle.smx_client.specs.declared.event.Verdict.{Verdict}
 use Rattle.smx_client.specs.declared.event.Verdict.TheVariants as verdict
 use Rattle.smx_client.specs.declared.event.Progress.{Progress}
 use Rattle.smx_client.specs.declared.event.Progress.TheVariants as progress
+use Rattle.smx_client.specs.Events.{act_worth}
 
 -- where a turn stands
 pub data Phase : Type 0 where
@@ -199,13 +200,10 @@ after_bind ended kind.Rx account = Entering ended account
 after_bind ended kind.Trx account = Entering ended account
 
 abbrev pub after_act : Bool → Act → Phase
-after_act ended (act.Answer p) = Deciding ended
 after_act ended (act.Bind k account p) = after_bind ended k account
 after_act ended act.Forward = Wrong
 after_act ended (act.MoAnswer n) = Wrong
-after_act ended (act.Leave p) = Closing
-after_act ended (act.Hangup p) = Closing
-after_act ended act.Ignore = Deciding ended
+after_act ended a = if (act_worth a).ends then Closing else Deciding ended
 
 abbrev pub after_fate : Bool → Act → Fate → Phase
 after_fate ended a Own = after_act ended a

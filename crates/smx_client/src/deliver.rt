@@ -1,7 +1,7 @@
 //! What becomes of an item from the box.
 ghost use Rattle.std.specs.Prelude.{◌≡◌, ◌≢◌, ◌++◌, ◌<◌, ◌≤◌, [], ◌∷◌, ℕ, length, None, Ok};
 ghost use Rattle.smx_client.specs.Replies.{put_in, parked_on};
-ghost use Rattle.smx_client.specs.Events.{item_out, item_answers, delivery_puts, message_as, is_empty_got, got_told};
+ghost use Rattle.smx_client.specs.Events.{item_out, item_answers, message_as, is_empty_got, got_told};
 ghost use Rattle.smx_client.specs.Parts.{item_step, IsDelivered, delivery_senders, delivery_parks};
 ghost use Rattle.smx_client.specs.Sayings.{Spoke};
 ghost use Rattle.smx_client.specs.Table.{IsPart, Clear, after_delivery, delivery_progress};
@@ -72,9 +72,6 @@ pub(crate) fn deliver<L: Link + Drop, R: Wait, G: Gate>(
     ensures count { length senders.new.items ≡ length senders.old.items }
     ensures so { delivery_senders (Ok got) result senders.old.items senders.new.items }
     ensures parks { delivery_parks result parked.old parked.new }
-    ensures put { (k : ℕ) → k < length senders.old.items
-        → put_in senders.new.items k
-        ≡ put_in senders.old.items k ++ delivery_puts k (Ok got) result }
     ensures answer { (k : ℕ) → k < length senders.old.items
         → put_in senders.new.items k ++ parked_on k parked.new
         ≡ put_in senders.old.items k ++ parked_on k parked.old ++ item_answers k got result }

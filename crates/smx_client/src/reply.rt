@@ -2,7 +2,7 @@
 ghost use Rattle.std.specs.Prelude.{◌≡◌, ◌++◌, ◌<◌, [], ◌∷◌, ℕ, length, slice_get, IfErr, None};
 ghost use Rattle.smx_pdu.specs.declared.pdu.Pdu.{Pdu};
 ghost use Rattle.smx_pdu.specs.Command.{response_of};
-ghost use Rattle.smx_client.specs.Replies.{answer_up, refused_up, on_lane, if_taken, is_answer_taken, PutSo, AnswersSo, SettlesSo, Parks, put_in, parked_on};
+ghost use Rattle.smx_client.specs.Replies.{answer_up, refused_up, on_lane, is_answer_taken, PutSo, AnswersSo, SettlesSo, Parks, put_in, parked_on};
 ghost use Rattle.smx_client.specs.Events.{settled_out, is_refused, lane_told, settled_told};
 ghost use Rattle.smx_client.specs.Table.{Phase, IsPart, after_reply, progress_of};
 
@@ -101,9 +101,6 @@ pub(crate) fn put_or_park<R: Wait>(
     ensures count { length senders.new.items ≡ length senders.old.items }
     ensures so { PutSo lane answer result senders.old.items senders.new.items }
     ensures parks { Parks result parked.new }
-    ensures put { (k : ℕ) → k < length senders.old.items
-        → put_in senders.new.items k
-        ≡ put_in senders.old.items k ++ if_taken result (on_lane k lane (answer ∷ [])) }
     ensures answer { (k : ℕ) → k < length senders.old.items
         → put_in senders.new.items k ++ parked_on k parked.new
         ≡ put_in senders.old.items k ++ parked_on k parked.old ++ on_lane k lane (answer ∷ []) }
@@ -136,9 +133,6 @@ pub(crate) fn answer_settled<R: Wait, G: Gate>(
     ensures count { length senders.new.items ≡ length senders.old.items }
     ensures so { SettlesSo pdu found result senders.old.items senders.new.items }
     ensures parks { Parks result parked.new }
-    ensures put { (k : ℕ) → k < length senders.old.items
-        → put_in senders.new.items k
-        ≡ put_in senders.old.items k ++ if_taken result (settled_out k pdu found) }
     ensures answer { (k : ℕ) → k < length senders.old.items
         → put_in senders.new.items k ++ parked_on k parked.new
         ≡ put_in senders.old.items k ++ parked_on k parked.old ++ settled_out k pdu found }
@@ -168,10 +162,6 @@ pub(crate) fn refuse<R: Wait>(
     ensures so { AnswersSo lane (refused_up (response_of command) number) result
         senders.old.items senders.new.items }
     ensures parks { Parks result parked.new }
-    ensures put { (k : ℕ) → k < length senders.old.items
-        → put_in senders.new.items k
-        ≡ put_in senders.old.items k
-        ++ if_taken result (on_lane k lane (refused_up (response_of command) number)) }
     ensures answer { (k : ℕ) → k < length senders.old.items
         → put_in senders.new.items k ++ parked_on k parked.new
         ≡ put_in senders.old.items k ++ parked_on k parked.old

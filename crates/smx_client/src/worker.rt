@@ -8,8 +8,8 @@ ghost use Rattle.smx_shared.specs.Offers.{Accepted};
 ghost use Rattle.smx_shared.specs.Ports.{HasAccepted};
 ghost use Rattle.smx_client.specs.declared.mark.Stage.{Stage};
 ghost use Rattle.smx_client.specs.Replies.{put_in, parked_on};
-ghost use Rattle.smx_client.specs.Events.{ins, outs, accepts, answers, held_list};
-ghost use Rattle.smx_client.specs.Breaking.{has_broken, IsBad};
+ghost use Rattle.smx_client.specs.Events.{ins, outs, accepts, answers, held_list, has_broken};
+ghost use Rattle.smx_client.specs.Breaking.{IsBad};
 ghost use Rattle.smx_client.specs.Parts.{parts, Chain};
 ghost use Rattle.smx_client.specs.Stages.{has_ended};
 

@@ -28,7 +28,7 @@ invariant_of-self-in-Ok g c =
       subst (λ r. IfOk r (λ f. Hands s.inbox.got c.get-found.new.self.got f)) c.in-Ok.is c.get-found.ensures.got,
       subst (λ n. IsDelivered n (length s.senders.items) c.in-Ok.got c.deliver-delivery.result) c.client.ensures d.delivered,
     )
-    d.so d.parks d.count d.put d.answer)
+    d.so d.parks d.count d.answer)
     (still _ _ _ _ (ap (λ (w : Wiring g.row.L.Denot). w.rest) e) c.self.invariant.settled)
     (ap (λ (w : Wiring g.row.L.Denot). w.failed) e) (ap (λ (w : Wiring g.row.L.Denot). w.rest) e) (λ told. absurd (cc))
     (as_closed g.L.Link.polls _ _ _ _ _ (ap (λ w. w.link) e) c.self.invariant.closed)
@@ -47,7 +47,7 @@ returns-in-Ok-clause-leads g c = rw (← c.self.view_is) (λ n queries base was.
       subst (λ r. IfOk r (λ f. Hands s.inbox.got c.get-found.new.self.got f)) c.in-Ok.is c.get-found.ensures.got,
       subst (λ n. IsDelivered n (length s.senders.items) c.in-Ok.got c.deliver-delivery.result) c.client.ensures d.delivered,
     )
-    d.so d.parks d.count d.put d.answer)
+    d.so d.parks d.count d.answer)
     d.asked (d.told ∙ ap (λ r. g.G.Gate.told c.args.gate.now ++ got_told r c.deliver-delivery.result) (sym seen)) c.note-in-Ok.ensures.events
     (d.says.unsent ∙ ap (λ r. s.wire.unsent ++ spellings (got_out r c.deliver-delivery.result)) (sym seen)) (ap (λ w. w.link) d.says.same)) base was)
 

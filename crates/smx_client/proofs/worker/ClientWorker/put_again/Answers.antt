@@ -12,7 +12,7 @@ pub invariant_of-self : goal.invariant_of-self
 invariant_of-self g c =
     let e = c.put_or_park-reply.ensures in
     did g.L.Link.polls _ _ (PutAgain c.in-Some.field-0.lane c.put_or_park-reply.result) c.self.invariant refl refl refl refl c.note.ensures.events refl refl
-    (doing.put_again _ _ _ _ _ _ _ c.self.inside.parked c.take.new.self _ _ c.in-Some.field-0 c.put_or_park-reply.result c.in-Some.ensures.value c.take.ensures.after e.so e.parks e.count e.put e.answer)
+    (doing.put_again _ _ _ _ _ _ _ c.self.inside.parked c.take.new.self _ _ c.in-Some.field-0 c.put_or_park-reply.result c.in-Some.ensures.value c.take.ensures.after e.so e.parks e.count e.answer)
     c.self.invariant.settled refl refl (λ told. absurd (cc))
     (as_closed g.L.Link.polls _ _ _ _ _ refl c.self.invariant.closed)
 
@@ -21,7 +21,7 @@ returns-clause-leads g c = rw (← c.self.view_is) (λ n queries base was.
     let s = c.self.inside in
     let e = c.put_or_park-reply.ensures in
     c.note.ensures.leads n _ _ (happens g.L.Link.offered g.L.Link.polls g.L.Link.failures _ _ _ _ queries _ _ _ _ _ _ _ _ (PutAgain c.in-Some.field-0.lane c.put_or_park-reply.result) tt
-    (doing.put_again _ _ _ _ _ _ _ s.parked c.take.new.self _ _ c.in-Some.field-0 c.put_or_park-reply.result c.in-Some.ensures.value c.take.ensures.after e.so e.parks e.count e.put e.answer)
+    (doing.put_again _ _ _ _ _ _ _ s.parked c.take.new.self _ _ c.in-Some.field-0 c.put_or_park-reply.result c.in-Some.ensures.value c.take.ensures.after e.so e.parks e.count e.answer)
     c.tell.ensures.asked c.tell.ensures.told c.note.ensures.events (sym (append-nil s.wire.unsent)) refl) base was)
 
 pub returns-clause-phase : goal.returns-clause-phase

@@ -27,7 +27,7 @@ invariant_of-self g c =
     (settles _ _ s.held c.in-Some.pdu c.in-Some.ensures.value
     (subst (λ (w : Serving g.row.L.Denot). IfSome w.held (λ p. client_decides w.desk.accounts.items w.session p ≡ (act.MoAnswer p.number, w.session))) (sym c.self.view_is) c.requires.held)))
     (settle_window c.in-Some.pdu _ c.settle-found.result _ _ c.of-read.ensures c.settle-found.ensures.settled c.settle-found.ensures.none)
-    e.so (ap (λ (w : Serving g.row.L.Denot). w.parked) c.self.view_is ∙ c.requires.none) e.parks e.count e.put e.answer)
+    e.so (ap (λ (w : Serving g.row.L.Denot). w.parked) c.self.view_is ∙ c.requires.none) e.parks e.count e.answer)
     (undecided _ (ap (λ (w : Serving g.row.L.Denot). w.settled) c.self.view_is ∙ c.requires.undecided))
     refl refl (λ told. absurd (cc))
     (as_closed g.L.Link.polls _ _ _ _ _ refl c.self.invariant.closed)
@@ -43,7 +43,7 @@ returns-clause-leads g c = rw (← c.self.view_is) (λ n queries base was.
     (settles _ _ s.held c.in-Some.pdu c.in-Some.ensures.value
     (subst (λ (w : Serving g.row.L.Denot). IfSome w.held (λ p. client_decides w.desk.accounts.items w.session p ≡ (act.MoAnswer p.number, w.session))) (sym c.self.view_is) c.requires.held)))
     (settle_window c.in-Some.pdu _ c.settle-found.result _ _ c.of-read.ensures c.settle-found.ensures.settled c.settle-found.ensures.none)
-    e.so (ap (λ (w : Serving g.row.L.Denot). w.parked) c.self.view_is ∙ c.requires.none) e.parks e.count e.put e.answer)
+    e.so (ap (λ (w : Serving g.row.L.Denot). w.parked) c.self.view_is ∙ c.requires.none) e.parks e.count e.answer)
     e.asked e.told c.note.ensures.events
     (sym (append-nil s.wire.unsent) ∙ ap (λ l. s.wire.unsent ++ spellings l) (own_out (act.MoAnswer c.in-Some.pdu.number) _ c.of.ensures)) refl) base was)
 
