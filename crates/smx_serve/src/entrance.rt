@@ -2,13 +2,13 @@
 
 use crate::addresses::Addresses;
 use crate::guests::{Guest, Guests};
-use crate::notice::{ClientName, ClientNews, Notice, TurnedAway};
 use crate::pace::Moment;
 use crate::queues::Queues;
 use crate::seats::{Gateway, Member};
 use mio::net::{TcpListener, TcpStream};
 use mio::{Registry, Token};
 use smx_client::Desk;
+use smx_notice::{ClientName, ClientNews, Notice, TurnedAway};
 use smx_slots::ClientEnds;
 use smx_socket::{Socket, SocketLink};
 use std::alloc::Global;

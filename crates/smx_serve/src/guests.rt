@@ -3,12 +3,12 @@
 use crate::addresses::Addresses;
 use crate::heard::bound_name;
 use crate::lane::TURNS;
-use crate::notice::{ClientName, ClientNews, Notice};
 use crate::pace::Moment;
 use crate::queues::Queues;
 use crate::seating::Seating;
 use crate::seats::Member;
 use smx_client::Desk;
+use smx_notice::{ClientName, ClientNews, Notice};
 use smx_session::{ClientState, Kind};
 use smx_slots::{Bell, ClientEnds, Guide, Slots};
 use smx_socket::{Drained, Flushed, Socket};

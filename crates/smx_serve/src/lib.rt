@@ -4,7 +4,6 @@
 mod addresses;
 mod course;
 mod desk;
-mod ended;
 mod entrance;
 mod guests;
 mod heard;
@@ -13,7 +12,6 @@ mod linking;
 mod listening;
 mod log;
 mod lookup;
-mod notice;
 mod pace;
 mod parties;
 mod queues;
@@ -26,11 +24,11 @@ mod teller;
 mod turning;
 mod upstreams;
 
-pub use ended::Ended;
 pub use log::Log;
 pub use lookup::{Lookups, is_name};
-pub use notice::{
-    ClientName, ClientNews, LinkLoss, MeteredKind, Notice, TurnedAway, UpstreamName, UpstreamNews,
-};
 pub use remote::Remote;
 pub use serve::Server;
+pub use smx_notice::{
+    ClientName, ClientNews, Ended, LinkLoss, MeteredKind, Notice, TurnedAway, UpstreamName,
+    UpstreamNews,
+};

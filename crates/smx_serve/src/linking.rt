@@ -2,11 +2,11 @@
 
 use crate::addresses::Addresses;
 use crate::lane::{Lane, Lost, Unlinked};
-use crate::notice::{LinkLoss, Notice, UpstreamName, UpstreamNews};
 use crate::pace::Moment;
 use crate::queues::Queues;
 use mio::Registry;
 use smx_config::Upstream;
+use smx_notice::{LinkLoss, Notice, UpstreamName, UpstreamNews};
 use smx_turns::RunEnd;
 use std::net::Net;
 use std::sync::Wait;

@@ -1,12 +1,11 @@
 //! How the proxy comes to listen: an address that can't be had is tried again.
 
-use crate::ended::Ended;
-use crate::notice::Notice;
 use crate::pace::Moment;
 use crate::parties::LISTENER;
 use crate::remote::Remote;
 use mio::net::TcpListener;
 use mio::{Events, Interest, Poll, Token};
+use smx_notice::{Ended, Notice};
 use std::net::{Net, TcpStream};
 use std::sync::Wait;
 use std::time::Duration;

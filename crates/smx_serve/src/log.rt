@@ -1,6 +1,6 @@
 //! Lines on their way to whoever reads them.
 
-use crate::notice::Notice;
+use smx_notice::Notice;
 use std::alloc::{AllocError, Global};
 use std::collections::VecDeque;
 use std::io::{self, Write};

@@ -1,10 +1,10 @@
 //! The moments of the loop, and what is due at each.
 
 use crate::lookup::Lookups;
-use crate::notice::Notice;
 use crate::teller::Teller;
 use smx_client::Desk;
 use smx_config::Config;
+use smx_notice::Notice;
 use std::alloc::Global;
 use std::rt::Clock;
 use std::sync::Wait;

@@ -2,14 +2,12 @@
 
 use crate::addresses::Addresses;
 use crate::desk::desk_of;
-use crate::ended::Ended;
 use crate::entrance::Entrance;
 use crate::guests::Guests;
 use crate::lane::Lane;
 use crate::listening::{await_listener, port_of};
 use crate::log::Log;
 use crate::lookup::Lookups;
-use crate::notice::Notice;
 use crate::pace::{Moment, Pace};
 use crate::parties::WAKER;
 use crate::queues::Queues;
@@ -20,6 +18,7 @@ use crate::turning::Loop;
 use crate::upstreams::drawers_of;
 use mio::{Events, Poll, Token, Waker};
 use smx_config::Config;
+use smx_notice::{Ended, Notice};
 use smx_shared::Exchange;
 use smx_slots::{ClientEnds, LaneEnds, Slots, ends_of};
 use std::alloc::{AllocError, Global};

@@ -1,9 +1,8 @@
 //! The end in order.
 
-use crate::ended::Ended;
-use crate::notice::Notice;
 use crate::parties::{are_idle, are_settled};
 use crate::turning::Loop;
+use smx_notice::{Ended, Notice};
 use std::net::Net;
 use std::rt::Clock;
 use std::sync::Wait;

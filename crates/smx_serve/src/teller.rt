@@ -1,7 +1,7 @@
 //! Lines that may come often: so many of a kind are said a second, and the others are counted.
 
 use crate::log::Log;
-use crate::notice::{MeteredKind, Notice};
+use smx_notice::{MeteredKind, Notice};
 use std::cell::Cell;
 use std::sync::{Arc, Wait};
 

@@ -1,7 +1,6 @@
 //! The loop: it turns who has something to do, writes, and waits for events.
 
 use crate::addresses::Addresses;
-use crate::ended::Ended;
 use crate::entrance::Entrance;
 use crate::guests::Guests;
 use crate::lane::Lane;
@@ -11,6 +10,7 @@ use crate::parties::{are_idle, flush, heed, pass};
 use crate::queues::Queues;
 use crate::remote::Remote;
 use mio::{Events, Poll};
+use smx_notice::Ended;
 use std::net::Net;
 use std::rt::Clock;
 use std::sync::Wait;
