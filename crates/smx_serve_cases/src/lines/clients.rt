@@ -1,7 +1,8 @@
 //! Lines of clients.
 use super::told::Told;
+use super::upstreams::LONG;
 use crate::loopback::{BIND, BOUND, UNBIND, UNBOUND};
-use crate::stage::{Header, PATIENCE, bound, comes, connected};
+use crate::stage::{Header, bound, comes, connected};
 use std::alloc::Global;
 use std::io::Write;
 use std::net::{Net, TcpListener, TcpStream};
@@ -99,13 +100,14 @@ where
 fn clients_that_come_and_go(rt: HostRuntime) -> Result<(), Fail> {
     let centre = TcpListener::bind(&rt, "127.0.0.1:0")?;
     let address = format!(in rt.alloc(); "{}", centre.local_addr()?)?;
-    let mut told = Told::new(rt, "silence = 30000", address, PATIENCE)?;
+    let mut told = Told::new(rt, LONG, address)?;
     let up = bound(&rt, &centre)?;
     told.upstream(&rt, "bound")?;
     come_and_go(&rt, &mut told)?;
     reset(&rt, &mut told)?;
     drop(up);
-    told.upstream_waits(&rt, "ended, it closed the connection; 0 requests failed")?;
+    let words = "ended, it closed the connection; 0 requests failed";
+    told.upstream_waits(&rt, words, "tried")?;
     told.stops(&rt);
     told.is_over(&rt);
     Ok(())
@@ -128,7 +130,8 @@ fn refused_by<R: Abort + AllocGlobal>(rt: &R, told: &mut Told) -> (u64, bool) {
 fn connections_that_are_refused(rt: HostRuntime) -> Result<(), Fail> {
     let centre = TcpListener::bind(&rt, "127.0.0.1:0")?;
     let address = format!(in rt.alloc(); "{}", centre.local_addr()?)?;
-    let mut told = Told::new(rt, "clients = 1", address, PATIENCE)?;
+    let keys = "clients = 1\n[timers]\nbind = 60000";
+    let mut told = Told::new(rt, keys, address)?;
     let _up = bound(&rt, &centre)?;
     told.upstream(&rt, "bound")?;
     let client = connected(&rt, rt.alloc(), &told.remote)?;
