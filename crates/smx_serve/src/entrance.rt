@@ -8,7 +8,6 @@ use crate::queues::Queues;
 use crate::seats::{Gateway, Member};
 use mio::net::{TcpListener, TcpStream};
 use mio::{Registry, Token};
-use smx_client::Desk;
 use smx_slots::ClientEnds;
 use smx_socket::{Socket, SocketLink};
 use std::alloc::Global;
@@ -173,7 +172,7 @@ impl Entrance {
                 say_connected(rt, moment, entered.client, address.as_str());
                 let _ = addresses.roll.add(entered.client, slot);
                 queues.ready.add(party);
-                guests.seat(slot, guest_of(entered, address, moment.desk));
+                guests.seat(slot, guest_of(entered, address, moment));
             }
             Err((ends, reason)) => {
                 guests.slots.give_back(slot, ends);
@@ -212,7 +211,7 @@ impl Entrance {
 }
 
 // A client that isn't bound yet.
-fn guest_of<'d>(entered: Entered<'d>, address: String, desk: &'d Desk) -> Guest<'d> {
+fn guest_of<'d>(entered: Entered<'d>, address: String, moment: Moment<'d>) -> Guest<'d> {
     let Entered {
         client,
         member,
@@ -223,7 +222,9 @@ fn guest_of<'d>(entered: Entered<'d>, address: String, desk: &'d Desk) -> Guest<
         address,
         member,
         socket,
-        desk,
+        desk: moment.desk,
         name: None,
+        since: moment.now,
+        is_late: false,
     }
 }

@@ -30,6 +30,10 @@ pub(crate) struct Guest<'d> {
     pub desk: &'d Desk,
     // The system_id of its account, once it is bound.
     pub name: Option<&'d str>,
+    // Since which moment it is connected, in milliseconds, and whether the last tick found its bind
+    // late.
+    pub since: u64,
+    pub is_late: bool,
 }
 
 /// The end of what is written where the proxy hangs up: generic_nack of a bad length.
@@ -84,6 +88,14 @@ impl Guest<'_> {
             queues.add_lanes();
         }
         (socket, ends)
+    }
+
+    // Whether its bind is late, as an earlier tick found too: what had come while the program stood
+    // still was read between the two.
+    fn stays_late(&mut self, now: u64, most: u64) -> bool {
+        let was_late = self.is_late;
+        self.is_late = self.name.is_none() && now >= self.since.saturating_add(most);
+        was_late && self.is_late
     }
 
     // Says what becomes of its client.
@@ -268,6 +280,42 @@ impl<'d> Guests<'d> {
         guest.say(rt, moment, guest.farewell(end));
         let (socket, ends) = guest.close(rt, queues, addresses);
         self.part(queues, slot, socket, ends, moment.now);
+    }
+
+    // Lets the slot's client go, where its bind is late.
+    fn let_go_late<R: Wait>(
+        &mut self,
+        rt: &R,
+        moment: Moment<'_>,
+        queues: &mut Queues,
+        addresses: &mut Addresses,
+        slot: usize,
+    ) {
+        let Some(guest) = self.guests.get_mut(self.seating.place(slot)) else {
+            return;
+        };
+        if !guest.stays_late(moment.now, moment.config.timers.bind) {
+            return;
+        }
+        let Some(guest) = self.take(slot) else {
+            return;
+        };
+        guest.say(rt, moment, ClientNews::Late);
+        let (socket, ends) = guest.close(rt, queues, addresses);
+        self.part(queues, slot, socket, ends, moment.now);
+    }
+
+    /// Lets each client go that wasn't bound in time. A tick finds it.
+    pub fn let_late_go<R: Wait>(
+        &mut self,
+        rt: &R,
+        moment: Moment<'_>,
+        queues: &mut Queues,
+        addresses: &mut Addresses,
+    ) {
+        for slot in 0..queues.slots {
+            self.let_go_late(rt, moment, queues, addresses, slot);
+        }
     }
 
     // Lets each client go.

@@ -4,7 +4,7 @@ use super::upstreams::LONG;
 use crate::loopback::{BIND, BOUND, UNBIND, UNBOUND};
 use crate::stage::{Header, bound, comes, connected};
 use std::alloc::Global;
-use std::io::Write;
+use std::io::{Read, Write};
 use std::net::{Net, TcpListener, TcpStream};
 use std::process::Abort;
 use std::test::Fail;
@@ -110,6 +110,60 @@ fn clients_that_come_and_go(rt: HostRuntime) -> Result<(), Fail> {
     told.upstream_waits(&rt, words, "tried")?;
     told.stops(&rt);
     told.is_over(&rt);
+    Ok(())
+}
+
+// Enquires until the connection ends. False where it goes on.
+fn enquires_until_it_ends(alloc: Global, stream: &mut TcpStream) -> bool {
+    let enquiry = Header {
+        command: ENQUIRE_LINK,
+        status: 0,
+        number: 1,
+    };
+    let answer = Header {
+        command: 0x8000_0000 | ENQUIRE_LINK,
+        ..enquiry
+    };
+    for _ in 0..u32::MAX {
+        if !(enquiry.is_said(alloc, stream) && answer.is_heard(alloc, stream)) {
+            return true;
+        }
+    }
+    false
+}
+
+// Whether the connection ends in order, and nothing more comes.
+fn ends(stream: &mut TcpStream) -> bool {
+    let mut octet = [0u8; 1];
+    matches!(stream.read(&mut octet), Ok(0))
+}
+
+// One that isn't bound in time is closed, also where it enquires all the time; one that is bound stays.
+#[test]
+fn connections_that_are_not_bound(rt: HostRuntime) -> Result<(), Fail> {
+    let centre = TcpListener::bind(&rt, "127.0.0.1:0")?;
+    let address = format!(in rt.alloc(); "{}", centre.local_addr()?)?;
+    let mut told = Told::new(rt, "[timers]\nbind = 1000", address)?;
+    let _up = bound(&rt, &centre)?;
+    told.upstream(&rt, "bound")?;
+    let mut first = connected(&rt, rt.alloc(), &told.remote)?;
+    told.client(&rt, "1", &first, "connected")?;
+    assert!(rt; bind_by(&mut first, 9)?);
+    told.client(&rt, "1 alpha", &first, "bound as transceiver")?;
+    let mut second = connected(&rt, rt.alloc(), &told.remote)?;
+    told.client(&rt, "2", &second, "connected")?;
+    told.client(&rt, "2", &second, "not bound in time")?;
+    assert!(rt; ends(&mut second));
+    let mut third = connected(&rt, rt.alloc(), &told.remote)?;
+    told.client(&rt, "3", &third, "connected")?;
+    let address = third.local_addr()?;
+    assert!(rt; enquires_until_it_ends(rt.alloc(), &mut third));
+    let line = format!(in rt.alloc(); "client 3 at {address}: not bound in time")?;
+    told.lines.says(&rt, line.as_str());
+    enquires(&rt, rt.alloc(), &mut first, 1);
+    told.stops(&rt);
+    told.client(&rt, "1 alpha", &first, "left")?;
+    told.remote.stop();
     Ok(())
 }
 
