@@ -147,7 +147,8 @@ impl Entrance {
         }
     }
 
-    // Gives a connection a slot and enters its client; else closes it.
+    // Gives a connection a slot and enters its client; else closes it. One that isn't bound may lose its
+    // slot for it.
     fn welcome<'d, R: Wait>(
         &mut self,
         rt: &R,
@@ -159,6 +160,7 @@ impl Entrance {
         stream: TcpStream,
         address: String,
     ) {
+        guests.make_place(rt, moment, queues, addresses);
         let Some((slot, ends)) = guests.slots.pick() else {
             moment.say(rt, Notice::Refused(address.as_str(), TurnedAway::NoSlot));
             return;

@@ -84,6 +84,8 @@ pub enum ClientNews {
     BadLength,
     /// It wasn't bound in time.
     Late,
+    /// It wasn't bound, and another one connected.
+    Displaced,
     /// The worker stopped for a fault.
     Fault(Fault),
 }
@@ -222,6 +224,7 @@ impl fmt::Display for ClientNews {
             ClientNews::Closed => f.write_str("closed its connection"),
             ClientNews::BadLength => f.write_str("hung up, a bad length"),
             ClientNews::Late => f.write_str("not bound in time"),
+            ClientNews::Displaced => f.write_str("gave its place to another"),
             ClientNews::Fault(fault) => write!(f, "ended, {fault}"),
         }
     }

@@ -25,11 +25,10 @@ impl Trial {
 }
 
 // The text of a configuration at any free port, with eight accounts and one upstream of this silence.
-// A bind may come slowly.
 fn text_of(rt: &impl Abort, alloc: Global, silence: u64, port: u16) -> String {
     let mut text = format!(in alloc;
         "listen = \"127.0.0.1:0\"\nclients = 256\n\
-         [timers]\nenquire = {silence}\nbind = {PATIENCE}\n\
+         [timers]\nenquire = {silence}\n\
          [limits]\nqueue = 1000\nwindow = 200\nclient = 200\n\
          [[upstream]]\naddress = \"127.0.0.1:{port}\"\nsystem_id = \"proxy\"\npassword = \"pw\"\n"
     )

@@ -179,17 +179,69 @@ fn refused_by<R: Abort + AllocGlobal>(rt: &R, told: &mut Told) -> (u64, bool) {
     (count.expect(rt, line), true)
 }
 
+// How many strangers connect, before and behind the honest clients.
+const STRANGERS: usize = 20;
+
+// Connections that never bind, all at once.
+fn strangers<R>(rt: &R, told: &Told) -> Result<Vec<TcpStream>, Fail>
+where
+    R: Net<Stream = TcpStream> + AllocGlobal,
+{
+    let mut standing = Vec::with_capacity(rt.alloc(), STRANGERS)?;
+    for _ in 0..STRANGERS {
+        standing.push(connected(rt, rt.alloc(), &told.remote)?)?;
+    }
+    Ok(standing)
+}
+
+// Of eight slots connections without a bind hold four. One more takes the place of the oldest, so none
+// of them keeps out a client that binds, and those that are bound stay.
+#[test]
+fn strangers_keep_nobody_out(rt: HostRuntime) -> Result<(), Fail> {
+    let centre = TcpListener::bind(&rt, "127.0.0.1:0")?;
+    let address = format!(in rt.alloc(); "{}", centre.local_addr()?)?;
+    let keys = "clients = 8\n[timers]\nbind = 60000";
+    let mut told = Told::new(rt, keys, address)?;
+    let _up = bound(&rt, &centre)?;
+    told.upstream(&rt, "bound")?;
+    let mut standing = Vec::new(rt.alloc());
+    for number in ["1", "2", "3", "4"] {
+        let next = connected(&rt, rt.alloc(), &told.remote)?;
+        told.client(&rt, number, &next, "connected")?;
+        standing.push(next)?;
+    }
+    let fifth = connected(&rt, rt.alloc(), &told.remote)?;
+    if let Some(oldest) = standing.first() {
+        told.client(&rt, "1", oldest, "gave its place to another")?;
+    }
+    told.client(&rt, "5", &fifth, "connected")?;
+    let _before = strangers(&rt, &told)?;
+    let mut honest = Vec::new(rt.alloc());
+    for _ in 0..4 {
+        let mut client = connected(&rt, rt.alloc(), &told.remote)?;
+        assert!(rt; bind_by(&mut client, 9)?);
+        honest.push(client)?;
+    }
+    let _behind = strangers(&rt, &told)?;
+    for client in &mut honest {
+        enquires(&rt, rt.alloc(), client, 1);
+    }
+    told.remote.stop();
+    Ok(())
+}
+
 // With the only slot taken each connection is refused, and told of by a line or counted in one.
 #[test]
 fn connections_that_are_refused(rt: HostRuntime) -> Result<(), Fail> {
     let centre = TcpListener::bind(&rt, "127.0.0.1:0")?;
     let address = format!(in rt.alloc(); "{}", centre.local_addr()?)?;
-    let keys = "clients = 1\n[timers]\nbind = 60000";
-    let mut told = Told::new(rt, keys, address)?;
+    let mut told = Told::new(rt, "clients = 1", address)?;
     let _up = bound(&rt, &centre)?;
     told.upstream(&rt, "bound")?;
-    let client = connected(&rt, rt.alloc(), &told.remote)?;
+    let mut client = connected(&rt, rt.alloc(), &told.remote)?;
     told.client(&rt, "1", &client, "connected")?;
+    assert!(rt; bind_by(&mut client, 9)?);
+    told.client(&rt, "1 alpha", &client, "bound as transceiver")?;
     for _ in 0..REFUSED {
         drop(connected(&rt, rt.alloc(), &told.remote)?);
     }
