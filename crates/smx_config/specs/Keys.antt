@@ -3,9 +3,9 @@ use Rattle.std.specs.Prelude.{ℕ, List, [], ◌∷◌, length, Bool, true, fals
 use Rattle.std.specs.List.{list_any}
 use Rattle.std.specs.Str.{bytes_eq}
 use Rattle.smx_config.specs.declared.section.Section.{Section}
-use Rattle.smx_config.specs.declared.section.Section.TheVariants.{Top, Limits, Upstream, Account}
+use Rattle.smx_config.specs.declared.section.Section.TheVariants.{Top, Limits, Timers, Upstream, Account}
 use Rattle.smx_config.specs.declared.number.Number.{Number}
-use Rattle.smx_config.specs.declared.number.Number.TheVariants.{Clients, Places, Silence, Queue, Window, Client, History}
+use Rattle.smx_config.specs.declared.number.Number.TheVariants.{Clients, Places, Silence, Queue, Window, Client, History, Response, Reconnect, ReconnectMost, Enquire, Bind}
 use Rattle.smx_config.specs.declared.text.Text.{Text}
 use Rattle.smx_config.specs.declared.text.Text.TheVariants.{Listen, Address, SystemId, Password, Prefix}
 
@@ -18,15 +18,20 @@ pub record NumberRow : Type 0 where
   pub most : ℕ
   pub default : ℕ
 
--- silence is in milliseconds
+-- silence, which is another name of enquire, and the timers are in milliseconds
 abbrev pub number_row : Number → NumberRow
 number_row Clients = record { section = Top; key = codes "clients"; least = 1; most = 256; default = 8 }
 number_row Places = record { section = Top; key = codes "box"; least = 1; most = 256; default = 16 }
-number_row Silence = record { section = Top; key = codes "silence"; least = 1; most = 3600000; default = 30000 }
+number_row Silence = record { section = Top; key = codes "silence"; least = 100; most = 3600000; default = 30000 }
 number_row Queue = record { section = Limits; key = codes "queue"; least = 1; most = 65535; default = 100 }
 number_row Window = record { section = Limits; key = codes "window"; least = 1; most = 1024; default = 10 }
 number_row Client = record { section = Limits; key = codes "client"; least = 1; most = 256; default = 20 }
 number_row History = record { section = Limits; key = codes "history"; least = 1000; most = 1000000; default = 100000 }
+number_row Response = record { section = Timers; key = codes "response"; least = 1000; most = 3600000; default = 60000 }
+number_row Reconnect = record { section = Timers; key = codes "reconnect"; least = 100; most = 3600000; default = 1000 }
+number_row ReconnectMost = record { section = Timers; key = codes "reconnect_most"; least = 100; most = 3600000; default = 30000 }
+number_row Enquire = record { section = Timers; key = codes "enquire"; least = 100; most = 3600000; default = 30000 }
+number_row Bind = record { section = Timers; key = codes "bind"; least = 1000; most = 3600000; default = 10000 }
 
 -- the number may stand at the key
 abbrev pub is_number : Number → ℕ → Bool
@@ -57,7 +62,7 @@ abbrev pub is_text : Text → List ℕ → Bool
 is_text key s = (nat_le (text_row key).fewest (length s) && nat_le (length s) (text_row key).longest) && ((text_row key).may_have_zero || not (has_zero s))
 
 abbrev pub all_numbers : List Number
-all_numbers = Clients ∷ Places ∷ Silence ∷ Queue ∷ Window ∷ Client ∷ History ∷ []
+all_numbers = Clients ∷ Places ∷ Silence ∷ Queue ∷ Window ∷ Client ∷ History ∷ Response ∷ Reconnect ∷ ReconnectMost ∷ Enquire ∷ Bind ∷ []
 
 abbrev pub all_texts : List Text
 all_texts = Listen ∷ Address ∷ SystemId ∷ Password ∷ Prefix ∷ []
@@ -65,6 +70,7 @@ all_texts = Listen ∷ Address ∷ SystemId ∷ Password ∷ Prefix ∷ []
 abbrev pub is_same : Section → Section → Bool
 is_same Top Top = true
 is_same Limits Limits = true
+is_same Timers Timers = true
 is_same Upstream Upstream = true
 is_same Account Account = true
 is_same _ _ = false
@@ -80,7 +86,7 @@ abbrev pub is_text_key : Section → List ℕ → Bool
 is_text_key section key = list_any (λ t. stands_in section t && bytes_eq key (text_row t).key) all_texts
 
 abbrev pub is_table_key : Section → List ℕ → Bool
-is_table_key Top key = bytes_eq key (codes "limits") || (bytes_eq key (codes "upstream") || bytes_eq key (codes "account"))
+is_table_key Top key = bytes_eq key (codes "limits") || (bytes_eq key (codes "timers") || (bytes_eq key (codes "upstream") || bytes_eq key (codes "account")))
 is_table_key _ key = false
 
 -- the key is read where it stands in this table

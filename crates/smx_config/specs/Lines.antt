@@ -2,7 +2,7 @@
 use Rattle.std.specs.Prelude.{◌≡◌, ℕ, List, [], ◌∷◌, ◌++◌, length, Result, Ok, Err, ◌⊎◌, codes}
 use Rattle.std.specs.Fmt.{decimal}
 use Rattle.smx_config.specs.declared.fault.ConfigFault.{ConfigFault}
-use Rattle.smx_config.specs.declared.fault.ConfigFault.TheVariants.{NotToml, Listen, Numbers, Limits, Upstreams, Upstream, Accounts, Account, NoMemory}
+use Rattle.smx_config.specs.declared.fault.ConfigFault.TheVariants.{NotToml, Listen, Numbers, Limits, Timers, Upstreams, Upstream, Accounts, Account, NoMemory}
 use Rattle.smx_config.specs.declared.file.FileFault.{FileFault}
 use Rattle.smx_config.specs.declared.file.FileFault.TheVariants as file
 use Rattle.smx_config.specs.Settings.{Settings}
@@ -17,6 +17,7 @@ fault_name NotToml = codes "NotToml"
 fault_name Listen = codes "Listen"
 fault_name Numbers = codes "Numbers"
 fault_name Limits = codes "Limits"
+fault_name Timers = codes "Timers"
 fault_name Upstreams = codes "Upstreams"
 fault_name (Upstream i) = codes "Upstream " ++ decimal i
 fault_name Accounts = codes "Accounts"
@@ -52,6 +53,7 @@ fault_place NotToml = []
 fault_place Listen = []
 fault_place Numbers = []
 fault_place Limits = codes "limits: "
+fault_place Timers = codes "timers: "
 fault_place Upstreams = []
 fault_place (Upstream i) = codes "upstream " ++ (decimal i ++ codes ": ")
 fault_place Accounts = []

@@ -11,6 +11,7 @@ use Rattle.smx_config.specs.declared.number.Number.{Number}
 use Rattle.smx_config.specs.declared.number.Number.TheVariants as number
 use Rattle.smx_config.specs.declared.text.Text.{Text}
 use Rattle.smx_config.specs.declared.text.Text.TheVariants as text
+use Rattle.smx_config.specs.declared.timers.Timers.{Timers}
 use Rattle.smx_config.specs.declared.fault.ConfigFault.{ConfigFault}
 use Rattle.smx_config.specs.declared.fault.ConfigFault.TheVariants as fault
 use Rattle.smx_config.specs.Keys.{number_row, is_number, text_row, is_text}
@@ -57,6 +58,29 @@ stated_limits ms = all_four (number_or_default number.Queue ms) (number_or_defau
 -- the limits that a table states; where it is absent, each is the default
 abbrev pub limits_at : Members → Option Limits
 limits_at ms = option_map_or (λ d. option_and_then stated_limits (as_table d)) (get_member (codes "limits") ms) (stated_limits no_members)
+
+-- the number at `enquire` of the timers, or, where that is absent, the silence, which is its other name:
+-- the two don't stand in one file
+abbrev pub enquire_at : Members → ℕ → Members → Option ℕ
+enquire_at whole silence ms = option_map_or (λ d. if is_some (get_member (number_row number.Silence).key whole) then None else number_of number.Enquire d) (get_member (number_row number.Enquire).key ms) (Some silence)
+
+-- goes on with what there is
+abbrev pub given : {A B : Type 0} → Option A → (A → Option B) → Option B
+given a next = option_and_then next a
+
+-- the timers, where each is in its range
+abbrev pub stated_timers : Members → ℕ → Members → Option Timers
+stated_timers whole silence ms =
+    given (number_or_default number.Response ms) (λ response.
+    given (number_or_default number.Reconnect ms) (λ reconnect.
+    given (number_or_default number.ReconnectMost ms) (λ reconnect_most.
+    given (enquire_at whole silence ms) (λ enquire.
+    given (number_or_default number.Bind ms) (λ bind.
+    Some (record { response = response; reconnect = reconnect; reconnect_most = reconnect_most; enquire = enquire; bind = bind }))))))
+
+-- the timers that a file of this silence states; where the table is absent, each is the default
+abbrev pub timers_at : ℕ → Members → Option Timers
+timers_at silence ms = option_map_or (λ d. option_and_then (stated_timers ms silence) (as_table d)) (get_member (codes "timers") ms) (stated_timers ms silence no_members)
 
 abbrev pub item_count : Items → ℕ
 item_count no_items = 0
@@ -140,11 +164,12 @@ config_of ms =
     on (ok_or (number_or_default number.Places ms) fault.Numbers) (λ places.
     on (ok_or (number_or_default number.Silence ms) fault.Numbers) (λ silence.
     on (ok_or (limits_at ms) fault.Limits) (λ limits.
+    on (ok_or (timers_at silence ms) fault.Timers) (λ timers.
     on (ok_or (tables_at (codes "upstream") 16 ms) fault.Upstreams) (λ upstreams.
     on (upstreams_of upstreams) (λ upstream.
     on (ok_or (tables_at (codes "account") 256 ms) fault.Accounts) (λ accounts.
     on (accounts_of accounts) (λ account.
-    Ok (record { listen = listen; clients = clients; places = places; silence = silence; limits = limits; upstream = upstream; account = account }))))))))))
+    Ok (record { listen = listen; clients = clients; places = places; limits = limits; timers = timers; upstream = upstream; account = account })))))))))))
 
 -- the settings that a text states, or its first fault
 abbrev pub settings_of : List ℕ → Result Settings ConfigFault

@@ -4,6 +4,7 @@ use Rattle.smx_history.specs.declared.limits.Limits.{Limits}
 use Rattle.smx_history.specs.Room.{AreLimits}
 use Rattle.smx_config.specs.declared.number.Number.TheVariants as number
 use Rattle.smx_config.specs.declared.text.Text.TheVariants as text
+use Rattle.smx_config.specs.declared.timers.Timers.{Timers}
 use Rattle.smx_config.specs.Keys.{is_number, is_text}
 
 pub record UpstreamSettings : Type 0 where
@@ -20,8 +21,8 @@ pub record Settings : Type 0 where
   pub listen : List ℕ
   pub clients : ℕ
   pub places : ℕ
-  pub silence : ℕ
   pub limits : Limits
+  pub timers : Timers
   pub upstream : List UpstreamSettings
   pub account : List AccountSettings
 
@@ -42,13 +43,21 @@ pub record IsAccount (a : AccountSettings) : Type 0 where
   pub password : IsTrue (is_text text.Password a.password)
   pub prefixes : ArePrefixes a.prefixes
 
+-- what the timers of every `Config` keep
+pub record AreTimers (t : Timers) : Type 0 where
+  pub response : IsTrue (is_number number.Response t.response)
+  pub reconnect : IsTrue (is_number number.Reconnect t.reconnect)
+  pub reconnect_most : IsTrue (is_number number.ReconnectMost t.reconnect_most)
+  pub enquire : IsTrue (is_number number.Enquire t.enquire)
+  pub bind : IsTrue (is_number number.Bind t.bind)
+
 -- what every `Config` keeps
 pub record IsConfig (s : Settings) : Type 0 where
   pub listen : IsTrue (is_text text.Listen s.listen)
   pub clients : IsTrue (is_number number.Clients s.clients)
   pub places : IsTrue (is_number number.Places s.places)
-  pub silence : IsTrue (is_number number.Silence s.silence)
   pub limits : AreLimits s.limits
+  pub timers : AreTimers s.timers
   pub upstream : (1 ≤ length s.upstream) × (length s.upstream ≤ 16)
   pub account : (1 ≤ length s.account) × (length s.account ≤ 256)
   pub distinct : AllPairs (λ a b. a.system_id ≢ b.system_id) s.account

@@ -28,7 +28,7 @@ unread_below place key ms = option_map_or (unread_within place) (get_member key 
 
 -- of a whole configuration
 abbrev pub unread_of : Members → ℕ
-unread_of ms = ((unread_in section.Top ms + unread_below section.Limits (codes "limits") ms) + unread_listed section.Upstream (codes "upstream") ms) + unread_listed section.Account (codes "account") ms
+unread_of ms = (((unread_in section.Top ms + unread_below section.Limits (codes "limits") ms) + unread_below section.Timers (codes "timers") ms) + unread_listed section.Upstream (codes "upstream") ms) + unread_listed section.Account (codes "account") ms
 
 abbrev pub unread_count : List ℕ → ℕ
 unread_count text = option_map_or unread_of (parse_document text) 0

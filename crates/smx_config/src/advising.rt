@@ -19,6 +19,7 @@ fn place(alloc: Global, fault: ConfigFault) -> Result<String, AllocError>
 {
     match fault {
         ConfigFault::Limits => String::from_str(alloc, "limits: "),
+        ConfigFault::Timers => String::from_str(alloc, "timers: "),
         ConfigFault::Upstream(index) => format!(in alloc; "upstream {index}: "),
         ConfigFault::Account(index) => format!(in alloc; "account {index}: "),
         _ => Ok(String::new(alloc)),
@@ -119,17 +120,32 @@ fn on_numbers(
     Ok(None)
 }
 
-fn on_limits(alloc: Global, table: &Table) -> Result<Option<String>, AllocError> {
-    let Some(value) = find(table, "limits") else {
+// Words on what stands at the key of a table of numbers, unless it is as it may be.
+fn on_number_table(
+    alloc: Global,
+    key: &str,
+    section: Section,
+    table: &Table,
+) -> Result<Option<String>, AllocError> {
+    let Some(value) = find(table, key) else {
         return Ok(None);
     };
-    let Some(limits) = value.as_table() else {
-        return Ok(Some(String::from_str(
-            alloc,
-            "limits is no table: write [limits] and its keys below it",
-        )?));
-    };
-    on_numbers(alloc, Section::Limits, limits)
+    match value.as_table() {
+        Some(numbers) => on_numbers(alloc, section, numbers),
+        None => Ok(Some(format!(in alloc;
+            "{key} is no table: write [{key}] and its keys below it"
+        )?)),
+    }
+}
+
+// Words on timers at fault. Where each is as it may be, one stands twice.
+fn on_timers(alloc: Global, table: &Table) -> Result<Option<String>, AllocError> {
+    let words = on_number_table(alloc, "timers", Section::Timers, table)?;
+    if words.is_some() {
+        return Ok(words);
+    }
+    let twice = "enquire stands beside silence, its other name: write one of the two";
+    Ok(Some(String::from_str(alloc, twice)?))
 }
 
 // Words on what stands at a key of a value, unless it is as it may be.
@@ -216,7 +232,8 @@ fn on_fault(
     match fault {
         ConfigFault::Listen => on_text(alloc, Text::Listen, find(table, Text::Listen.rule().key)),
         ConfigFault::Numbers => on_numbers(alloc, Section::Top, table),
-        ConfigFault::Limits => on_limits(alloc, table),
+        ConfigFault::Limits => on_number_table(alloc, "limits", Section::Limits, table),
+        ConfigFault::Timers => on_timers(alloc, table),
         ConfigFault::Upstreams => on_table_list(alloc, "upstream", MAX_UPSTREAMS, table),
         ConfigFault::Upstream(index) => on_upstream(alloc, table, index),
         ConfigFault::Accounts => on_table_list(alloc, "account", MAX_ACCOUNTS, table),

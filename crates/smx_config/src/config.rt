@@ -1,5 +1,6 @@
 //! A whole configuration.
 use crate::account::Account;
+use crate::timers::Timers;
 use crate::upstream::Upstream;
 use smx_history::Limits;
 use std::marker::Model;
@@ -14,10 +15,10 @@ pub struct Config {
     /// The places of each client's message box, of its window of messages, and of each lane's return
     /// box: 1 to 256. Its key is `box`.
     pub places: u32,
-    /// The silence after which a side enquires, in milliseconds: 1 to 3,600,000.
-    pub silence: u64,
     /// What each lane holds.
     pub limits: Limits,
+    /// How long what may last.
+    pub timers: Timers,
     /// The binds to the message centre, a lane each: 1 to 16.
     pub upstream: Vec<Upstream>,
     /// The clients that may bind, no two with one system_id: 1 to 256.
@@ -34,8 +35,8 @@ impl Model for Config {
       listen = string_bytes c.listen;
       clients = c.clients;
       places = c.places;
-      silence = c.silence;
       limits = c.limits;
+      timers = c.timers;
       upstream = c.upstream.items;
       account = c.account.items;
     } };
@@ -45,8 +46,8 @@ impl Model for Config {
           listen = string_bytes c.listen;
           clients = c.clients;
           places = c.places;
-          silence = c.silence;
           limits = c.limits;
+          timers = c.timers;
           upstream = c.upstream.items;
           account = c.account.items;
         }) };

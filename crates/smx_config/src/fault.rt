@@ -17,6 +17,10 @@ pub enum ConfigFault {
     /// `limits` is no table, or one of its keys is no number in its range.
     #[error("limits are out of range")]
     Limits,
+    /// `timers` is no table, one of its keys is no number in its range, or `enquire` stands beside
+    /// `silence`.
+    #[error("timers are out of range, or enquire stands twice")]
+    Timers,
     /// `upstream` is missing or isn't a list of 1 to 16 tables.
     #[error("upstream is not a list of 1 to 16 tables")]
     Upstreams,

@@ -15,6 +15,7 @@ mod section;
 mod spelling;
 mod table;
 mod text;
+mod timers;
 mod upstream;
 
 pub use account::Account;
@@ -27,4 +28,5 @@ pub use manual::key_table;
 pub use reading::read;
 pub use smx_whole_text::WriteFault;
 pub use spelling::unread;
+pub use timers::Timers;
 pub use upstream::Upstream;

@@ -98,6 +98,7 @@ fn section_line(alloc: Global, section: Section) -> Result<String, AllocError> {
     match section {
         Section::Top => Ok(String::new(alloc)),
         Section::Limits => line(alloc, ["**`[limits]`**", "what each lane holds", "", ""]),
+        Section::Timers => line(alloc, ["**`[timers]`**", "in milliseconds", "", ""]),
         Section::Upstream => list_line(
             alloc,
             "**`[[upstream]]`**",

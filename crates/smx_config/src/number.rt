@@ -18,6 +18,11 @@ pub(crate) enum Number {
     Window,
     Client,
     History,
+    Response,
+    Reconnect,
+    ReconnectMost,
+    Enquire,
+    Bind,
 }
 
 /// The range of a key with a number, and where it stands.
@@ -54,8 +59,24 @@ impl Number {
     pub(crate) fn all() -> &'static [Number]
         ensures { result.now ≡ all_numbers }
     {
-        use Number::{Client, Clients, History, Places, Queue, Silence, Window};
-        &[Clients, Places, Silence, Queue, Window, Client, History]
+        use Number::{
+            Bind, Client, Clients, Enquire, History, Places, Queue, Reconnect, ReconnectMost,
+            Response, Silence, Window,
+        };
+        &[
+            Clients,
+            Places,
+            Silence,
+            Queue,
+            Window,
+            Client,
+            History,
+            Response,
+            Reconnect,
+            ReconnectMost,
+            Enquire,
+            Bind,
+        ]
     }
 
     /// The row of the key.
@@ -67,15 +88,20 @@ impl Number {
         ensures default { result.default ≡ (number_row self).default }
         ensures read { IsTrue (is_read (number_row self).section (number_row self).key) }
     {
-        use Section::{Limits, Top};
+        use Section::{Limits, Timers, Top};
         match self {
             Number::Clients => row(Top, "clients", 1, 256, 8),
             Number::Places => row(Top, "box", 1, 256, 16),
-            Number::Silence => row(Top, "silence", 1, 3_600_000, 30_000),
+            Number::Silence => row(Top, "silence", 100, 3_600_000, 30_000),
             Number::Queue => row(Limits, "queue", 1, 65_535, 100),
             Number::Window => row(Limits, "window", 1, 1_024, 10),
             Number::Client => row(Limits, "client", 1, 256, 20),
             Number::History => row(Limits, "history", 1_000, 1_000_000, 100_000),
+            Number::Response => row(Timers, "response", 1_000, 3_600_000, 60_000),
+            Number::Reconnect => row(Timers, "reconnect", 100, 3_600_000, 1_000),
+            Number::ReconnectMost => row(Timers, "reconnect_most", 100, 3_600_000, 30_000),
+            Number::Enquire => row(Timers, "enquire", 100, 3_600_000, 30_000),
+            Number::Bind => row(Timers, "bind", 1_000, 3_600_000, 10_000),
         }
     }
 
@@ -86,17 +112,27 @@ impl Number {
             Number::Places => {
                 "messages that wait for a client; as many again that it was sent and has not answered"
             }
-            Number::Silence => {
-                "milliseconds without an octet of a centre before it is enquired; also how long a \
-                 connection to it, its bind and its answer to the enquiry may take, and the pause \
-                 before the next try"
-            }
+            Number::Silence =>
+                "another name of `enquire` of `[timers]`, beside which it may not stand",
             Number::Queue => "requests accepted and not sent yet",
             Number::Window => "requests sent and not answered yet",
             Number::Client => {
                 "requests of one client that were accepted and whose responses it has not got"
             }
             Number::History => "entries that the lane stores, with the room that must be left",
+            Number::Response =>
+                "how long a request may be unanswered, or queued on a lane without a link",
+            Number::Reconnect => {
+                "the pause before a lost link is tried again; up to a tenth is added by chance"
+            }
+            Number::ReconnectMost => {
+                "up to this each pause is twice the last, until a link was bound for a minute"
+            }
+            Number::Enquire => {
+                "a centre's silence before it is enquired; also how long connecting, its bind and its \
+                 answer to that may take"
+            }
+            Number::Bind => "how long a client may be connected and not bound",
         }
     }
 

@@ -12,6 +12,7 @@ use crate::fault::ConfigFault;
 use crate::number::Number;
 use crate::table::{find, tables_at};
 use crate::text::Text;
+use crate::timers::read_timers;
 use crate::upstream::read_upstreams;
 use smx_history::Limits;
 use std::alloc::Global;
@@ -78,6 +79,9 @@ fn read_table(alloc: Global, table: &Table) -> Result<Config, ConfigFault>
     let Some(limits) = limits(alloc, table) else {
         return Err(ConfigFault::Limits);
     };
+    let Some(timers) = read_timers(alloc, table, silence) else {
+        return Err(ConfigFault::Timers);
+    };
     let Some(upstreams) = tables_at(table, "upstream", MAX_UPSTREAMS) else {
         return Err(ConfigFault::Upstreams);
     };
@@ -91,8 +95,8 @@ fn read_table(alloc: Global, table: &Table) -> Result<Config, ConfigFault>
             listen,
             clients,
             places,
-            silence: u64::from(silence),
             limits,
+            timers,
             upstream,
             account,
         }),

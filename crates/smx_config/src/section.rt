@@ -7,7 +7,7 @@ use crate::text::Text;
 use std::alloc::{AllocError, Global};
 
 /// The keys of tables.
-const TABLES: [&str; 3] = ["limits", "upstream", "account"];
+const TABLES: [&str; 4] = ["limits", "timers", "upstream", "account"];
 
 /// A table, or, of upstreams and accounts, each table of a list.
 #[derive(Clone, Copy, Debug, PartialEq, Eq)]
@@ -15,6 +15,7 @@ pub(crate) enum Section {
     /// The whole file.
     Top,
     Limits,
+    Timers,
     Upstream,
     Account,
 }
@@ -22,8 +23,8 @@ pub(crate) enum Section {
 impl Section {
     /// Every table, in the order in which they are told of.
     pub(crate) fn all() -> &'static [Section] {
-        use Section::{Account, Limits, Top, Upstream};
-        &[Top, Limits, Upstream, Account]
+        use Section::{Account, Limits, Timers, Top, Upstream};
+        &[Top, Limits, Timers, Upstream, Account]
     }
 
     pub(crate) fn is(self, other: Section) -> bool
@@ -53,8 +54,10 @@ impl Section {
         ensures { result ≡ is_table_key self key.now }
     {
         match self {
-            Section::Top => key == "limits" || key == "upstream" || key == "account",
-            Section::Limits | Section::Upstream | Section::Account => false,
+            Section::Top => {
+                key == "limits" || key == "timers" || key == "upstream" || key == "account"
+            }
+            Section::Limits | Section::Timers | Section::Upstream | Section::Account => false,
         }
     }
 

@@ -146,6 +146,7 @@ fn on_whole(alloc: Global, table: &Table) -> Result<Vec<String>, AllocError>
     let mut all = Vec::new(alloc);
     on_table(alloc, "", table, Section::Top, &mut all)?;
     on_member(alloc, "limits", table, Section::Limits, &mut all)?;
+    on_member(alloc, "timers", table, Section::Timers, &mut all)?;
     on_list(alloc, "upstream", table, Section::Upstream, &mut all)?;
     on_list(alloc, "account", table, Section::Account, &mut all)?;
     Ok(all)

@@ -61,8 +61,8 @@ pub(crate) fn moved(alloc: Global, config: Config, centres: &Centres) -> Result<
     let Config {
         clients,
         places,
-        silence,
         limits,
+        timers,
         upstream,
         account,
         ..
@@ -73,8 +73,8 @@ pub(crate) fn moved(alloc: Global, config: Config, centres: &Centres) -> Result<
         listen,
         clients,
         places,
-        silence,
         limits,
+        timers,
         upstream,
         account,
     })

@@ -82,6 +82,10 @@ pub enum ClientNews {
     Closed,
     /// It said a PDU whose length is none.
     BadLength,
+    /// It wasn't bound in time.
+    Late,
+    /// It wasn't bound, and another one connected.
+    Displaced,
     /// The worker stopped for a fault.
     Fault(Fault),
 }
@@ -219,6 +223,8 @@ impl fmt::Display for ClientNews {
             ClientNews::Left => f.write_str("left"),
             ClientNews::Closed => f.write_str("closed its connection"),
             ClientNews::BadLength => f.write_str("hung up, a bad length"),
+            ClientNews::Late => f.write_str("not bound in time"),
+            ClientNews::Displaced => f.write_str("gave its place to another"),
             ClientNews::Fault(fault) => write!(f, "ended, {fault}"),
         }
     }

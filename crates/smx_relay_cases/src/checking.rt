@@ -126,7 +126,11 @@ fn tell_numbers(config: &Config, out: &mut Vec<u8>) -> io::Result<()> {
     let limits = config.limits;
     writeln!(out, "listen {}", config.listen)?;
     writeln!(out, "clients {} box {}", config.clients, config.places)?;
-    writeln!(out, "silence {}", config.silence)?;
+    let timers = config.timers;
+    let (response, enquire, bind) = (timers.response, timers.enquire, timers.bind);
+    let (reconnect, most) = (timers.reconnect, timers.reconnect_most);
+    writeln!(out, "response {response} enquire {enquire} bind {bind}")?;
+    writeln!(out, "reconnect {reconnect} to {most}")?;
     writeln!(out, "queue {} window {}", limits.queue, limits.window)?;
     writeln!(out, "client {} history {}", limits.client, limits.history)
 }

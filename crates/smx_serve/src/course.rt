@@ -1,6 +1,7 @@
 //! How the next link to an upstream comes about.
 
 use crate::pace::Moment;
+use smx_config::Timers;
 use std::alloc::Global;
 use std::net::SocketAddr;
 use std::sync::Wait;
@@ -10,6 +11,8 @@ use std::sync::Wait;
 pub(crate) struct Course {
     // From which moment on the name is looked up, in milliseconds.
     due: u64,
+    // How long the last pause was, but for what chance added: 0 where the next is the first.
+    pause: u64,
     // Its look-up is under way.
     is_asked: bool,
     // The addresses that are still to be tried, the next one last.
@@ -27,11 +30,24 @@ pub(crate) enum Way {
     To(SocketAddr),
 }
 
+// The pause behind this one, in milliseconds.
+fn pause_after(last: u64, timers: Timers) -> u64 {
+    let twice = last.saturating_mul(2);
+    twice.min(timers.reconnect_most).max(timers.reconnect)
+}
+
+// The pause with as many millionths of its tenth more.
+fn lengthened(pause: u64, millionths: u64) -> u64 {
+    let more = (pause / 10).saturating_mul(millionths) / 1_000_000;
+    pause.saturating_add(more)
+}
+
 impl Course {
     /// It is begun at once.
     pub fn new(alloc: Global) -> Course {
         Course {
             due: 0,
+            pause: 0,
             is_asked: false,
             addresses: Vec::new(alloc),
         }
@@ -42,10 +58,17 @@ impl Course {
         !self.addresses.is_empty()
     }
 
-    /// The next link begins anew so many milliseconds after this moment, at which the last one did.
-    pub fn delay(&mut self, begun: u64, silence: u64) {
+    /// The next pause is the first.
+    pub fn begin_anew(&mut self) {
+        self.pause = 0;
+    }
+
+    /// The next link begins anew after a pause, which is twice the last one.
+    pub fn delay(&mut self, moment: Moment<'_>) {
+        self.pause = pause_after(self.pause, moment.config.timers);
+        let pause = lengthened(self.pause, moment.chance);
         self.addresses.clear();
-        self.due = begun.saturating_add(silence);
+        self.due = moment.now.saturating_add(pause);
     }
 
     /// In how many milliseconds from this moment the next link begins.

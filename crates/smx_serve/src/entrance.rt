@@ -7,7 +7,6 @@ use crate::queues::Queues;
 use crate::seats::{Gateway, Member};
 use mio::net::{TcpListener, TcpStream};
 use mio::{Registry, Token};
-use smx_client::Desk;
 use smx_notice::{ClientName, ClientNews, Notice, TurnedAway};
 use smx_slots::ClientEnds;
 use smx_socket::{Socket, SocketLink};
@@ -148,7 +147,8 @@ impl Entrance {
         }
     }
 
-    // Gives a connection a slot and enters its client; else closes it.
+    // Gives a connection a slot and enters its client; else closes it. One that isn't bound may lose its
+    // slot for it.
     fn welcome<'d, R: Wait>(
         &mut self,
         rt: &R,
@@ -160,6 +160,7 @@ impl Entrance {
         stream: TcpStream,
         address: String,
     ) {
+        guests.make_place(rt, moment, queues, addresses);
         let Some((slot, ends)) = guests.slots.pick() else {
             moment.say(rt, Notice::Refused(address.as_str(), TurnedAway::NoSlot));
             return;
@@ -173,7 +174,7 @@ impl Entrance {
                 say_connected(rt, moment, entered.client, address.as_str());
                 let _ = addresses.roll.add(entered.client, slot);
                 queues.ready.add(party);
-                guests.seat(slot, guest_of(entered, address, moment.desk));
+                guests.seat(slot, guest_of(entered, address, moment));
             }
             Err((ends, reason)) => {
                 guests.slots.give_back(slot, ends);
@@ -212,7 +213,7 @@ impl Entrance {
 }
 
 // A client that isn't bound yet.
-fn guest_of<'d>(entered: Entered<'d>, address: String, desk: &'d Desk) -> Guest<'d> {
+fn guest_of<'d>(entered: Entered<'d>, address: String, moment: Moment<'d>) -> Guest<'d> {
     let Entered {
         client,
         member,
@@ -223,7 +224,9 @@ fn guest_of<'d>(entered: Entered<'d>, address: String, desk: &'d Desk) -> Guest<
         address,
         member,
         socket,
-        desk,
+        desk: moment.desk,
         name: None,
+        since: moment.now,
+        is_late: false,
     }
 }

@@ -30,6 +30,10 @@ pub(crate) struct Guest<'d> {
     pub desk: &'d Desk,
     // The system_id of its account, once it is bound.
     pub name: Option<&'d str>,
+    // Since which moment it is connected, in milliseconds, and whether the last tick found its bind
+    // late.
+    pub since: u64,
+    pub is_late: bool,
 }
 
 /// The end of what is written where the proxy hangs up: generic_nack of a bad length.
@@ -86,6 +90,14 @@ impl Guest<'_> {
         (socket, ends)
     }
 
+    // Whether its bind is late, as an earlier tick found too: what had come while the program stood
+    // still was read between the two.
+    fn stays_late(&mut self, now: u64, most: u64) -> bool {
+        let was_late = self.is_late;
+        self.is_late = self.name.is_none() && now >= self.since.saturating_add(most);
+        was_late && self.is_late
+    }
+
     // Says what becomes of its client.
     fn say<R: Wait>(&self, rt: &R, moment: Moment<'_>, news: ClientNews) {
         let name = ClientName {
@@ -135,6 +147,7 @@ const UNNAMED: &str = "?";
 struct Lingering {
     socket: Rc<Socket>,
     until: u64,
+    was_bound: bool,
 }
 
 // What becomes of such a socket.
@@ -266,8 +279,42 @@ impl<'d> Guests<'d> {
             return;
         };
         guest.say(rt, moment, guest.farewell(end));
-        let (socket, ends) = guest.close(rt, queues, addresses);
-        self.part(queues, slot, socket, ends, moment.now);
+        self.part(rt, queues, addresses, slot, guest, moment.now);
+    }
+
+    // Lets the slot's client go, where its bind is late.
+    fn let_go_late<R: Wait>(
+        &mut self,
+        rt: &R,
+        moment: Moment<'_>,
+        queues: &mut Queues,
+        addresses: &mut Addresses,
+        slot: usize,
+    ) {
+        let Some(guest) = self.guests.get_mut(self.seating.place(slot)) else {
+            return;
+        };
+        if !guest.stays_late(moment.now, moment.config.timers.bind) {
+            return;
+        }
+        let Some(guest) = self.take(slot) else {
+            return;
+        };
+        guest.say(rt, moment, ClientNews::Late);
+        self.part(rt, queues, addresses, slot, guest, moment.now);
+    }
+
+    /// Lets each client go that wasn't bound in time. A tick finds it.
+    pub fn let_late_go<R: Wait>(
+        &mut self,
+        rt: &R,
+        moment: Moment<'_>,
+        queues: &mut Queues,
+        addresses: &mut Addresses,
+    ) {
+        for slot in 0..queues.slots {
+            self.let_go_late(rt, moment, queues, addresses, slot);
+        }
     }
 
     // Lets each client go.
@@ -302,23 +349,88 @@ impl<'d> Guests<'d> {
         lingering_at(&self.lingering, slot)
     }
 
-    // The slot's client is gone: the slot is free once its socket is.
-    fn part(
+    // Parts from a client that had the slot: the slot is free once its socket is.
+    fn part<R: Wait>(
         &mut self,
+        rt: &R,
         queues: &mut Queues,
+        addresses: &mut Addresses,
         slot: usize,
-        socket: Rc<Socket>,
-        ends: ClientEnds,
+        guest: Guest<'d>,
         now: u64,
     ) {
+        let was_bound = guest.name.is_some();
+        let (socket, ends) = guest.close(rt, queues, addresses);
         self.slots.keep(slot, ends);
         if let Some(place) = self.lingering.get_mut(slot) {
             *place = Some(Lingering {
                 socket,
                 until: now.saturating_add(LINGER),
+                was_bound,
             });
         }
         self.settle(queues, slot, now);
+    }
+
+    // The number of the slot's client, where it isn't bound; 0 of one that is gone and never was.
+    fn stranger_at(&self, slot: usize) -> Option<u64> {
+        if let Some(guest) = self.guests.get(self.seating.place(slot)) {
+            return if guest.name.is_none() {
+                Some(guest.client)
+            } else {
+                None
+            };
+        }
+        match self.lingering.get(slot) {
+            Some(Some(lingering)) if !lingering.was_bound => Some(0),
+            _ => None,
+        }
+    }
+
+    // Where those who aren't bound hold half of the slots: that of one who is gone, or else of the
+    // oldest.
+    fn slot_to_give(&self) -> Option<usize> {
+        let mut count = 0_usize;
+        let mut least = u64::MAX;
+        let mut first = None;
+        for slot in 0..self.slots.count() {
+            if let Some(client) = self.stranger_at(slot) {
+                count = count.saturating_add(1);
+                if client < least {
+                    least = client;
+                    first = Some(slot);
+                }
+            }
+        }
+        if count.saturating_mul(2) >= self.slots.count() {
+            first
+        } else {
+            None
+        }
+    }
+
+    /// Before one more connects: where those who aren't bound hold half of the slots, one of them gives
+    /// its place. Its socket is closed at once, since one that lingers would hold the slot.
+    pub fn make_place<R: Wait>(
+        &mut self,
+        rt: &R,
+        moment: Moment<'_>,
+        queues: &mut Queues,
+        addresses: &mut Addresses,
+    ) {
+        let Some(slot) = self.slot_to_give() else {
+            return;
+        };
+        if let Some(guest) = self.take(slot) {
+            guest.say(rt, moment, ClientNews::Displaced);
+            let (socket, ends) = guest.close(rt, queues, addresses);
+            drop(socket);
+            self.slots.keep(slot, ends);
+        }
+        if let Some(place) = self.lingering.get_mut(slot) {
+            *place = None;
+        }
+        self.slots.free(slot);
     }
 
     // Goes on with the socket of a client that is gone, where the slot has one, and frees the slot where

@@ -40,9 +40,9 @@ struct Linked {
     socket: Rc<Socket>,
     // When it began to connect.
     begun: u64,
-    // Whether it was bound, where its session stood after the last turn, and whether its worker has
+    // Since when it was bound, where its session stood after the last turn, and whether its worker has
     // ended.
-    was_bound: bool,
+    bound: Option<u64>,
     state: UpstreamState,
     over: bool,
 }
@@ -77,6 +77,9 @@ pub(crate) enum Unlinked {
     /// Its name has no address, for this reason.
     Unknown(String),
 }
+
+/// How long a link has to be bound for the next pause to be the first again, in milliseconds.
+const HELD: u64 = 60_000;
 
 /// How often a worker is turned before the next one is.
 pub(crate) const TURNS: u64 = 16;
@@ -127,6 +130,14 @@ impl Linked {
         }
     }
 
+    // Whether it was bound for long.
+    fn has_held(&self, now: u64) -> bool {
+        match self.bound {
+            Some(bound) => now >= bound.saturating_add(HELD),
+            None => false,
+        }
+    }
+
     // Turns the worker until it is idle, at most so often; who is told of something is ready then.
     fn turn<R: Wait>(
         &mut self,
@@ -147,8 +158,10 @@ impl Linked {
             queues.unstall();
         }
         queues.was_turned(lane, end, moved);
-        let newly_bound = state == UpstreamState::Bound && !self.was_bound;
-        self.was_bound |= newly_bound;
+        let newly_bound = state == UpstreamState::Bound && self.bound.is_none();
+        if newly_bound {
+            self.bound = Some(now);
+        }
         Turned { end, newly_bound }
     }
 }
@@ -216,11 +229,11 @@ impl Lane {
     }
 
     // Whether its bind waits for an answer since so many milliseconds.
-    pub fn is_late(&self, now: u64, silence: u64) -> bool {
+    pub fn is_late(&self, now: u64, most: u64) -> bool {
         match &self.link {
             Some(linked) => {
                 let waits = linked.state == UpstreamState::Binding;
-                waits && now >= linked.begun.saturating_add(silence)
+                waits && now >= linked.begun.saturating_add(most)
             }
             None => false,
         }
@@ -228,43 +241,53 @@ impl Lane {
 
     // Parts from its link at this moment: what was said last is written, and what was taken and not
     // answered fails. How many requests failed. It is tried again at once.
-    pub fn part<R: Wait>(&mut self, rt: &R, now: u64) -> usize {
+    fn part<R: Wait>(&mut self, rt: &R, now: u64) -> usize {
         let Some(linked) = self.link.take() else {
             return 0;
         };
         let Linked {
             carrier,
             socket,
-            was_bound,
+            bound,
             ..
         } = linked;
         socket.flush();
         let (drawer, ends, failed) = carrier.close(rt);
         self.spare = Some(Spare { drawer, ends });
-        if was_bound {
+        if bound.is_some() {
             self.lost = Some(now);
         }
         failed
     }
 
+    // Parts from its link, whose bind isn't answered.
+    pub fn end_late<R: Wait>(&mut self, rt: &R, moment: Moment<'_>) -> Lost {
+        let failed = self.part(rt, moment.now);
+        if !self.course.has_more() {
+            self.course.delay(moment);
+        }
+        Lost {
+            loss: LinkLoss::Unanswered,
+            failed,
+        }
+    }
+
     // Parts from its link, whose worker has ended so. Nothing is to be said of it where another
     // address of its name is tried at once.
     pub fn lose<R: Wait>(&mut self, rt: &R, moment: Moment<'_>, end: RunEnd) -> Option<Lost> {
-        let Moment {
-            alloc,
-            config,
-            now,
-            ..
-        } = moment;
-        let (loss, begun) = match &self.link {
-            Some(linked) => (linked.farewell(alloc, end), linked.begun),
+        let Moment { alloc, now, .. } = moment;
+        let (loss, has_held) = match &self.link {
+            Some(linked) => (linked.farewell(alloc, end), linked.has_held(now)),
             None => return None,
         };
         let failed = self.part(rt, now);
         if matches!(loss, LinkLoss::Unreached) && self.course.has_more() {
             return None;
         }
-        self.course.delay(begun, config.silence);
+        if has_held {
+            self.course.begin_anew();
+        }
+        self.course.delay(moment);
         Some(Lost { loss, failed })
     }
 
@@ -275,9 +298,9 @@ impl Lane {
 
     // Where its link was lost so long ago that no request waits longer, what is queued here fails: how
     // many requests. A link that isn't bound by then is begun anew.
-    pub fn give_up_queued<R: Wait>(&mut self, rt: &R, now: u64, response_timer: u64) -> usize {
+    pub fn give_up_queued<R: Wait>(&mut self, rt: &R, now: u64, response: u64) -> usize {
         match self.lost {
-            Some(lost) if now >= lost.saturating_add(response_timer) => {}
+            Some(lost) if now >= lost.saturating_add(response) => {}
             _ => return 0,
         }
         self.part(rt, now);
@@ -320,7 +343,7 @@ impl Lane {
     }
 
     // Goes on towards a link, where there is none and it is time; its bind is the first that its
-    // worker writes. Where none can be begun it is tried again after the silence.
+    // worker writes. Where none can be begun it is tried again after a pause.
     pub fn connect<R: Wait + Net>(
         &mut self,
         rt: &R,
@@ -329,7 +352,6 @@ impl Lane {
         upstream: &Upstream,
         lane: usize,
     ) -> Result<(), Unlinked> {
-        let Moment { config, now, .. } = moment;
         for _ in 0..MOST {
             if self.spare.is_none() {
                 return Ok(());
@@ -340,14 +362,14 @@ impl Lane {
             {
                 Way::Waits => return Ok(()),
                 Way::Unknown(reason) => {
-                    self.course.delay(now, config.silence);
+                    self.course.delay(moment);
                     return Err(Unlinked::Unknown(reason));
                 }
                 Way::To(address) => address,
             };
             let is_begun = self.link_to(rt, registry, moment, upstream, address);
             if !is_begun && !self.course.has_more() {
-                self.course.delay(now, config.silence);
+                self.course.delay(moment);
                 return Err(Unlinked::Unreached);
             }
         }
@@ -370,12 +392,12 @@ fn link_to<R: Wait + Net>(
     let Moment {
         alloc,
         config,
-        response_timer,
         now,
         ..
     } = moment;
+    let timers = config.timers;
     let lane = spare.drawer.tap.lane();
-    let Some(session) = session_of(alloc, upstream, config.silence, now) else {
+    let Some(session) = session_of(alloc, upstream, timers.enquire, now) else {
         return Err(spare);
     };
     let Some((socket, link)) = connect(rt, alloc, registry, address, lane) else {
@@ -391,13 +413,13 @@ fn link_to<R: Wait + Net>(
         ends,
         link,
         history,
-        response_timer,
+        timers.response,
     ) {
         Ok(carrier) => Ok(Linked {
             carrier,
             socket,
             begun: now,
-            was_bound: false,
+            bound: None,
             state: UpstreamState::Binding,
             over: false,
         }),

@@ -37,7 +37,7 @@ fn say_lost<R: Wait>(rt: &R, moment: Moment<'_>, lane: usize, place: &Lane, lost
 }
 
 /// Turns a lane's worker until it is idle, at most so often. One that has ended loses its link, and
-/// is tried again after the silence, or at once by another address of its name.
+/// is tried again after a pause, or at once by another address of its name.
 pub(crate) fn turn_lane<R: Wait>(
     rt: &R,
     moment: Moment<'_>,
@@ -78,13 +78,10 @@ fn end_late<R: Wait>(
     place: &mut Lane,
 ) {
     let Moment { config, now, .. } = moment;
-    if !place.is_late(now, config.silence) {
+    if !place.is_late(now, config.timers.enquire) {
         return;
     }
-    let lost = Lost {
-        loss: LinkLoss::Unanswered,
-        failed: place.part(rt, now),
-    };
+    let lost = place.end_late(rt, moment);
     queues.add_slots();
     say_lost(rt, moment, lane, place, lost);
 }
@@ -97,12 +94,8 @@ fn give_up<R: Wait>(
     lane: usize,
     place: &mut Lane,
 ) {
-    let Moment {
-        response_timer,
-        now,
-        ..
-    } = moment;
-    let failed = place.give_up_queued(rt, now, response_timer);
+    let Moment { config, now, .. } = moment;
+    let failed = place.give_up_queued(rt, now, config.timers.response);
     if failed > 0 {
         queues.add_slots();
         say(rt, moment, lane, UpstreamNews::GivenUp { failed });

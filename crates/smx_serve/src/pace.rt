@@ -29,9 +29,9 @@ pub(crate) struct Moment<'d> {
     pub desk: &'d Desk,
     pub teller: &'d Teller,
     pub lookups: &'d Lookups,
-    // How long a request may be without an answer, in milliseconds.
-    pub response_timer: u64,
     pub now: u64,
+    // The nanoseconds behind these milliseconds: a number by chance, below 1,000,000.
+    pub chance: u64,
     pub stopping: bool,
 }
 
@@ -67,6 +67,7 @@ impl<'d> Pace<'d> {
     pub fn look<R: Clock>(&mut self, rt: &R) -> bool {
         if let Ok(passed) = self.start.elapsed(rt) {
             self.moment.now = u64::try_from(passed.as_millis()).unwrap_or(u64::MAX);
+            self.moment.chance = u64::from(passed.subsec_nanos() % 1_000_000);
         }
         if self.moment.now < self.ticked.saturating_add(TICK) {
             return false;

@@ -27,16 +27,11 @@ use std::rt::Clock;
 use std::sync::{Arc, Wait};
 use std::time::Instant;
 
-/// How long a request may be without an answer, in milliseconds, where nothing else is said (SMPP 3.4,
-/// section 7.2).
-const RESPONSE_TIMER: u64 = 60_000;
-
 /// A proxy that isn't running yet.
 #[derive(Drop)]
 pub struct Server {
     poll: Poll,
     shared: Shared,
-    response_timer: u64,
 }
 
 // The lanes: their door, and each tap beside the exchange.
@@ -197,23 +192,8 @@ impl Server {
             return None;
         };
         match Shared::new(alloc, waker) {
-            Ok(shared) => Some(Server {
-                poll,
-                shared,
-                response_timer: RESPONSE_TIMER,
-            }),
+            Ok(shared) => Some(Server { poll, shared }),
             Err(_) => None,
-        }
-    }
-
-    /// The same, where a request that an upstream has not answered after so many milliseconds fails.
-    /// So does one that has waited as long for a link. It is 60,000 where this isn't said.
-    pub fn with_response_timer(self, milliseconds: u64) -> Server {
-        let Server { poll, shared, .. } = self;
-        Server {
-            poll,
-            shared,
-            response_timer: milliseconds,
         }
     }
 
@@ -245,16 +225,12 @@ impl Server {
 
     /// Serves by this configuration until it is told to stop, on this thread alone. An address to listen
     /// at that can't be had is tried again every two seconds; an upstream that can't be reached, refuses
-    /// the bind or ends, after the configuration's silence.
+    /// the bind or ends, after the pauses of the configuration's timers.
     pub fn serve<R>(self, rt: &R, alloc: Global, config: &Config) -> Ended
     where
         R: Clock + Wait + Net<Listener = std::net::TcpListener, Stream = TcpStream>,
     {
-        let Server {
-            poll,
-            shared,
-            response_timer,
-        } = self;
+        let Server { poll, shared } = self;
         let Shared {
             remote,
             log,
@@ -270,8 +246,8 @@ impl Server {
             desk: &desk,
             teller: &teller,
             lookups: &lookups,
-            response_timer,
             now: 0,
+            chance: 0,
             stopping: false,
         };
         let ended = match open(rt, poll, moment, &remote) {

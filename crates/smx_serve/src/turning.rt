@@ -65,6 +65,8 @@ impl<'d> Loop<'d> {
         tend_all(rt, registry, moment, &mut self.lanes, &mut self.queues);
         self.queues.unstall();
         moment.teller.settle(rt, moment.now);
+        self.guests
+            .let_late_go(rt, moment, &mut self.queues, &mut self.addresses);
         self.guests.settle_all(&mut self.queues, moment.now);
         self.let_in(rt, false);
     }

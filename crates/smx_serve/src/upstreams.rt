@@ -41,11 +41,12 @@ fn is_text(text: &[u8], limit: usize) -> bool
     text.len() < limit && !text.contains(&0)
 }
 
-// The session of an upstream's bind. None where there is no memory for its texts.
+// The session of an upstream's bind, with this silence before an enquiry. None where there is no memory
+// for its texts.
 pub(crate) fn session_of(
     alloc: Global,
     upstream: &Upstream,
-    silence: u64,
+    enquire: u64,
     now: u64,
 ) -> Option<UpstreamSession>
     ensures { IfSome result (λ s. s.state ≡ UpstreamState.Binding) }
@@ -61,7 +62,7 @@ pub(crate) fn session_of(
     let Ok(password) = Vec::from_slice(alloc, password) else {
         return None;
     };
-    Some(UpstreamSession::new(alloc, system_id, password, silence, now))
+    Some(UpstreamSession::new(alloc, system_id, password, enquire, now))
 }
 
 // A connection to this address that is begun, which the loop knows by this lane. It waits for nothing.

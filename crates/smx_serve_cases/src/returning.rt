@@ -7,7 +7,7 @@ use std::process::Abort;
 use std::test::Fail;
 use std::thread;
 
-// After so many milliseconds the proxy gives up a bind, and connects again.
+// After so many milliseconds the proxy gives up a bind.
 const SILENCE: u64 = 1_000;
 
 // Connections that the proxy makes one after another: the centre closes the first two, and never

@@ -26,16 +26,16 @@ pub(crate) const OWN_BIND: &[u8] =
 pub(crate) const OWN_BOUND: &[u8] =
     b"\x00\x00\x00\x17\x80\x00\x00\x09\x00\x00\x00\x00\x7f\xff\xff\xfdcentre\x00";
 
-// A proxy at any free port, with one upstream at this centre, the account alpha, and this silence in
-// milliseconds.
+// A proxy at any free port, with one upstream at this centre, the account alpha, and this silence before
+// an enquiry, in milliseconds. A lost link is tried again soon.
 pub(crate) fn config_for(
     alloc: Global,
     centre: &TcpListener,
-    silence: u64,
+    enquire: u64,
 ) -> Result<Config, Fail> {
     let port = centre.local_addr()?.port();
     let text = format!(in alloc;
-        "listen = \"127.0.0.1:0\"\nsilence = {silence}\n[[upstream]]\naddress = \"127.0.0.1:{port}\"\nsystem_id = \"proxy\"\npassword = \"pw\"\n[[account]]\nsystem_id = \"alpha\"\npassword = \"p\"\nprefixes = [\"49\"]\n"
+        "listen = \"127.0.0.1:0\"\n[timers]\nenquire = {enquire}\nreconnect = 100\n[[upstream]]\naddress = \"127.0.0.1:{port}\"\nsystem_id = \"proxy\"\npassword = \"pw\"\n[[account]]\nsystem_id = \"alpha\"\npassword = \"p\"\nprefixes = [\"49\"]\n"
     )?;
     Ok(read(alloc, text.as_str())?)
 }

@@ -75,17 +75,17 @@ def unreachable(address):
 
 def queued_requests_of_a_lost_lane(program, _):
     """What is queued on a lane that stays without a link is answered once the response timer ended."""
-    with one_lane(program, limits="window = 1") as (centre, proxy):
+    with one_lane(program, keys="[timers]\nresponse = 5000", limits="window = 1") as (centre, proxy):
         up = centre.bound()
         with proxy.client() as link:
             link.say(*(message(SUBMIT_SM, it, "49") for it in (5, 6, 7)))
             assert up.hear_but_enquiries().command == SUBMIT_SM
             centre.listener.close()
             up.stream.close()
-            # The one that was sent at once, the others after 60 seconds.
+            # The one that was sent at once, the others after five seconds.
             assert link.hear()[:3] == (SUBMIT_SM | RESPONSE, SUBMIT_FAILED, 5)
             for number in (6, 7):
-                assert link.hear(75)[:3] == (SUBMIT_SM | RESPONSE, SUBMIT_FAILED, number)
+                assert link.hear()[:3] == (SUBMIT_SM | RESPONSE, SUBMIT_FAILED, number)
             assert link.is_quiet()
 
 

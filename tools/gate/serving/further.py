@@ -94,7 +94,7 @@ def lines_are_left_out(program, _):
     fcntl.fcntl(write_end, fcntl.F_SETPIPE_SZ, 4096)
     enough = threading.Event()
     with Centre() as centre, os.fdopen(read_end, "rb") as lines:
-        text = text_of(port, [f"{HOST}:{centre.port}"] * LANES, keys="silence = 1")
+        text = text_of(port, [f"{HOST}:{centre.port}"] * LANES, keys="[timers]\nreconnect = 100\nreconnect_most = 100")
         with Proxy(program, port, text, stderr=write_end) as proxy:
             os.close(write_end)
             threading.Thread(target=close_each, args=(centre, enough), daemon=True).start()

@@ -30,12 +30,12 @@ def free_port():
 class Centre:
     """A message centre that listens, and whose links are told by the test."""
 
-    def __init__(self, room=None):
+    def __init__(self, room=None, port=0):
         self.listener = socket.socket()
         self.listener.setsockopt(socket.SOL_SOCKET, socket.SO_REUSEADDR, 1)
         if room:
             self.listener.setsockopt(socket.SOL_SOCKET, socket.SO_RCVBUF, room)
-        self.listener.bind((HOST, 0))
+        self.listener.bind((HOST, port))
         self.listener.listen()
         self.listener.settimeout(PATIENCE)
         self.port = self.listener.getsockname()[1]

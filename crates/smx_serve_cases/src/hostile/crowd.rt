@@ -1,6 +1,6 @@
 //! Many connections: of random octets, all slots and one more, and ten thousand that are closed.
 use super::caller::Caller;
-use super::greedy::binds_slowly;
+use super::greedy::enquires_slowly;
 use rand_core::utils::NextWord;
 use rand_pcg::Pcg32;
 use std::alloc::Global;
@@ -61,15 +61,15 @@ where
     }
 }
 
-// With one client served already: as many more have to be served as there are slots left, and then one
-// be closed without an answer.
+// With one client bound already: as many more have to be bound as there are slots left, and then one be
+// closed without an answer.
 pub(crate) fn fills_slots<R>(rt: &R, alloc: Global, address: &str)
 where
     R: Net<Stream = TcpStream> + Clock + Abort,
 {
     let mut standing = Vec::with_capacity(alloc, CLIENTS).expect(rt, "out of memory");
     for _ in 1..CLIENTS {
-        let caller = Caller::seated(rt, address);
+        let caller = Caller::bound(rt, address, 1);
         standing.push(caller).expect(rt, "out of memory");
     }
     let mut refused = Caller::to(rt, address);
@@ -120,7 +120,7 @@ where
 }
 
 // Opens connections and closes them, while another sends an octet a second: no more descriptors may be
-// open afterwards than before, and the slow one has to be bound.
+// open afterwards than before, and the slow one has to be answered.
 pub(crate) fn closes_all<R>(rt: &R, address: &str)
 where
     R: Net<Listener = TcpListener, Stream = TcpStream> + Clock + Threads + Abort + Sync,
@@ -128,7 +128,7 @@ where
     let before = second_descriptor(rt, address);
     join(
         rt,
-        || binds_slowly(rt, address),
+        || enquires_slowly(rt, address),
         || open_and_close(rt, address),
     );
     falls_to(rt, address, before);

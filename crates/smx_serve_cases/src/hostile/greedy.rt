@@ -154,21 +154,21 @@ where
     );
 }
 
-// Binds by an octet a second, and then the rest: the bind has to be granted.
-pub(crate) fn binds_slowly<R>(rt: &R, address: &str)
+// Enquires by an octet a second, and then the rest: that has to be answered.
+pub(crate) fn enquires_slowly<R>(rt: &R, address: &str)
 where
     R: Net<Stream = TcpStream> + Clock + Abort,
 {
-    let mut caller = Caller::seated(rt, address);
-    let bind = bind_of(3);
-    let (slow, rest) = bind.split_at(SLOW);
+    let mut caller = Caller::bound(rt, address, 3);
+    let enquiry = header(16, ENQUIRE_LINK, 0, 1);
+    let (slow, rest) = enquiry.split_at(SLOW);
     for octet in slow {
         caller.say(&[*octet]);
         sleep(rt, Duration::from_millis(1_000));
     }
-    let is_granted = caller.say(rest) && caller.hears_status(0);
+    let is_answered = caller.say(rest) && caller.hears_status(0);
     assert!(rt;
-        is_granted,
-        "a bind by an octet a second beside many connections is not granted"
+        is_answered,
+        "an enquiry by an octet a second beside many connections is not answered"
     );
 }

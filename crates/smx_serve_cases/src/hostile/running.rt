@@ -14,12 +14,12 @@ use std::thread::{Threads, join, sleep};
 use std::time::Duration;
 
 impl Trial {
-    // The silence of the upstream in milliseconds. A short one ends a link to a centre that never reads,
-    // and is how long it takes until the next link after one that ended; all others have only to end.
+    // The silence of the upstream in milliseconds. A short one ends a link to a centre that never reads;
+    // all others have only to end.
     const fn silence(self) -> u64 {
         match self {
-            Trial::Deaf | Trial::Short => 1_000,
-            Trial::Unread | Trial::Clients | Trial::Lying => PATIENCE,
+            Trial::Deaf => 1_000,
+            Trial::Unread | Trial::Clients | Trial::Lying | Trial::Short => PATIENCE,
         }
     }
 }
@@ -27,7 +27,8 @@ impl Trial {
 // The text of a configuration at any free port, with eight accounts and one upstream of this silence.
 fn text_of(rt: &impl Abort, alloc: Global, silence: u64, port: u16) -> String {
     let mut text = format!(in alloc;
-        "listen = \"127.0.0.1:0\"\nclients = 256\nsilence = {silence}\n\
+        "listen = \"127.0.0.1:0\"\nclients = 256\n\
+         [timers]\nenquire = {silence}\n\
          [limits]\nqueue = 1000\nwindow = 200\nclient = 200\n\
          [[upstream]]\naddress = \"127.0.0.1:{port}\"\nsystem_id = \"proxy\"\npassword = \"pw\"\n"
     )

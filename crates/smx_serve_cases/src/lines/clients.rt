@@ -1,9 +1,10 @@
 //! Lines of clients.
 use super::told::Told;
+use super::upstreams::LONG;
 use crate::loopback::{BIND, BOUND, UNBIND, UNBOUND};
-use crate::stage::{Header, PATIENCE, bound, comes, connected};
+use crate::stage::{Header, bound, comes, connected};
 use std::alloc::Global;
-use std::io::Write;
+use std::io::{Read, Write};
 use std::net::{Net, TcpListener, TcpStream};
 use std::process::Abort;
 use std::test::Fail;
@@ -99,15 +100,70 @@ where
 fn clients_that_come_and_go(rt: HostRuntime) -> Result<(), Fail> {
     let centre = TcpListener::bind(&rt, "127.0.0.1:0")?;
     let address = format!(in rt.alloc(); "{}", centre.local_addr()?)?;
-    let mut told = Told::new(rt, "silence = 30000", address, PATIENCE)?;
+    let mut told = Told::new(rt, LONG, address)?;
     let up = bound(&rt, &centre)?;
     told.upstream(&rt, "bound")?;
     come_and_go(&rt, &mut told)?;
     reset(&rt, &mut told)?;
     drop(up);
-    told.upstream_waits(&rt, "ended, it closed the connection; 0 requests failed")?;
+    let words = "ended, it closed the connection; 0 requests failed";
+    told.upstream_waits(&rt, words, "tried")?;
     told.stops(&rt);
     told.is_over(&rt);
+    Ok(())
+}
+
+// Enquires until the connection ends. False where it goes on.
+fn enquires_until_it_ends(alloc: Global, stream: &mut TcpStream) -> bool {
+    let enquiry = Header {
+        command: ENQUIRE_LINK,
+        status: 0,
+        number: 1,
+    };
+    let answer = Header {
+        command: 0x8000_0000 | ENQUIRE_LINK,
+        ..enquiry
+    };
+    for _ in 0..u32::MAX {
+        if !(enquiry.is_said(alloc, stream) && answer.is_heard(alloc, stream)) {
+            return true;
+        }
+    }
+    false
+}
+
+// Whether the connection ends in order, and nothing more comes.
+fn ends(stream: &mut TcpStream) -> bool {
+    let mut octet = [0u8; 1];
+    matches!(stream.read(&mut octet), Ok(0))
+}
+
+// One that isn't bound in time is closed, also where it enquires all the time; one that is bound stays.
+#[test]
+fn connections_that_are_not_bound(rt: HostRuntime) -> Result<(), Fail> {
+    let centre = TcpListener::bind(&rt, "127.0.0.1:0")?;
+    let address = format!(in rt.alloc(); "{}", centre.local_addr()?)?;
+    let mut told = Told::new(rt, "[timers]\nbind = 1000", address)?;
+    let _up = bound(&rt, &centre)?;
+    told.upstream(&rt, "bound")?;
+    let mut first = connected(&rt, rt.alloc(), &told.remote)?;
+    told.client(&rt, "1", &first, "connected")?;
+    assert!(rt; bind_by(&mut first, 9)?);
+    told.client(&rt, "1 alpha", &first, "bound as transceiver")?;
+    let mut second = connected(&rt, rt.alloc(), &told.remote)?;
+    told.client(&rt, "2", &second, "connected")?;
+    told.client(&rt, "2", &second, "not bound in time")?;
+    assert!(rt; ends(&mut second));
+    let mut third = connected(&rt, rt.alloc(), &told.remote)?;
+    told.client(&rt, "3", &third, "connected")?;
+    let address = third.local_addr()?;
+    assert!(rt; enquires_until_it_ends(rt.alloc(), &mut third));
+    let line = format!(in rt.alloc(); "client 3 at {address}: not bound in time")?;
+    told.lines.says(&rt, line.as_str());
+    enquires(&rt, rt.alloc(), &mut first, 1);
+    told.stops(&rt);
+    told.client(&rt, "1 alpha", &first, "left")?;
+    told.remote.stop();
     Ok(())
 }
 
@@ -123,16 +179,69 @@ fn refused_by<R: Abort + AllocGlobal>(rt: &R, told: &mut Told) -> (u64, bool) {
     (count.expect(rt, line), true)
 }
 
+// How many strangers connect, before and behind the honest clients.
+const STRANGERS: usize = 20;
+
+// Connections that never bind, all at once.
+fn strangers<R>(rt: &R, told: &Told) -> Result<Vec<TcpStream>, Fail>
+where
+    R: Net<Stream = TcpStream> + AllocGlobal,
+{
+    let mut standing = Vec::with_capacity(rt.alloc(), STRANGERS)?;
+    for _ in 0..STRANGERS {
+        standing.push(connected(rt, rt.alloc(), &told.remote)?)?;
+    }
+    Ok(standing)
+}
+
+// Of eight slots connections without a bind hold four. One more takes the place of the oldest, so none
+// of them keeps out a client that binds, and those that are bound stay.
+#[test]
+fn strangers_keep_nobody_out(rt: HostRuntime) -> Result<(), Fail> {
+    let centre = TcpListener::bind(&rt, "127.0.0.1:0")?;
+    let address = format!(in rt.alloc(); "{}", centre.local_addr()?)?;
+    let keys = "clients = 8\n[timers]\nbind = 60000";
+    let mut told = Told::new(rt, keys, address)?;
+    let _up = bound(&rt, &centre)?;
+    told.upstream(&rt, "bound")?;
+    let mut standing = Vec::new(rt.alloc());
+    for number in ["1", "2", "3", "4"] {
+        let next = connected(&rt, rt.alloc(), &told.remote)?;
+        told.client(&rt, number, &next, "connected")?;
+        standing.push(next)?;
+    }
+    let fifth = connected(&rt, rt.alloc(), &told.remote)?;
+    if let Some(oldest) = standing.first() {
+        told.client(&rt, "1", oldest, "gave its place to another")?;
+    }
+    told.client(&rt, "5", &fifth, "connected")?;
+    let _before = strangers(&rt, &told)?;
+    let mut honest = Vec::new(rt.alloc());
+    for _ in 0..4 {
+        let mut client = connected(&rt, rt.alloc(), &told.remote)?;
+        assert!(rt; bind_by(&mut client, 9)?);
+        honest.push(client)?;
+    }
+    let _behind = strangers(&rt, &told)?;
+    for client in &mut honest {
+        enquires(&rt, rt.alloc(), client, 1);
+    }
+    told.remote.stop();
+    Ok(())
+}
+
 // With the only slot taken each connection is refused, and told of by a line or counted in one.
 #[test]
 fn connections_that_are_refused(rt: HostRuntime) -> Result<(), Fail> {
     let centre = TcpListener::bind(&rt, "127.0.0.1:0")?;
     let address = format!(in rt.alloc(); "{}", centre.local_addr()?)?;
-    let mut told = Told::new(rt, "clients = 1", address, PATIENCE)?;
+    let mut told = Told::new(rt, "clients = 1", address)?;
     let _up = bound(&rt, &centre)?;
     told.upstream(&rt, "bound")?;
-    let client = connected(&rt, rt.alloc(), &told.remote)?;
+    let mut client = connected(&rt, rt.alloc(), &told.remote)?;
     told.client(&rt, "1", &client, "connected")?;
+    assert!(rt; bind_by(&mut client, 9)?);
+    told.client(&rt, "1 alpha", &client, "bound as transceiver")?;
     for _ in 0..REFUSED {
         drop(connected(&rt, rt.alloc(), &told.remote)?);
     }

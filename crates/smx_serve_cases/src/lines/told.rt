@@ -105,14 +105,8 @@ fn config_of(alloc: Global, listen: &str, keys: &str, centre: &str) -> Result<Co
 }
 
 impl Told {
-    // Runs it with an upstream at this address and these keys before it, until it listens. A request may
-    // be without an answer for so many milliseconds.
-    pub(crate) fn new<R>(
-        rt: R,
-        keys: &str,
-        centre: String,
-        response_timer: u64,
-    ) -> Result<Told, Fail>
+    // Runs it with an upstream at this address and these keys before it, until it listens.
+    pub(crate) fn new<R>(rt: R, keys: &str, centre: String) -> Result<Told, Fail>
     where
         R: Net<Listener = TcpListener, Stream = TcpStream>
             + Clock
@@ -125,19 +119,13 @@ impl Told {
             + Send
             + 'static,
     {
-        let mut told = Told::at(rt, "127.0.0.1:0", keys, centre, response_timer)?;
+        let mut told = Told::at(rt, "127.0.0.1:0", keys, centre)?;
         told.lines.says(&rt, "listening on 127.0.0.1:0");
         Ok(told)
     }
 
     // The same, where it is to listen at this address.
-    pub(crate) fn at<R>(
-        rt: R,
-        listen: &str,
-        keys: &str,
-        centre: String,
-        response_timer: u64,
-    ) -> Result<Told, Fail>
+    pub(crate) fn at<R>(rt: R, listen: &str, keys: &str, centre: String) -> Result<Told, Fail>
     where
         R: Net<Listener = TcpListener, Stream = TcpStream>
             + Clock
@@ -152,7 +140,6 @@ impl Told {
     {
         let config = config_of(rt.alloc(), listen, keys, centre.as_str())?;
         let (server, remote) = server(&rt, rt.alloc());
-        let server = server.with_response_timer(response_timer);
         let log = server.log().expect(&rt, "out of memory");
         let lines = Lines::of(rt, server.log().expect(&rt, "out of memory"))?;
         let lookups = server.lookups().expect(&rt, "out of memory");
@@ -181,15 +168,16 @@ impl Told {
         Ok(())
     }
 
-    // The same, and behind it stands in how many milliseconds it is tried again.
+    // The same, and behind it stands in how many milliseconds it is tried again, or what else it is.
     pub(crate) fn upstream_waits<R: Abort + AllocGlobal>(
         &mut self,
         rt: &R,
         words: &str,
+        tried: &str,
     ) -> Result<u64, Fail> {
         let alloc = rt.alloc();
         let begin = format!(in alloc;
-            "upstream 0 proxy at {}: {words}; it is tried again in ",
+            "upstream 0 proxy at {}: {words}; it is {tried} again in ",
             self.centre
         )?;
         let line = self.lines.next(alloc);

@@ -2,9 +2,10 @@
 use super::clients::enquires;
 use super::told::Told;
 use crate::loopback::{BIND, BOUND, OWN_UNBIND, OWN_UNBOUND, SENT, SUBMIT};
-use crate::stage::{OWN_BOUND, PATIENCE, binding, bound, comes, connected, patient};
+use crate::stage::{OWN_BOUND, binding, bound, comes, connected, patient};
 use std::io::Write;
 use std::net::TcpListener;
+use std::process::Abort;
 use std::test::Fail;
 
 // What the centre says once it is bound, whether it closes the connection then, and how that is told.
@@ -25,11 +26,26 @@ const ENDS: [(&[u8], bool, &str); 3] = [
 // The centre's answer to the bind with status 0x0D ESME_RBINDFAIL (SMPP 3.4, section 5.1.3).
 const REFUSAL: &[u8] = b"\x00\x00\x00\x10\x80\x00\x00\x09\x00\x00\x00\x0d\x7f\xff\xff\xfd";
 
-// How long a request waits in the test of such, in milliseconds.
-const SHORT: u64 = 3_000;
+// The keys of a pause that never passes.
+pub(crate) const LONG: &str = "[timers]\nreconnect = 60000";
 
-// The keys of a silence that never passes.
-const LONG: &str = "silence = 30000";
+// That pause, and up to a tenth more, in milliseconds.
+const PAUSE: (u64, u64) = (60_000, 66_000);
+
+// It is tried again after a pause within these milliseconds.
+fn waits_within<R: Abort + AllocGlobal>(
+    rt: &R,
+    told: &mut Told,
+    words: &str,
+    (least, most): (u64, u64),
+) -> Result<(), Fail> {
+    let wait = told.upstream_waits(rt, words, "tried")?;
+    assert!(rt;
+        least <= wait && wait <= most,
+        "it is tried again in {wait} ms"
+    );
+    Ok(())
+}
 
 fn address_of(rt: &HostRuntime, listener: &TcpListener) -> Result<String, Fail> {
     Ok(format!(in rt.alloc(); "{}", listener.local_addr()?)?)
@@ -40,7 +56,7 @@ fn address_of(rt: &HostRuntime, listener: &TcpListener) -> Result<String, Fail> 
 fn links_that_end(rt: HostRuntime) -> Result<(), Fail> {
     for (octets, closes, words) in ENDS {
         let centre = TcpListener::bind(&rt, "127.0.0.1:0")?;
-        let mut told = Told::new(rt, LONG, address_of(&rt, &centre)?, PATIENCE)?;
+        let mut told = Told::new(rt, LONG, address_of(&rt, &centre)?)?;
         let mut up = bound(&rt, &centre)?;
         told.upstream(&rt, "bound")?;
         up.write_all(octets)?;
@@ -51,8 +67,7 @@ fn links_that_end(rt: HostRuntime) -> Result<(), Fail> {
             Some(up)
         };
         let words = format!(in rt.alloc(); "{words}; 0 requests failed")?;
-        let wait = told.upstream_waits(&rt, words.as_str())?;
-        assert!(rt; wait <= 30_000, "it is tried again in {wait} ms");
+        waits_within(&rt, &mut told, words.as_str(), PAUSE)?;
         told.stops(&rt);
         told.is_over(&rt);
         drop(kept);
@@ -60,23 +75,22 @@ fn links_that_end(rt: HostRuntime) -> Result<(), Fail> {
     Ok(())
 }
 
-// A bind that is refused, and none that is answered, for which nothing is left to wait.
+// A bind that is refused, and one that isn't answered.
 #[test]
 fn binds_that_fail(rt: HostRuntime) -> Result<(), Fail> {
     let centre = TcpListener::bind(&rt, "127.0.0.1:0")?;
-    let mut told = Told::new(rt, LONG, address_of(&rt, &centre)?, PATIENCE)?;
+    let mut told = Told::new(rt, LONG, address_of(&rt, &centre)?)?;
     let mut up = binding(&rt, &centre)?;
     up.write_all(REFUSAL)?;
-    told.upstream_waits(
-        &rt,
-        "bind refused with status 0x0D ESME_RBINDFAIL; 0 requests failed",
-    )?;
+    let words = "bind refused with status 0x0D ESME_RBINDFAIL; 0 requests failed";
+    waits_within(&rt, &mut told, words, PAUSE)?;
     told.stops(&rt);
     told.is_over(&rt);
-    let mut told = Told::new(rt, "silence = 300", address_of(&rt, &centre)?, PATIENCE)?;
+    let keys = "silence = 300\n[timers]\nreconnect = 60000";
+    let mut told = Told::new(rt, keys, address_of(&rt, &centre)?)?;
     let _up = binding(&rt, &centre)?;
-    let wait = told.upstream_waits(&rt, "answered no bind; 0 requests failed")?;
-    assert_eq!(rt; wait, 0);
+    let words = "answered no bind; 0 requests failed";
+    waits_within(&rt, &mut told, words, PAUSE)?;
     told.remote.stop();
     Ok(())
 }
@@ -85,7 +99,7 @@ fn binds_that_fail(rt: HostRuntime) -> Result<(), Fail> {
 #[test]
 fn a_link_that_fails(rt: HostRuntime) -> Result<(), Fail> {
     let centre = TcpListener::bind(&rt, "127.0.0.1:0")?;
-    let mut told = Told::new(rt, LONG, address_of(&rt, &centre)?, PATIENCE)?;
+    let mut told = Told::new(rt, LONG, address_of(&rt, &centre)?)?;
     let (up, _) = centre.accept()?;
     let mut up = patient(up)?;
     let mut octet = [0u8; 1];
@@ -93,7 +107,8 @@ fn a_link_that_fails(rt: HostRuntime) -> Result<(), Fail> {
     up.write_all(OWN_BOUND)?;
     told.upstream(&rt, "bound")?;
     drop(up);
-    told.upstream_waits(&rt, "ended, the link failed; 0 requests failed")?;
+    let words = "ended, the link failed; 0 requests failed";
+    waits_within(&rt, &mut told, words, PAUSE)?;
     told.stops(&rt);
     told.is_over(&rt);
     Ok(())
@@ -104,32 +119,40 @@ fn a_link_that_fails(rt: HostRuntime) -> Result<(), Fail> {
 #[test]
 fn a_link_that_is_silent(rt: HostRuntime) -> Result<(), Fail> {
     let centre = TcpListener::bind(&rt, "127.0.0.1:0")?;
-    let mut told = Told::new(rt, "silence = 2000", address_of(&rt, &centre)?, PATIENCE)?;
+    let keys = "[timers]\nenquire = 2000\nreconnect = 60000";
+    let mut told = Told::new(rt, keys, address_of(&rt, &centre)?)?;
     let _up = bound(&rt, &centre)?;
     told.upstream(&rt, "bound")?;
-    told.upstream_waits(&rt, "ended, it answered no enquire_link; 0 requests failed")?;
+    let words = "ended, it answered no enquire_link; 0 requests failed";
+    waits_within(&rt, &mut told, words, PAUSE)?;
     told.remote.stop();
     Ok(())
 }
 
-// An address where nobody listens, and a name that has none: at once each is tried again after the
-// silence.
+// An address where nobody listens: each pause is twice the one before, up to the longest; and a name
+// that has no address.
 #[test]
 fn an_upstream_that_is_nowhere(rt: HostRuntime) -> Result<(), Fail> {
     let centre = TcpListener::bind(&rt, "127.0.0.1:0")?;
     let address = address_of(&rt, &centre)?;
     drop(centre);
-    let mut told = Told::new(rt, LONG, address, PATIENCE)?;
-    let wait = told.upstream_waits(&rt, "can't be reached; 0 requests failed")?;
-    assert!(rt; wait <= 30_000, "it is tried again in {wait} ms");
+    let keys = "[timers]\nreconnect = 100\nreconnect_most = 250";
+    let mut told = Told::new(rt, keys, address)?;
+    let words = "can't be reached; 0 requests failed";
+    for within in [(100, 110), (200, 220), (250, 275), (250, 275)] {
+        waits_within(&rt, &mut told, words, within)?;
+    }
     told.stops(&rt);
     told.is_over(&rt);
     let name = String::from_str(rt.alloc(), "nowhere")?;
-    let mut told = Told::new(rt, LONG, name, PATIENCE)?;
-    told.upstream(
-        &rt,
-        "the name isn't known (invalid socket address); it is looked up again in 30000 ms",
-    )?;
+    let mut told = Told::new(rt, LONG, name)?;
+    let words = "the name isn't known (invalid socket address)";
+    let wait = told.upstream_waits(&rt, words, "looked up")?;
+    let (least, most) = PAUSE;
+    assert!(rt;
+        least <= wait && wait <= most,
+        "it is looked up again in {wait} ms"
+    );
     told.stops(&rt);
     told.is_over(&rt);
     Ok(())
@@ -140,8 +163,8 @@ fn an_upstream_that_is_nowhere(rt: HostRuntime) -> Result<(), Fail> {
 #[test]
 fn requests_that_fail(rt: HostRuntime) -> Result<(), Fail> {
     let centre = TcpListener::bind(&rt, "127.0.0.1:0")?;
-    let keys = "silence = 30000\n[limits]\nwindow = 1";
-    let mut told = Told::new(rt, keys, address_of(&rt, &centre)?, SHORT)?;
+    let keys = "[limits]\nwindow = 1\n[timers]\nresponse = 3000\nreconnect = 60000";
+    let mut told = Told::new(rt, keys, address_of(&rt, &centre)?)?;
     let mut up = bound(&rt, &centre)?;
     told.upstream(&rt, "bound")?;
     let mut client = connected(&rt, rt.alloc(), &told.remote)?;
@@ -154,7 +177,8 @@ fn requests_that_fail(rt: HostRuntime) -> Result<(), Fail> {
     enquires(&rt, rt.alloc(), &mut client, 1);
     assert!(rt; comes(&mut up, SENT));
     drop(up);
-    told.upstream_waits(&rt, "ended, it closed the connection; 1 requests failed")?;
+    let words = "ended, it closed the connection; 1 requests failed";
+    waits_within(&rt, &mut told, words, PAUSE)?;
     told.upstream(&rt, "has no link for long, 1 queued requests failed")?;
     told.stops(&rt);
     told.client(&rt, "1 alpha", &client, "left")?;
@@ -166,7 +190,7 @@ fn requests_that_fail(rt: HostRuntime) -> Result<(), Fail> {
 #[test]
 fn an_end_in_order(rt: HostRuntime) -> Result<(), Fail> {
     let centre = TcpListener::bind(&rt, "127.0.0.1:0")?;
-    let mut told = Told::new(rt, LONG, address_of(&rt, &centre)?, PATIENCE)?;
+    let mut told = Told::new(rt, LONG, address_of(&rt, &centre)?)?;
     let mut up = bound(&rt, &centre)?;
     told.upstream(&rt, "bound")?;
     told.stops(&rt);
@@ -187,23 +211,11 @@ fn an_address_in_use(rt: HostRuntime) -> Result<(), Fail> {
     let words = format!(in rt.alloc();
         "no connections can be awaited at {listen}; it is tried again every 2 seconds"
     )?;
-    let mut told = Told::at(
-        rt,
-        listen.as_str(),
-        LONG,
-        address_of(&rt, &centre)?,
-        PATIENCE,
-    )?;
+    let mut told = Told::at(rt, listen.as_str(), LONG, address_of(&rt, &centre)?)?;
     told.lines.says(&rt, words.as_str());
     told.stops(&rt);
     told.is_over(&rt);
-    let mut told = Told::at(
-        rt,
-        listen.as_str(),
-        LONG,
-        address_of(&rt, &centre)?,
-        PATIENCE,
-    )?;
+    let mut told = Told::at(rt, listen.as_str(), LONG, address_of(&rt, &centre)?)?;
     told.lines.says(&rt, words.as_str());
     drop(other);
     let words = format!(in rt.alloc(); "listening on {listen}")?;
