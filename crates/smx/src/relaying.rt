@@ -1,10 +1,23 @@
 //! A script that is run.
 use crate::watched::{Because, Watched};
-use smx_relay::RunEnd;
+use smx_relay::{RunEnd, new_state, run_on};
+use std::alloc::Global;
 use std::io::{BufWriter, Read, Write};
 use std::process::ExitCode;
 use std::rt::Files;
-use std::{fs, io};
+use std::{fs, io, mem};
+
+// Runs a script. What it reserved is left to the system, which takes it back when the program ends.
+fn run<S: Read, W: Write>(alloc: Global, reader: &mut S, writer: &mut W) -> RunEnd {
+    match new_state(alloc) {
+        Ok(mut state) => {
+            let end = run_on(alloc, &mut state, reader, writer);
+            mem::forget(state);
+            end
+        }
+        Err(_) => RunEnd::NoMemory,
+    }
+}
 
 // Runs a script from a reader. What it prints is flushed in any case.
 fn run_from<R: Print + Eprint + AllocGlobal, S: Read + Drop>(rt: &R, reader: S) -> ExitCode {
@@ -13,7 +26,7 @@ fn run_from<R: Print + Eprint + AllocGlobal, S: Read + Drop>(rt: &R, reader: S) 
         return ExitCode::FAILURE;
     };
     let mut reader = Watched::new(reader);
-    let end = smx_relay::run(rt.alloc(), &mut reader, &mut writer);
+    let end = run(rt.alloc(), &mut reader, &mut writer);
     let flushed = writer.flush();
     let is_said_below = end == RunEnd::WriteFault && flushed.is_err();
     if end != RunEnd::Clean && !is_said_below {

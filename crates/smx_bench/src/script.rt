@@ -4,9 +4,9 @@
 mod kinds;
 mod writing;
 
-use crate::figures::{Hundredths, nanos_since, stopped};
+use crate::figures::{Hundredths, nanos_since, no_memory, stopped};
 use kinds::{KINDS, Kind};
-use smx_relay::RunEnd;
+use smx_relay::{RunEnd, new_state, run_on};
 use std::alloc::Global;
 use std::io;
 use std::io::Write;
@@ -138,12 +138,16 @@ impl Timed {
     }
 }
 
-// The nanoseconds of a run, each of whose lines is good, and the octets that it prints.
+// The nanoseconds of a run, each of whose lines is good, and the octets that it prints. What the run reserved is
+// freed behind that time, since `smx relay` leaves it to the system.
 fn nanos_of_run<R: Clock>(rt: &R, alloc: Global, script: &[u8]) -> io::Result<(u64, u64)> {
     let mut writer = Counted { octets: 0 };
-    let start = Instant::now(rt)?;
     let mut reader = script;
-    match smx_relay::run(alloc, &mut reader, &mut writer) {
+    let start = Instant::now(rt)?;
+    let Ok(mut state) = new_state(alloc) else {
+        return Err(no_memory());
+    };
+    match run_on(alloc, &mut state, &mut reader, &mut writer) {
         RunEnd::Clean => Ok((nanos_since(rt, start)?, writer.octets)),
         end => Err(stopped(end)),
     }

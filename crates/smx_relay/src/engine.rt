@@ -54,32 +54,47 @@ fn relay_lines<W: Write>(
     RunEnd::Clean
 }
 
-// Runs a script that was read.
-fn relay<W: Write>(alloc: Global, script: &[u8], writer: &mut W) -> RunEnd
+// Runs a script that was read, on the state before the first line.
+fn relay<W: Write>(alloc: Global, state: &mut State, script: &[u8], writer: &mut W) -> RunEnd
+    requires { StandsFor state.old new_relay }
     ensures { (out : List ℕ) × Appends (W.contents writer.old) (W.contents writer.new) out
         × Ends result script.now out }
 {
-    let Ok(start) = new_state(alloc) else {
-        return RunEnd::NoMemory;
-    };
-    let mut state = start;
     let Ok(lines) = lines_of(alloc, script) else {
         return RunEnd::NoMemory;
     };
-    relay_lines(alloc, &mut state, lines.as_slice(), writer)
+    relay_lines(alloc, state, lines.as_slice(), writer)
 }
 
-/// Reads a script whole, and then writes what its lines print, up to and with the first bad line.
-/// Where writing fails, memory runs out or the run would be too large, a front of that was written. The
-/// writer isn't flushed.
-pub fn run<R: Read, W: Write>(alloc: Global, reader: &mut R, writer: &mut W) -> RunEnd
+/// Reads a script whole, runs it on a state that was just made, and writes what its lines print, up to and with the
+/// first bad line. Where writing fails, memory runs out or the run would be too large, a front of that was written.
+/// The writer isn't flushed. The state has all that the lines reserved; a program that ends next may forget it, since
+/// to free it can take as long as the run.
+pub fn run_on<R: Read, W: Write>(
+    alloc: Global,
+    state: &mut State,
+    reader: &mut R,
+    writer: &mut W,
+) -> RunEnd
+    requires { StandsFor state.old new_relay }
     ensures { IfSome (R.remaining reader.old) (λ script. (out : List ℕ)
         × Appends (W.contents writer.old) (W.contents writer.new) out × Ends result script out) }
 {
     match read_octets(alloc, reader, MAX_SCRIPT) {
-        Ok(script) => relay(alloc, &script, writer),
+        Ok(script) => relay(alloc, state, &script, writer),
         Err(ReadFault::TooLong) => RunEnd::TooLong,
         Err(ReadFault::Failed) => RunEnd::ReadFault,
         Err(ReadFault::NoMemory) => RunEnd::NoMemory,
+    }
+}
+
+/// The same on a state of its own, which is freed.
+pub fn run<R: Read, W: Write>(alloc: Global, reader: &mut R, writer: &mut W) -> RunEnd
+    ensures { IfSome (R.remaining reader.old) (λ script. (out : List ℕ)
+        × Appends (W.contents writer.old) (W.contents writer.new) out × Ends result script out) }
+{
+    match new_state(alloc) {
+        Ok(mut state) => run_on(alloc, &mut state, reader, writer),
+        Err(_) => RunEnd::NoMemory,
     }
 }

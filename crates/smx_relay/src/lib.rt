@@ -6,4 +6,5 @@ mod engine;
 mod size;
 
 pub use end::RunEnd;
-pub use engine::run;
+pub use engine::{run, run_on};
+pub use smx_lines::new_state;

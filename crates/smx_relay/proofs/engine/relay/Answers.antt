@@ -5,11 +5,5 @@ use Rattle.smx_relay.proofs.engine.relay.Goals as goal
 pub returns-in_default : goal.returns-in_default
 returns-in_default g c = stands_nothing (g.W.Write.contents c.args.writer.now) c.args.script.now
 
-pub returns-in_default-lines_of : goal.returns-in_default-lines_of
-returns-in_default-lines_of g c = stands_nothing (g.W.Write.contents c.args.writer.now) c.args.script.now
-
-pub relay_lines-requires : goal.relay_lines-requires
-relay_lines-requires g c = c.in-Ok.ensures
-
 pub returns : goal.returns
 returns g c = c.relay_lines.ensures c.args.script.now (search rules)
