@@ -1,0 +1,211 @@
+"""What a flood does to one honest client: the word floods of tools/measuring/bench-serve.
+
+An honest client sends a submit_sm each millisecond through a proxy to a centre, 40 without an answer at most,
+and beside it peers flood. Each trial has its own proxy, centres and addresses; the trials of a round, of each kind
+and program, come in drawn order. The peers are tools/measuring/bench_floods.c. A submit_sm of a client that
+floods isn't answered by the centre, so its share of the lane fills, and all further ones are answered 0x14
+ESME_RMSGQFUL.
+"""
+
+import contextlib
+import random
+import re
+import select
+import signal
+import socket
+import statistics
+import subprocess
+import sys
+import time
+
+from bench_running import Running
+
+PROXY, CENTRE, SHARE, EACH = 17775, 17001, 50, 40
+STRANGERS = ("enquire_link", "unknown", "deliver_sm_resp", "generic_nack", "bind", "submit_sm", "large", "octets")
+COUNTS = (1, 16, 64, 250)
+BOUND = ("submit_sm", "deliver_sm_resp", "large")
+CENTRES = ("deliver_sm", "deliver_sm_stray", "enquire_link", "submit_sm_resp")
+# Each kind of flood, as role, how many and what.
+KINDS = {
+    "none": None,
+    **{f"strangers-{count}-{what}": ("flood", count, what) for what in STRANGERS for count in COUNTS},
+    "resets-4": ("reset", 4, ""),
+    **{f"bound-16-{what}": ("bound", 16, what) for what in BOUND},
+    **{f"centre-{what}": ("centre", 1, what) for what in CENTRES},
+    **{f"silent-240-{what}": ("silent", 240, what) for what in ("once", "full")},
+}
+# The most ms of p50 and p99, and the most processor time a message as a ratio to that without a flood.
+GOALS = {"strangers-250-": (2, 25, None), "bound-16-": (5, 50, None), "centre-": (2, None, None), "silent-240-": (None, None, 1.3)}
+
+
+class Peer(Running):
+    """A process of bench_floods.c, which says that it is ready, takes lines and says its figures."""
+
+    def __init__(self, *words):
+        self.child = subprocess.Popen([str(it) for it in words], stdin=subprocess.PIPE, stdout=subprocess.PIPE)
+        try:
+            if self.line(15) != "ready":
+                raise SystemExit(f"bench-serve: {' '.join(self.child.args)} isn't ready")
+        except BaseException:
+            self.__exit__()
+            raise
+
+    def line(self, seconds):
+        """What it says next, within so many seconds."""
+        there = select.select([self.child.stdout], [], [], seconds)[0]
+        return self.child.stdout.readline().decode().strip() if there else ""
+
+    def tell(self):
+        self.child.stdin.write(b"\n")
+        self.child.stdin.flush()
+
+    def figures(self, seconds):
+        return {name: float(number) for name, number in re.findall(r"(\w+) (-?\d+)", self.line(seconds))}
+
+
+def own_network():
+    """The first two numbers of loopback addresses that no other run has, and the socket that holds them."""
+    for second in random.sample(range(16, 240), 100):
+        holder = socket.socket()
+        with contextlib.suppress(OSError):
+            holder.bind((f"127.{second}.255.254", PROXY))
+            return f"127.{second}", holder
+        holder.close()
+    raise SystemExit("bench-serve: no loopback addresses are free")
+
+
+def config_of(folder, host, lanes):
+    """The file of a proxy with so many lanes and 256 clients, the honest one and those that flood."""
+    upstreams = "".join(
+        f'[[upstream]]\naddress = "{host}.1:{CENTRE + at}"\nsystem_id = "proxy"\npassword = "pw"\n' for at in range(lanes)
+    )
+    path = f"{folder}/floods.toml"
+    with open(path, "w") as file:
+        file.write(
+            f'listen = "{host}.1:{PROXY}"\nclients = 256\n[limits]\nqueue = 4000\nwindow = 1000\nclient = {SHARE}\n{upstreams}'
+            '[[account]]\nsystem_id = "alpha"\npassword = "a1"\nprefixes = ["49"]\n'
+            '[[account]]\nsystem_id = "flood"\npassword = "f1"\n'
+        )
+    return path
+
+
+def used(proxy):
+    """The processor time of a process, in seconds, to the nanosecond (clock_getcpuclockid of the C library)."""
+    return time.clock_gettime(~proxy.child.pid << 3 | 2)
+
+
+def begin(tool, host, kind, centres, started):
+    """Starts a flood, and gives its processes."""
+    role, count, what = KINDS[kind]
+    place = (f"{host}.3", f"{host}.1", PROXY)
+    if role == "centre":
+        centres[0].tell()
+        return []
+    if role == "reset":
+        return [started(Peer(tool, "reset", *place)) for _ in range(count)]
+    if role == "silent":
+        return [started(Peer(tool, "silent", *place, count, what))]
+    return [started(Peer(tool, "flood", *place, count, what, *(["bound"] if role == "bound" else [])))]
+
+
+def trial(program, tool, folder, host, kind, seconds):
+    """The honest client's figures beside a flood, with those of the flood."""
+    flood = KINDS[kind] or ("", 0, "")
+    lanes = 2 if flood[0] == "centre" else 1
+    with contextlib.ExitStack() as stack:
+        started = stack.enter_context
+        centres = [started(Peer(tool, "centre", f"{host}.1", CENTRE + at, at + 1, *[flood[2]] * (lanes - at - 1))) for at in range(lanes)]
+        proxy = started(Running(program, "serve", config_of(folder, host, lanes), listens="listening"))
+        time.sleep(0.2)
+        honest = started(Peer(tool, "honest", f"{host}.2", f"{host}.1", PROXY, EACH, seconds))
+        floods = begin(tool, host, kind, centres, started) if KINDS[kind] else []
+        time.sleep(0.5)
+        before = used(proxy)
+        honest.tell()
+        found = honest.figures(seconds + 10)
+        found["cpu"] = (used(proxy) - before) * 1e6 / max(found.get("of0", 0), 1)
+        for it in floods:
+            it.tell()
+        of_flood = [it.figures(10) for it in floods]
+    found["octets"] = sum(it.get("octets", 0) for it in of_flood)
+    found["closed"] = sum(it.get("closed", 0) for it in of_flood)
+    found["told"] = max([it.get("told", -1) for it in of_flood], default=-1)
+    return found
+
+
+def summary(rows, base):
+    """The medians of a kind's trials, the greatest latency and the sums of what went wrong; times in ms."""
+    def median(name):
+        return statistics.median(it.get(name, 0) for it in rows)
+
+    found = {name: median(name) for name in ("of0", "cpu", "octets", "closed", "told", "skipped")}
+    found |= {name: median(name) / 1000 for name in ("p500", "p990", "p502", "p992", "p501")}
+    found["most"] = max(it.get("most0", 0) for it in rows) / 1000
+    found["bad"], found["missing"] = (sum(it.get(name, 1) for it in rows) for name in ("bad", "missing"))
+    found["ratio"] = found["cpu"] / (base["cpu"] if base else found["cpu"])
+    found["lanes"] = any(it.get("of2") for it in rows)
+    return found
+
+
+def verdict(kind, found):
+    """Whether a kind keeps to its goals: on the lane that isn't flooded too, and with each request answered once."""
+    goals = next((it for name, it in GOALS.items() if kind.startswith(name)), None)
+    if not goals:
+        return "-"
+    figures = [(found["p500"], goals[0]), (found["p990"], goals[1]), (found["ratio"], goals[2])]
+    if found["lanes"]:
+        figures.append((found["p502"], goals[0]))
+    well = all(goal is None or figure <= goal for figure, goal in figures)
+    return "within" if well and found["of0"] and not found["bad"] and not found["missing"] else "beyond"
+
+
+def shown(it):
+    """A figure in three digits or more."""
+    return f"{it:,.0f}" if it >= 100 else f"{it:.1f}" if it >= 10 else f"{it:.2f}"
+
+
+COLUMNS = {
+    "p50 ms": lambda it: shown(it["p500"]),
+    "p99 ms": lambda it: shown(it["p990"]),
+    "greatest ms": lambda it: shown(it["most"]),
+    "p50, p99 ms on the other lane": lambda it: f"{shown(it['p502'])}, {shown(it['p992'])}" if it["lanes"] else "-",
+    "answered": lambda it: f"{it['of0']:,.0f}",
+    "bad, missing": lambda it: f"{it['bad']:.0f}, {it['missing']:.0f}",
+    "us of processor a message": lambda it: shown(it["cpu"]),
+    "ratio": lambda it: shown(it["ratio"]),
+    "flood MB/s": lambda it: shown(it["octets"] / 1e6),
+    "closed": lambda it: f"{it['closed']:,.0f}",
+    "told": lambda it: f"0x{int(it['told']):02X}" if it["told"] >= 0 else "-",
+}
+
+
+def table(kinds, programs, found):
+    """Prints a row for each kind, with the figures of each program side by side."""
+    for number, it in enumerate(programs, 1) if len(programs) > 1 else ():
+        print(f"program {number}: {it}")
+    print("| Flood | " + " | ".join(COLUMNS) + " | goal |")
+    print("|---" * (len(COLUMNS) + 2) + "|")
+    bases = [summary(found["none", it], None) for it in programs]
+    for kind in kinds:
+        of = [summary(found[kind, it], base) for it, base in zip(programs, bases)]
+        cells = [" / ".join(map(show, of)) for show in COLUMNS.values()]
+        print(f"| {kind} | " + " | ".join(cells) + " | " + " / ".join(verdict(kind, it) for it in of) + " |", flush=True)
+
+
+def floods(programs, tool, folder, rounds, seconds, picked):
+    """Tries each kind with each program in each round, and prints the table."""
+    kinds = [it for it in KINDS if it == "none" or not picked or it.startswith(tuple(picked))]
+    for ending in (signal.SIGTERM, signal.SIGHUP):
+        signal.signal(ending, lambda *_: sys.exit("bench-serve: ended by a signal"))
+    network, holder = own_network()
+    found, number = {}, 0
+    with holder:
+        for at in range(rounds):
+            trials = [(kind, program) for kind in kinds for program in dict.fromkeys(programs)]
+            random.shuffle(trials)
+            for kind, program in trials:
+                number += 1
+                print(f"round {at + 1} of {rounds}: {kind}", file=sys.stderr, flush=True)
+                row = trial(program, tool, folder, f"{network}.{number % 255}", kind, seconds)
+                found.setdefault((kind, program), []).append(row)
+    table(kinds, list(dict.fromkeys(programs)), found)
