@@ -6,12 +6,11 @@
 //   bench_floods honest FROM AT PORT EACH SECONDS            binds as `alpha`, and after a line on its input sends
 //                                                            a submit_sm each millisecond for so many SECONDS, but
 //                                                            none while EACH have no answer
-//   bench_floods flood FROM AT PORT LINKS FLOOD [bound]      each link writes as fast as it can, and reads; bound:
-//                                                            it binds first, as `flood`
+//   bench_floods flood FROM AT PORT LINKS FLOOD [bound]      each link writes as fast as it can, and reads
 //   bench_floods reset FROM AT PORT                          connects and resets, again and again
-//   bench_floods silent FROM AT PORT LINKS once|full         asks once, or until nobody takes it, and never reads
+//   bench_floods silent FROM AT PORT LINKS TIMES [bound]     each link enquires so often, and never reads
 //
-// FROM and AT are addresses. Each says `ready` when it has begun, ends at a line on its input or its end, at the
+// FROM and AT are addresses. With `bound` each link binds first, as `flood`. Each says `ready` when it has begun, ends at a line on its input or its end, at the
 // latest after two minutes, and says its figures in pairs of a name and a number.
 #define _GNU_SOURCE
 #include "bench_links.h"
@@ -87,13 +86,18 @@ static int is_told(int milliseconds) {
     return poll(&input, 1, milliseconds) > 0 && read(0, line, sizeof line) >= 0;
 }
 
+// Whether the systems of both ends are to hold few octets of a link that isn't read.
+static int is_small;
+
 // A socket that is on its way to be connected.
 static int reach(const char *from, const char *address, int port) {
-    int one = 1, made = socket(AF_INET, SOCK_STREAM | SOCK_NONBLOCK, 0);
+    int one = 1, room = 4096, segment = 536, made = socket(AF_INET, SOCK_STREAM | SOCK_NONBLOCK, 0);
     struct sockaddr_in own = place_of(from, 0), at = place_of(address, port);
     if (made < 0) fail("socket");
     setsockopt(made, IPPROTO_IP, IP_BIND_ADDRESS_NO_PORT, &one, sizeof one);
     setsockopt(made, IPPROTO_TCP, TCP_NODELAY, &one, sizeof one);
+    if (is_small) setsockopt(made, SOL_SOCKET, SO_RCVBUF, &room, sizeof room);
+    if (is_small) setsockopt(made, IPPROTO_TCP, TCP_MAXSEG, &segment, sizeof segment);
     if (bind(made, (void *)&own, sizeof own)) fail("bind");
     if (connect(made, (void *)&at, sizeof at) && errno != EINPROGRESS) {
         close(made);
@@ -106,6 +110,7 @@ static int reach(const char *from, const char *address, int port) {
 
 static const char *own_name;
 static int is_flooding;
+static unsigned long octets;
 
 static void answer(struct link *l, const unsigned char *pdu, size_t size) {
     (void)size;
@@ -120,7 +125,7 @@ static void answer(struct link *l, const unsigned char *pdu, size_t size) {
 // The block once more, with new numbers, where all before it is written.
 static void add_flood(struct link *l) {
     if (!is_flooding || !l->bound || l->out) return;
-    memcpy(l->write, block, block_size), l->out = block_size;
+    memcpy(l->write, block, block_size), l->out = block_size, octets += block_size;
     for (size_t at = 0; at < block_size; at += number_at(block + at)) put_number(l->write + at + 12, STRANGE | l->next++);
 }
 
@@ -132,18 +137,24 @@ static void begin_flood(void) {
     }
 }
 
+// Says a flood's figures: octets a second, links that were closed, and the status that it was answered with.
+static void say_flood(double seconds, unsigned long closed, int told) {
+    printf("octets %.0f closed %lu told %d\n", octets / seconds, closed, told);
+}
+
 static void centre(const char *address, int port, const char *flood) {
     int listener = listen_at(address, port);
     struct epoll_event events[64], input = {.events = EPOLLIN, .data.u32 = MOST_LINKS + 1};
     epoll_ctl(poller, EPOLL_CTL_ADD, 0, &input);
     if (*flood) fill_block(flood, 1 << 14);
     ready();
-    for (double end = now() + LONGEST; now() < end;) {
+    double began = now(), end = began + LONGEST;
+    for (int over = 0; !over && now() < end;) {
         int found = epoll_wait(poller, events, 64, 1000);
         for (int i = 0; i < found; i++) {
             if (events[i].data.u32 == MOST_LINKS + 1) {
-                if (is_flooding || !*flood || !is_told(0)) return;
-                begin_flood();
+                over = is_flooding || !*flood || !is_told(0);
+                if (!over) begin_flood(), began = now();
                 continue;
             }
             if (events[i].data.u32 == MOST_LINKS) {
@@ -156,9 +167,10 @@ static void centre(const char *address, int port, const char *flood) {
             if (l->socket >= 0) add_flood(l), flush(l);
         }
     }
+    say_flood(now() - began, 0, -1);
 }
 
-// The honest client. Its latencies are those of all, of the first lane and of the second.
+// The honest client. Its latencies are those of all, a missing one's until the end, of the first lane and of the second.
 
 static uint32_t took[3][MOST_TAKEN];
 static unsigned long taken[3], sent, skipped, bad;
@@ -231,7 +243,9 @@ static void honest(const char *from, const char *address, int port, unsigned eac
         flush(l);
         await(l, due < end ? due : end + PATIENCE);
     }
-    printf("sent %lu skipped %lu bad %lu missing %u", sent, skipped, bad, l->waiting);
+    printf("sent %lu answered %lu skipped %lu bad %lu missing %u", sent, taken[0], skipped, bad, l->waiting);
+    for (int i = 0; i < MOST_WINDOW; i++)
+        if (l->sent[i] != 0 && taken[0] < MOST_TAKEN) took[0][taken[0]++] = (now() - l->sent[i]) * 1e6;
     for (int which = 0; which < 3; which++) say_quantiles(which);
     puts("");
 }
@@ -240,12 +254,12 @@ static void honest(const char *from, const char *address, int port, unsigned eac
 
 static struct flooder {
     int socket;
-    size_t greeted, at;
+    size_t greeted, at, asked;
 } flooders[MOST_LINKS];
 
 static unsigned char greeting[64], scratch[BLOCK];
 static size_t greeting_size, a_write = BLOCK;
-static unsigned long octets, closed;
+static unsigned long closed;
 static int told = -1; // the status of the first link's last answer
 
 static void open_flooder(int place, const char *from, const char *address, int port) {
@@ -288,7 +302,7 @@ static int pour(struct flooder *f) {
         return 0;
     }
     if (greets) f->greeted += wrote;
-    else octets += wrote, f->at = (f->at + wrote) % block_size;
+    else octets += wrote, f->asked += wrote, f->at = (f->at + wrote) % block_size;
     return 1;
 }
 
@@ -317,7 +331,7 @@ static void flood(const char *from, const char *address, int port, int wanted, c
         for (int i = 0; i < wanted; i++)
             if (flooders[i].socket < 0) open_flooder(i, from, address, port);
     }
-    printf("octets %.0f closed %lu told %d\n", octets / (now() - began), closed, told);
+    say_flood(now() - began, closed, told);
 }
 
 static void reset(const char *from, const char *address, int port) {
@@ -331,19 +345,22 @@ static void reset(const char *from, const char *address, int port) {
         setsockopt(it, SOL_SOCKET, SO_LINGER, &none, sizeof none);
         close(it);
     }
-    printf("octets 0 closed %lu told -1\n", connections);
+    say_flood(1, connections, -1);
 }
 
-static void silent(const char *from, const char *address, int port, int wanted, int full) {
-    fill_block("enquire_link", full ? BLOCK : 16);
+static void silent(const char *from, const char *address, int port, int wanted, size_t times) {
+    is_small = 1;
+    fill_block("enquire_link", times > 1 ? BLOCK : 16);
     for (int i = 0; i < wanted; i++) open_flooder(i, from, address, port);
-    double wrote = now(), end = wrote + PATIENCE;
-    while (now() < end && now() < wrote + 0.5)
-        for (int i = 0; i < wanted; i++)
-            if (flooders[i].socket >= 0 && (full || !flooders[i].greeted) && pour(flooders + i)) wrote = now(), flooders[i].greeted++;
+    double began = now(), wrote = began;
+    while (now() < began + PATIENCE && now() < wrote + 0.5)
+        for (int i = 0; i < wanted; i++) {
+            struct flooder *f = flooders + i;
+            while (f->socket >= 0 && f->asked < times * 16 && pour(f)) wrote = now();
+        }
     ready();
     is_told(LONGEST * 1000);
-    printf("octets %lu closed %lu told -1\n", octets, closed);
+    say_flood(now() - began, closed, -1);
 }
 
 int main(int words, char **word) {
@@ -354,13 +371,12 @@ int main(int words, char **word) {
     alarm(LONGEST + PATIENCE);
     poller = epoll_create1(0);
     const char *role = words > 1 ? word[1] : "";
+    if (words > 7) greet();
     if (words > 4 && !strcmp(role, "centre")) own_name = word[4], centre(word[2], atoi(word[3]), words > 5 ? word[5] : "");
     else if (words > 6 && !strcmp(role, "honest")) honest(word[2], word[3], atoi(word[4]), atoi(word[5]), atof(word[6]));
-    else if (words > 6 && !strcmp(role, "flood")) {
-        if (words > 7) greet();
-        flood(word[2], word[3], atoi(word[4]), atoi(word[5]), word[6]);
-    } else if (words > 4 && !strcmp(role, "reset")) reset(word[2], word[3], atoi(word[4]));
-    else if (words > 6 && !strcmp(role, "silent")) silent(word[2], word[3], atoi(word[4]), atoi(word[5]), !strcmp(word[6], "full"));
+    else if (words > 6 && !strcmp(role, "flood")) flood(word[2], word[3], atoi(word[4]), atoi(word[5]), word[6]);
+    else if (words > 4 && !strcmp(role, "reset")) reset(word[2], word[3], atoi(word[4]));
+    else if (words > 6 && !strcmp(role, "silent")) silent(word[2], word[3], atoi(word[4]), atoi(word[5]), atoi(word[6]));
     else return 2;
     return 0;
 }

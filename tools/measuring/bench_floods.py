@@ -25,14 +25,16 @@ STRANGERS = ("enquire_link", "unknown", "deliver_sm_resp", "generic_nack", "bind
 COUNTS = (1, 16, 64, 250)
 BOUND = ("submit_sm", "deliver_sm_resp", "large")
 CENTRES = ("deliver_sm", "deliver_sm_stray", "enquire_link", "submit_sm_resp")
-# Each kind of flood, as role, how many and what.
+# Each kind of flood, as role, how many, what, and whether they bind.
 KINDS = {
     "none": None,
     **{f"strangers-{count}-{what}": ("flood", count, what) for what in STRANGERS for count in COUNTS},
-    "resets-4": ("reset", 4, ""),
-    **{f"bound-16-{what}": ("bound", 16, what) for what in BOUND},
+    "resets-4": ("reset", 4),
+    **{f"bound-16-{what}": ("flood", 16, what, "bound") for what in BOUND},
     **{f"centre-{what}": ("centre", 1, what) for what in CENTRES},
-    **{f"silent-240-{what}": ("silent", 240, what) for what in ("once", "full")},
+    "silent-240-once": ("silent", 240, 1),
+    "silent-240-clogged": ("silent", 240, 30000),
+    "silent-240-bound": ("silent", 240, 30000, "bound"),
 }
 # The most ms of p50 and p99, and the most processor time a message as a ratio to that without a flood.
 GOALS = {"strangers-250-": (2, 25, None), "bound-16-": (5, 50, None), "centre-": (2, None, None), "silent-240-": (None, None, 1.3)}
@@ -94,36 +96,45 @@ def used(proxy):
     return time.clock_gettime(~proxy.child.pid << 3 | 2)
 
 
+def await_rest(proxy):
+    """Waits until the proxy takes no more than a tenth of a processor, ten seconds at most."""
+    for _ in range(50):
+        before = used(proxy)
+        time.sleep(0.2)
+        if used(proxy) - before < 0.02:
+            return
+
+
 def begin(tool, host, kind, centres, started):
     """Starts a flood, and gives its processes."""
-    role, count, what = KINDS[kind]
+    role, count, *what = KINDS[kind]
     place = (f"{host}.3", f"{host}.1", PROXY)
     if role == "centre":
         centres[0].tell()
-        return []
+        return [centres[0]]
     if role == "reset":
         return [started(Peer(tool, "reset", *place)) for _ in range(count)]
-    if role == "silent":
-        return [started(Peer(tool, "silent", *place, count, what))]
-    return [started(Peer(tool, "flood", *place, count, what, *(["bound"] if role == "bound" else [])))]
+    return [started(Peer(tool, role, *place, count, *what))]
 
 
 def trial(program, tool, folder, host, kind, seconds):
     """The honest client's figures beside a flood, with those of the flood."""
-    flood = KINDS[kind] or ("", 0, "")
-    lanes = 2 if flood[0] == "centre" else 1
+    role = KINDS[kind][0] if KINDS[kind] else ""
+    lanes = [("1", KINDS[kind][2]), ("2",)] if role == "centre" else [("1",)]
     with contextlib.ExitStack() as stack:
         started = stack.enter_context
-        centres = [started(Peer(tool, "centre", f"{host}.1", CENTRE + at, at + 1, *[flood[2]] * (lanes - at - 1))) for at in range(lanes)]
-        proxy = started(Running(program, "serve", config_of(folder, host, lanes), listens="listening"))
+        centres = [started(Peer(tool, "centre", f"{host}.1", CENTRE + at, *words)) for at, words in enumerate(lanes)]
+        proxy = started(Running(program, "serve", config_of(folder, host, len(lanes)), listens="listening"))
         time.sleep(0.2)
         honest = started(Peer(tool, "honest", f"{host}.2", f"{host}.1", PROXY, EACH, seconds))
-        floods = begin(tool, host, kind, centres, started) if KINDS[kind] else []
+        floods = begin(tool, host, kind, centres, started) if role else []
         time.sleep(0.5)
+        if role == "silent":
+            await_rest(proxy)
         before = used(proxy)
         honest.tell()
         found = honest.figures(seconds + 10)
-        found["cpu"] = (used(proxy) - before) * 1e6 / max(found.get("of0", 0), 1)
+        found["cpu"] = (used(proxy) - before) * 1e6 / max(found.get("answered", 0), 1)
         for it in floods:
             it.tell()
         of_flood = [it.figures(10) for it in floods]
@@ -138,7 +149,7 @@ def summary(rows, base):
     def median(name):
         return statistics.median(it.get(name, 0) for it in rows)
 
-    found = {name: median(name) for name in ("of0", "cpu", "octets", "closed", "told", "skipped")}
+    found = {name: median(name) for name in ("answered", "cpu", "octets", "closed", "told", "skipped")}
     found |= {name: median(name) / 1000 for name in ("p500", "p990", "p502", "p992", "p501")}
     found["most"] = max(it.get("most0", 0) for it in rows) / 1000
     found["bad"], found["missing"] = (sum(it.get(name, 1) for it in rows) for name in ("bad", "missing"))
@@ -156,7 +167,7 @@ def verdict(kind, found):
     if found["lanes"]:
         figures.append((found["p502"], goals[0]))
     well = all(goal is None or figure <= goal for figure, goal in figures)
-    return "within" if well and found["of0"] and not found["bad"] and not found["missing"] else "beyond"
+    return "within" if well and found["answered"] and not found["bad"] and not found["missing"] else "beyond"
 
 
 def shown(it):
@@ -169,7 +180,7 @@ COLUMNS = {
     "p99 ms": lambda it: shown(it["p990"]),
     "greatest ms": lambda it: shown(it["most"]),
     "p50, p99 ms on the other lane": lambda it: f"{shown(it['p502'])}, {shown(it['p992'])}" if it["lanes"] else "-",
-    "answered": lambda it: f"{it['of0']:,.0f}",
+    "answered": lambda it: f"{it['answered']:,.0f}",
     "bad, missing": lambda it: f"{it['bad']:.0f}, {it['missing']:.0f}",
     "us of processor a message": lambda it: shown(it["cpu"]),
     "ratio": lambda it: shown(it["ratio"]),
