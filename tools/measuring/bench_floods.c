@@ -10,8 +10,10 @@
 //   bench_floods reset FROM AT PORT                          connects and resets, again and again
 //   bench_floods silent FROM AT PORT LINKS TIMES [bound]     each link enquires so often, and never reads
 //
-// FROM and AT are addresses. With `bound` each link binds first, as `flood`. Each says `ready` when it has begun, ends at a line on its input or its end, at the
-// latest after two minutes, and says its figures in pairs of a name and a number.
+// FROM and AT are addresses. With `bound` each link binds first, as `flood`. Each says `ready` when it has
+// begun, ends at a line on its input or at the input's end, after two minutes at the latest, and says its
+// figures, each behind its name. An answer with another status, or to no request of the honest client, is
+// bad; a request without an answer five seconds after the end is missing.
 #define _GNU_SOURCE
 #include "bench_links.h"
 #include <poll.h>
@@ -126,7 +128,8 @@ static void answer(struct link *l, const unsigned char *pdu, size_t size) {
 static void add_flood(struct link *l) {
     if (!is_flooding || !l->bound || l->out) return;
     memcpy(l->write, block, block_size), l->out = block_size, octets += block_size;
-    for (size_t at = 0; at < block_size; at += number_at(block + at)) put_number(l->write + at + 12, STRANGE | l->next++);
+    for (size_t at = 0; at < block_size; at += number_at(block + at))
+        put_number(l->write + at + 12, STRANGE | l->next++);
 }
 
 static void begin_flood(void) {
@@ -142,11 +145,12 @@ static void say_flood(double seconds, unsigned long closed, int told) {
     printf("octets %.0f closed %lu told %d\n", octets / seconds, closed, told);
 }
 
-static void centre(const char *address, int port, const char *flood) {
+static void centre(const char *address, int port, const char *name, const char *flood) {
     int listener = listen_at(address, port);
     struct epoll_event events[64], input = {.events = EPOLLIN, .data.u32 = MOST_LINKS + 1};
     epoll_ctl(poller, EPOLL_CTL_ADD, 0, &input);
     if (*flood) fill_block(flood, 1 << 14);
+    own_name = name;
     ready();
     double began = now(), end = began + LONGEST;
     for (int over = 0; !over && now() < end;) {
@@ -170,8 +174,9 @@ static void centre(const char *address, int port, const char *flood) {
     say_flood(now() - began, 0, -1);
 }
 
-// The honest client. Its latencies are those of all, a missing one's until the end, of the first lane and of the second.
+// The honest client.
 
+// Its latencies in us: all, with a missing one's until the end; the first lane's; the second's.
 static uint32_t took[3][MOST_TAKEN];
 static unsigned long taken[3], sent, skipped, bad;
 
@@ -186,8 +191,8 @@ static void settle(struct link *l, const unsigned char *pdu, size_t size) {
         return;
     }
     double *at = &l->sent[number % MOST_WINDOW];
-    int lane = size > 16 ? pdu[16] - '0' : 0;
-    if (command != (RESPONSE | SUBMIT_SM) || *at == 0 || status || lane < 1 || lane > 2 || taken[0] == MOST_TAKEN) bad++;
+    int lane = size > 16 ? pdu[16] - '0' : 0, is_good = command == (RESPONSE | SUBMIT_SM) && *at != 0 && !status;
+    if (!is_good || lane < 1 || lane > 2 || taken[0] == MOST_TAKEN) bad++;
     else {
         uint32_t late = (now() - *at) * 1e6;
         took[0][taken[0]++] = took[lane][taken[lane]++] = late;
@@ -372,11 +377,17 @@ int main(int words, char **word) {
     poller = epoll_create1(0);
     const char *role = words > 1 ? word[1] : "";
     if (words > 7) greet();
-    if (words > 4 && !strcmp(role, "centre")) own_name = word[4], centre(word[2], atoi(word[3]), words > 5 ? word[5] : "");
-    else if (words > 6 && !strcmp(role, "honest")) honest(word[2], word[3], atoi(word[4]), atoi(word[5]), atof(word[6]));
-    else if (words > 6 && !strcmp(role, "flood")) flood(word[2], word[3], atoi(word[4]), atoi(word[5]), word[6]);
-    else if (words > 4 && !strcmp(role, "reset")) reset(word[2], word[3], atoi(word[4]));
-    else if (words > 6 && !strcmp(role, "silent")) silent(word[2], word[3], atoi(word[4]), atoi(word[5]), atoi(word[6]));
+    if (words > 4 && !strcmp(role, "centre")) {
+        centre(word[2], atoi(word[3]), word[4], words > 5 ? word[5] : "");
+        return 0;
+    }
+    if (words < 5) return 2;
+    const char *from = word[2], *address = word[3];
+    int port = atoi(word[4]), number = words > 6 ? atoi(word[5]) : 0;
+    if (!strcmp(role, "reset")) reset(from, address, port);
+    else if (number && !strcmp(role, "honest")) honest(from, address, port, number, atof(word[6]));
+    else if (number && !strcmp(role, "flood")) flood(from, address, port, number, word[6]);
+    else if (number && !strcmp(role, "silent")) silent(from, address, port, number, atoi(word[6]));
     else return 2;
     return 0;
 }

@@ -37,7 +37,16 @@ KINDS = {
     "silent-240-bound": ("silent", 240, 30000, "bound"),
 }
 # The most ms of p50 and p99, and the most processor time a message as a ratio to that without a flood.
-GOALS = {"strangers-250-": (2, 25, None), "bound-16-": (5, 50, None), "centre-": (2, None, None), "silent-240-": (None, None, 1.3)}
+GOALS = {
+    "strangers-250-": (2, 25, None),
+    "bound-16-": (5, 50, None),
+    "centre-": (2, None, None),
+    "silent-240-": (None, None, 1.3),
+}
+
+
+class Failed(Exception):
+    """A trial can't be made, as its program doesn't do what it should."""
 
 
 class Peer(Running):
@@ -47,7 +56,7 @@ class Peer(Running):
         self.child = subprocess.Popen([str(it) for it in words], stdin=subprocess.PIPE, stdout=subprocess.PIPE)
         try:
             if self.line(15) != "ready":
-                raise SystemExit(f"bench-serve: {' '.join(self.child.args)} isn't ready")
+                raise Failed(f"{' '.join(self.child.args)} isn't ready")
         except BaseException:
             self.__exit__()
             raise
@@ -58,8 +67,9 @@ class Peer(Running):
         return self.child.stdout.readline().decode().strip() if there else ""
 
     def tell(self):
-        self.child.stdin.write(b"\n")
-        self.child.stdin.flush()
+        with contextlib.suppress(BrokenPipeError):
+            self.child.stdin.write(b"\n")
+            self.child.stdin.flush()
 
     def figures(self, seconds):
         return {name: float(number) for name, number in re.findall(r"(\w+) (-?\d+)", self.line(seconds))}
@@ -79,12 +89,14 @@ def own_network():
 def config_of(folder, host, lanes):
     """The file of a proxy with so many lanes and 256 clients, the honest one and those that flood."""
     upstreams = "".join(
-        f'[[upstream]]\naddress = "{host}.1:{CENTRE + at}"\nsystem_id = "proxy"\npassword = "pw"\n' for at in range(lanes)
+        f'[[upstream]]\naddress = "{host}.1:{CENTRE + at}"\nsystem_id = "proxy"\npassword = "pw"\n'
+        for at in range(lanes)
     )
     path = f"{folder}/floods.toml"
     with open(path, "w") as file:
         file.write(
-            f'listen = "{host}.1:{PROXY}"\nclients = 256\n[limits]\nqueue = 4000\nwindow = 1000\nclient = {SHARE}\n{upstreams}'
+            f'listen = "{host}.1:{PROXY}"\nclients = 256\n'
+            f"[limits]\nqueue = 4000\nwindow = 1000\nclient = {SHARE}\n{upstreams}"
             '[[account]]\nsystem_id = "alpha"\npassword = "a1"\nprefixes = ["49"]\n'
             '[[account]]\nsystem_id = "flood"\npassword = "f1"\n'
         )
@@ -92,8 +104,11 @@ def config_of(folder, host, lanes):
 
 
 def used(proxy):
-    """The processor time of a process, in seconds, to the nanosecond (clock_getcpuclockid of the C library)."""
-    return time.clock_gettime(~proxy.child.pid << 3 | 2)
+    """The processor time of a process in seconds, finer than /proc has it: clock_getcpuclockid's clock."""
+    try:
+        return time.clock_gettime(~proxy.child.pid << 3 | 2)
+    except OSError:
+        raise Failed("the proxy has ended")
 
 
 def await_rest(proxy):
@@ -150,10 +165,10 @@ def summary(rows, base):
         return statistics.median(it.get(name, 0) for it in rows)
 
     found = {name: median(name) for name in ("answered", "cpu", "octets", "closed", "told", "skipped")}
-    found |= {name: median(name) / 1000 for name in ("p500", "p990", "p502", "p992", "p501")}
+    found.update({name: median(name) / 1000 for name in ("p500", "p990", "p502", "p992")})
     found["most"] = max(it.get("most0", 0) for it in rows) / 1000
     found["bad"], found["missing"] = (sum(it.get(name, 1) for it in rows) for name in ("bad", "missing"))
-    found["ratio"] = found["cpu"] / (base["cpu"] if base else found["cpu"])
+    found["ratio"] = found["cpu"] / ((base or found)["cpu"] or 1)
     found["lanes"] = any(it.get("of2") for it in rows)
     return found
 
@@ -185,38 +200,52 @@ COLUMNS = {
     "us of processor a message": lambda it: shown(it["cpu"]),
     "ratio": lambda it: shown(it["ratio"]),
     "flood MB/s": lambda it: shown(it["octets"] / 1e6),
-    "closed": lambda it: f"{it['closed']:,.0f}",
-    "told": lambda it: f"0x{int(it['told']):02X}" if it["told"] >= 0 else "-",
+    "links closed": lambda it: f"{it['closed']:,.0f}",
+    "answered with": lambda it: f"0x{int(it['told']):02X}" if it["told"] >= 0 else "-",
 }
 
 
 def table(kinds, programs, found):
-    """Prints a row for each kind, with the figures of each program side by side."""
+    """Prints a row for each kind that all programs were tried with, the figures of each side by side."""
+    kinds = [it for it in kinds if it == "none" or all((it, program) in found for program in programs)]
     for number, it in enumerate(programs, 1) if len(programs) > 1 else ():
         print(f"program {number}: {it}")
     print("| Flood | " + " | ".join(COLUMNS) + " | goal |")
     print("|---" * (len(COLUMNS) + 2) + "|")
-    bases = [summary(found["none", it], None) for it in programs]
+    bases = [summary(found.get(("none", it), [{}]), None) for it in programs]
     for kind in kinds:
-        of = [summary(found[kind, it], base) for it, base in zip(programs, bases)]
+        of = [summary(found.get((kind, it), [{}]), base) for it, base in zip(programs, bases)]
         cells = [" / ".join(map(show, of)) for show in COLUMNS.values()]
-        print(f"| {kind} | " + " | ".join(cells) + " | " + " / ".join(verdict(kind, it) for it in of) + " |", flush=True)
+        goal = " / ".join(verdict(kind, it) for it in of)
+        print(f"| {kind} | {' | '.join(cells)} | {goal} |", flush=True)
+
+
+def attempt(program, tool, folder, host, kind, seconds):
+    """A trial; where it can't be made nothing is found, which counts as missing."""
+    try:
+        return trial(program, tool, folder, host, kind, seconds)
+    except Failed as why:
+        print(f"bench-serve: {kind}, {program}: {why}", file=sys.stderr, flush=True)
+        return {}
 
 
 def floods(programs, tool, folder, rounds, seconds, picked):
-    """Tries each kind with each program in each round, and prints the table."""
+    """Tries each kind with each program in each round, and prints the table, also where it is interrupted."""
     kinds = [it for it in KINDS if it == "none" or not picked or it.startswith(tuple(picked))]
+    programs = list(dict.fromkeys(programs))
     for ending in (signal.SIGTERM, signal.SIGHUP):
         signal.signal(ending, lambda *_: sys.exit("bench-serve: ended by a signal"))
     network, holder = own_network()
     found, number = {}, 0
-    with holder:
+    try:
         for at in range(rounds):
-            trials = [(kind, program) for kind in kinds for program in dict.fromkeys(programs)]
+            trials = [(kind, program) for kind in kinds for program in programs]
             random.shuffle(trials)
             for kind, program in trials:
                 number += 1
                 print(f"round {at + 1} of {rounds}: {kind}", file=sys.stderr, flush=True)
-                row = trial(program, tool, folder, f"{network}.{number % 255}", kind, seconds)
+                row = attempt(program, tool, folder, f"{network}.{number % 255}", kind, seconds)
                 found.setdefault((kind, program), []).append(row)
-    table(kinds, list(dict.fromkeys(programs)), found)
+    finally:
+        holder.close()
+        table(kinds, programs, found)
