@@ -18,7 +18,6 @@
 #include "bench_links.h"
 #include <poll.h>
 #include <signal.h>
-#include <sys/prctl.h>
 
 enum { DELIVER_SM = 0x5, UNKNOWN = 0xA, MOST_TAKEN = 1 << 17, BLOCK = 1 << 16, LONGEST = 120, PATIENCE = 5 };
 // No request of the proxy has such a number.
@@ -372,7 +371,6 @@ int main(int words, char **word) {
     struct rlimit files = {4096, 4096};
     setrlimit(RLIMIT_NOFILE, &files);
     signal(SIGPIPE, SIG_IGN);
-    prctl(PR_SET_PDEATHSIG, SIGKILL);
     alarm(LONGEST + PATIENCE);
     poller = epoll_create1(0);
     const char *role = words > 1 ? word[1] : "";

@@ -18,7 +18,7 @@ import subprocess
 import sys
 import time
 
-from bench_running import Running
+from bench_running import Running, started
 
 PROXY, CENTRE, SHARE, EACH = 17775, 17001, 50, 40
 STRANGERS = ("enquire_link", "unknown", "deliver_sm_resp", "generic_nack", "bind", "submit_sm", "large", "octets")
@@ -53,7 +53,7 @@ class Peer(Running):
     """A process of bench_floods.c, which says that it is ready, takes lines and says its figures."""
 
     def __init__(self, *words):
-        self.child = subprocess.Popen([str(it) for it in words], stdin=subprocess.PIPE, stdout=subprocess.PIPE)
+        self.child = started([str(it) for it in words], stdout=subprocess.PIPE)
         try:
             if self.line(15) != "ready":
                 raise Failed(f"{' '.join(self.child.args)} isn't ready")
@@ -120,7 +120,7 @@ def await_rest(proxy):
             return
 
 
-def begin(tool, host, kind, centres, started):
+def begin(tool, host, kind, centres, enter):
     """Starts a flood, and gives its processes."""
     role, count, *what = KINDS[kind]
     place = (f"{host}.3", f"{host}.1", PROXY)
@@ -128,8 +128,8 @@ def begin(tool, host, kind, centres, started):
         centres[0].tell()
         return [centres[0]]
     if role == "reset":
-        return [started(Peer(tool, "reset", *place)) for _ in range(count)]
-    return [started(Peer(tool, role, *place, count, *what))]
+        return [enter(Peer(tool, "reset", *place)) for _ in range(count)]
+    return [enter(Peer(tool, role, *place, count, *what))]
 
 
 def trial(program, tool, folder, host, kind, seconds):
@@ -137,12 +137,12 @@ def trial(program, tool, folder, host, kind, seconds):
     role = KINDS[kind][0] if KINDS[kind] else ""
     lanes = [("1", KINDS[kind][2]), ("2",)] if role == "centre" else [("1",)]
     with contextlib.ExitStack() as stack:
-        started = stack.enter_context
-        centres = [started(Peer(tool, "centre", f"{host}.1", CENTRE + at, *words)) for at, words in enumerate(lanes)]
-        proxy = started(Running(program, "serve", config_of(folder, host, len(lanes)), listens="listening"))
+        enter = stack.enter_context
+        centres = [enter(Peer(tool, "centre", f"{host}.1", CENTRE + at, *words)) for at, words in enumerate(lanes)]
+        proxy = enter(Running(program, "serve", config_of(folder, host, len(lanes)), listens="listening"))
         time.sleep(0.2)
-        honest = started(Peer(tool, "honest", f"{host}.2", f"{host}.1", PROXY, EACH, seconds))
-        floods = begin(tool, host, kind, centres, started) if role else []
+        honest = enter(Peer(tool, "honest", f"{host}.2", f"{host}.1", PROXY, EACH, seconds))
+        floods = begin(tool, host, kind, centres, enter) if role else []
         time.sleep(0.5)
         if role == "silent":
             await_rest(proxy)
@@ -168,7 +168,8 @@ def summary(rows, base):
     found.update({name: median(name) / 1000 for name in ("p500", "p990", "p502", "p992")})
     found["most"] = max(it.get("most0", 0) for it in rows) / 1000
     found["bad"], found["missing"] = (sum(it.get(name, 1) for it in rows) for name in ("bad", "missing"))
-    found["ratio"] = found["cpu"] / ((base or found)["cpu"] or 1)
+    without = (base or found)["cpu"]
+    found["ratio"] = found["cpu"] / without if without else float("inf")
     found["lanes"] = any(it.get("of2") for it in rows)
     return found
 
@@ -233,7 +234,7 @@ def floods(programs, tool, folder, rounds, seconds, picked):
     """Tries each kind with each program in each round, and prints the table, also where it is interrupted."""
     kinds = [it for it in KINDS if it == "none" or not picked or it.startswith(tuple(picked))]
     programs = list(dict.fromkeys(programs))
-    for ending in (signal.SIGTERM, signal.SIGHUP):
+    for ending in (signal.SIGINT, signal.SIGTERM, signal.SIGHUP):
         signal.signal(ending, lambda *_: sys.exit("bench-serve: ended by a signal"))
     network, holder = own_network()
     found, number = {}, 0

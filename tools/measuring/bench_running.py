@@ -1,19 +1,29 @@
 """The programs that tools/measuring/bench-serve starts and ends."""
 
+import ctypes
 import os
 import re
+import signal
 import subprocess
 import threading
 import time
 
 TICKS = os.sysconf("SC_CLK_TCK")
+LIBC = ctypes.CDLL(None)
+PR_SET_PDEATHSIG = 1
+
+
+def started(words, **pipes):
+    """A process that the system kills when this one has ended, however it ended."""
+    ends = lambda: LIBC.prctl(PR_SET_PDEATHSIG, signal.SIGKILL)
+    return subprocess.Popen(words, stdin=subprocess.PIPE, preexec_fn=ends, **pipes)
 
 
 class Running:
     """A program of ours, ended with the block."""
 
     def __init__(self, *words, listens=None):
-        self.child = subprocess.Popen(words, stdin=subprocess.PIPE, stdout=subprocess.DEVNULL, stderr=subprocess.PIPE)
+        self.child = started(words, stdout=subprocess.DEVNULL, stderr=subprocess.PIPE)
         if listens:
             for line in self.child.stderr:
                 if listens in line.decode():
