@@ -265,11 +265,13 @@ static unsigned char greeting[64], scratch[BLOCK];
 static size_t greeting_size, a_write = BLOCK;
 static unsigned long closed;
 static int told = -1; // the status of the first link's last answer
+static size_t noted; // the octets of the answer that the first link is reading
 
 static void open_flooder(int place, const char *from, const char *address, int port) {
     struct flooder *f = flooders + place;
     struct epoll_event event = {.events = EPOLLIN | EPOLLOUT, .data.u32 = place};
     f->socket = reach(from, address, port), f->greeted = 0, f->at = 0;
+    if (!place) noted = 0;
     if (f->socket >= 0) epoll_ctl(poller, EPOLL_CTL_ADD, f->socket, &event);
 }
 
@@ -281,11 +283,10 @@ static void close_flooder(struct flooder *f) {
 // Notes the status of each whole answer in the first link's octets.
 static void note(const unsigned char *from, size_t size) {
     static unsigned char head[12];
-    static size_t at, whole;
     for (size_t i = 0; i < size; i++) {
-        if (at < 12) head[at] = from[i];
-        if (++at == 12) told = number_at(head + 8), whole = number_at(head);
-        if (at >= 12 && at == whole) at = 0;
+        if (noted < 12) head[noted] = from[i];
+        if (++noted == 12) told = number_at(head + 8);
+        if (noted >= 12 && noted == number_at(head)) noted = 0;
     }
 }
 
@@ -327,7 +328,8 @@ static void flood(const char *from, const char *address, int port, int wanted, c
         for (int i = 0; i < found; i++) {
             struct flooder *f = flooders + events[i].data.u32;
             if (events[i].events & (EPOLLIN | EPOLLERR | EPOLLHUP)) drain(f);
-            for (int n = 0; n < writes && f->socket >= 0 && pour(f);) n++;
+            for (int n = 0; n < writes && f->socket >= 0; n++)
+                if (!pour(f)) break;
         }
         if (now() < looked + 0.01) continue;
         looked = now();

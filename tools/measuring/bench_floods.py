@@ -165,7 +165,7 @@ def summary(rows, base):
         return statistics.median(it.get(name, 0) for it in rows)
 
     found = {name: median(name) for name in ("answered", "cpu", "octets", "closed", "told", "skipped")}
-    found.update({name: median(name) / 1000 for name in ("p500", "p990", "p502", "p992")})
+    found.update({name: median(name) / 1000 for name in ("p500", "p990", "p501", "p991", "p502", "p992")})
     found["most"] = max(it.get("most0", 0) for it in rows) / 1000
     found["bad"], found["missing"] = (sum(it.get(name, 1) for it in rows) for name in ("bad", "missing"))
     without = (base or found)["cpu"]
@@ -191,11 +191,17 @@ def shown(it):
     return f"{it:,.0f}" if it >= 100 else f"{it:.1f}" if it >= 10 else f"{it:.2f}"
 
 
+def pair(found, lane):
+    """Both quantiles of a lane, where there are two."""
+    return f"{shown(found['p50' + lane])}, {shown(found['p99' + lane])}" if found["lanes"] else "-"
+
+
 COLUMNS = {
     "p50 ms": lambda it: shown(it["p500"]),
     "p99 ms": lambda it: shown(it["p990"]),
     "greatest ms": lambda it: shown(it["most"]),
-    "p50, p99 ms on the other lane": lambda it: f"{shown(it['p502'])}, {shown(it['p992'])}" if it["lanes"] else "-",
+    "p50, p99 ms on the flooding lane": lambda it: pair(it, "1"),
+    "on the other": lambda it: pair(it, "2"),
     "answered": lambda it: f"{it['answered']:,.0f}",
     "bad, missing": lambda it: f"{it['bad']:.0f}, {it['missing']:.0f}",
     "us of processor a message": lambda it: shown(it["cpu"]),
