@@ -1,8 +1,9 @@
 // The peers of bench-serve's word floods: a centre, an honest client, and whoever floods beside them.
 //
-//   bench_floods centre AT PORT NAME SECONDS [FLOOD]         answers at once, with NAME as the message's id, but not
+//   bench_floods centre AT PORT NAME [FLOOD [BLOCKS]]        answers at once, with NAME as the message's id, but not
 //                                                            what comes from the address `hold`; a line on its
-//                                                            input makes it flood too
+//                                                            input makes it flood too, with so many blocks of
+//                                                            16 KB ahead of what the proxy has read
 //   bench_floods honest FROM AT PORT EACH SECONDS            binds as `alpha`, and after a line on its input sends
 //                                                            a submit_sm each millisecond for so many SECONDS, but
 //                                                            none while EACH have no answer
@@ -111,11 +112,15 @@ static int reach(const char *from, const char *address, int port) {
 
 static const char *own_name;
 static int is_flooding;
+static unsigned most_blocks; // that wait to be read; 0: as many as the sockets take
 static unsigned long octets;
+// Behind each block stands an enquire_link with such a number; its answer says that the block was read.
+static const uint32_t MARK = 0x20000000u;
 
 static void answer(struct link *l, const unsigned char *pdu, size_t size) {
     (void)size;
     uint32_t command = number_at(pdu + 4), number = number_at(pdu + 12);
+    if (command == (RESPONSE | ENQUIRE_LINK) && number == MARK) l->waiting--;
     if (command & RESPONSE) return;
     if (command == SUBMIT_SM && !memcmp(pdu + 19, "hold", 5)) return;
     if (command == SUBMIT_SM) say(l, command | RESPONSE, number, own_name, strlen(own_name) + 1);
@@ -123,20 +128,31 @@ static void answer(struct link *l, const unsigned char *pdu, size_t size) {
     else say(l, command | RESPONSE, number, "", 0);
 }
 
-// The block once more, with new numbers, where all before it is written.
+static void add_block(struct link *l) {
+    unsigned char *to = l->write + l->out;
+    memcpy(to, block, block_size), l->out += block_size, octets += block_size;
+    for (size_t at = 0; at < block_size; at += number_at(block + at)) put_number(to + at + 12, STRANGE | l->next++);
+}
+
+// Adds what the flood has room for, and awaits that the link can be written where something waits for that.
 static void add_flood(struct link *l) {
-    if (!is_flooding || !l->bound || l->out) return;
-    memcpy(l->write, block, block_size), l->out = block_size, octets += block_size;
-    for (size_t at = 0; at < block_size; at += number_at(block + at))
-        put_number(l->write + at + 12, STRANGE | l->next++);
+    if (!is_flooding || !l->bound) return;
+    if (!most_blocks && !l->out) add_block(l);
+    for (; l->waiting < most_blocks && l->out < BLOCK; l->waiting++) {
+        add_block(l);
+        say(l, ENQUIRE_LINK, MARK, "", 0);
+    }
+    flush(l);
+    struct epoll_event event = {.events = EPOLLIN | (l->out || !most_blocks ? EPOLLOUT : 0)};
+    for (int i = 0; i < count; i++)
+        if (links[i] == l) event.data.u32 = i;
+    epoll_ctl(poller, EPOLL_CTL_MOD, l->socket, &event);
 }
 
 static void begin_flood(void) {
     is_flooding = 1;
-    for (int i = 0; i < count; i++) {
-        struct epoll_event event = {.events = EPOLLIN | EPOLLOUT, .data.u32 = i};
-        if (links[i]->socket >= 0) epoll_ctl(poller, EPOLL_CTL_MOD, links[i]->socket, &event);
-    }
+    for (int i = 0; i < count; i++)
+        if (links[i]->socket >= 0) add_flood(links[i]);
 }
 
 // Says a flood's figures: octets a second, links that were closed, and the status that it was answered with.
@@ -144,12 +160,12 @@ static void say_flood(double seconds, unsigned long closed, int told) {
     printf("octets %.0f closed %lu told %d\n", octets / seconds, closed, told);
 }
 
-static void centre(const char *address, int port, const char *name, const char *flood) {
+static void centre(const char *address, int port, const char *name, const char *flood, unsigned blocks) {
     int listener = listen_at(address, port);
     struct epoll_event events[64], input = {.events = EPOLLIN, .data.u32 = MOST_LINKS + 1};
     epoll_ctl(poller, EPOLL_CTL_ADD, 0, &input);
     if (*flood) fill_block(flood, 1 << 14);
-    own_name = name;
+    own_name = name, most_blocks = blocks;
     ready();
     double began = now(), end = began + LONGEST;
     for (int over = 0; !over && now() < end;) {
@@ -378,7 +394,7 @@ int main(int words, char **word) {
     const char *role = words > 1 ? word[1] : "";
     if (words > 7) greet();
     if (words > 4 && !strcmp(role, "centre")) {
-        centre(word[2], atoi(word[3]), word[4], words > 5 ? word[5] : "");
+        centre(word[2], atoi(word[3]), word[4], words > 5 ? word[5] : "", words > 6 ? atoi(word[6]) : 0);
         return 0;
     }
     if (words < 5) return 2;

@@ -1,11 +1,12 @@
 """What a flood does to one honest client: the word floods of tools/measuring/bench-serve.
 
 An honest client sends a submit_sm each millisecond through a proxy to a centre, 40 without an answer at most,
-and beside it peers flood. Each trial has its own proxy, centres and addresses; the trials of a round, of each kind
-and program, come in drawn order. The peers are tools/measuring/bench_floods.c. A submit_sm of a client that
-floods isn't answered by the centre, so its share of the lane fills, and all further ones are answered 0x14
-ESME_RMSGQFUL. Where a centre floods there is another beside it. A peer that is silent has enquired once, or until
-the answers wait in the proxy.
+and beside it peers flood. Each trial has its own proxy, centres and addresses; the trials of a round, of each
+kind and program, come in drawn order. The peers are tools/measuring/bench_floods.c. A submit_sm of a client
+that floods isn't answered by the centre, so its share of the lane fills, and all further ones are answered 0x14
+ESME_RMSGQFUL. Where a centre floods there is another beside it. What it answers waits behind its own flood in
+the sockets, megabytes where it writes all that they take; with 32k it has two blocks of 16 KB ahead at most. A
+peer that is silent has enquired once, or until the answers wait in the proxy.
 
 The table has medians of the rounds, the greatest latency of all, and the sums of what was bad or missing; what is
 missing counts as that late. The ratio is the processor time a message to that without a flood. Links are closed
@@ -31,13 +32,14 @@ STRANGERS = ("enquire_link", "unknown", "deliver_sm_resp", "generic_nack", "bind
 COUNTS = (1, 16, 64, 250)
 BOUND = ("submit_sm", "deliver_sm_resp", "large")
 CENTRES = ("deliver_sm", "deliver_sm_stray", "enquire_link", "submit_sm_resp")
-# Each kind of flood, as role, how many, what, and whether they bind.
+# Each kind of flood, as role, how many, what, and whether they bind; or how many blocks a centre keeps ahead.
 KINDS = {
     "none": None,
     **{f"strangers-{count}-{what}": ("flood", count, what) for what in STRANGERS for count in COUNTS},
     "resets-4": ("reset", 4),
     **{f"bound-16-{what}": ("flood", 16, what, "bound") for what in BOUND},
     **{f"centre-{what}": ("centre", 1, what) for what in CENTRES},
+    **{f"centre-32k-{what}": ("centre", 1, what, 2) for what in CENTRES},
     "silent-240-once": ("silent", 240, 1),
     "silent-240-clogged": ("silent", 240, 30000),
     "silent-240-bound": ("silent", 240, 30000, "bound"),
@@ -141,7 +143,7 @@ def begin(tool, host, kind, centres, enter):
 def trial(program, tool, folder, host, kind, seconds):
     """The honest client's figures beside a flood, with those of the flood."""
     role = KINDS[kind][0] if KINDS[kind] else ""
-    lanes = [("1", KINDS[kind][2]), ("2",)] if role == "centre" else [("1",)]
+    lanes = [("1", *KINDS[kind][2:]), ("2",)] if role == "centre" else [("1",)]
     with contextlib.ExitStack() as stack:
         enter = stack.enter_context
         centres = [enter(Peer(tool, "centre", f"{host}.1", CENTRE + at, *words)) for at, words in enumerate(lanes)]
