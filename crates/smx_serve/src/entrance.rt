@@ -24,9 +24,14 @@ pub(crate) struct Entrance {
     pub gateway: Gateway,
     // The system had no descriptor for a connection that waits.
     pub short: bool,
+    // More connections may wait than were accepted at a time.
+    pub more: bool,
     // Clients are let in.
     pub is_open: bool,
 }
+
+/// How many connections are accepted at a time; more wait for the next pass.
+const ACCEPTS: u64 = 64;
 
 // What came of waiting for a connection.
 #[derive(Drop)]
@@ -172,7 +177,7 @@ impl Entrance {
             Ok(entered) => {
                 say_connected(rt, moment, entered.client, address.as_str());
                 let _ = addresses.roll.add(entered.client, slot);
-                queues.ready.add(party);
+                queues.begin_anew(slot);
                 guests.seat(slot, guest_of(entered, address, moment.desk));
             }
             Err((ends, reason)) => {
@@ -195,11 +200,12 @@ impl Entrance {
         addresses: &mut Addresses,
         connects: bool,
     ) {
-        if moment.stopping || !self.is_open || !(connects || self.short) {
+        if moment.stopping || !self.is_open || !(connects || self.short || self.more) {
             return;
         }
-        for _ in 0..u64::MAX {
+        for _ in 0..ACCEPTS {
             let Some((stream, address)) = self.accept(rt, moment) else {
+                self.more = false;
                 return;
             };
             if let Ok(address) = format!(in moment.alloc; "{address}") {
@@ -208,6 +214,7 @@ impl Entrance {
                 );
             }
         }
+        self.more = true;
     }
 }
 

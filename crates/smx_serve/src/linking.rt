@@ -169,6 +169,6 @@ pub(crate) fn tend_all<R: Wait + Net>(
                 tend(rt, registry, moment, queues, lane, place);
             }
         }
-        queues.ready.add(lane);
+        queues.schedule.add(lane);
     }
 }

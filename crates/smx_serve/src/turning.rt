@@ -62,14 +62,14 @@ impl<'d> Loop<'d> {
     fn tick<R: Wait + Net>(&mut self, rt: &R) {
         let moment = self.pace.moment;
         let registry = self.poll.registry();
-        tend_all(rt, registry, moment, &mut self.lanes, &mut self.queues);
         self.queues.unstall();
+        tend_all(rt, registry, moment, &mut self.lanes, &mut self.queues);
         moment.teller.settle(rt, moment.now);
         self.guests.settle_all(&mut self.queues, moment.now);
         self.let_in(rt, false);
     }
 
-    // Turns each that is ready once.
+    // Turns each lane and bound client that is ready once, and then one of the others.
     fn pass<R: Wait>(&mut self, rt: &R) {
         let is_gone = pass(
             rt,
@@ -79,6 +79,7 @@ impl<'d> Loop<'d> {
             &mut self.queues,
             &mut self.addresses,
         );
+        self.pace.has_passed();
         if is_gone {
             self.let_in(rt, false);
         }
@@ -86,6 +87,7 @@ impl<'d> Loop<'d> {
 
     // Waits for events, at most so many milliseconds.
     fn wait<R: Wait>(&mut self, rt: &R, timeout: u64) -> Result<(), Ended> {
+        self.pace.polls();
         let time = Some(Duration::from_millis(timeout));
         if self.poll.poll(&mut self.events, time).is_err() {
             return Err(Ended::NoEvents);
@@ -100,6 +102,18 @@ impl<'d> Loop<'d> {
         Ok(())
     }
 
+    // Writes what waits and asks for events, where that is due.
+    fn look<R: Wait>(&mut self, rt: &R) -> Result<(), Ended> {
+        if self
+            .pace
+            .is_poll_due(!self.queues.schedule.has_no_unbound())
+        {
+            flush(&self.lanes, &self.guests, &mut self.queues);
+            self.wait(rt, 0)?;
+        }
+        Ok(())
+    }
+
     /// Reads the clock and does what is due then, and makes one pass, or, where nobody is ready,
     /// waits at most so many milliseconds.
     pub fn round<R: Wait + Clock + Net>(&mut self, rt: &R, timeout: u64) -> Result<(), Ended> {
@@ -108,14 +122,15 @@ impl<'d> Loop<'d> {
             self.tick(rt);
         }
         self.open(rt);
+        if self.entrance.more {
+            self.let_in(rt, false);
+        }
         if are_idle(&self.lanes, &self.guests, &mut self.queues) {
-            return self.wait(rt, timeout);
+            let time = if self.entrance.more { 0 } else { timeout };
+            return self.wait(rt, time);
         }
+        self.look(rt)?;
         self.pass(rt);
-        if self.pace.has_passed() {
-            flush(&self.lanes, &self.guests, &mut self.queues);
-            return self.wait(rt, 0);
-        }
         Ok(())
     }
 
