@@ -24,7 +24,7 @@ pub(crate) struct Entrance {
     pub gateway: Gateway,
     // The system had no descriptor for a connection that waits.
     pub short: bool,
-    // More connections may wait than were accepted at a time.
+    // Connections may wait.
     pub more: bool,
     // Clients are let in.
     pub is_open: bool,
@@ -187,9 +187,18 @@ impl Entrance {
         }
     }
 
-    // Lets those in who connect, where somebody does, or none could be accepted before; but near
-    // the end nobody. Nothing is said of one for the words of whose address there is no memory: it
-    // is closed.
+    // Whether connections may wait that are let in.
+    pub fn has_more(&self) -> bool {
+        self.is_open && self.more
+    }
+
+    // Connections may wait, where none could be accepted before.
+    pub fn try_again(&mut self) {
+        self.more |= self.short;
+    }
+
+    // Lets those in who wait, at most 64 of them; but near the end nobody. Nothing is said of one for
+    // the words of whose address there is no memory: it is closed.
     pub fn let_in<'d, R: Wait>(
         &mut self,
         rt: &R,
@@ -198,9 +207,11 @@ impl Entrance {
         guests: &mut Guests<'d>,
         queues: &mut Queues,
         addresses: &mut Addresses,
-        connects: bool,
     ) {
-        if moment.stopping || !self.is_open || !(connects || self.short || self.more) {
+        if moment.stopping {
+            self.more = false;
+        }
+        if !self.has_more() {
             return;
         }
         for _ in 0..ACCEPTS {
@@ -214,7 +225,6 @@ impl Entrance {
                 );
             }
         }
-        self.more = true;
     }
 }
 

@@ -81,8 +81,10 @@ impl Queues {
         std::mem::take(&mut self.hurried)
     }
 
-    /// Each slot is ready.
+    /// A lane's link was lost: its return box was emptied, and each client may have a response that tells
+    /// of its request, so each slot is ready.
     pub fn add_slots(&mut self) {
+        self.empty_boxes();
         for slot in 0..self.slots {
             self.schedule.add(self.lanes.saturating_add(slot));
         }
