@@ -107,6 +107,7 @@ pub enum MeteredKind {
     Bound,
     Gone,
     Refused,
+    NotAccepted,
 }
 
 /// One line for whoever runs the proxy. No password is in it.
@@ -141,6 +142,7 @@ impl Notice<'_> {
                 _ => MeteredKind::Gone,
             }),
             Notice::Refused(_, _) => Some(MeteredKind::Refused),
+            Notice::NoDescriptor => Some(MeteredKind::NotAccepted),
             _ => None,
         }
     }
@@ -247,6 +249,7 @@ impl fmt::Display for MeteredKind {
             MeteredKind::Bound => "clients bound",
             MeteredKind::Gone => "clients gone",
             MeteredKind::Refused => "connections refused",
+            MeteredKind::NotAccepted => "connections not accepted",
         })
     }
 }

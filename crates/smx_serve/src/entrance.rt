@@ -23,9 +23,14 @@ pub(crate) struct Entrance {
     pub gateway: Gateway,
     // The system had no descriptor for a connection that waits.
     pub short: bool,
+    // Connections may wait.
+    pub more: bool,
     // Clients are let in.
     pub is_open: bool,
 }
+
+/// How many connections are accepted at a time; more wait for the next pass.
+const ACCEPTS: u64 = 64;
 
 // What came of waiting for a connection.
 #[derive(Drop)]
@@ -173,7 +178,7 @@ impl Entrance {
             Ok(entered) => {
                 say_connected(rt, moment, entered.client, address.as_str());
                 let _ = addresses.roll.add(entered.client, slot);
-                queues.ready.add(party);
+                queues.begin_anew(slot);
                 guests.seat(slot, guest_of(entered, address, moment));
             }
             Err((ends, reason)) => {
@@ -183,9 +188,18 @@ impl Entrance {
         }
     }
 
-    // Lets those in who connect, where somebody does, or none could be accepted before; but near
-    // the end nobody. Nothing is said of one for the words of whose address there is no memory: it
-    // is closed.
+    // Whether connections may wait that are let in.
+    pub fn has_more(&self) -> bool {
+        self.is_open && self.more
+    }
+
+    // Connections may wait, where none could be accepted before.
+    pub fn try_again(&mut self) {
+        self.more |= self.short;
+    }
+
+    // Lets those in who wait, at most 64 of them; but near the end nobody. Nothing is said of one for
+    // the words of whose address there is no memory: it is closed.
     pub fn let_in<'d, R: Wait>(
         &mut self,
         rt: &R,
@@ -194,13 +208,16 @@ impl Entrance {
         guests: &mut Guests<'d>,
         queues: &mut Queues,
         addresses: &mut Addresses,
-        connects: bool,
     ) {
-        if moment.stopping || !self.is_open || !(connects || self.short) {
+        if moment.stopping {
+            self.more = false;
+        }
+        if !self.has_more() {
             return;
         }
-        for _ in 0..u64::MAX {
+        for _ in 0..ACCEPTS {
             let Some((stream, address)) = self.accept(rt, moment) else {
+                self.more = false;
                 return;
             };
             if let Ok(address) = format!(in moment.alloc; "{address}") {

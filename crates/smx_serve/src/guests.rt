@@ -2,9 +2,8 @@
 
 use crate::addresses::Addresses;
 use crate::heard::bound_name;
-use crate::lane::TURNS;
 use crate::pace::Moment;
-use crate::queues::Queues;
+use crate::queues::{Progress, Queues, TURNS, is_enough};
 use crate::seating::Seating;
 use crate::seats::Member;
 use smx_client::Desk;
@@ -50,7 +49,26 @@ fn kind_of(state: ClientState) -> Option<Kind> {
 }
 
 impl Guest<'_> {
-    // Turns the worker until it is idle, at most so often; who is told of something is ready then.
+    // Runs the worker turn by turn, until it is idle or the party's turn is over: how that ended, and
+    // where its session stands.
+    fn run<R: Wait>(
+        &mut self,
+        rt: &R,
+        bell: &mut Bell<'_>,
+        guide: &mut Guide<'_>,
+    ) -> (RunEnd, ClientState) {
+        let before = self.socket.traffic();
+        let mut ran = self.member.run(rt, bell, guide, 1);
+        for _ in 1..TURNS {
+            if ran.0 != RunEnd::Turns || is_enough(before, self.socket.traffic()) {
+                break;
+            }
+            ran = self.member.run(rt, bell, guide, 1);
+        }
+        ran
+    }
+
+    // Makes a turn of the client; who is told of something is ready then.
     fn turn<R: Wait>(
         &mut self,
         rt: &R,
@@ -59,11 +77,19 @@ impl Guest<'_> {
         slot: usize,
     ) -> (RunEnd, ClientState) {
         let before = self.socket.traffic();
-        let mut bell = Bell::new(queues.lanes, &mut queues.ready, &addresses.roll);
+        let mut bell = Bell::new(queues.lanes, &mut queues.schedule, &addresses.roll);
         let mut guide = Guide::new(&mut addresses.routes, &addresses.roll);
-        let (end, state) = self.member.run(rt, &mut bell, &mut guide, TURNS);
-        let moved = self.socket.traffic() != before;
-        queues.was_turned(queues.party(slot), end, moved);
+        let (end, state) = self.run(rt, &mut bell, &mut guide);
+        let progress = Progress {
+            end,
+            moved: self.socket.traffic() != before,
+            rang: bell.has_rung(),
+            writable: self.socket.is_writable(),
+        };
+        if kind_of(state).is_some() {
+            queues.bind(slot);
+        }
+        queues.was_turned(queues.party(slot), progress);
         (end, state)
     }
 
@@ -362,6 +388,7 @@ impl<'d> Guests<'d> {
         let was_bound = guest.name.is_some();
         let (socket, ends) = guest.close(rt, queues, addresses);
         self.slots.keep(slot, ends);
+        queues.begin_anew(slot);
         if let Some(place) = self.lingering.get_mut(slot) {
             *place = Some(Lingering {
                 socket,
@@ -440,7 +467,7 @@ impl<'d> Guests<'d> {
             Parting::Waits => {}
             Parting::Reads => {
                 let party = queues.party(slot);
-                queues.ready.add(party);
+                queues.schedule.add(party);
             }
             Parting::Over => {
                 if let Some(place) = self.lingering.get_mut(slot) {

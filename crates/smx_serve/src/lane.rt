@@ -6,7 +6,7 @@ use crate::course::{Course, Way};
 use crate::guests::NACK;
 use crate::heard::bind_status;
 use crate::pace::Moment;
-use crate::queues::Queues;
+use crate::queues::{Progress, Queues, TURNS, is_enough};
 use crate::seats::{Carrier, Drawer};
 use crate::upstreams::{connect, session_of};
 use mio::Registry;
@@ -81,9 +81,6 @@ pub(crate) enum Unlinked {
 /// How long a link has to be bound for the next pause to be the first again, in milliseconds.
 const HELD: u64 = 60_000;
 
-/// How often a worker is turned before the next one is.
-pub(crate) const TURNS: u64 = 16;
-
 impl Linked {
     // Whether an octet came from the centre.
     fn has_heard(&self, alloc: Global) -> bool {
@@ -138,7 +135,26 @@ impl Linked {
         }
     }
 
-    // Turns the worker until it is idle, at most so often; who is told of something is ready then.
+    // Runs the worker turn by turn, until it is idle or the party's turn is over: how that ended.
+    fn run<R: Wait>(
+        &mut self,
+        rt: &R,
+        bell: &mut Bell<'_>,
+        guide: &mut Guide<'_>,
+        now: u64,
+    ) -> RunEnd {
+        let before = self.socket.traffic();
+        for _ in 0..TURNS {
+            let (end, state) = self.carrier.run(rt, bell, guide, now, 1);
+            self.state = state;
+            if end != RunEnd::Turns || is_enough(before, self.socket.traffic()) {
+                return end;
+            }
+        }
+        RunEnd::Turns
+    }
+
+    // Makes a turn of the lane; who is told of something is ready then.
     fn turn<R: Wait>(
         &mut self,
         rt: &R,
@@ -148,17 +164,21 @@ impl Linked {
         now: u64,
     ) -> Turned {
         let before = self.socket.traffic();
-        let mut bell = Bell::new(queues.lanes, &mut queues.ready, &addresses.roll);
+        let mut bell = Bell::new(queues.lanes, &mut queues.schedule, &addresses.roll);
         let mut guide = Guide::new(&mut addresses.routes, &addresses.roll);
-        let (end, state) = self.carrier.run(rt, &mut bell, &mut guide, now, TURNS);
-        self.state = state;
+        let end = self.run(rt, &mut bell, &mut guide, now);
         self.over = matches!(end, RunEnd::Left | RunEnd::Fault(_));
-        let moved = self.socket.traffic() != before;
-        if moved {
-            queues.unstall();
+        let progress = Progress {
+            end,
+            moved: self.socket.traffic() != before,
+            rang: bell.has_rung(),
+            writable: self.socket.is_writable(),
+        };
+        queues.was_turned(lane, progress);
+        if progress.moved {
+            queues.empty_boxes();
         }
-        queues.was_turned(lane, end, moved);
-        let newly_bound = state == UpstreamState::Bound && self.bound.is_none();
+        let newly_bound = self.state == UpstreamState::Bound && self.bound.is_none();
         if newly_bound {
             self.bound = Some(now);
         }

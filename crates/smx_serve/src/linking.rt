@@ -59,7 +59,6 @@ pub(crate) fn turn_lane<R: Wait>(
         }
         end @ (RunEnd::Left | RunEnd::Fault(_)) => {
             let lost = place.lose(rt, moment, end);
-            // Each client may have a response that tells of its request.
             queues.add_slots();
             match lost {
                 Some(lost) => say_lost(rt, moment, lane, place, lost),
@@ -162,6 +161,6 @@ pub(crate) fn tend_all<R: Wait + Net>(
                 tend(rt, registry, moment, queues, lane, place);
             }
         }
-        queues.ready.add(lane);
+        queues.schedule.add(lane);
     }
 }

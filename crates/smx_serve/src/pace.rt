@@ -5,13 +5,11 @@ use crate::teller::Teller;
 use smx_client::Desk;
 use smx_config::Config;
 use smx_notice::Notice;
+use smx_slots::is_poll_due;
 use std::alloc::Global;
 use std::rt::Clock;
 use std::sync::Wait;
 use std::time::Instant;
-
-/// After so many passes over those that are ready, events are asked for in any case.
-const PASSES: u64 = 16;
 
 /// How often each lane is turned in any case, in milliseconds.
 pub(crate) const TICK: u64 = 100;
@@ -49,7 +47,9 @@ pub(crate) struct Pace<'d> {
     start: Instant,
     // The moment of the last tick.
     ticked: u64,
+    // How many passes there were since events were asked for, and at which moment that was.
     passes: u64,
+    polled: u64,
 }
 
 impl<'d> Pace<'d> {
@@ -60,6 +60,7 @@ impl<'d> Pace<'d> {
             start,
             ticked: 0,
             passes: 0,
+            polled: 0,
         }
     }
 
@@ -76,9 +77,19 @@ impl<'d> Pace<'d> {
         true
     }
 
-    /// A pass is over: whether events are asked for in any case.
-    pub fn has_passed(&mut self) -> bool {
-        self.passes = self.passes.wrapping_add(1);
-        self.passes % PASSES == 0
+    /// Whether events are asked for before the next pass, where an unbound party is ready or none is.
+    pub fn is_poll_due(&self, has_unbound: bool) -> bool {
+        is_poll_due(self.moment.now, self.polled, self.passes, has_unbound)
+    }
+
+    /// Events are asked for at this moment.
+    pub fn polls(&mut self) {
+        self.polled = self.moment.now;
+        self.passes = 0;
+    }
+
+    /// A pass is over.
+    pub fn has_passed(&mut self) {
+        self.passes = self.passes.saturating_add(1);
     }
 }

@@ -25,8 +25,8 @@ fn socket_of<'a>(lanes: &'a [Lane], guests: &'a Guests, party: usize) -> Option<
 
 /// Writes what waits. A worker whose socket failed is told by its next turn.
 pub(crate) fn flush<'a>(lanes: &'a [Lane], guests: &'a Guests, queues: &mut Queues) {
-    for at in 0..queues.begin_flush() {
-        let Some(party) = queues.next_to_flush(at) else {
+    for _ in 0..queues.dirty() {
+        let Some(party) = queues.next_to_flush() else {
             break;
         };
         let failed = match socket_of(lanes, guests, party) {
@@ -34,19 +34,19 @@ pub(crate) fn flush<'a>(lanes: &'a [Lane], guests: &'a Guests, queues: &mut Queu
             None => false,
         };
         if failed {
-            queues.ready.add(party);
+            queues.schedule.resume(party);
+            queues.schedule.add(party);
         }
     }
-    queues.end_pass();
 }
 
 /// Writes what waits where nobody is ready: whether nobody is ready still.
 pub(crate) fn are_idle<'a>(lanes: &'a [Lane], guests: &'a Guests, queues: &mut Queues) -> bool {
-    if !queues.ready.is_empty() {
+    if !queues.schedule.is_empty() {
         return false;
     }
     flush(lanes, guests, queues);
-    queues.ready.is_empty()
+    queues.schedule.is_empty()
 }
 
 // Turns a party's worker. True where a client is gone then.
@@ -69,7 +69,8 @@ fn turn<R: Wait>(
     }
 }
 
-/// Turns each that is ready once. True where a client is gone then.
+/// Turns each lane and bound client that is ready once, and then one of the others. True where a client
+/// is gone then.
 pub(crate) fn pass<R: Wait>(
     rt: &R,
     moment: Moment<'_>,
@@ -79,21 +80,29 @@ pub(crate) fn pass<R: Wait>(
     addresses: &mut Addresses,
 ) -> bool {
     let mut is_gone = false;
-    for at in 0..queues.begin_pass() {
-        let Some(party) = queues.next_to_turn(at) else {
+    for _ in 0..queues.schedule.firsts() {
+        let Some(party) = queues.schedule.begin_first() else {
             break;
         };
         is_gone |= turn(rt, moment, lanes, guests, queues, addresses, party);
     }
-    queues.end_pass();
+    if !queues.schedule.has_no_unbound() {
+        flush(lanes, guests, queues);
+    }
+    if let Some(party) = queues.schedule.begin_unbound() {
+        is_gone |= turn(rt, moment, lanes, guests, queues, addresses, party);
+    }
     is_gone
 }
 
-// Heeds what the system says of a party's socket.
-fn note<'a>(lanes: &'a [Lane], guests: &'a Guests, event: &Event, party: usize) {
-    if let Some(socket) = socket_of(lanes, guests, party) {
-        socket.note(event);
-        socket.flush();
+// Heeds what the system says of a party's socket: whether that takes octets, or has failed.
+fn note<'a>(lanes: &'a [Lane], guests: &'a Guests, event: &Event, party: usize) -> bool {
+    match socket_of(lanes, guests, party) {
+        Some(socket) => {
+            socket.note(event);
+            socket.flush() == Flushed::Failed || event.is_writable() || event.is_error()
+        }
+        None => false,
     }
 }
 
@@ -112,8 +121,10 @@ pub(crate) fn heed<'a>(
         queues.hurry();
         return false;
     }
-    note(lanes, guests, event, party);
-    queues.ready.add(party);
+    if note(lanes, guests, event, party) {
+        queues.schedule.resume(party);
+    }
+    queues.schedule.add(party);
     false
 }
 

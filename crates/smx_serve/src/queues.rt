@@ -1,19 +1,27 @@
 //! Who has something to do.
 
-use smx_slots::Ready;
+use smx_slots::{Line, Schedule};
 use smx_turns::RunEnd;
 use std::alloc::{AllocError, Global};
+
+/// A turn of a party is so many turns of its worker at most.
+pub(crate) const TURNS: u64 = 64;
+
+/// It ends once so many octets went over its link: as many as one read gives.
+const OCTETS: u64 = 4_096;
+
+/// Whether a party's turn is over, where its socket's traffic was that and is this.
+pub(crate) fn is_enough(before: u64, traffic: u64) -> bool {
+    traffic.wrapping_sub(before) >= OCTETS
+}
 
 /// Who has something to do. Parties are numbered: the lanes, then the slots.
 #[derive(Drop)]
 pub(crate) struct Queues {
-    pub ready: Ready,
-    // Those of the pass that is made.
-    current: Vec<usize>,
+    // The lanes and the bound clients are of the first class.
+    pub schedule: Schedule,
     // Those whose sockets may have octets.
-    dirty: Ready,
-    // Those that can't go on: their peer doesn't read, or a return box is full.
-    stalled: Vec<usize>,
+    dirty: Line,
     // What is due at a tick is due at once.
     hurried: bool,
     // How many of each there are.
@@ -21,23 +29,32 @@ pub(crate) struct Queues {
     pub slots: usize,
 }
 
+/// What a party's turn did.
+#[derive(Clone, Copy)]
+pub(crate) struct Progress {
+    pub end: RunEnd,
+    /// Octets went over its link.
+    pub moved: bool,
+    /// Somebody was told of something.
+    pub rang: bool,
+    /// Its socket takes octets.
+    pub writable: bool,
+}
+
 impl Queues {
     /// Of so many lanes and slots the lanes are ready.
     pub fn new(alloc: Global, lanes: usize, slots: usize) -> Result<Queues, AllocError> {
         let parties = lanes.saturating_add(slots);
-        let ready = Ready::new(alloc, parties)?;
-        let dirty = Ready::new(alloc, parties)?;
-        let current = Vec::with_capacity(alloc, parties)?;
-        let stalled = Vec::with_capacity(alloc, parties)?;
         let mut queues = Queues {
-            ready,
-            current,
-            dirty,
-            stalled,
+            schedule: Schedule::new(alloc, parties)?,
+            dirty: Line::new(alloc, parties)?,
             hurried: false,
             lanes,
             slots,
         };
+        for lane in 0..lanes {
+            queues.schedule.place(lane, true);
+        }
         queues.add_lanes();
         Ok(queues)
     }
@@ -50,7 +67,7 @@ impl Queues {
     /// Each lane is ready.
     pub fn add_lanes(&mut self) {
         for lane in 0..self.lanes {
-            self.ready.add(lane);
+            self.schedule.add(lane);
         }
     }
 
@@ -64,64 +81,77 @@ impl Queues {
         std::mem::take(&mut self.hurried)
     }
 
-    /// Each slot is ready.
+    /// A lane's link was lost: its return box was emptied, and each client may have a response that tells
+    /// of its request, so each slot is ready.
     pub fn add_slots(&mut self) {
+        self.empty_boxes();
         for slot in 0..self.slots {
-            self.ready.add(self.lanes.saturating_add(slot));
+            self.schedule.add(self.lanes.saturating_add(slot));
         }
     }
 
-    /// A worker was turned, and octets moved or none did. One that isn't idle is turned again, or
-    /// waits where it could do nothing.
-    pub fn was_turned(&mut self, party: usize, end: RunEnd, moved: bool) {
+    /// The slot has another client, or none: it is unbound, and ready.
+    pub fn begin_anew(&mut self, slot: usize) {
+        let party = self.party(slot);
+        self.schedule.place(party, false);
+        self.schedule.resume(party);
+        self.schedule.add(party);
+    }
+
+    /// The slot's client is bound.
+    pub fn bind(&mut self, slot: usize) {
+        let party = self.party(slot);
+        self.schedule.place(party, true);
+    }
+
+    /// A party had a turn. One that isn't idle has another, but where it could do nothing: then it waits
+    /// for its socket where that takes no octets, and else, where it is a client, for a return box.
+    pub fn was_turned(&mut self, party: usize, progress: Progress) {
+        let Progress {
+            end,
+            moved,
+            rang,
+            writable,
+        } = progress;
         if moved {
             self.dirty.add(party);
         }
-        if end == RunEnd::Turns {
-            if moved {
-                self.ready.add(party);
-            } else {
-                let _ = self.stalled.push(party);
+        if end != RunEnd::Turns {
+            return;
+        }
+        if !(moved || rang || writable) {
+            self.schedule.stall(party);
+        } else if !(moved || rang) && party >= self.lanes {
+            self.schedule.crowd(party);
+        } else {
+            self.schedule.add(party);
+        }
+    }
+
+    /// A lane's worker got on, and may have emptied its return box: who waits for that is ready.
+    pub fn empty_boxes(&mut self) {
+        for _ in 0..self.slots {
+            if self.schedule.uncrowd().is_none() {
+                return;
             }
         }
     }
 
-    /// Those that could do nothing try again.
+    /// Each that is stalled is ready, at a tick, should an event be lost.
     pub fn unstall(&mut self) {
-        for party in self.stalled.as_slice() {
-            self.ready.add(*party);
+        for party in 0..self.lanes.saturating_add(self.slots) {
+            self.schedule.resume(party);
         }
-        self.stalled.clear();
+        self.empty_boxes();
     }
 
-    /// A pass over those that are ready begins: how many they are.
-    pub fn begin_pass(&mut self) -> usize {
-        self.ready.swap(&mut self.current);
-        self.current.len()
+    /// How many parties' sockets may have octets.
+    pub fn dirty(&self) -> usize {
+        self.dirty.len()
     }
 
-    /// The one at this place of the pass, which may be made ready again from here on.
-    pub fn next_to_turn(&mut self, at: usize) -> Option<usize> {
-        let party = self.current.get(at).copied()?;
-        self.ready.begin(party);
-        Some(party)
-    }
-
-    /// A pass over those whose sockets may have octets begins: how many they are.
-    pub fn begin_flush(&mut self) -> usize {
-        self.dirty.swap(&mut self.current);
-        self.current.len()
-    }
-
-    /// The one at this place of that pass, whose socket may have octets again from here on.
-    pub fn next_to_flush(&mut self, at: usize) -> Option<usize> {
-        let party = self.current.get(at).copied()?;
-        self.dirty.begin(party);
-        Some(party)
-    }
-
-    /// The pass is over.
-    pub fn end_pass(&mut self) {
-        self.current.clear();
+    /// The first of them, whose socket may have octets again from here on.
+    pub fn next_to_flush(&mut self) -> Option<usize> {
+        self.dirty.begin()
     }
 }

@@ -147,6 +147,7 @@ where
         listener,
         gateway,
         short: false,
+        more: false,
         is_open: false,
     };
     Ok(Loop {

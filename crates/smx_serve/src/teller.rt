@@ -60,7 +60,7 @@ impl Meter {
 #[derive(Drop)]
 pub(crate) struct Teller {
     log: Arc<Log>,
-    meters: [Meter; 4],
+    meters: [Meter; 5],
 }
 
 impl Teller {
@@ -72,6 +72,7 @@ impl Teller {
                 Meter::new(MeteredKind::Bound),
                 Meter::new(MeteredKind::Gone),
                 Meter::new(MeteredKind::Refused),
+                Meter::new(MeteredKind::NotAccepted),
             ],
         }
     }

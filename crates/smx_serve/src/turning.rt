@@ -30,8 +30,8 @@ pub(crate) struct Loop<'d> {
 }
 
 impl<'d> Loop<'d> {
-    // Lets those in who connect, where somebody does, or none could be accepted before.
-    fn let_in<R: Wait>(&mut self, rt: &R, connects: bool) {
+    // Lets those in who wait.
+    fn let_in<R: Wait>(&mut self, rt: &R) {
         self.entrance.let_in(
             rt,
             self.poll.registry(),
@@ -39,12 +39,11 @@ impl<'d> Loop<'d> {
             &mut self.guests,
             &mut self.queues,
             &mut self.addresses,
-            connects,
         );
     }
 
     // Lets clients in from now on, where a lane is bound, or the lanes had time enough.
-    fn open<R: Wait>(&mut self, rt: &R) {
+    fn open(&mut self) {
         if self.entrance.is_open {
             return;
         }
@@ -54,7 +53,7 @@ impl<'d> Loop<'d> {
         }
         if is_open {
             self.entrance.is_open = true;
-            self.let_in(rt, true);
+            self.entrance.more = true;
         }
     }
 
@@ -62,16 +61,16 @@ impl<'d> Loop<'d> {
     fn tick<R: Wait + Net>(&mut self, rt: &R) {
         let moment = self.pace.moment;
         let registry = self.poll.registry();
-        tend_all(rt, registry, moment, &mut self.lanes, &mut self.queues);
         self.queues.unstall();
+        tend_all(rt, registry, moment, &mut self.lanes, &mut self.queues);
         moment.teller.settle(rt, moment.now);
         self.guests
             .let_late_go(rt, moment, &mut self.queues, &mut self.addresses);
         self.guests.settle_all(&mut self.queues, moment.now);
-        self.let_in(rt, false);
+        self.entrance.try_again();
     }
 
-    // Turns each that is ready once.
+    // Turns each lane and bound client that is ready once, and then one of the others.
     fn pass<R: Wait>(&mut self, rt: &R) {
         let is_gone = pass(
             rt,
@@ -81,13 +80,15 @@ impl<'d> Loop<'d> {
             &mut self.queues,
             &mut self.addresses,
         );
+        self.pace.has_passed();
         if is_gone {
-            self.let_in(rt, false);
+            self.entrance.try_again();
         }
     }
 
     // Waits for events, at most so many milliseconds.
-    fn wait<R: Wait>(&mut self, rt: &R, timeout: u64) -> Result<(), Ended> {
+    fn wait(&mut self, timeout: u64) -> Result<(), Ended> {
+        self.pace.polls();
         let time = Some(Duration::from_millis(timeout));
         if self.poll.poll(&mut self.events, time).is_err() {
             return Err(Ended::NoEvents);
@@ -96,8 +97,18 @@ impl<'d> Loop<'d> {
         for event in self.events.iter() {
             connects |= heed(event, &self.lanes, &self.guests, &mut self.queues);
         }
-        if connects {
-            self.let_in(rt, true);
+        self.entrance.more |= connects;
+        Ok(())
+    }
+
+    // Writes what waits and asks for events, where that is due.
+    fn look(&mut self) -> Result<(), Ended> {
+        if self
+            .pace
+            .is_poll_due(!self.queues.schedule.has_no_unbound())
+        {
+            flush(&self.lanes, &self.guests, &mut self.queues);
+            self.wait(0)?;
         }
         Ok(())
     }
@@ -109,15 +120,14 @@ impl<'d> Loop<'d> {
         if self.queues.take_hurry() || is_due {
             self.tick(rt);
         }
-        self.open(rt);
+        self.open();
+        self.let_in(rt);
         if are_idle(&self.lanes, &self.guests, &mut self.queues) {
-            return self.wait(rt, timeout);
+            let time = if self.entrance.has_more() { 0 } else { timeout };
+            return self.wait(time);
         }
+        self.look()?;
         self.pass(rt);
-        if self.pace.has_passed() {
-            flush(&self.lanes, &self.guests, &mut self.queues);
-            return self.wait(rt, 0);
-        }
         Ok(())
     }
 

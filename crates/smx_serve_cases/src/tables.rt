@@ -1,27 +1,45 @@
 //! The proxy's tables.
 
 use smx_routes::{RouteFault, Routes};
-use smx_slots::{Bell, ClientEnds, Guide, Ready, Roll, Slots, ends_of};
+use smx_slots::{Bell, ClientEnds, Guide, Roll, Schedule, Slots, ends_of};
 use smx_turns::{Directory, Gate, Party, Place, Point};
 use std::sync::Wait;
 use std::test::Fail;
 
-// Whoever is told of more than once is ready once, and again after it was begun.
+// Whoever is told of more than once is ready once, in its class, and again after it was begun.
 #[test]
 fn each_is_ready_once(rt: HostRuntime) -> Result<(), Fail> {
-    let mut ready = Ready::new(rt.alloc(), 3)?;
-    let mut list = Vec::with_capacity(rt.alloc(), 3)?;
-    ready.add(2);
-    ready.add(0);
-    ready.add(2);
-    ready.add(3);
-    ready.swap(&mut list);
-    assert_eq!(rt; list.as_slice(), [2usize, 0].as_slice());
-    ready.add(2);
-    assert!(rt; ready.is_empty());
-    ready.begin(2);
-    ready.add(2);
-    assert!(rt; !ready.is_empty());
+    let mut schedule = Schedule::new(rt.alloc(), 3)?;
+    schedule.place(2, true);
+    for party in [2usize, 0, 2, 3, 1] {
+        schedule.add(party);
+    }
+    assert_eq!(rt; schedule.firsts(), 1);
+    assert_eq!(rt; schedule.begin_first(), Some(2));
+    assert_eq!(rt; schedule.begin_first(), None);
+    assert_eq!(rt; schedule.begin_unbound(), Some(0));
+    schedule.add(0);
+    assert_eq!(rt; schedule.begin_unbound(), Some(1));
+    assert_eq!(rt; schedule.begin_unbound(), Some(0));
+    assert!(rt; schedule.is_empty());
+    Ok(())
+}
+
+// Who is stalled waits for its own reason: party 1 for its socket, party 2 for a return box.
+#[test]
+fn a_stalled_party_waits(rt: HostRuntime) -> Result<(), Fail> {
+    let mut schedule = Schedule::new(rt.alloc(), 3)?;
+    schedule.stall(1);
+    schedule.crowd(2);
+    schedule.add(1);
+    schedule.add(2);
+    schedule.resume(2);
+    assert!(rt; schedule.is_empty());
+    assert_eq!(rt; schedule.uncrowd(), Some(2));
+    assert_eq!(rt; schedule.begin_unbound(), Some(2));
+    assert_eq!(rt; schedule.uncrowd(), None);
+    schedule.resume(1);
+    assert_eq!(rt; schedule.begin_unbound(), Some(1));
     Ok(())
 }
 
@@ -42,19 +60,21 @@ fn a_client_has_its_slot(rt: HostRuntime) -> Result<(), Fail> {
 // With three lanes slot 0 is party 3. Who is gone is told nothing.
 #[test]
 fn a_bell_names_parties(rt: HostRuntime) -> Result<(), Fail> {
-    let mut ready = Ready::new(rt.alloc(), 8)?;
+    let mut schedule = Schedule::new(rt.alloc(), 8)?;
     let mut roll = Roll::new(rt.alloc(), 4)?;
     roll.add(7, 2);
-    let mut bell = Bell::new(3, &mut ready, &roll);
+    let mut bell = Bell::new(3, &mut schedule, &roll);
     assert!(rt; bell.at(Point::Reading, 1));
     assert!(rt; bell.at(Point::Taking, 1));
     bell.ready(Party::Lane(1));
     bell.ready(Party::Client { client: 7, lane: 0 });
     bell.ready(Party::Slot(0));
     bell.ready(Party::Client { client: 8, lane: 0 });
-    let mut list = Vec::new(rt.alloc());
-    ready.swap(&mut list);
-    assert_eq!(rt; list.as_slice(), [1usize, 5, 3].as_slice());
+    assert!(rt; bell.has_rung());
+    for party in [1usize, 5, 3] {
+        assert_eq!(rt; schedule.begin_unbound(), Some(party));
+    }
+    assert!(rt; schedule.is_empty());
     Ok(())
 }
 

@@ -1,7 +1,7 @@
 //! What a turn tells the loop.
 
-use crate::ready::Ready;
 use crate::roll::Roll;
+use crate::schedule::Schedule;
 use smx_trace::Trace;
 use smx_turns::{Gate, Party, Point, Question};
 
@@ -10,21 +10,28 @@ use smx_turns::{Gate, Party, Point, Question};
 #[derive(Drop)]
 pub struct Bell<'a> {
     lanes: usize,
-    ready: &'a mut Ready,
+    schedule: &'a mut Schedule,
     roll: &'a Roll,
     asked: Trace<Question>,
     told: Trace<Party>,
+    rang: bool,
 }
 
 impl<'a> Bell<'a> {
-    pub fn new(lanes: usize, ready: &'a mut Ready, roll: &'a Roll) -> Bell<'a> {
+    pub fn new(lanes: usize, schedule: &'a mut Schedule, roll: &'a Roll) -> Bell<'a> {
         Bell {
             lanes,
-            ready,
+            schedule,
             roll,
             asked: Trace::new(),
             told: Trace::new(),
+            rang: false,
         }
+    }
+
+    /// Whether anybody was told.
+    pub fn has_rung(&self) -> bool {
+        self.rang
     }
 
     // The number of a party; that of a client that is gone is above all.
@@ -56,7 +63,8 @@ impl Gate for Bell<'_> {
 
     fn ready(&mut self, party: Party) {
         let number = self.number(party);
-        self.ready.add(number);
+        self.schedule.add(number);
         self.told = self.told.and(&party);
+        self.rang = true;
     }
 }

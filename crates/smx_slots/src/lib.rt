@@ -8,13 +8,17 @@
 mod bell;
 mod boxes;
 mod guide;
-mod ready;
+mod line;
+mod polling;
 mod roll;
+mod schedule;
 mod slots;
 
 pub use bell::Bell;
 pub use boxes::{ClientEnds, LaneEnds, ends_of};
 pub use guide::Guide;
-pub use ready::Ready;
+pub use line::{Line, is_in_turn};
+pub use polling::is_poll_due;
 pub use roll::Roll;
+pub use schedule::Schedule;
 pub use slots::Slots;

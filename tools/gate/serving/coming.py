@@ -1,9 +1,13 @@
 """Clients that come and go, and lanes that can't be had."""
 
-from .peers import HOST, Answering, Centre, Proxy, free_port, one_lane, text_of
-from .smpp import (BIND_TRANSCEIVER, OK, RESPONSE, SUBMIT_FAILED, SUBMIT_SM, UNBIND, bind_of, long_message, message,
-                   octets_of, request)
+import signal
 
+from .peers import HOST, Answering, Centre, Proxy, free_port, one_lane, text_of
+from .smpp import (BIND_TRANSCEIVER, ENQUIRE_LINK, OK, RESPONSE, SUBMIT_FAILED, SUBMIT_SM, UNBIND, bind_of,
+                   long_message, message, octets_of, request)
+
+# More than the proxy accepts in a pass, and fewer than wait at its listener.
+MANY = 110
 SMALL = "history = 1000\nqueue = 300\nwindow = 300\nclient = 256"
 
 
@@ -89,6 +93,17 @@ def queued_requests_of_a_lost_lane(program, _):
             assert link.is_quiet()
 
 
+def many_at_once(program, _):
+    """Of more connections at once than are accepted in one pass each is served."""
+    with one_lane(program, keys="clients = 256") as (_, proxy):
+        proxy.child.send_signal(signal.SIGSTOP)
+        links = [proxy.connect() for _ in range(MANY)]
+        proxy.child.send_signal(signal.SIGCONT)
+        for link in links:
+            assert link.ask(request(ENQUIRE_LINK, 7))[:3] == (ENQUIRE_LINK | RESPONSE, OK, 7)
+            link.stream.close()
+
+
 CASES = {
     "a door beside an idle lane": door_beside(lambda: []),
     "a door beside a lane that is down": door_beside(lambda: [f"{HOST}:{free_port()}"]),
@@ -97,4 +112,5 @@ CASES = {
     "an upstream without a port": unreachable(HOST),
     "an upstream with port 70000": unreachable(f"{HOST}:70000"),
     "queued requests of a lost lane": queued_requests_of_a_lost_lane,
+    "many connections at once": many_at_once,
 }

@@ -119,6 +119,23 @@ def ends_at(number, words_of, send=os.kill):
     return case
 
 
+def closed_streams(words_of):
+    """A case: where the standard streams are closed, no socket and no event of the program takes their place."""
+    def case(program, _):
+        words, port = ["sh", "-c", 'exec "$@" <&- >&- 2>&-', "sh", *words_of(program)], free_port()
+        with Answering() as centre:
+            text = text_of(port, [f"{HOST}:{centre.port}"])
+            how = {"stdin": subprocess.DEVNULL, "env": {**os.environ, "SMX": str(program)}}
+            with Proxy(program, port, text, words, **how) as proxy, proxy.client() as link:
+                are_answered(link, 4)
+                served = pathlib.Path(f"/proc/{proxy.child.pid}/task/{proxy.child.pid}/children").read_text().split()
+                found = [os.readlink(f"/proc/{it}/fd/{stream}") for it in served for stream in (1, 2)]
+                assert found and set(found) == {"/dev/null"}, found
+                proxy.child.terminate()
+                assert proxy.child.wait(PATIENCE) == 0
+    return case
+
+
 def early_signals_to_smx_serve(program, _):
     """Whenever a signal comes to the group, it ends in order and leaves no FIFO."""
     with tempfile.TemporaryDirectory() as folder:
@@ -195,6 +212,8 @@ CASES = {
     "TERM to smx-serve": ends_at(signal.SIGTERM, service),
     "QUIT to the group of smx-serve": ends_at(signal.SIGQUIT, service, os.killpg),
     "early signals to smx-serve": early_signals_to_smx_serve,
+    "closed streams of smx-serve": closed_streams(service),
+    "closed streams of ./smx": closed_streams(script),
     "faults of smx-serve": faults_of_smx_serve,
     "HUP to ./smx": ends_at(signal.SIGHUP, script),
     "INT to the group of ./smx": ends_at(signal.SIGINT, script, os.killpg),

@@ -33,7 +33,7 @@ fn lost(loss: LinkLoss, failed: usize, again: u64) -> Notice<'static> {
 }
 
 // Lines that are hard to bring about, and the figures and names of others.
-fn lines() -> [(Notice<'static>, &'static str); 17] {
+fn lines() -> [(Notice<'static>, &'static str); 18] {
     [
         (
             Notice::NotListening("10.0.0.1:2775"),
@@ -85,6 +85,10 @@ fn lines() -> [(Notice<'static>, &'static str); 17] {
         (
             Notice::TooMany(51, MeteredKind::Refused),
             "51 more lines left out: connections refused",
+        ),
+        (
+            Notice::TooMany(51, MeteredKind::NotAccepted),
+            "51 more lines left out: connections not accepted",
         ),
         (
             Notice::TooMany(51, MeteredKind::Connected),

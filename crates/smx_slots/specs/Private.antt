@@ -1,0 +1,2 @@
+-- What models and invariants cite: no public contract does.
+pub mod LineFields

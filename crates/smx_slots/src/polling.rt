@@ -1,0 +1,13 @@
+//! When the system is asked for events.
+ghost use Rattle.std.specs.Prelude.{◌≢◌, ◌≤◌, ◌⊎◌, ◌↔◌, IsTrue};
+
+/// After so many passes events are asked for in any case.
+const PASSES: u64 = 16;
+
+/// Whether events are asked for before a pass: where the millisecond isn't that in which they last were,
+/// where an unbound party has a turn in it, and after sixteen passes.
+pub fn is_poll_due(now: u64, polled: u64, passes: u64, has_unbound: bool) -> bool
+    ensures { IsTrue result ↔ (now ≢ polled) ⊎ IsTrue has_unbound ⊎ (16 ≤ passes) }
+{
+    now != polled || has_unbound || passes >= PASSES
+}
