@@ -4,7 +4,7 @@
 mod kinds;
 mod writing;
 
-use crate::figures::{Hundredths, nanos_since, no_memory, stopped};
+use crate::figures::{Hundredths, nanos_since, no_memory, push, stopped};
 use kinds::{KINDS, Kind};
 use smx_relay::{RunEnd, new_state, run_on};
 use std::alloc::Global;
@@ -28,6 +28,12 @@ const REPEATS: u64 = 9;
 
 const LANES: [u64; 2] = [1, 16];
 
+/// The octets of a block that comes from the heap and isn't asked of the system alone.
+const BLOCK: usize = 65_536;
+
+/// Blocks that are more than any run needs at once: 256 MB.
+const BLOCKS: u64 = 4_096;
+
 // A writer that only counts.
 #[derive(Drop)]
 struct Counted {
@@ -45,8 +51,20 @@ impl Write for Counted {
     }
 }
 
+// Lets the heap hold more memory than any run needs, and gives the block above all of it, which keeps the heap from
+// giving that back to the system. Else a run would pay for its pages or not by what ran before it, the longer one
+// more often than the shorter.
+fn hold_memory(alloc: Global) -> io::Result<Option<Vec<u8>>> {
+    let mut blocks = Vec::new(alloc);
+    for _ in 0..BLOCKS {
+        push(&mut blocks, vec![in alloc; 1; BLOCK]?)?;
+    }
+    Ok(blocks.pop())
+}
+
 /// Prints a row for each kind whose name begins so, over 1 lane and over 16.
 pub(crate) fn run<R: Print + Clock + AllocGlobal>(rt: &R, begins: &str) -> io::Result<()> {
+    let _above = hold_memory(rt.alloc())?;
     println!(rt; "lanes, rounds, ms, rounds, ms, times the first; octets printed by both; lines")?;
     for kind in &KINDS {
         if kind.name.starts_with(begins) {
