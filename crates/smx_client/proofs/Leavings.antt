@@ -10,7 +10,7 @@ use Rattle.smx_client.specs.declared.reply.Parked.{Parked}
 use Rattle.smx_turns.specs.declared.mo_item.MoItem.{MoItem}
 use Rattle.smx_turns.proofs.Chains.{runs_none}
 use Rattle.smx_client.specs.declared.leaver.Leaving.{Leaving}
-use Rattle.smx_client.specs.Leaving.{Left, answers_next, rest_of, GivesItem, gets, get_of, is_put, is_answered}
+use Rattle.smx_client.specs.Leaving.{Left, answers_next, rest_of, gets, get_of, is_put, is_answered}
 
 gets_more : (es : List Leaving) (e : Leaving) → gets (es ++ e ∷ []) ≡ gets es + get_of e
 unfolding gets
@@ -23,11 +23,6 @@ gets_push es es' e grown = ap gets grown ∙ gets_more es e
 -- a step that asks the box nothing
 pub gets_same : (es es' : List Leaving) (e : Leaving) → es' ≡ es ++ e ∷ [] → get_of e ≡ 0 → gets es' ≡ gets es
 gets_same es es' e grown none = let h = gets_push es es' e grown in omega (arith, h, none)
-
-pub gives_is : (a b : Receiving MoItem) (r : Result (Got MoItem) Spent) → IfOk r (λ f. GetServes a b.front f) → IfOk r (λ f. Hands a.got b.got f)
-    → IsOk r → GivesItem a r b
-gives_is a b (Ok found) served hands fine = (served, hands)
-gives_is a b (Err e) served hands fine = absurd (true≢false (sym fine))
 
 pub left_first : (h h' : Option Parked) (w w' : Window) (i i' : Receiving MoItem) (x x' : List (Sending Pdu)) (es : List Leaving)
     → es ≡ [] → h' ≡ h → w' ≡ w → i' ≡ i → x' ≡ x → Left (rest_of h' w' i' x') es (rest_of h w i x)

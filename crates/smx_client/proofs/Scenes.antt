@@ -9,12 +9,13 @@ use Rattle.smx_turns.specs.declared.gate.Question.{Question}
 use Rattle.smx_turns.specs.declared.gate.Party.{Party}
 use Rattle.smx_turns.specs.declared.directory.Query.{Query}
 use Rattle.smx_turns.specs.declared.step.Step.{Step}
+use Rattle.smx_turns.specs.Wires.{some_wait}
 use Rattle.smx_turns.proofs.Chains.{runs_push, runs_none}
 use Rattle.smx_client.specs.declared.mark.Mark.{Mark}
 use Rattle.smx_client.specs.declared.event.Event.{Event}
-use Rattle.smx_client.specs.Events.{out_of, tells_of}
+use Rattle.smx_client.specs.Events.{worth}
 use Rattle.smx_client.specs.Parts.{Parts, Does}
-use Rattle.smx_client.specs.Turns.{Scene, scene, Fits, Happens, Offers, Acts, Changes, is_some_left}
+use Rattle.smx_client.specs.Turns.{Scene, scene, Fits, Happens, Offers, Acts, Changes}
 
 -- one step more
 pub step_more : (n : ℕ) (a b : Scene) (ss ss' : List (Step Mark Event)) (s : Step Mark Event) (base : Scene) → ss' ≡ ss ++ s ∷ [] → Acts n a s b → Changes n base ss a → Changes n base ss' b
@@ -32,21 +33,21 @@ asks q q' t t' queries es v u o ps f x asked told =
 module _ {L : Type 0} (offered : L → List ℕ) (polls : L → List (Result Polled LinkFault)) (failures : L → ℕ) where
   -- an event
   pub happens : (asked asked' : List Question) (told told' : List Party) (queries : List Query) (es es' : List Event) (v v' : Parts) (u u' : List ℕ) (l l' : L) (e : Event)
-      → Fits u e → Does v e v' → asked' ≡ asked → told' ≡ told ++ tells_of e → es' ≡ es ++ e ∷ [] → u' ≡ u ++ spellings (out_of e) → l' ≡ l
+      → Fits u e → Does v e v' → asked' ≡ asked → told' ≡ told ++ (worth e).tells → es' ≡ es ++ e ∷ [] → u' ≡ u ++ spellings (worth e).said → l' ≡ l
       → Happens (scene asked told queries es v u (offered l) (polls l) (failures l)) e (scene asked' told' queries es' v' u' (offered l') (polls l') (failures l'))
   happens asked asked' told told' queries es es' v v' u u' l l' e fits does same tells grown says link = record {
     fits = fits;
     does = does;
     same = ap (λ o. scene o told' queries es' v' u' (offered l') (polls l') (failures l')) same
         ∙ ap (λ o. scene asked o queries es' v' u' (offered l') (polls l') (failures l')) tells
-        ∙ ap (λ o. scene asked (told ++ tells_of e) queries o v' u' (offered l') (polls l') (failures l')) grown
-        ∙ ap (λ o. scene asked (told ++ tells_of e) queries (es ++ e ∷ []) v' o (offered l') (polls l') (failures l')) says
-        ∙ ap (λ o. scene asked (told ++ tells_of e) queries (es ++ e ∷ []) v' (u ++ spellings (out_of e)) (offered o) (polls o) (failures o)) link;
+        ∙ ap (λ o. scene asked (told ++ (worth e).tells) queries o v' u' (offered l') (polls l') (failures l')) grown
+        ∙ ap (λ o. scene asked (told ++ (worth e).tells) queries (es ++ e ∷ []) v' o (offered l') (polls l') (failures l')) says
+        ∙ ap (λ o. scene asked (told ++ (worth e).tells) queries (es ++ e ∷ []) v' (u ++ spellings (worth e).said) (offered o) (polls o) (failures o)) link;
   }
 
   -- an offer that the link took some or nothing of
   pub offers : (asked : List Question) (told : List Party) (queries : List Query) (es : List Event) (v v' : Parts) (u u' : List ℕ) (l l' : L) (wrote left : Bool)
-      → v' ≡ v → left ≡ is_some_left u' → wrote ≡ not (length u' == length u) → offered l' ≡ offered l ++ u → polls l' ≡ polls l → failures l' ≡ failures l
+      → v' ≡ v → left ≡ some_wait u' → wrote ≡ not (length u' == length u) → offered l' ≡ offered l ++ u → polls l' ≡ polls l → failures l' ≡ failures l
       → Offers (scene asked told queries es v u (offered l) (polls l) (failures l)) wrote left (scene asked told queries es v' u' (offered l') (polls l') (failures l'))
   offers asked told queries es v v' u u' l l' wrote left same is_left did offer read well = record {
     some_left = is_left;
@@ -77,12 +78,6 @@ module _ {L : Type 0} (offered : L → List ℕ) (polls : L → List (Result Pol
       ∙ ap (λ o. scene asked told queries es v u o (polls l') (failures l')) offer
       ∙ ap (λ o. scene asked told queries es v u (offered l) o (failures l')) read
       ∙ ap (λ o. scene asked told queries es v u (offered l) (polls l ++ answer ∷ []) o) well
-
-pub left_is : (u : List ℕ) (b : Bool) → (IsTrue b ↔ (u ≡ [])) → not b ≡ is_some_left u
-left_is [] true i = refl
-left_is [] false i = let h = i.1 refl in absurd (cc)
-left_is (x ∷ xs) true i = let h = i.0 refl in absurd (cc)
-left_is (x ∷ xs) false i = refl
 
 pub as_was : (a b : ℕ) → a ≡ b + 0 → a ≡ b
 as_was a b e = omega (arith, e)
