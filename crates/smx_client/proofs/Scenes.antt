@@ -24,11 +24,15 @@ step_more n a b ss ss' s base grown acts was = runs_push (Acts n) base a b ss ss
 pub nothing_yet : (n : ℕ) (a : Scene) (ss : List (Step Mark Event)) → ss ≡ [] → Changes n a ss a
 nothing_yet n a ss none = subst (λ l. Changes n a l a) (sym none) (runs_none (Acts n) a)
 
+-- the same scenes by other names
+pub scenes_same : {q q' : List Question} {t t' : List Party} {f f' : List Query} {es es' : List Event} {v v' : Parts} {u u' o o' : List ℕ} {p p' : List (Result Polled LinkFault)} {n n' : ℕ}
+    → q' ≡ q → t' ≡ t → f' ≡ f → es' ≡ es → v' ≡ v → u' ≡ u → o' ≡ o → p' ≡ p → n' ≡ n → scene q' t' f' es' v' u' o' p' n' ≡ scene q t f es v u o p n
+scenes_same a b c d e f g h i = cc
+
 -- a question
 pub asks : (q q' : List Question) (t t' : List Party) (queries : List Query) (es : List Event) (v : Parts) (u o : List ℕ) (ps : List (Result Polled LinkFault)) (f : ℕ) (x : Question)
     → q' ≡ q ++ x ∷ [] → t' ≡ t → scene q' t' queries es v u o ps f ≡ scene (q ++ x ∷ []) t queries es v u o ps f
-asks q q' t t' queries es v u o ps f x asked told =
-    ap (λ l. scene l t' queries es v u o ps f) asked ∙ ap (λ l. scene (q ++ x ∷ []) l queries es v u o ps f) told
+asks q q' t t' queries es v u o ps f x asked told = scenes_same asked told refl refl refl refl refl refl refl
 
 module _ {L : Type 0} (offered : L → List ℕ) (polls : L → List (Result Polled LinkFault)) (failures : L → ℕ) where
   -- an event
@@ -38,11 +42,7 @@ module _ {L : Type 0} (offered : L → List ℕ) (polls : L → List (Result Pol
   happens asked asked' told told' queries es es' v v' u u' l l' e fits does same tells grown says link = record {
     fits = fits;
     does = does;
-    same = ap (λ o. scene o told' queries es' v' u' (offered l') (polls l') (failures l')) same
-        ∙ ap (λ o. scene asked o queries es' v' u' (offered l') (polls l') (failures l')) tells
-        ∙ ap (λ o. scene asked (told ++ (worth e).tells) queries o v' u' (offered l') (polls l') (failures l')) grown
-        ∙ ap (λ o. scene asked (told ++ (worth e).tells) queries (es ++ e ∷ []) v' o (offered l') (polls l') (failures l')) says
-        ∙ ap (λ o. scene asked (told ++ (worth e).tells) queries (es ++ e ∷ []) v' (u ++ spellings (worth e).said) (offered o) (polls o) (failures o)) link;
+    same = scenes_same same tells refl grown refl says (ap offered link) (ap polls link) (ap failures link);
   }
 
   -- an offer that the link took some or nothing of
@@ -52,10 +52,7 @@ module _ {L : Type 0} (offered : L → List ℕ) (polls : L → List (Result Pol
   offers asked told queries es v v' u u' l l' wrote left same is_left did offer read well = record {
     some_left = is_left;
     some_written = did;
-    same = ap (λ o. scene asked told queries es o u' (offered l') (polls l') (failures l')) same
-        ∙ ap (λ o. scene asked told queries es v u' o (polls l') (failures l')) offer
-        ∙ ap (λ o. scene asked told queries es v u' (offered l ++ u) o (failures l')) read
-        ∙ ap (λ o. scene asked told queries es v u' (offered l ++ u) (polls l) o) well;
+    same = scenes_same refl refl refl refl same refl offer read well;
   }
 
   -- an offer that failed
@@ -63,21 +60,14 @@ module _ {L : Type 0} (offered : L → List ℕ) (polls : L → List (Result Pol
       → v' ≡ v → offered l' ≡ offered l ++ u → polls l' ≡ polls l → failures l' ≡ failures l + 1
       → scene asked told queries es v' u' (offered l') (polls l') (failures l') ≡ scene asked told queries es v u' (offered l ++ u) (polls l) (failures l + 1)
   write_fails asked told queries es v v' u u' l l' same offer read fails =
-      ap (λ o. scene asked told queries es o u' (offered l') (polls l') (failures l')) same
-      ∙ ap (λ o. scene asked told queries es v u' o (polls l') (failures l')) offer
-      ∙ ap (λ o. scene asked told queries es v u' (offered l ++ u) o (failures l')) read
-      ∙ ap (λ o. scene asked told queries es v u' (offered l ++ u) (polls l) o) fails
+      scenes_same refl refl refl refl same refl offer read fails
 
   -- a read
   pub reads : (asked : List Question) (told : List Party) (queries : List Query) (es : List Event) (v v' : Parts) (u u' : List ℕ) (l l' : L) (answer : Result Polled LinkFault)
       → v' ≡ v → u' ≡ u → offered l' ≡ offered l → polls l' ≡ polls l ++ answer ∷ [] → failures l' ≡ failures l + fault_count answer
       → scene asked told queries es v' u' (offered l') (polls l') (failures l') ≡ scene asked told queries es v u (offered l) (polls l ++ answer ∷ []) (failures l + fault_count answer)
   reads asked told queries es v v' u u' l l' answer same kept offer read well =
-      ap (λ o. scene asked told queries es o u' (offered l') (polls l') (failures l')) same
-      ∙ ap (λ o. scene asked told queries es v o (offered l') (polls l') (failures l')) kept
-      ∙ ap (λ o. scene asked told queries es v u o (polls l') (failures l')) offer
-      ∙ ap (λ o. scene asked told queries es v u (offered l) o (failures l')) read
-      ∙ ap (λ o. scene asked told queries es v u (offered l) (polls l ++ answer ∷ []) o) well
+      scenes_same refl refl refl refl same kept offer read well
 
 pub as_was : (a b : ℕ) → a ≡ b + 0 → a ≡ b
 as_was a b e = omega (arith, e)
