@@ -1,5 +1,5 @@
 -- Cells of the turn's table.
-use Rattle.std.proofs.Common.{◌≡◌, ◌≢◌, ℕ, Bool, true, false, List, [], ◌∷◌, ◌++◌, sym, ◌∙◌, ap, refl, subst, Result, Option, None, IsSome, length, ◌≤◌}
+use Rattle.std.proofs.Common.{◌≡◌, ◌≢◌, ℕ, Bool, true, false, List, [], ◌∷◌, ◌++◌, sym, ◌∙◌, ap, refl, subst, Result, Option, None, IsSome, is_some, length, ◌≤◌}
 use Rattle.std.specs.Prelude.{if◌then◌else◌, ◌==◌}
 use Rattle.std.proofs.lemmas.Bool.{eq-eqb}
 use Rattle.std.specs.declared.snapshot.Snapshot.{Snapshot}
@@ -35,22 +35,19 @@ use Rattle.smx_client.specs.declared.event.Progress.TheVariants as progress
 use Rattle.smx_client.specs.declared.reply.Parked.{Parked as Answer}
 use Rattle.smx_frame.specs.Stream.{HasNone}
 use Rattle.smx_shared.specs.Views.{PortView}
-use Rattle.smx_client.specs.Scenes.{is_there}
+use Rattle.smx_turns.specs.Rounds.{last_end}
+use Rattle.smx_turns.proofs.Logged.{phase_push}
 use Rattle.smx_client.specs.Sayings.{IsVerdict}
-use Rattle.smx_client.specs.Table.{Before, Phase, Opening, Written, MayCollect, Clear, Draining, MayRead, Deciding, MaySubmit, Unentered, Settled, Stopped, Clogged, Closing, Ending, Over, Failed, Wrong, step_of, phase_from, phase_of, go, from_opening, when_offered, when_written, halts, from_written, from_boxing, from_collecting, from_draining, from_clear, from_may_read, from_deciding, from_may_submit, from_entering, from_closing, after_reply, after_got, after_collect, after_read, after_act, after_bind, after_verdict, Faulted, EndsIn, Stands, IsAt, last_end}
-
-from_push : (t : Before) (p : Phase) (ss : List step_of) (s : step_of) → phase_from t p (ss ++ s ∷ []) ≡ go t (phase_from t p ss) s
-from_push t p [] s = refl
-from_push t p (x ∷ ss) s = from_push t (go t p x) ss s
+use Rattle.smx_client.specs.Table.{Before, Phase, Opening, Written, MayCollect, Clear, Draining, MayRead, Deciding, MaySubmit, Unentered, Settled, Stopped, Clogged, Closing, Ending, Over, Failed, Wrong, step_of, phase_of, go, from_opening, when_offered, when_written, halts, from_written, from_boxing, from_collecting, from_draining, from_clear, from_may_read, from_deciding, from_may_submit, from_entering, from_closing, after_reply, after_got, after_collect, after_read, after_act, after_bind, after_verdict, Faulted, EndsIn, Stands, IsAt}
 
 -- one step more
 pub phase_more : (t : Before) (ss ss' : List step_of) (s : step_of) (p : Phase) → ss' ≡ ss ++ s ∷ [] → phase_of t ss ≡ p → phase_of t ss' ≡ go t p s
 unfolding phase_of
-phase_more t ss ss' s p more was = ap (phase_from t Opening) more ∙ from_push t Opening ss s ∙ ap (λ q. go t q s) was
+phase_more t ss ss' s p more was = phase_push (go t) Opening ss ss' s p (go t p s) more refl was
 
 pub phase_first : (t : Before) (ss : List step_of) → ss ≡ [] → phase_of t ss ≡ Opening
 unfolding phase_of
-phase_first t ss none = ap (phase_from t Opening) none
+phase_first t ss none = ap (phase_of t) none
 
 module _ (t : Before) where
   pub opened : (wrote left : Bool) → go t Opening (Marked (Offered wrote left)) ≡ when_offered t left
@@ -238,7 +235,7 @@ pub quiet_as : (end : TurnEnd) (q q' : Bool) (p : Phase) → q ≡ q' → EndsIn
 quiet_as end q q' p same h = subst (λ b. EndsIn end b p) same h
 
 abbrev before_of : PortView → Stage → Bool → Option Answer → Before
-before_of v stage settled parked = record { lanes = length v.fronts; stage = stage; settled = settled; parked = is_there parked }
+before_of v stage settled parked = record { lanes = length v.fronts; stage = stage; settled = settled; parked = is_some parked }
 
 -- an offer leaves what the order depends on
 pub before_same : (t : Before) (v v' : PortView) (s s' : Stage) (b b' : Bool) (p p' : Option Answer) → t ≡ before_of v s b p → v' ≡ v → s' ≡ s → b' ≡ b → p' ≡ p → t ≡ before_of v' s' b' p'

@@ -10,7 +10,8 @@ use Rattle.smx_turns.specs.declared.end.TurnEnd.TheVariants.{Worked, Idle, Done}
 use Rattle.smx_turns.specs.declared.step.Step.{Step}
 use Rattle.smx_turns.specs.declared.step.Step.TheVariants.{Asked, Read, Marked, Did}
 use Rattle.smx_turns.specs.Runs.{Runs}
-use Rattle.smx_turns.specs.Steps.{asks, ask_of, polls, poll_of, events, event_of, are_quiet}
+use Rattle.smx_turns.specs.Steps.{asks, ask_of, polls, poll_of, events, event_of, are_quiet, phase_from}
+use Rattle.smx_turns.specs.Worth.{tells}
 use Rattle.smx_turns.proofs.Chains.{runs_append, runs_one, runs_none}
 use Rattle.smx_client.specs.declared.mark.Stage.{Stage}
 use Rattle.smx_client.specs.declared.mark.Mark.{Mark}
@@ -19,9 +20,9 @@ use Rattle.smx_client.specs.declared.event.Event.{Event}
 use Rattle.smx_pdu.specs.declared.pdu.Pdu.{Pdu}
 use Rattle.smx_client.specs.declared.reply.Parked.{Parked}
 use Rattle.smx_client.specs.Marks.{is_quiet_mark}
-use Rattle.smx_client.specs.Events.{tells, tells_of, is_quiet_event}
+use Rattle.smx_client.specs.Events.{worth, is_quiet_event}
 use Rattle.smx_client.specs.Parts.{Does}
-use Rattle.smx_client.specs.Table.{Before, Phase, Opening, Wrong, go, from_opening, phase_from, phase_of, IsTurn, Stands}
+use Rattle.smx_client.specs.Table.{Before, Phase, Opening, Wrong, go, from_opening, phase_of, IsTurn, Stands}
 use Rattle.smx_client.specs.Turns.{Scene, Marks, Acts, Changes, fault_of, faults}
 
 -- a mark leaves all this
@@ -50,11 +51,11 @@ step_asked n a (Read r) b h = ap (λ o. o.asked) h ∙ sym (append-nil a.asked)
 step_asked n a (Marked m) b h = (mark_keeps a m b h).asked ∙ sym (append-nil a.asked)
 step_asked n a (Did e) b h = ap (λ o. o.asked) h.same ∙ sym (append-nil a.asked)
 
-step_told : (n : ℕ) (a : Scene) (s : Step Mark Event) (b : Scene) → Acts n a s b → b.told ≡ a.told ++ flat_map tells_of (event_of s)
+step_told : (n : ℕ) (a : Scene) (s : Step Mark Event) (b : Scene) → Acts n a s b → b.told ≡ a.told ++ flat_map (λ x. (worth x).tells) (event_of s)
 step_told n a (Asked p x) b h = ap (λ o. o.told) h ∙ sym (append-nil a.told)
 step_told n a (Read r) b h = ap (λ o. o.told) h ∙ sym (append-nil a.told)
 step_told n a (Marked m) b h = (mark_keeps a m b h).told ∙ sym (append-nil a.told)
-step_told n a (Did e) b h = ap (λ o. o.told) h.same ∙ ap (λ l. a.told ++ l) (sym (append-nil (tells_of e)))
+step_told n a (Did e) b h = ap (λ o. o.told) h.same ∙ ap (λ l. a.told ++ l) (sym (append-nil (worth e).tells))
 
 step_events : (n : ℕ) (a : Scene) (s : Step Mark Event) (b : Scene) → Acts n a s b → b.events ≡ a.events ++ event_of s
 step_events n a (Asked p x) b h = ap (λ o. o.events) h ∙ sym (append-nil a.events)
@@ -110,7 +111,7 @@ step_offers n a (Read r) b h = no_more a b (ap (λ o. o.offered) h)
 step_offers n a (Marked m) b h = mark_offers a m b h
 step_offers n a (Did e) b h = no_more a b (ap (λ o. o.offered) h.same)
 
-pub stays_wrong : (t : Before) (ss : List (Step Mark Event)) → phase_from t Wrong ss ≡ Wrong
+pub stays_wrong : (t : Before) (ss : List (Step Mark Event)) → phase_from (go t) Wrong ss ≡ Wrong
 unfolding go
 stays_wrong t [] = refl
 stays_wrong t (s ∷ ss) = stays_wrong t ss
@@ -126,13 +127,13 @@ module _ (n : ℕ) where
   all_events a b [] r = ap (λ o. o.events) r ∙ sym (append-nil a.events)
   all_events a b (s ∷ ss) r = all_events r.0 b ss r.2 ∙ ap (λ l. l ++ events ss) (step_events n a s r.0 r.1) ∙ append_assoc a.events (event_of s) (events ss)
 
-  pub all_tells : (a b : Scene) (ss : List (Step Mark Event)) → Changes n a ss b → b.told ≡ a.told ++ tells (events ss)
+  pub all_tells : (a b : Scene) (ss : List (Step Mark Event)) → Changes n a ss b → b.told ≡ a.told ++ tells worth (events ss)
   unfolding tells events Runs
   all_tells a b [] r = ap (λ o. o.told) r ∙ sym (append-nil a.told)
   all_tells a b (s ∷ ss) r =
-      all_tells r.0 b ss r.2 ∙ ap (λ l. l ++ flat_map tells_of (flat_map event_of ss)) (step_told n a s r.0 r.1)
-      ∙ append_assoc a.told (flat_map tells_of (event_of s)) (flat_map tells_of (flat_map event_of ss))
-      ∙ ap (λ l. a.told ++ l) (sym (flat_map-append tells_of (event_of s) (flat_map event_of ss)))
+      all_tells r.0 b ss r.2 ∙ ap (λ l. l ++ flat_map (λ x. (worth x).tells) (flat_map event_of ss)) (step_told n a s r.0 r.1)
+      ∙ append_assoc a.told (flat_map (λ x. (worth x).tells) (event_of s)) (flat_map (λ x. (worth x).tells) (flat_map event_of ss))
+      ∙ ap (λ l. a.told ++ l) (sym (flat_map-append (λ x. (worth x).tells) (event_of s) (flat_map event_of ss)))
 
   pub all_runs : (a b : Scene) (ss : List (Step Mark Event)) → Changes n a ss b → Runs Does a.parts (events ss) b.parts
   unfolding events Runs
@@ -157,7 +158,7 @@ module _ (n : ℕ) where
       let rest = all_offers r.0 b ss r.2 in
       (first.0 ++ rest.0, rest.1 ∙ ap (λ l. l ++ rest.0) first.1 ∙ append_assoc a.offered first.0 rest.0)
 
-  offers_first : (t : Before) (a b : Scene) (m : Mark) (c : Scene) (ss : List (Step Mark Event)) → phase_from t (go t Opening (Marked m)) ss ≢ Wrong → Marks a m c → Changes n c ss b
+  offers_first : (t : Before) (a b : Scene) (m : Mark) (c : Scene) (ss : List (Step Mark Event)) → phase_from (go t) (go t Opening (Marked m)) ss ≢ Wrong → Marks a m c → Changes n c ss b
       → (more : List ℕ) × (b.offered ≡ a.offered ++ a.unsent ++ more)
   unfolding go from_opening
   offers_first t a b (Offered wrote left) c ss right h r =

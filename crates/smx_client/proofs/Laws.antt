@@ -8,19 +8,20 @@ use Rattle.smx_pdu.specs.declared.pdu.Pdu.{Pdu}
 use Rattle.smx_shared.specs.Offers.{Accepted}
 use Rattle.smx_shared.specs.Ports.{HasAccepted}
 use Rattle.smx_turns.specs.Runs.{Runs}
+use Rattle.smx_turns.specs.Worth.{outs}
 use Rattle.smx_client.specs.declared.event.Event.{Event}
 use Rattle.smx_client.specs.Replies.{put_in, parked_on}
-use Rattle.smx_client.specs.Events.{out_of, event_accepts, event_answers, outs, accepts, answers}
+use Rattle.smx_client.specs.Events.{worth, event_accepts, event_answers, accepts, answers}
 use Rattle.smx_client.specs.Parts.{Parts, Does, Chain}
 
 abbrev due : ℕ → Parts → List (Option Pdu)
 due k a = put_in a.senders k ++ parked_on k a.parked
 
-runs_says : (a b : Parts) (es : List Event) → Runs Does a es b → b.said ≡ a.said ++ flat_map out_of es
+runs_says : (a b : Parts) (es : List Event) → Runs Does a es b → b.said ≡ a.said ++ flat_map (λ x. (worth x).said) es
 unfolding Runs
 runs_says a b [] r = ap (λ x. x.said) r ∙ sym (append-nil a.said)
 runs_says a b (e ∷ es) r =
-    runs_says r.0 b es r.2 ∙ ap (λ l. l ++ flat_map out_of es) r.1.says ∙ append_assoc a.said (out_of e) (flat_map out_of es)
+    runs_says r.0 b es r.2 ∙ ap (λ l. l ++ flat_map (λ x. (worth x).said) es) r.1.says ∙ append_assoc a.said (worth e).said (flat_map (λ x. (worth x).said) es)
 
 runs_answers : (k : ℕ) (a b : Parts) (es : List Event) → k < length a.senders → Runs Does a es b → due k b ≡ due k a ++ flat_map (event_answers k) es
 unfolding Runs
@@ -36,7 +37,7 @@ runs_lists a b [] r all has = subst (λ x. HasAccepted x.port (all ++ [])) (sym 
 runs_lists a b (e ∷ es) r all has =
     subst (HasAccepted b.port) (append_assoc all (event_accepts e) (flat_map event_accepts es)) (runs_lists r.0 b es r.2 (all ++ event_accepts e) (r.1.lists all has))
 
-pub chain_says : (a b : Parts) (es : List Event) → Chain a es b → b.said ≡ a.said ++ outs es
+pub chain_says : (a b : Parts) (es : List Event) → Chain a es b → b.said ≡ a.said ++ outs worth es
 unfolding outs
 chain_says a b es ran = ∥∥₁_elim ran (hlevel props) (λ r. runs_says a b es r)
 

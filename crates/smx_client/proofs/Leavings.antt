@@ -8,9 +8,9 @@ use Rattle.smx_routes.specs.Window.{Window}
 use Rattle.smx_pdu.specs.declared.pdu.Pdu.{Pdu}
 use Rattle.smx_client.specs.declared.reply.Parked.{Parked}
 use Rattle.smx_turns.specs.declared.mo_item.MoItem.{MoItem}
-use Rattle.smx_turns.proofs.Chains.{runs_none}
+use Rattle.smx_turns.specs.Runs.{Runs}
 use Rattle.smx_client.specs.declared.leaver.Leaving.{Leaving}
-use Rattle.smx_client.specs.Leaving.{Left, answers_next, rest_of, GivesItem, gets, get_of, is_put, is_answered}
+use Rattle.smx_client.specs.Leaving.{Rest, Left, rest_of, gets, get_of, is_put, is_answered}
 
 gets_more : (es : List Leaving) (e : Leaving) → gets (es ++ e ∷ []) ≡ gets es + get_of e
 unfolding gets
@@ -24,20 +24,12 @@ gets_push es es' e grown = ap gets grown ∙ gets_more es e
 pub gets_same : (es es' : List Leaving) (e : Leaving) → es' ≡ es ++ e ∷ [] → get_of e ≡ 0 → gets es' ≡ gets es
 gets_same es es' e grown none = let h = gets_push es es' e grown in omega (arith, h, none)
 
-pub gives_is : (a b : Receiving MoItem) (r : Result (Got MoItem) Spent) → IfOk r (λ f. GetServes a b.front f) → IfOk r (λ f. Hands a.got b.got f)
-    → IsOk r → GivesItem a r b
-gives_is a b (Ok found) served hands fine = (served, hands)
-gives_is a b (Err e) served hands fine = absurd (true≢false (sym fine))
-
 pub left_first : (h h' : Option Parked) (w w' : Window) (i i' : Receiving MoItem) (x x' : List (Sending Pdu)) (es : List Leaving)
     → es ≡ [] → h' ≡ h → w' ≡ w → i' ≡ i → x' ≡ x → Left (rest_of h' w' i' x') es (rest_of h w i x)
+unfolding Runs
 left_first h h' w w' i i' x x' es none parked window inbox senders =
-    subst (λ l. Left (rest_of h' w' i' x') l (rest_of h w i x)) (sym none)
-    (subst (λ o. Left (rest_of o w' i' x') [] (rest_of h w i x)) (sym parked)
-    (subst (λ o. Left (rest_of h o i' x') [] (rest_of h w i x)) (sym window)
-    (subst (λ o. Left (rest_of h w o x') [] (rest_of h w i x)) (sym inbox)
-    (subst (λ o. Left (rest_of h w i o) [] (rest_of h w i x)) (sym senders)
-    ∣ runs_none answers_next (rest_of h w i x) ∣₁))))
+    let same : rest_of h w i x ≡ rest_of h' w' i' x' = cc in
+    subst (λ l. Left (rest_of h' w' i' x') l (rest_of h w i x)) (sym none) ∣ same ∣₁
 
 pub gets_none : (es : List Leaving) → es ≡ [] → gets es ≡ 0
 unfolding gets
@@ -58,8 +50,5 @@ answered_none es none = ap is_answered none
 pub left_so : (h h' o : Option Parked) (w w' u : Window) (i i' j : Receiving MoItem) (x x' y : List (Sending Pdu)) (es : List Leaving)
     → h' ≡ h → w' ≡ w → i' ≡ i → x' ≡ x → o ≡ None → Left (rest_of h' w' i' x') es (rest_of o u j y) → Left (rest_of h w i x) es (rest_of None u j y)
 left_so h h' o w w' u i i' j x x' y es parked window inbox senders none left =
-    subst (λ p. Left (rest_of h w i x) es (rest_of p u j y)) none
-    (subst (λ p. Left (rest_of h w i p) es (rest_of o u j y)) senders
-    (subst (λ p. Left (rest_of h w p x') es (rest_of o u j y)) inbox
-    (subst (λ p. Left (rest_of h p i' x') es (rest_of o u j y)) window
-    (subst (λ p. Left (rest_of p w' i' x') es (rest_of o u j y)) parked left))))
+    let first : rest_of h' w' i' x' ≡ rest_of h w i x = cc in
+    subst (λ p. Left (rest_of h w i x) es (rest_of p u j y)) none (subst (λ (r : Rest). Left r es (rest_of o u j y)) first left)

@@ -1,4 +1,3 @@
-pub mod Breaking
 pub mod Fates
 pub mod Doings
 pub mod Starts

@@ -1,30 +1,26 @@
 -- What a worker keeps by one event more.
 use Rattle.std.proofs.Common.{◌≡◌, ◌≢◌, ◌<◌, List, [], ◌∷◌, ◌++◌, length, Bool, true, false, true≢false, Option, Some, None, Result, sym, ◌∙◌, ap, subst, append_assoc}
-use Rattle.std.specs.List.{flat_map}
 use Rattle.smx_pdu.specs.declared.pdu.Pdu.{Pdu}
 use Rattle.smx_frame.specs.Stream.{HasNone}
 use Rattle.smx_link.specs.declared.link.Polled.{Polled}
 use Rattle.smx_link.specs.declared.link.LinkFault.{LinkFault}
 use Rattle.smx_session.specs.declared.client_state.ClientState.{ClientState}
 use Rattle.smx_session.specs.declared.client_state.ClientState.TheVariants.{Ended}
-use Rattle.smx_turns.proofs.Chains.{pushed, chain_push}
+use Rattle.smx_turns.specs.Wires.{has_ended}
+use Rattle.smx_turns.specs.Worth.{those}
+use Rattle.smx_turns.proofs.Breaking.{BadKept, still_bad}
+use Rattle.smx_turns.proofs.Chains.{chain_push}
+use Rattle.smx_turns.proofs.Worths.{heard_push}
 use Rattle.smx_client.specs.declared.event.Event.{Event}
 use Rattle.smx_client.specs.declared.mark.Stage.{Stage}
 use Rattle.smx_client.specs.declared.mark.Stage.TheVariants.{Closed}
-use Rattle.smx_client.specs.Breaking.{IsBad}
-use Rattle.smx_client.specs.Events.{in_of, ins, held_list, is_broken}
+use Rattle.smx_client.specs.Events.{worth}
 use Rattle.smx_client.specs.Parts.{Parts, Does, Chain}
 use Rattle.smx_client.specs.Serving.{Serving, IsServing, parts_of, first_of}
-use Rattle.smx_client.specs.Stages.{has_ended}
-use Rattle.smx_client.proofs.Breaking.{broken_push}
-
-ins_push : (es es' : List Event) (e : Event) → es' ≡ es ++ e ∷ [] → ins es' ≡ ins es ++ in_of e
-unfolding ins
-ins_push es es' e grown = ap (flat_map in_of) grown ∙ pushed in_of es e
 
 -- the PDU that waits is decided
-pub decides : (h h' : Option Pdu) (p q : Pdu) → q ≡ p → Some p ≡ h → h' ≡ None → q ∷ held_list h' ≡ held_list h
-decides h h' p q same had none = ap (λ o. q ∷ held_list o) none ∙ ap (λ (x : Pdu). x ∷ []) same ∙ ap held_list had
+pub decides : (h h' : Option Pdu) (p q : Pdu) → q ≡ p → Some p ≡ h → h' ≡ None → q ∷ those h' ≡ those h
+decides h h' p q same had none = ap (λ o. q ∷ those o) none ∙ ap (λ (x : Pdu). x ∷ []) same ∙ ap those had
 
 -- not every whole PDU was decided
 pub undecided : {A : Type 0} (b : Bool) → b ≡ false → b ≡ true → A
@@ -42,15 +38,14 @@ module _ {L : Type 0} (polls : L → List (Result Polled LinkFault)) where
 
   -- it did one thing more, which reads nothing
   pub did : (v w : Serving L) (e : Event) → IsServing polls v → w.wire.link ≡ v.wire.link → w.wire.start ≡ v.wire.start → w.stage ≡ v.stage → first_of w ≡ first_of v → w.events ≡ v.events ++ e ∷ []
-      → w.wire.heard ≡ v.wire.heard → in_of e ++ held_list w.held ≡ held_list v.held → Does (parts_of v) e (parts_of w)
-      → (w.settled ≡ true → (w.held ≡ None) × HasNone 65536 w.wire.rest) → w.wire.failed ≡ v.wire.failed → w.wire.rest ≡ v.wire.rest → (is_broken e ≡ true → IsBad w.wire)
+      → w.wire.heard ≡ v.wire.heard → (worth e).decided ++ those w.held ≡ those v.held → Does (parts_of v) e (parts_of w)
+      → (w.settled ≡ true → (w.held ≡ None) × HasNone 65536 w.wire.rest) → BadKept (worth e).breaks v.wire w.wire
       → (w.stage ≡ Closed → w.session ≢ Ended → (w.settled ≡ true) × (has_ended (polls w.wire.link) ≡ true)) → IsServing polls w
-  did v w e was link start stage first grown heard decided does settled failed rest met closed = record {
-    heard = heard ∙ was.heard ∙ ap (λ l. ins v.events ++ l) (sym decided) ∙ sym (append_assoc (ins v.events) (in_of e) (held_list w.held))
-        ∙ ap (λ l. l ++ held_list w.held) (sym (ins_push v.events w.events e grown));
+  did v w e was link start stage first grown heard decided does settled bad closed = record {
+    heard = heard_push worth v.wire.heard w.wire.heard v.events w.events e v.held w.held grown was.heard heard decided;
     runs = chain_push Does (first_of w) (parts_of v) (parts_of w) v.events w.events e grown does (subst (λ (a : Parts). Chain a v.events (parts_of v)) (sym first) was.runs);
     settled = settled;
-    broken = broken_push v.wire w.wire v.events w.events e grown failed rest was.broken met;
+    broken = still_bad worth v.wire w.wire v.events w.events e grown was.broken bad;
     opened = λ at ended. ap polls link ∙ was.opened (sym stage ∙ at) (ap (λ l. has_ended (polls l)) (sym link) ∙ ended) ∙ ap polls (sym start);
     drained = λ at. ap (λ l. has_ended (polls l)) link ∙ was.drained (sym stage ∙ at);
     closed = closed;

@@ -10,9 +10,8 @@ use Rattle.smx_link.specs.declared.link.LinkFault.{LinkFault}
 use Rattle.smx_turns.specs.declared.end.Fault.{Fault}
 use Rattle.smx_turns.specs.declared.end.TurnEnd.{TurnEnd}
 use Rattle.smx_turns.specs.declared.step.Step.TheVariants.{Asked, Read, Marked, Did}
-use Rattle.smx_turns.specs.Steps.{polls}
-use Rattle.smx_client.specs.Table.{Before, Phase, Opening, Written, Left, MayCollect, Clear, Draining, MayRead, Deciding, MaySubmit, Entering, Unentered, Settled, Parked, Stopped, Clogged, Closing, Ending, Over, Failed, Exhausted, Wrong, step_of, phase_from, phase_of, go, from_opening, from_written, from_boxing, from_collecting, from_draining, from_clear, from_may_read, from_deciding, from_may_submit, from_entering, from_closing, IsTurn}
-use Rattle.smx_client.specs.Stages.{answers_end, has_ended}
+use Rattle.smx_turns.specs.Steps.{polls, phase_from}
+use Rattle.smx_client.specs.Table.{Before, Phase, Opening, Written, Left, MayCollect, Clear, Draining, MayRead, Deciding, MaySubmit, Entering, Unentered, Settled, Parked, Stopped, Clogged, Closing, Ending, Over, Failed, Exhausted, Wrong, step_of, phase_of, go, from_opening, from_written, from_boxing, from_collecting, from_draining, from_clear, from_may_read, from_deciding, from_may_submit, from_entering, from_closing, IsTurn}
 use Rattle.smx_client.proofs.Filters.{stays_wrong, is_right}
 
 boxes : (b c : Bool) (answer : Result Polled LinkFault) → (if b then from_boxing c (Read answer) else Wrong) ≡ Wrong
@@ -45,11 +44,11 @@ reads_none t Failed answer some_left = refl
 reads_none t Exhausted answer some_left = refl
 reads_none t Wrong answer some_left = refl
 
-polls_none : (t : Before) (p : Phase) (ss : List step_of) → t.settled ≡ false → phase_from t p ss ≢ Wrong → polls ss ≡ []
+polls_none : (t : Before) (p : Phase) (ss : List step_of) → t.settled ≡ false → phase_from (go t) p ss ≢ Wrong → polls ss ≡ []
 unfolding polls
 polls_none t p [] some_left right = refl
 polls_none t p (Asked point x ∷ ss) some_left right = polls_none t (go t p (Asked point x)) ss some_left right
-polls_none t p (Read r ∷ ss) some_left right = absurd (right (ap (λ q. phase_from t q ss) (reads_none t p r some_left) ∙ stays_wrong t ss))
+polls_none t p (Read r ∷ ss) some_left right = absurd (right (ap (λ q. phase_from (go t) q ss) (reads_none t p r some_left) ∙ stays_wrong t ss))
 polls_none t p (Marked m ∷ ss) some_left right = polls_none t (go t p (Marked m)) ss some_left right
 polls_none t p (Did e ∷ ss) some_left right = polls_none t (go t p (Did e)) ss some_left right
 
@@ -73,9 +72,3 @@ none_begins r none p octets more frame parts =
 -- of the same rest
 pub still : (settled : Bool) (held : Option Pdu) (r r' : List ℕ) → r' ≡ r → (settled ≡ true → (held ≡ None) × HasNone 65536 r) → settled ≡ true → (held ≡ None) × HasNone 65536 r'
 still settled held r r' same was all = ((was all).0, subst (λ x. HasNone 65536 x) (sym same) (was all).1)
-
-pub ended_last : (rs : List (Result Polled LinkFault)) (r : Result Polled LinkFault) → has_ended (rs ++ r ∷ []) ≡ answers_end r
-unfolding has_ended
-ended_last [] r = refl
-ended_last (x ∷ []) r = refl
-ended_last (x ∷ y ∷ rs) r = ended_last (y ∷ rs) r

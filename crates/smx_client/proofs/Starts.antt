@@ -8,24 +8,20 @@ use Rattle.smx_shared.specs.Views.{PortView}
 use Rattle.smx_box.specs.Boxes.{Sending, Receiving}
 use Rattle.smx_routes.specs.Window.{Window}
 use Rattle.smx_turns.specs.declared.mo_item.MoItem.{MoItem}
-use Rattle.smx_turns.proofs.Chains.{runs_none}
+use Rattle.smx_turns.specs.Worth.{ins}
+use Rattle.smx_turns.specs.Runs.{Runs}
 use Rattle.smx_client.specs.declared.desk.Desk.{Desk}
 use Rattle.smx_client.specs.declared.event.Event.{Event}
-use Rattle.smx_client.specs.Events.{in_of, ins}
+use Rattle.smx_client.specs.Events.{worth}
 use Rattle.smx_client.specs.Parts.{parts, Does, Chain}
 
 pub started : (d : Desk) (said : List Pdu) (p p' : PortView) (s : ClientState) (w w' : Window) (i i' : Receiving MoItem) (x x' : List (Sending Pdu)) (es : List Event)
     → es ≡ [] → said ≡ [] → p' ≡ p → s ≡ Opened → w' ≡ w → i' ≡ i → x' ≡ x → Chain (parts d [] p' Opened w' i' x' None) es (parts d said p s w i x None)
+unfolding Runs
 started d said p p' s w w' i i' x x' es none silent port opened window inbox senders =
-    subst (λ l. Chain (parts d [] p' Opened w' i' x' None) l (parts d said p s w i x None)) (sym none)
-    (subst (λ o. Chain (parts d [] p' Opened w' i' x' None) [] (parts d o p s w i x None)) (sym silent)
-    (subst (λ o. Chain (parts d [] o Opened w' i' x' None) [] (parts d [] p s w i x None)) (sym port)
-    (subst (λ o. Chain (parts d [] p Opened w' i' x' None) [] (parts d [] p o w i x None)) (sym opened)
-    (subst (λ o. Chain (parts d [] p Opened o i' x' None) [] (parts d [] p Opened w i x None)) (sym window)
-    (subst (λ o. Chain (parts d [] p Opened w o x' None) [] (parts d [] p Opened w i x None)) (sym inbox)
-    (subst (λ o. Chain (parts d [] p Opened w i o None) [] (parts d [] p Opened w i x None)) (sym senders)
-    ∣ runs_none Does (parts d [] p Opened w i x None) ∣₁))))))
+    let same : parts d said p s w i x None ≡ parts d [] p' Opened w' i' x' None = cc in
+    subst (λ l. Chain (parts d [] p' Opened w' i' x' None) l (parts d said p s w i x None)) (sym none) ∣ same ∣₁
 
-pub heard_first : (heard : List Pdu) (es : List Event) → heard ≡ [] → es ≡ [] → heard ≡ ins es ++ []
+pub heard_first : (heard : List Pdu) (es : List Event) → heard ≡ [] → es ≡ [] → heard ≡ ins worth es ++ []
 unfolding ins
-heard_first heard es silent none = silent ∙ sym (ap (λ l. flat_map in_of l ++ []) none)
+heard_first heard es silent none = silent ∙ sym (ap (λ l. flat_map (λ x. (worth x).decided) l ++ []) none)

@@ -1,6 +1,6 @@
 -- What an event is worth: what it decided and says, whom it tells, whether nothing came of it, and what it ends.
 use Rattle.std.specs.Prelude.{ℕ, Bool, true, false, ◌||◌, List, [], ◌∷◌, ◌++◌, Option, Some, None, Result, Ok, Err}
-use Rattle.std.specs.List.{flat_map, list_any}
+use Rattle.std.specs.List.{flat_map}
 use Rattle.std.specs.Result.{is_err}
 use Rattle.smx_pdu.specs.declared.pdu.Pdu.{Pdu}
 use Rattle.smx_pdu.specs.Command.{response_of}
@@ -20,6 +20,7 @@ use Rattle.smx_box.specs.declared.receiver.Got.TheVariants.{Item, Shut, Empty}
 use Rattle.smx_turns.specs.declared.mo_item.MoItem.{MoItem}
 use Rattle.smx_turns.specs.declared.gate.Party.{Party}
 use Rattle.smx_turns.specs.declared.gate.Party.TheVariants.{Lane}
+use Rattle.smx_turns.specs.Puts.{finds_nothing}
 use Rattle.smx_turns.specs.Worth.{Worth, no_worth, says}
 use Rattle.smx_client.specs.declared.event.Event.{Event}
 use Rattle.smx_client.specs.declared.event.Event.TheVariants.{Decided, Broke, Collected, PutAgain, Got as Fetched}
@@ -145,12 +146,6 @@ is_none_found (Ok (Some p)) = false
 is_none_found (Ok None) = true
 is_none_found (Err e) = true
 
-abbrev pub is_empty_got : Result (Got MoItem) BoxSpent → Bool
-is_empty_got (Ok (Item p n item)) = false
-is_empty_got (Ok (Shut p)) = false
-is_empty_got (Ok Empty) = true
-is_empty_got (Err e) = true
-
 abbrev pub is_refused : Reply → Bool
 is_refused reply.Taken = false
 is_refused reply.Full = true
@@ -196,49 +191,15 @@ abbrev pub worth : Event → Worth
 worth (Decided p a f) = decided_worth p.value a.value f
 worth (Broke a) = record no_worth { said = act_out a.value; quiet = false; ends = true; breaks = true }
 worth (Collected lane r) = record no_worth { said = response_out r.value; quiet = is_none_found r.value; spent = is_err r.value }
-worth (Fetched g d) = record no_worth { said = got_out g.value d; tells = got_told g.value d; quiet = is_empty_got g.value; spent = is_err g.value || is_spent_delivery d }
+worth (Fetched g d) = record no_worth { said = got_out g.value d; tells = got_told g.value d; quiet = finds_nothing g.value; spent = is_err g.value || is_spent_delivery d }
 worth (PutAgain lane reply) = record no_worth { tells = lane_told lane reply; quiet = is_refused reply; spent = is_spent_reply reply }
-
--- each by its name: the PDUs that an event decided, and those that it says to the client
-abbrev pub in_of : Event → List Pdu
-in_of e = (worth e).decided
-
-abbrev pub out_of : Event → List Pdu
-out_of e = (worth e).said
-
--- for whom something waits after it
-abbrev pub tells_of : Event → List Party
-tells_of e = (worth e).tells
 
 -- whether nothing came of it
 abbrev pub is_quiet_event : Event → Bool
 is_quiet_event e = (worth e).quiet
-
--- whether it is that of a bad length
-abbrev pub is_broken : Event → Bool
-is_broken e = (worth e).breaks
-
--- in order
-unfoldable pub ins : List Event → List Pdu
-ins es = flat_map in_of es
-
-unfoldable pub outs : List Event → List Pdu
-outs es = flat_map out_of es
-
-unfoldable pub tells : List Event → List Party
-tells es = flat_map tells_of es
-
--- whether one of the events is that of a bad length
-unfoldable pub has_broken : List Event → Bool
-has_broken es = list_any is_broken es
 
 unfoldable pub accepts : List Event → List Accepted
 accepts es = flat_map event_accepts es
 
 unfoldable pub answers : ℕ → List Event → List (Option Pdu)
 answers k es = flat_map (event_answers k) es
-
--- the PDU that waits
-abbrev pub held_list : Option Pdu → List Pdu
-held_list None = []
-held_list (Some p) = p ∷ []

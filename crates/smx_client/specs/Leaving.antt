@@ -1,14 +1,14 @@
 -- What becomes of a client's messages when it leaves, step by step.
-use Rattle.std.specs.Prelude.{◌≡◌, ◌+◌, ◌++◌, ◌⊎◌, ℕ, Bool, false, ◌||◌, List, [], ◌∷◌, Option, Some, None, Result, Ok, Err}
+use Rattle.std.specs.Prelude.{◌≡◌, ◌+◌, ◌++◌, ◌⊎◌, ℕ, Bool, true, false, ◌||◌, List, [], ◌∷◌, Option, Some, None, Result, Ok, Err}
 use Rattle.smx_pdu.specs.declared.pdu.Pdu.{Pdu}
 use Rattle.smx_pdu.specs.Command.{response_of}
 use Rattle.smx_box.specs.declared.fault.Spent.{Spent}
 use Rattle.smx_box.specs.declared.receiver.Got.{Got}
-use Rattle.smx_box.specs.declared.receiver.Got.TheVariants as found
 use Rattle.smx_routes.specs.declared.mo_window.Waiting.{Waiting}
-use Rattle.smx_box.specs.Boxes.{Sending, Receiving, GetServes, Hands}
+use Rattle.smx_box.specs.Boxes.{Sending, Receiving}
 use Rattle.smx_routes.specs.Window.{Window, IsFirst, without}
 use Rattle.smx_turns.specs.Runs.{Runs}
+use Rattle.smx_turns.specs.Puts.{Gets, finds_nothing}
 use Rattle.smx_turns.specs.declared.mo_item.MoItem.{MoItem}
 use Rattle.smx_client.specs.declared.reply.Parked.{Parked}
 use Rattle.smx_client.specs.declared.leaver.Leaving.{Leaving}
@@ -26,11 +26,6 @@ pub record Rest : Type 0 where
 abbrev pub rest_of : Option Parked → Window → Receiving MoItem → List (Sending Pdu) → Rest
 rest_of parked window inbox senders = record { parked = parked; window = window; inbox = inbox; senders = senders }
 
--- one step of the box served a get, which is never spent
-abbrev pub GivesItem : Receiving MoItem → Result (Got MoItem) Spent → Receiving MoItem → Type 0
-GivesItem a (Ok found) b = GetServes a b.front found × Hands a.got b.got found
-GivesItem a (Err e) b = ⊥
-
 -- the order: the answer that waits before all, then the messages that were sent by rising number, then the box's items
 abbrev pub answers_next : Rest → Leaving → Rest → Type 0
 answers_next v (Kept reply) w = (a : Parked) × (v.parked ≡ Some a) × (w.parked ≡ None) × (w.window ≡ v.window) × (w.inbox ≡ v.inbox)
@@ -38,17 +33,11 @@ answers_next v (Kept reply) w = (a : Parked) × (v.parked ≡ Some a) × (w.park
 answers_next v (Row lane number command reply) w = (row : Waiting) × (v.parked ≡ None) × IsFirst v.window.waiting row × (lane ≡ row.lane) × (number ≡ row.number) × (command ≡ row.command)
     × (w.parked ≡ None) × (w.window ≡ record v.window { waiting = without row.given v.window.waiting }) × (w.inbox ≡ v.inbox)
     × AnswersSo lane (refused_up (response_of command) number) reply v.senders w.senders
-answers_next v (Item g reply) w = (v.parked ≡ None) × (v.window.waiting ≡ []) × (w.parked ≡ None) × (w.window ≡ v.window) × GivesItem v.inbox g.value w.inbox
+answers_next v (Item g reply) w = (v.parked ≡ None) × (v.window.waiting ≡ []) × (w.parked ≡ None) × (w.window ≡ v.window) × Gets v.inbox w.inbox g.value
     × ItemAnswersSo g.value reply v.senders w.senders
 
 abbrev pub Left : Rest → List Leaving → Rest → Type 0
 Left a es b = ∥ Runs answers_next a es b ∥₁
-
-abbrev pub IsNothing : Result (Got MoItem) Spent → Type 0
-IsNothing (Ok (found.Item p n item)) = ⊥
-IsNothing (Ok (found.Shut p)) = ⊥
-IsNothing (Ok found.Empty) = Unit {0}
-IsNothing (Err e) = Unit {0}
 
 abbrev pub get_of : Leaving → ℕ
 get_of (Kept reply) = 0
@@ -73,7 +62,7 @@ gets (e ∷ es) = get_of e + gets es
 abbrev pub FoundNothing : Leaving → Type 0
 FoundNothing (Kept reply) = ⊥
 FoundNothing (Row lane number command reply) = ⊥
-FoundNothing (Item g reply) = IsNothing g.value
+FoundNothing (Item g reply) = finds_nothing g.value ≡ true
 
 -- the box was asked until it gave nothing, or as often as it has places
 abbrev pub IsEmptied : ℕ → List Leaving → Type 0

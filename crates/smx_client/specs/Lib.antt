@@ -2,11 +2,9 @@ pub mod Marks
 pub mod Replies
 pub mod Events
 pub mod Prefixes
-pub mod Breaking
 pub mod Parts
 pub mod Sayings
 pub mod Table
-pub mod Stages
 pub mod Turns
 pub mod Serving
 pub mod Scenes

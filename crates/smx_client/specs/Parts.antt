@@ -33,7 +33,7 @@ use Rattle.smx_client.specs.declared.event.Fate.TheVariants.{Own, Submitted, Set
 use Rattle.smx_client.specs.declared.event.Delivery.{Delivery}
 use Rattle.smx_client.specs.declared.event.Delivery.TheVariants.{Given, Refused, Dropped}
 use Rattle.smx_client.specs.Replies.{PutSo, ItemAnswersSo, SettlesSo, Parks, put_in, parked_on}
-use Rattle.smx_client.specs.Events.{out_of, event_accepts, event_answers}
+use Rattle.smx_client.specs.Events.{worth, event_accepts, event_answers}
 
 -- the offer is the request that the PDU asks for
 pub record IsOfferOf (p : Pdu) (o : Offer) : Type 0 where
@@ -182,7 +182,7 @@ pub record Parts : Type 0 where
 
 -- one event is one step of the parts, as their own contracts say
 pub record Does (v : Parts) (e : Event) (w : Parts) : Type 0 where
-  pub says : w.said ≡ v.said ++ out_of e
+  pub says : w.said ≡ v.said ++ (worth e).said
   pub port : port_step v.port e w.port
   pub lists : (all : List Accepted) → HasAccepted v.port all → HasAccepted w.port (all ++ event_accepts e)
   pub session : session_step v.desk.accounts.items v.session e w.session

@@ -1,5 +1,5 @@
 -- What a turn may change, of a worker.
-use Rattle.std.specs.Prelude.{ℕ, Bool, true, false, List, Option, Some, None, Result, length}
+use Rattle.std.specs.Prelude.{ℕ, List, is_some, Result, length}
 use Rattle.smx_link.specs.declared.link.Polled.{Polled}
 use Rattle.smx_link.specs.declared.link.LinkFault.{LinkFault}
 use Rattle.smx_turns.specs.declared.gate.Question.{Question}
@@ -9,14 +9,10 @@ use Rattle.smx_client.specs.Serving.{Serving, parts_of}
 use Rattle.smx_client.specs.Table.{Before, step_of}
 use Rattle.smx_client.specs.Turns.{Scene, scene, Leads}
 
-abbrev pub is_there : {A : Type 0} → Option A → Bool
-is_there (Some x) = true
-is_there None = false
-
 module _ {L : Type 0} where
   -- what the order of its next turn depends on
   abbrev pub before : Serving L → Before
-  before w = record { lanes = length w.port.fronts; stage = w.stage; settled = w.settled; parked = is_there w.parked }
+  before w = record { lanes = length w.port.fronts; stage = w.stage; settled = w.settled; parked = is_some w.parked }
 
   abbrev pub scene_of : (L → List ℕ) → (L → List (Result Polled LinkFault)) → (L → ℕ) → List Question → List Party → List Query → Serving L → Scene
   scene_of offered polls failures asked told queries w = scene asked told queries w.events (parts_of w) w.wire.unsent (offered w.wire.link) (polls w.wire.link) (failures w.wire.link)

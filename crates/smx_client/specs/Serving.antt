@@ -19,10 +19,10 @@ use Rattle.smx_client.specs.declared.mark.Stage.{Stage}
 use Rattle.smx_client.specs.declared.mark.Stage.TheVariants.{Open, Drained, Closed}
 use Rattle.smx_client.specs.declared.reply.Parked.{Parked}
 use Rattle.smx_client.specs.declared.worker.Origin.{Origin}
-use Rattle.smx_client.specs.Breaking.{IsBad}
-use Rattle.smx_client.specs.Events.{ins, held_list, has_broken}
+use Rattle.smx_turns.specs.Wires.{IsBad, has_ended}
+use Rattle.smx_turns.specs.Worth.{those, ins, has_broken}
+use Rattle.smx_client.specs.Events.{worth}
 use Rattle.smx_client.specs.Parts.{Parts, parts, Chain}
-use Rattle.smx_client.specs.Stages.{has_ended}
 use Rattle.smx_client.specs.Table.{step_of}
 
 pub record Serving (L : Type 0) : Type 0 where
@@ -63,13 +63,13 @@ first_of w = parts w.desk [] w.origin.port.value Opened w.origin.window.value w.
 -- what a worker keeps at every call
 pub record IsServing {L : Type 0} (polls : L → List (Result Polled LinkFault)) (w : Serving L) : Type 0 where
   -- In: the PDUs heard are those decided, and then one that waits
-  pub heard : w.wire.heard ≡ ins w.events ++ held_list w.held
+  pub heard : w.wire.heard ≡ ins worth w.events ++ those w.held
   -- each event did what its call did, one after another
   pub runs : Chain (first_of w) w.events (parts_of w)
   -- no whole PDU is left where every one was decided
   pub settled : w.settled ≡ true → (w.held ≡ None) × HasNone 65536 w.wire.rest
   -- a bad length was told only where one was met
-  pub broken : has_broken w.events ≡ true → IsBad w.wire
+  pub broken : has_broken worth w.events ≡ true → IsBad w.wire
   -- the last read since it was made answered no end, or one, as its stage says
   pub opened : w.stage ≡ Open → has_ended (polls w.wire.link) ≡ true → polls w.wire.link ≡ polls w.wire.start
   pub drained : w.stage ≡ Drained → has_ended (polls w.wire.link) ≡ true

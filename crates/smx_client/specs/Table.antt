@@ -10,7 +10,6 @@ use Rattle.smx_session.specs.declared.kind.Kind.TheVariants as kind
 use Rattle.smx_session.specs.declared.act.Act.{Act}
 use Rattle.smx_session.specs.declared.act.Act.TheVariants as act
 use Rattle.smx_link.specs.declared.link.Polled.{Polled}
-use Rattle.smx_link.specs.declared.link.Polled.TheVariants as polled
 use Rattle.smx_link.specs.declared.link.LinkFault.{LinkFault}
 use Rattle.smx_turns.specs.declared.gate.Point.TheVariants.{Reading, Submitting, Collecting}
 use Rattle.smx_turns.specs.declared.end.Fault.{Fault}
@@ -18,6 +17,8 @@ use Rattle.smx_turns.specs.declared.end.Fault.TheVariants as fault
 use Rattle.smx_turns.specs.declared.end.TurnEnd.{TurnEnd}
 use Rattle.smx_turns.specs.declared.end.TurnEnd.TheVariants.{Worked, Idle, Done}
 use Rattle.smx_turns.specs.declared.mo_item.MoItem.{MoItem}
+use Rattle.smx_turns.specs.Steps.{phase_from}
+use Rattle.smx_turns.specs.Wires.{is_end}
 use Rattle.smx_turns.specs.declared.step.Step.{Step}
 use Rattle.smx_turns.specs.declared.step.Step.TheVariants.{Asked, Read, Marked, Did}
 use Rattle.smx_client.specs.declared.mark.Stage.{Stage}
@@ -177,11 +178,6 @@ from_clear (Asked Reading true) = MayRead
 from_clear (Asked Reading false) = Stopped
 from_clear _ = Wrong
 
-abbrev pub is_end : Polled → Bool
-is_end (polled.Octets n) = false
-is_end polled.Nothing = false
-is_end polled.End = true
-
 abbrev pub after_read : Result Polled LinkFault → Phase
 after_read (Ok found) = Deciding (is_end found)
 after_read (Err e) = Failed
@@ -247,12 +243,8 @@ go t (Entering ended account) s = from_entering ended account s
 go t Closing s = from_closing s
 go t _ s = Wrong
 
-abbrev pub phase_from : Before → Phase → List step_of → Phase
-phase_from t p [] = p
-phase_from t p (s ∷ ss) = phase_from t (go t p s) ss
-
 unfoldable pub phase_of : Before → List step_of → Phase
-phase_of t ss = phase_from t Opening ss
+phase_of t ss = phase_from (go t) Opening ss
 
 -- memory may be wanted there
 abbrev pub Wants : Phase → Type 0
@@ -280,11 +272,6 @@ EndsIn Worked quiet Clogged = Unit {0}
 EndsIn Worked quiet Settled = quiet ≡ false
 EndsIn Worked quiet Ending = Unit {0}
 EndsIn Worked quiet _ = ⊥
-
--- how a turn ends that only writes: whether some is left
-abbrev pub last_end : Bool → TurnEnd
-last_end true = Worked
-last_end false = Done
 
 abbrev pub IsTurn : Result TurnEnd Fault → Bool → Phase → Type 0
 IsTurn (Ok end) quiet p = EndsIn end quiet p

@@ -10,11 +10,12 @@ use Rattle.smx_turns.specs.declared.directory.Query.{Query}
 use Rattle.smx_turns.specs.declared.step.Step.{Step}
 use Rattle.smx_turns.specs.declared.step.Step.TheVariants.{Asked, Read, Marked, Did}
 use Rattle.smx_turns.specs.Runs.{Runs}
+use Rattle.smx_turns.specs.Wires.{some_wait}
 use Rattle.smx_client.specs.declared.mark.Mark.{Mark}
 use Rattle.smx_client.specs.declared.mark.Mark.TheVariants.{Offered, WriteFailed, Waited, NoRoom, Part, Entered, Full as Clogs}
 use Rattle.smx_client.specs.declared.event.Event.{Event}
 use Rattle.smx_client.specs.declared.event.Event.TheVariants.{Decided, Broke, Collected, PutAgain, Got as Fetched}
-use Rattle.smx_client.specs.Events.{out_of, tells_of}
+use Rattle.smx_client.specs.Events.{worth}
 use Rattle.smx_client.specs.Parts.{Parts, Does}
 use Rattle.smx_client.specs.Prefixes.{Adds, account_prefixes}
 
@@ -46,13 +47,9 @@ scene asked told queries events parts unsent offered polls failures = record {
   failures = failures;
 }
 
-abbrev pub is_some_left : List ℕ → Bool
-is_some_left [] = false
-is_some_left (x ∷ xs) = true
-
 -- all that waits is offered by one write
 pub record Offers (a : Scene) (wrote left : Bool) (b : Scene) : Type 0 where
-  pub some_left : left ≡ is_some_left b.unsent
+  pub some_left : left ≡ some_wait b.unsent
   pub some_written : wrote ≡ not (length b.unsent == length a.unsent)
   pub same : b ≡ record a { unsent = b.unsent; offered = a.offered ++ a.unsent }
 
@@ -79,7 +76,7 @@ Fits unsent (PutAgain lane reply) = Unit {0}
 pub record Happens (a : Scene) (e : Event) (b : Scene) : Type 0 where
   pub fits : Fits a.unsent e
   pub does : Does a.parts e b.parts
-  pub same : b ≡ record a { told = a.told ++ tells_of e; events = a.events ++ e ∷ []; parts = b.parts; unsent = a.unsent ++ spellings (out_of e) }
+  pub same : b ≡ record a { told = a.told ++ (worth e).tells; events = a.events ++ e ∷ []; parts = b.parts; unsent = a.unsent ++ spellings (worth e).said }
 
 -- what a step of the n-th turn changes, and nothing else
 abbrev pub Acts : ℕ → Scene → Step Mark Event → Scene → Type 0

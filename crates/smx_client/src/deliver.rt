@@ -1,7 +1,8 @@
 //! What becomes of an item from the box.
 ghost use Rattle.std.specs.Prelude.{◌≡◌, ◌≢◌, ◌++◌, ◌<◌, ◌≤◌, [], ◌∷◌, ℕ, length, None, Ok};
 ghost use Rattle.smx_client.specs.Replies.{put_in, parked_on};
-ghost use Rattle.smx_client.specs.Events.{item_out, item_answers, message_as, is_empty_got, got_told};
+ghost use Rattle.smx_client.specs.Events.{item_out, item_answers, message_as, got_told};
+ghost use Rattle.smx_turns.specs.Puts.{finds_nothing};
 ghost use Rattle.smx_client.specs.Parts.{item_step, IsDelivered, delivery_senders, delivery_parks};
 ghost use Rattle.smx_client.specs.Sayings.{Spoke};
 ghost use Rattle.smx_client.specs.Table.{IsPart, Clear, after_delivery, delivery_progress};
@@ -33,7 +34,7 @@ fn message_as(item: MoItem, number: u32) -> Pdu
 
 // Whether the box was empty.
 pub(crate) fn is_empty(got: &Got<MoItem>) -> bool
-    ensures { result ≡ is_empty_got (Ok got.now) }
+    ensures { result ≡ finds_nothing (Ok got.now) }
 {
     matches!(got, Got::Empty)
 }

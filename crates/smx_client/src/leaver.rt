@@ -2,7 +2,8 @@
 ghost use Rattle.std.specs.Prelude.{◌≡◌, ◌+◌, ◌++◌, ◌<◌, [], ◌∷◌, length, None, true, false};
 ghost use Rattle.smx_pdu.specs.Command.{response_of};
 ghost use Rattle.smx_client.specs.Replies.{refused_up, PutSo, AnswersSo, ItemAnswersSo};
-ghost use Rattle.smx_client.specs.Leaving.{Left, rest_of, gets, is_answered, FoundNothing, IsEmptied, IsNothing};
+ghost use Rattle.smx_client.specs.Leaving.{Left, rest_of, gets, is_answered, FoundNothing, IsEmptied};
+ghost use Rattle.smx_turns.specs.Puts.{finds_nothing};
 
 use crate::reply::{Parked, Reply};
 use smx_box::{Got, PutFault, Receiver, Sender, Spent};
@@ -98,7 +99,7 @@ fn refuse_got<R: Wait>(
 
 // Whether the box gave neither an item nor a mark.
 fn is_nothing(got: &Result<Got<MoItem>, Spent>) -> bool
-    ensures { result ≡ true → IsNothing got.now }
+    ensures { result ≡ finds_nothing got.now }
 {
     matches!(got, Ok(Got::Empty) | Err(_))
 }
@@ -164,8 +165,8 @@ impl Leaver {
     fn put_parked<R: Wait>(&mut self, rt: &R)
         ensures none { self.new.parked ≡ None }
         ensures gets { gets self.new.closing ≡ gets self.old.closing }
-        ensures inbox { self.new.inbox ≡ self.old.inbox }
-        ensures first { (self.new.first_parked ≡ self.old.first_parked)
+        ensures kept { (self.new.inbox ≡ self.old.inbox)
+            × (self.new.first_parked ≡ self.old.first_parked)
             × (self.new.first_window ≡ self.old.first_window)
             × (self.new.first_inbox ≡ self.old.first_inbox)
             × (self.new.first_senders ≡ self.old.first_senders) }
@@ -186,8 +187,8 @@ impl Leaver {
             → length self.new.window.waiting < length self.old.window.waiting }
         ensures last { result ≡ false → self.new.window.waiting ≡ [] }
         ensures gets { gets self.new.closing ≡ gets self.old.closing }
-        ensures inbox { self.new.inbox ≡ self.old.inbox }
-        ensures first { (self.new.first_parked ≡ self.old.first_parked)
+        ensures kept { (self.new.inbox ≡ self.old.inbox)
+            × (self.new.first_parked ≡ self.old.first_parked)
             × (self.new.first_window ≡ self.old.first_window)
             × (self.new.first_inbox ≡ self.old.first_inbox)
             × (self.new.first_senders ≡ self.old.first_senders) }
@@ -208,13 +209,13 @@ impl Leaver {
         requires none { self.old.parked ≡ None }
         requires rows { self.old.window.waiting ≡ [] }
         ensures parked { self.new.parked ≡ None }
-        ensures window { self.new.window ≡ self.old.window }
         ensures gets { gets self.new.closing ≡ gets self.old.closing + 1 }
         ensures last { result ≡ false
             → (last : Leaving) × (self.new.closing ≡ self.old.closing ++ last ∷ [])
             × FoundNothing last }
         ensures sizes { self.new.inbox.front.queue ≡ self.old.inbox.front.queue }
-        ensures first { (self.new.first_parked ≡ self.old.first_parked)
+        ensures kept { (self.new.window ≡ self.old.window)
+            × (self.new.first_parked ≡ self.old.first_parked)
             × (self.new.first_window ≡ self.old.first_window)
             × (self.new.first_inbox ≡ self.old.first_inbox)
             × (self.new.first_senders ≡ self.old.first_senders) }

@@ -5,7 +5,7 @@ ghost use Rattle.smx_link.specs.declared.link.LinkFault.{LinkFault};
 ghost use Rattle.smx_link.specs.Links.{fault_count};
 ghost use Rattle.smx_turns.specs.declared.directory.Query.{Query};
 ghost use Rattle.smx_turns.specs.declared.step.Step.TheVariants as step;
-ghost use Rattle.smx_client.specs.Events.{is_quiet_event, tells_of};
+ghost use Rattle.smx_client.specs.Events.{is_quiet_event};
 ghost use Rattle.smx_client.specs.Marks.{is_quiet_mark};
 ghost use Rattle.smx_client.specs.Parts.{Parts};
 ghost use Rattle.smx_client.specs.Table.{Before, Phase, phase_of, go};

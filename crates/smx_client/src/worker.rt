@@ -8,10 +8,10 @@ ghost use Rattle.smx_shared.specs.Offers.{Accepted};
 ghost use Rattle.smx_shared.specs.Ports.{HasAccepted};
 ghost use Rattle.smx_client.specs.declared.mark.Stage.{Stage};
 ghost use Rattle.smx_client.specs.Replies.{put_in, parked_on};
-ghost use Rattle.smx_client.specs.Events.{ins, outs, accepts, answers, held_list, has_broken};
-ghost use Rattle.smx_client.specs.Breaking.{IsBad};
+ghost use Rattle.smx_client.specs.Events.{worth, accepts, answers};
+ghost use Rattle.smx_turns.specs.Wires.{IsBad, has_ended};
+ghost use Rattle.smx_turns.specs.Worth.{those, ins, outs, has_broken};
 ghost use Rattle.smx_client.specs.Parts.{parts, Chain};
-ghost use Rattle.smx_client.specs.Stages.{has_ended};
 
 use crate::desk::Desk;
 use crate::event::Event;
@@ -187,9 +187,9 @@ impl<'d, L: Link + Drop> ClientWorker<'d, L> {
     /// or the link has and every whole PDU was decided.
     pub fn law(&self)
         ensures given { L.given self.now.wire.link ≡ L.given self.now.wire.start
-            ++ (spellings (ins self.now.events ++ held_list self.now.held) ++ self.now.wire.rest) }
+            ++ (spellings (ins worth self.now.events ++ those self.now.held) ++ self.now.wire.rest) }
         ensures taken { L.taken self.now.wire.link ++ self.now.wire.unsent
-            ≡ L.taken self.now.wire.start ++ spellings (outs self.now.events) }
+            ≡ L.taken self.now.wire.start ++ spellings (outs worth self.now.events) }
         ensures accepts { ∥ ((all : List Accepted) → HasAccepted self.now.origin.port.value all
             → HasAccepted self.now.port (all ++ accepts self.now.events)) ∥₁ }
         ensures answers { (k : ℕ) → k < length self.now.origin.senders.value.items
@@ -204,7 +204,7 @@ impl<'d, L: Link + Drop> ClientWorker<'d, L> {
             self.now.window self.now.inbox self.now.senders self.now.parked) }
         ensures settled { self.now.settled ≡ true
             → (self.now.held ≡ None) × HasNone 65536 self.now.wire.rest }
-        ensures broken { has_broken self.now.events ≡ true → IsBad self.now.wire }
+        ensures broken { has_broken worth self.now.events ≡ true → IsBad self.now.wire }
         ensures opened { self.now.stage ≡ Stage.Open
             → has_ended (L.polls self.now.wire.link) ≡ true
             → L.polls self.now.wire.link ≡ L.polls self.now.wire.start }

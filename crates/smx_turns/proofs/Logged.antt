@@ -6,13 +6,11 @@ use Rattle.std.specs.List.{flat_map}
 use Rattle.smx_link.specs.declared.link.Polled.{Polled}
 use Rattle.smx_link.specs.declared.link.LinkFault.{LinkFault}
 use Rattle.smx_turns.specs.declared.gate.Point.{Point}
-use Rattle.smx_turns.specs.declared.gate.Question.{Question}
-use Rattle.smx_turns.specs.declared.gate.Party.{Party}
-use Rattle.smx_turns.specs.declared.directory.Query.{Query}
 use Rattle.smx_turns.specs.declared.step.Step.{Step}
 use Rattle.smx_turns.specs.declared.step.Step.TheVariants.{Asked, Read, Marked, Did}
 use Rattle.smx_turns.specs.Runs.{Runs, RunsOn}
-use Rattle.smx_turns.specs.Steps.{asks, ask_of, polls, poll_of, events, event_of, is_quiet_step, are_quiet, Side, side, Turned}
+use Rattle.smx_turns.specs.Worth.{Worth}
+use Rattle.smx_turns.specs.Steps.{asks, ask_of, polls, poll_of, events, event_of, is_quiet_step, are_quiet, Side, Turned, phase_from}
 use Rattle.smx_turns.proofs.Chains.{pushed, runs_append, runs_one, runs_none, ran_more}
 
 module _ {M E : Type 0} where
@@ -65,9 +63,9 @@ module _ {M E : Type 0} where
       both_false true = refl
       both_false false = refl
 
-module _ {S M E : Type 0} (does : S → E → S → Type 0) (tells : E → List Party) (finds : E → List Query) (n : ℕ) where
+module _ {S M E : Type 0} (does : S → E → S → Type 0) (worth : E → Worth) (n : ℕ) where
   -- a turn begins
-  pub turned_none : (a : Side S E) → Turned {M = M} does tells finds n a a []
+  pub turned_none : (a : Side S E) → Turned {M = M} does worth n a a []
   unfolding asks events polls
   turned_none a = record {
     gate = sym (append-nil a.asked);
@@ -80,15 +78,15 @@ module _ {S M E : Type 0} (does : S → E → S → Type 0) (tells : E → List 
 
   -- one step more, which does this to a turn's side
   pub turned_step : (a b c : Side S E) (ss ss' : List (Step M E)) (s : Step M E) → ss' ≡ ss ++ s ∷ []
-      → c.asked ≡ b.asked ++ ask_of n s → c.told ≡ b.told ++ flat_map tells (event_of s) → c.queries ≡ b.queries ++ flat_map finds (event_of s)
+      → c.asked ≡ b.asked ++ ask_of n s → c.told ≡ b.told ++ flat_map (λ x. (worth x).tells) (event_of s) → c.queries ≡ b.queries ++ flat_map (λ x. (worth x).finds) (event_of s)
       → c.events ≡ b.events ++ event_of s → Runs does b.stand (event_of s) c.stand → c.polls ≡ b.polls ++ poll_of s
-      → Turned does tells finds n a b ss → Turned does tells finds n a c ss'
-  turned_step a b c ss ss' s grown asked told queried more run read t = subst (λ (l : List (Step M E)). Turned does tells finds n a c l) (sym grown) (record {
+      → Turned does worth n a b ss → Turned does worth n a c ss'
+  turned_step a b c ss ss' s grown asked told queried more run read t = subst (λ (l : List (Step M E)). Turned does worth n a c l) (sym grown) (record {
     gate = asked ∙ ap (λ l. l ++ ask_of n s) t.gate ∙ append_assoc a.asked (asks n ss) (ask_of n s) ∙ ap (λ l. a.asked ++ l) (sym (asks_push n ss s));
-    ready = told ∙ ap (λ l. l ++ flat_map tells (event_of s)) t.ready ∙ append_assoc a.told (flat_map tells (events ss)) (flat_map tells (event_of s))
-        ∙ ap (λ l. a.told ++ l) (sym (flat_more tells ss s));
-    directory = queried ∙ ap (λ l. l ++ flat_map finds (event_of s)) t.directory ∙ append_assoc a.queries (flat_map finds (events ss)) (flat_map finds (event_of s))
-        ∙ ap (λ l. a.queries ++ l) (sym (flat_more finds ss s));
+    ready = told ∙ ap (λ l. l ++ flat_map (λ x. (worth x).tells) (event_of s)) t.ready ∙ append_assoc a.told (flat_map (λ x. (worth x).tells) (events ss)) (flat_map (λ x. (worth x).tells) (event_of s))
+        ∙ ap (λ l. a.told ++ l) (sym (flat_more (λ x. (worth x).tells) ss s));
+    directory = queried ∙ ap (λ l. l ++ flat_map (λ x. (worth x).finds) (event_of s)) t.directory ∙ append_assoc a.queries (flat_map (λ x. (worth x).finds) (events ss)) (flat_map (λ x. (worth x).finds) (event_of s))
+        ∙ ap (λ l. a.queries ++ l) (sym (flat_more (λ x. (worth x).finds) ss s));
     events_are = more ∙ ap (λ l. l ++ event_of s) t.events_are ∙ append_assoc a.events (events ss) (event_of s) ∙ ap (λ l. a.events ++ l) (sym (events_push ss s));
     runs = subst (λ (l : List E). Runs does a.stand l c.stand) (sym (events_push ss s)) (runs_append does a.stand b.stand c.stand (events ss) (event_of s) t.runs run);
     reading = read ∙ ap (λ l. l ++ poll_of s) t.reading ∙ append_assoc a.polls (polls ss) (poll_of s) ∙ ap (λ l. a.polls ++ l) (sym (polls_push ss s));
@@ -99,30 +97,39 @@ module _ {S M E : Type 0} (does : S → E → S → Type 0) (tells : E → List 
 
   -- a question
   pub turned_ask : (a b c : Side S E) (ss ss' : List (Step M E)) (p : Point) (answer : Bool) → ss' ≡ ss ++ Asked p answer ∷ []
-      → c ≡ record b { asked = b.asked ++ record { point = p; turn = n; answer = answer } ∷ [] } → Turned does tells finds n a b ss → Turned does tells finds n a c ss'
+      → c ≡ record b { asked = b.asked ++ record { point = p; turn = n; answer = answer } ∷ [] } → Turned does worth n a b ss → Turned does worth n a c ss'
   unfolding Runs
   turned_ask a b c ss ss' p answer grown is t = turned_step a b c ss ss' (Asked p answer) grown (ap (λ x. x.asked) is) (ap (λ x. x.told) is ∙ sym (append-nil b.told))
       (ap (λ x. x.queries) is ∙ sym (append-nil b.queries)) (ap (λ x. x.events) is ∙ sym (append-nil b.events)) (ap (λ x. x.stand) is) (ap (λ x. x.polls) is ∙ sym (append-nil b.polls)) t
 
   -- a mark
-  pub turned_mark : (a b c : Side S E) (ss ss' : List (Step M E)) (m : M) → ss' ≡ ss ++ Marked m ∷ [] → c ≡ b → Turned does tells finds n a b ss → Turned does tells finds n a c ss'
+  pub turned_mark : (a b c : Side S E) (ss ss' : List (Step M E)) (m : M) → ss' ≡ ss ++ Marked m ∷ [] → c ≡ b → Turned does worth n a b ss → Turned does worth n a c ss'
   unfolding Runs
   turned_mark a b c ss ss' m grown is t = turned_step a b c ss ss' (Marked m) grown (ap (λ x. x.asked) is ∙ sym (append-nil b.asked)) (ap (λ x. x.told) is ∙ sym (append-nil b.told))
       (ap (λ x. x.queries) is ∙ sym (append-nil b.queries)) (ap (λ x. x.events) is ∙ sym (append-nil b.events)) (ap (λ x. x.stand) is) (ap (λ x. x.polls) is ∙ sym (append-nil b.polls)) t
 
   -- a read
   pub turned_read : (a b c : Side S E) (ss ss' : List (Step M E)) (r : Result Polled LinkFault) → ss' ≡ ss ++ Read r ∷ [] → c ≡ record b { polls = b.polls ++ r ∷ [] }
-      → Turned does tells finds n a b ss → Turned does tells finds n a c ss'
+      → Turned does worth n a b ss → Turned does worth n a c ss'
   unfolding Runs
   turned_read a b c ss ss' r grown is t = turned_step a b c ss ss' (Read r) grown (ap (λ x. x.asked) is ∙ sym (append-nil b.asked)) (ap (λ x. x.told) is ∙ sym (append-nil b.told))
       (ap (λ x. x.queries) is ∙ sym (append-nil b.queries)) (ap (λ x. x.events) is ∙ sym (append-nil b.events)) (ap (λ x. x.stand) is) (ap (λ x. x.polls) is) t
 
   -- an event
-  pub turned_did : (a b c : Side S E) (ss ss' : List (Step M E)) (e : E) → ss' ≡ ss ++ Did e ∷ [] → c.asked ≡ b.asked → c.told ≡ b.told ++ tells e → c.queries ≡ b.queries ++ finds e
-      → c.events ≡ b.events ++ e ∷ [] → does b.stand e c.stand → c.polls ≡ b.polls → Turned does tells finds n a b ss → Turned does tells finds n a c ss'
+  pub turned_did : (a b c : Side S E) (ss ss' : List (Step M E)) (e : E) → ss' ≡ ss ++ Did e ∷ [] → c.asked ≡ b.asked → c.told ≡ b.told ++ (worth e).tells → c.queries ≡ b.queries ++ (worth e).finds
+      → c.events ≡ b.events ++ e ∷ [] → does b.stand e c.stand → c.polls ≡ b.polls → Turned does worth n a b ss → Turned does worth n a c ss'
   turned_did a b c ss ss' e grown asked told queried more d read t = turned_step a b c ss ss' (Did e) grown (asked ∙ sym (append-nil b.asked))
-      (told ∙ ap (λ l. b.told ++ l) (sym (append-nil (tells e)))) (queried ∙ ap (λ l. b.queries ++ l) (sym (append-nil (finds e)))) more (runs_one does b.stand c.stand e d) (read ∙ sym (append-nil b.polls)) t
+      (told ∙ ap (λ l. b.told ++ l) (sym (append-nil (worth e).tells))) (queried ∙ ap (λ l. b.queries ++ l) (sym (append-nil (worth e).finds))) more (runs_one does b.stand c.stand e d) (read ∙ sym (append-nil b.polls)) t
 
   -- after a turn more events were done
-  pub ran_turn : (s : S) (es : List E) (a b : Side S E) (ss : List (Step M E)) → RunsOn does s es a.stand a.events → Turned does tells finds n a b ss → RunsOn does s es b.stand b.events
+  pub ran_turn : (s : S) (es : List E) (a b : Side S E) (ss : List (Step M E)) → RunsOn does s es a.stand a.events → Turned does worth n a b ss → RunsOn does s es b.stand b.events
   ran_turn s es a b ss f t = ran_more does s a.stand b.stand es a.events b.events (events ss) f t.events_are t.runs
+
+module _ {P S : Type 0} (go : P → S → P) where
+  from_push : (p : P) (ss : List S) (s : S) → phase_from go p (ss ++ s ∷ []) ≡ go (phase_from go p ss) s
+  from_push p [] s = refl
+  from_push p (x ∷ ss) s = from_push (go p x) ss s
+
+  -- one step more leads from one phase to the next
+  pub phase_push : (first : P) (ss ss' : List S) (s : S) (p q : P) → ss' ≡ ss ++ s ∷ [] → go p s ≡ q → phase_from go first ss ≡ p → phase_from go first ss' ≡ q
+  phase_push first ss ss' s p q grown cell was = ap (phase_from go first) grown ∙ from_push first ss s ∙ ap (λ x. go x s) was ∙ cell

@@ -1,15 +1,17 @@
--- One put, as the sender's own clauses say it and as the senders' lists do.
-use Rattle.std.proofs.Common.{◌≡◌, ◌<◌, ℕ, arith, List, [], ◌∷◌, ◌++◌, length, refl, sym, ap, ◌∙◌, subst, Some, Result, Ok, Err, IfOk, IfErr, slice_get, set, inl, inr}
+-- One put and one get, as their own clauses say it and as the lists do.
+use Rattle.std.proofs.Common.{◌≡◌, ◌<◌, ℕ, arith, List, [], ◌∷◌, ◌++◌, length, refl, sym, ap, ◌∙◌, subst, Some, Result, Ok, Err, IfOk, IfErr, IsOk, true≢false, slice_get, set, inl, inr}
 use Rattle.std.proofs.lemmas.List.{append-nil, get_or-set_same, get_or-set_other, length-set}
 use Rattle.std.proofs.lemmas.Bool.{cases_eq, cases_lt, eq-eqb, ne_eqb}
 use Rattle.std.proofs.lemmas.Option.{slice_get-get_or, slice_get_within, slice_get_past}
 use Rattle.std.specs.Prelude.{if◌then◌else◌}
 use Rattle.smx_box.specs.declared.sender.PutFault.{PutFault}
 use Rattle.smx_box.specs.declared.sender.PutFault.TheVariants.{Full, Spent}
+use Rattle.smx_box.specs.declared.fault.Spent.{Spent as BoxSpent}
+use Rattle.smx_box.specs.declared.receiver.Got.{Got}
 use Rattle.smx_box.specs.declared.letter.Letter.{Letter}
 use Rattle.smx_box.specs.Letters.{letter}
-use Rattle.smx_box.specs.Boxes.{most_items, Sending, PutServes, FullPutServes}
-use Rattle.smx_turns.specs.Puts.{AtIndex, PutAnswers, contents, contents_in, put_on}
+use Rattle.smx_box.specs.Boxes.{most_items, Sending, PutServes, FullPutServes, Receiving, GetServes, Hands}
+use Rattle.smx_turns.specs.Puts.{AtIndex, PutAnswers, contents, contents_in, put_on, Gets}
 
 module _ {T : Type 0} where
   -- what the contract of a put says
@@ -51,3 +53,8 @@ module _ {T : Type 0} where
         | inl within ↦ slice_get-get_or (set xs i y) k y (omega (arith, length-set xs i y)) ∙ ap Some (get_or-set_other xs i k y y apart) ∙ sym (slice_get-get_or xs k y within)
         | inr past ↦ slice_get_past (set xs i y) k (omega (arith, length-set xs i y)) ∙ sym (slice_get_past xs k past)
       ]
+
+  -- what the contract of a get says
+  pub gets_from : (a b : Receiving T) (r : Result (Got T) BoxSpent) → IfOk r (Hands a.got b.got) → IfOk r (GetServes a b.front) → IsOk r → Gets a b r
+  gets_from a b (Ok found) h s e = (s, h)
+  gets_from a b (Err fault) h s e = absurd (true≢false (sym e))

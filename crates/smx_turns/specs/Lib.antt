@@ -1,5 +1,6 @@
 pub mod Runs
+pub mod Worth
+pub mod Wires
 pub mod Steps
 pub mod Puts
 pub mod Rounds
-pub mod Worth

@@ -1,16 +1,19 @@
--- What a put does to the senders.
-use Rattle.std.specs.Prelude.{◌≡◌, ℕ, List, [], ◌∷◌, ◌++◌, ◌==◌, length, map, set, slice_get, Option, Some, None, Result, Ok, Err, if◌then◌else◌}
+-- What a put does to the senders, and a get to a box.
+use Rattle.std.specs.Prelude.{◌≡◌, ℕ, Bool, true, false, List, [], ◌∷◌, ◌++◌, ◌==◌, length, map, set, slice_get, Option, Some, None, Result, Ok, Err, if◌then◌else◌}
 use Rattle.smx_box.specs.declared.sender.PutFault.{PutFault}
 use Rattle.smx_box.specs.declared.sender.PutFault.TheVariants.{Full, Spent}
 use Rattle.smx_box.specs.declared.letter.Letter.{Letter}
 use Rattle.smx_box.specs.Letters.{letter}
-use Rattle.smx_box.specs.Boxes.{most_items, Sending, PutServes, FullPutServes}
+use Rattle.smx_box.specs.declared.fault.Spent.{Spent as BoxSpent}
+use Rattle.smx_box.specs.declared.receiver.Got.{Got}
+use Rattle.smx_box.specs.declared.receiver.Got.TheVariants as got
+use Rattle.smx_box.specs.Boxes.{most_items, Sending, PutServes, FullPutServes, Receiving, GetServes, Hands}
+
+-- just that at this index changed, so
+abbrev pub AtIndex : {X : Type 0} → ℕ → List X → List X → (X → X → Type 0) → Type 0
+AtIndex {X = X} i ss tt P = (x : X) × (y : X) × (slice_get ss i ≡ Some x) × (tt ≡ set ss i y) × P x y
 
 module _ {T : Type 0} where
-  -- of the senders just this one changed, so
-  abbrev pub AtIndex : ℕ → List (Sending T) → List (Sending T) → (Sending T → Sending T → Type 0) → Type 0
-  AtIndex i ss tt P = (x : Sending T) × (y : Sending T) × (slice_get ss i ≡ Some x) × (tt ≡ set ss i y) × P x y
-
   -- one step put the item, as this sender's n-th
   pub record Puts (item : T) (n : ℕ) (x y : Sending T) : Type 0 where
     pub number : n ≡ length y.put
@@ -49,3 +52,15 @@ module _ {T : Type 0} where
   abbrev pub put_on : {X F : Type 0} → ℕ → ℕ → T → Result X F → List (Option T)
   put_on k i item (Ok n) = if k == i then Some item ∷ [] else []
   put_on k i item (Err e) = []
+
+  -- one step of the box served a get, which is never spent
+  abbrev pub Gets : Receiving T → Receiving T → Result (Got T) BoxSpent → Type 0
+  Gets a b (Ok found) = GetServes a b.front found × Hands a.got b.got found
+  Gets a b (Err e) = ⊥
+
+  -- whether it gave neither an item nor a mark
+  abbrev pub finds_nothing : Result (Got T) BoxSpent → Bool
+  finds_nothing (Ok (got.Item k n item)) = false
+  finds_nothing (Ok (got.Shut k)) = false
+  finds_nothing (Ok got.Empty) = true
+  finds_nothing (Err e) = true

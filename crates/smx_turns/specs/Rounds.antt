@@ -1,10 +1,15 @@
--- How a run of turns ends.
-use Rattle.std.specs.Prelude.{◌≡◌, ◌<◌, ℕ, zero, suc, List, [], ◌∷◌, ◌++◌, Result, Ok, Err}
+-- How a turn ends that only writes, and how a run of turns does.
+use Rattle.std.specs.Prelude.{◌≡◌, ◌<◌, ℕ, Bool, true, false, zero, suc, List, [], ◌∷◌, ◌++◌, Result, Ok, Err}
 use Rattle.smx_turns.specs.declared.end.Fault.{Fault}
 use Rattle.smx_turns.specs.declared.end.RunEnd.{RunEnd}
 use Rattle.smx_turns.specs.declared.end.RunEnd.TheVariants as run
 use Rattle.smx_turns.specs.declared.end.TurnEnd.{TurnEnd}
 use Rattle.smx_turns.specs.declared.end.TurnEnd.TheVariants.{Worked, Idle, Done}
+
+-- whether octets are left
+abbrev pub last_end : Bool → TurnEnd
+last_end true = Worked
+last_end false = Done
 
 -- these ends, after so many turns that worked
 abbrev pub worked_turns : ℕ → List (Result TurnEnd Fault) → List (Result TurnEnd Fault)

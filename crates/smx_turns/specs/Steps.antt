@@ -10,6 +10,7 @@ use Rattle.smx_turns.specs.declared.directory.Query.{Query}
 use Rattle.smx_turns.specs.declared.step.Step.{Step}
 use Rattle.smx_turns.specs.declared.step.Step.TheVariants.{Asked, Read, Marked, Did}
 use Rattle.smx_turns.specs.Runs.{Runs}
+use Rattle.smx_turns.specs.Worth.{Worth}
 
 -- whether a read brought no octets
 abbrev pub brings_none : Result Polled LinkFault → Bool
@@ -74,11 +75,16 @@ module _ {S E : Type 0} where
   abbrev pub side : List Question → List Party → List Query → List E → S → List (Result Polled LinkFault) → Side S E
   side asked told queries es stand polls = record { asked = asked; told = told; queries = queries; events = es; stand = stand; polls = polls }
 
--- These steps, and nothing else, lead from one side to the other. An event does so to what the worker stands on, tells these parties and asks the directory this
-pub record Turned {S M E : Type 0} (does : S → E → S → Type 0) (tells : E → List Party) (finds : E → List Query) (turn : ℕ) (a b : Side S E) (ss : List (Step M E)) : Type 0 where
+-- These steps, and nothing else, lead from one side to the other. An event does so to what the worker stands on, and is worth whom the gate is told of and what the directory is asked
+pub record Turned {S M E : Type 0} (does : S → E → S → Type 0) (worth : E → Worth) (turn : ℕ) (a b : Side S E) (ss : List (Step M E)) : Type 0 where
   pub gate : b.asked ≡ a.asked ++ asks turn ss
-  pub ready : b.told ≡ a.told ++ flat_map tells (events ss)
-  pub directory : b.queries ≡ a.queries ++ flat_map finds (events ss)
+  pub ready : b.told ≡ a.told ++ flat_map (λ e. (worth e).tells) (events ss)
+  pub directory : b.queries ≡ a.queries ++ flat_map (λ e. (worth e).finds) (events ss)
   pub events_are : b.events ≡ a.events ++ events ss
   pub runs : Runs does a.stand (events ss) b.stand
   pub reading : b.polls ≡ a.polls ++ polls ss
+
+-- where a turn stands after these steps, by the table of its worker
+abbrev pub phase_from : {P S : Type 0} → (P → S → P) → P → List S → P
+phase_from go p [] = p
+phase_from go p (s ∷ ss) = phase_from go (go p s) ss

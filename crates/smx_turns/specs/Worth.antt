@@ -1,5 +1,6 @@
 -- What an event of a worker is worth: what it decided and sends, whom it tells, what it asks, and what it ends.
 use Rattle.std.specs.Prelude.{◌≡◌, Bool, true, false, is_none, List, [], ◌∷◌, Option, Some, None}
+use Rattle.std.specs.List.{flat_map, list_any}
 use Rattle.smx_pdu.specs.declared.pdu.Pdu.{Pdu}
 use Rattle.smx_turns.specs.declared.gate.Party.{Party}
 use Rattle.smx_turns.specs.declared.directory.Query.{Query}
@@ -42,3 +43,20 @@ says o = record no_worth { said = those o; quiet = is_none o }
 -- what a worker holds of an event is what it is worth
 abbrev pub IsWorth : {E A : Type 0} → Outcome E A → Worth → Type 0
 IsWorth o w = (w.said ≡ those o.sent) × (o.quiet ≡ w.quiet) × (o.ends ≡ w.ends)
+
+module _ {E : Type 0} (worth : E → Worth) where
+  -- In: the PDUs that these events decided
+  unfoldable pub ins : List E → List Pdu
+  ins es = flat_map (λ e. (worth e).decided) es
+
+  -- Out: the PDUs that they send
+  unfoldable pub outs : List E → List Pdu
+  outs es = flat_map (λ e. (worth e).said) es
+
+  -- whom the gate is told of
+  unfoldable pub tells : List E → List Party
+  tells es = flat_map (λ e. (worth e).tells) es
+
+  -- whether one of them answered a bad length
+  unfoldable pub has_broken : List E → Bool
+  has_broken es = list_any (λ e. (worth e).breaks) es

@@ -1,4 +1,6 @@
 //! How a turn ends, and how a run of turns does.
+ghost use Rattle.std.specs.Prelude.{◌≡◌};
+ghost use Rattle.smx_turns.specs.Rounds.{last_end};
 
 /// Why a turn stops. After it a worker is only closed.
 #[derive(Clone, Copy, Debug, PartialEq, Eq, thiserror::Error)]
@@ -35,4 +37,11 @@ pub enum RunEnd {
     Idle,
     /// A turn stopped: only closing is left.
     Fault(Fault),
+}
+
+/// How a turn ends that only writes: whether octets are left.
+pub fn last_end(left: bool) -> TurnEnd
+    ensures { result ≡ last_end left }
+{
+    if left { TurnEnd::Worked } else { TurnEnd::Done }
 }

@@ -12,42 +12,30 @@ use Rattle.smx_turns.specs.declared.end.Fault.{Fault}
 use Rattle.smx_turns.specs.declared.end.Fault.TheVariants as fault
 use Rattle.smx_turns.specs.declared.step.Step.{Step}
 use Rattle.smx_turns.specs.declared.step.Step.TheVariants.{Asked, Read, Marked, Did}
+use Rattle.smx_turns.specs.Rounds.{last_end}
+use Rattle.smx_turns.specs.Wires.{some_wait}
+use Rattle.smx_turns.proofs.Logged.{phase_push}
+use Rattle.smx_turns.proofs.Wires.{clear_so}
 use Rattle.smx_upstream.specs.declared.mark.Mark.{Mark}
 use Rattle.smx_upstream.specs.declared.mark.Mark.TheVariants.{Offered, WriteFailed, Full, Part}
 use Rattle.smx_upstream.specs.declared.event.Event.{Event}
 use Rattle.smx_upstream.specs.declared.event.Event.TheVariants.{Opened, Looked, Expired, Shifted, Sought, Decided, Took, Broke}
 use Rattle.smx_upstream.specs.declared.event.Fate.{Fate}
 use Rattle.smx_upstream.specs.Events.{kept_by, fate_worth, event_ends, is_spent_expiry, is_spent_shift, is_spent_take}
-use Rattle.smx_upstream.specs.Phases.{Phase, Before, some_wait, Opening, Ready, Written, Clogged, Watched, Swept, Clear, Sated, Brimming, MayRead, Failed, Deciding, Closing, Settled, MayTake, HasTried, Stopped, Refrained, Gone, Drained, Wrong, go, from_opening, from_ready, from_written, from_watched, from_swept, from_clear, from_sated, from_may_read, from_deciding, from_closing, from_settled, from_may_take, phase_from, phase_of, unless_spent, at_moment, if_so, after_offer, unless_left, when_looked, when_kept, when_decided, when_part, when_full, when_read, when_may_read, when_may_take, end_of, quiet_end, Waits, IsOver, IsTurnEnd, IsTurn, EndsEarly, IsPart, LeadsTo, Faulted, MayWant}
-
-phase_append : (t : Before) (p : Phase) (xs ys : List (Step Mark Event)) → phase_from t p (xs ++ ys) ≡ phase_from t (phase_from t p xs) ys
-unfolding phase_from
-phase_append t p [] ys = refl
-phase_append t p (x ∷ xs) ys = phase_append t (go t p x) xs ys
-
-one : (t : Before) (p : Phase) (s : Step Mark Event) → phase_from t p (s ∷ []) ≡ go t p s
-unfolding phase_from
-one t p s = refl
+use Rattle.smx_upstream.specs.Phases.{Phase, Before, Opening, Ready, Written, Clogged, Watched, Swept, Clear, Sated, Brimming, MayRead, Failed, Deciding, Closing, Settled, MayTake, HasTried, Stopped, Refrained, Gone, Drained, Wrong, go, from_opening, from_ready, from_written, from_watched, from_swept, from_clear, from_sated, from_may_read, from_deciding, from_closing, from_settled, from_may_take, phase_of, unless_spent, at_moment, if_so, after_offer, unless_left, when_looked, when_kept, when_decided, when_part, when_full, when_read, when_may_read, when_may_take, quiet_end, Waits, IsOver, IsTurnEnd, IsTurn, EndsEarly, IsPart, LeadsTo, Faulted, MayWant}
 
 pub phase_none : (t : Before) (ss : List (Step Mark Event)) → ss ≡ [] → phase_of t ss ≡ Opening
-unfolding phase_of phase_from
+unfolding phase_of
 phase_none t ss none = ap (phase_of t) none
 
 -- one step more leads from one phase to the next
 pub stepped : (t : Before) (ss ss' : List (Step Mark Event)) (s : Step Mark Event) (p q : Phase) → ss' ≡ ss ++ s ∷ [] → go t p s ≡ q → phase_of t ss ≡ p → phase_of t ss' ≡ q
 unfolding phase_of
-stepped t ss ss' s p q grown cell was =
-    ap (phase_from t Opening) grown ∙ phase_append t Opening ss (s ∷ []) ∙ one t (phase_from t Opening ss) s ∙ ap (λ x. go t x s) was ∙ cell
+stepped t ss ss' s p q grown cell was = phase_push (go t) Opening ss ss' s p q grown cell was
 
 itself : (b : Bool) (p : Phase) → if_so b b p ≡ p
 itself true p = refl
 itself false p = refl
-
--- octets wait just where not all was taken
-pub clear_so : (c : Bool) (xs : List ℕ) → (IsTrue c ↔ (xs ≡ [])) → not c ≡ some_wait xs
-clear_so true xs h = sym (ap some_wait (h.0 refl))
-clear_so false [] h = absurd (true≢false (sym (h.1 refl)))
-clear_so false (x ∷ xs) h = refl
 
 -- whether octets wait is said so
 pub said_so : (b clear : Bool) (unsent : List ℕ) (p : Phase) → b ≡ some_wait unsent → (IsTrue clear ↔ (unsent ≡ [])) → if_so (not clear) b p ≡ p
@@ -167,7 +155,7 @@ ends_gone = record { allowed = λ bound quiet. tt; early = refl }
 pub ends_drained : EndsEarly Done Drained
 ends_drained = record { allowed = λ bound quiet. tt; early = refl }
 
-pub ends_left : (left : Bool) → EndsEarly (end_of left) (unless_left left)
+pub ends_left : (left : Bool) → EndsEarly (last_end left) (unless_left left)
 ends_left true = record { allowed = λ bound quiet. tt; early = refl }
 ends_left false = record { allowed = λ bound quiet. tt; early = refl }
 

@@ -1,17 +1,11 @@
 -- One event more, and what a worker keeps.
 use Rattle.std.proofs.Common.{◌≡◌, ◌≢◌, ◌<◌, length, is_some, ℕ, List, [], ◌∷◌, ◌++◌, Bool, true, false, ◌||◌, true≢false, Option, IfSome, Some, None, Result, Ok, Err, IfOk, IsOk, if◌then◌else◌, sym, ◌∙◌, ap, refl, subst, append_assoc, ◌⊎◌, ⊎_elim}
-use Rattle.std.proofs.lemmas.List.Folds.{list_any-append}
+use Rattle.std.proofs.Math.Bool.{or-false}
 use Rattle.std.specs.List.{flat_map, list_any}
 use Rattle.smx_pdu.specs.declared.pdu.Pdu.{Pdu}
-use Rattle.smx_box.specs.declared.fault.Spent.{Spent}
-use Rattle.smx_box.specs.declared.receiver.Got.{Got}
-use Rattle.smx_box.specs.Boxes.{Receiving, Hands, GetServes, Sending}
+use Rattle.smx_box.specs.Boxes.{Receiving, Sending}
 use Rattle.smx_session.specs.Moments.{Upstream}
 use Rattle.smx_shared.specs.Views.{TapView}
-use Rattle.smx_link.specs.Wiring.{Wiring}
-use Rattle.smx_frame.specs.declared.fault.FrameFault.{FrameFault}
-use Rattle.smx_frame.specs.declared.fault.FrameFault.TheVariants.{NoMemory}
-use Rattle.smx_frame.specs.Stream.{fault_at}
 use Rattle.smx_routes.specs.Window.{Window}
 use Rattle.smx_turns.specs.declared.gate.Point.{Point}
 use Rattle.smx_turns.specs.declared.gate.Question.{Question}
@@ -22,32 +16,22 @@ use Rattle.smx_turns.specs.declared.mo_item.MoItem.{MoItem}
 use Rattle.smx_turns.specs.declared.step.Step.{Step}
 use Rattle.smx_turns.specs.declared.step.Step.TheVariants.{Asked, Read, Marked, Did}
 use Rattle.smx_turns.specs.Runs.{Runs}
-use Rattle.smx_turns.proofs.Chains.{pushed, chain_push, chain_first, runs_none, runs_push}
+use Rattle.smx_turns.proofs.Chains.{chain_push, chain_first, runs_none, runs_push}
 use Rattle.smx_turns.proofs.Logged.{turned_none, turned_did, turned_mark, turned_read, turned_ask}
 use Rattle.smx_link.specs.declared.link.Polled.{Polled}
 use Rattle.smx_link.specs.declared.link.LinkFault.{LinkFault}
 use Rattle.smx_upstream.specs.declared.age.Age.{Age}
 use Rattle.smx_upstream.specs.declared.mark.Mark.{Mark}
 use Rattle.smx_upstream.specs.declared.event.Event.{Event}
-use Rattle.smx_upstream.specs.declared.event.Event.TheVariants.{Began, Opened, Looked, Expired, Shifted, Sought, Decided, Took, Broke, Unbound}
 use Rattle.smx_upstream.specs.declared.event.Fate.{Fate}
-use Rattle.smx_turns.specs.Worth.{those}
-use Rattle.smx_upstream.specs.Events.{ins, outs, in_of, out_of, tell_of, find_of, unless_kept, kept_by, fate_worth, event_ends, has_ended, event_breaks, has_broken}
-use Rattle.smx_upstream.specs.Standing.{Stand, Does, Gets, HoldNone, stand}
-use Rattle.smx_upstream.specs.Writing.{Writes, Marks, Sends, writing, has_link_ended, is_end_answer}
-use Rattle.smx_upstream.specs.Working.{Working, IsWorker, Scene, Changes, LeadsOn, is_bad_front}
-
-ins_push : (es es' : List Event) (e : Event) → es' ≡ es ++ e ∷ [] → ins es' ≡ ins es ++ in_of e
-unfolding ins
-ins_push es es' e grown = ap (flat_map in_of) grown ∙ pushed in_of es e
-
-outs_push : (es es' : List Event) (e : Event) → es' ≡ es ++ e ∷ [] → outs es' ≡ outs es ++ out_of e
-unfolding outs
-outs_push es es' e grown = ap (flat_map out_of) grown ∙ pushed out_of es e
-
-or_false : (b : Bool) → (b || false) ≡ b
-or_false true = refl
-or_false false = refl
+use Rattle.smx_turns.specs.Wires.{answers_end}
+use Rattle.smx_turns.specs.Worth.{those, ins, outs, has_broken}
+use Rattle.smx_turns.proofs.Worths.{any_push, heard_push, outs_push}
+use Rattle.smx_turns.proofs.Breaking.{BadKept, still_bad, unbroken}
+use Rattle.smx_upstream.specs.Events.{worth, unless_kept, kept_by, fate_worth, event_ends, has_ended}
+use Rattle.smx_upstream.specs.Standing.{Stand, Does, HoldNone, stand}
+use Rattle.smx_upstream.specs.Writing.{Writes, Marks, Sends, writing}
+use Rattle.smx_upstream.specs.Working.{Working, IsWorker, Scene, Changes, LeadsOn}
 
 pub or_true : (b : Bool) → true ≡ (b || true)
 or_true true = refl
@@ -55,68 +39,20 @@ or_true false = refl
 
 -- an event that ends nothing
 pub goes_on : (b : Bool) → b ≡ (b || false)
-goes_on b = sym (or_false b)
-
-ended_push : (es es' : List Event) (e : Event) → es' ≡ es ++ e ∷ [] → has_ended es' ≡ (has_ended es || event_ends e)
-unfolding has_ended
-ended_push es es' e grown = ap (list_any event_ends) grown ∙ list_any-append event_ends es (e ∷ []) ∙ ap (λ b. list_any event_ends es || b) (or_false (event_ends e))
-
-broke_push : (es es' : List Event) (e : Event) → es' ≡ es ++ e ∷ [] → has_broken es' ≡ (has_broken es || event_breaks e)
-unfolding has_broken
-broke_push es es' e grown = ap (list_any event_breaks) grown ∙ list_any-append event_breaks es (e ∷ []) ∙ ap (λ b. list_any event_breaks es || b) (or_false (event_breaks e))
-
--- an event leaves the front as it was, or answered the bad length there
-pub record FrontKept (e : Event) (rest rest' : List ℕ) : Type 0 where
-  pub same : event_breaks e ≡ false → rest' ≡ rest
-  pub bad : event_breaks e ≡ true → is_bad_front rest' ≡ true
-
-pub front_same : {e : Event} {rest rest' : List ℕ} → event_breaks e ≡ false → rest' ≡ rest → FrontKept e rest rest'
-front_same unbroken same = record { same = λ _. same; bad = λ breaks. absurd (true≢false (sym breaks ∙ unbroken)) }
-
-front_kept : (es es' : List Event) (e : Event) (rest rest' : List ℕ) → es' ≡ es ++ e ∷ [] → (has_broken es ≡ true → is_bad_front rest ≡ true) → FrontKept e rest rest' → has_broken es' ≡ true → is_bad_front rest' ≡ true
-front_kept es es' e rest rest' grown was front h = by_case (event_breaks e) refl
-  where
-    by_case : (b : Bool) → event_breaks e ≡ b → is_bad_front rest' ≡ true
-    by_case true is = front.bad is
-    by_case false is = ap is_bad_front (front.same is) ∙ was (sym (or_false (has_broken es)) ∙ ap (λ b. has_broken es || b) (sym is) ∙ sym (broke_push es es' e grown) ∙ h)
-
-breaks_ends : (es : List Event) → has_broken es ≡ true → has_ended es ≡ true
-unfolding has_broken has_ended
-breaks_ends [] h = h
-breaks_ends (e ∷ es) h = first e (list_any event_breaks es) (list_any event_ends es) (breaks_ends es) h
-  where
-    rest_ends : (a b x : Bool) → (a ≡ true → b ≡ true) → a ≡ true → (x || b) ≡ true
-    rest_ends a b true more h = refl
-    rest_ends a b false more h = more h
-
-    first : (e : Event) (a b : Bool) → (a ≡ true → b ≡ true) → (event_breaks e || a) ≡ true → (event_ends e || b) ≡ true
-    first Broke a b more h = refl
-    first (Began p) a b more h = more h
-    first (Opened n) a b more h = more h
-    first (Looked now due silent) a b more h = more h
-    first (Expired lane r) a b more h = more h
-    first (Shifted least r) a b more h = more h
-    first (Sought r under) a b more h = more h
-    first (Decided p now x f) a b more h = rest_ends a b (event_ends (Decided p now x f)) more h
-    first (Took r) a b more h = more h
-    first (Unbound p) a b more h = more h
-
--- where PDUs are decided still, no bad length was answered
-pub none_broken : {L : Type 0} {A : Type 0} (w : Working L) → IsWorker w → w.ending ≡ false → has_broken w.events ≡ true → A
-none_broken w was on broke = absurd (true≢false (sym (breaks_ends w.events broke) ∙ sym was.over ∙ on))
+goes_on b = sym (or-false b)
 
 -- a worker that did one thing more
-pub did : {L : Type 0} (w w' : Working L) (e : Event) → IsWorker w → w'.events ≡ w.events ++ e ∷ [] → w'.wire.heard ≡ w.wire.heard → in_of e ++ those w'.held ≡ those w.held
-    → w'.wire.said ≡ w.wire.said ++ out_of e → w'.first ≡ w.first → Does w.stand e w'.stand → (w'.ending ≡ false → w'.wire.failed ≡ None) → w'.ending ≡ (w.ending || event_ends e) → FrontKept e w.wire.rest w'.wire.rest → IsWorker w'
-did w w' e was grown heard settled said first does on last front = record {
-  heard = heard ∙ was.heard ∙ ap (λ l. ins w.events ++ l) (sym settled) ∙ sym (append_assoc (ins w.events) (in_of e) (those w'.held))
-      ∙ ap (λ l. l ++ those w'.held) (sym (ins_push w.events w'.events e grown));
-  said = said ∙ ap (λ l. l ++ out_of e) was.said ∙ sym (outs_push w.events w'.events e grown);
+pub did : {L : Type 0} (w w' : Working L) (e : Event) → IsWorker w → w'.events ≡ w.events ++ e ∷ [] → w'.wire.heard ≡ w.wire.heard → (worth e).decided ++ those w'.held ≡ those w.held
+    → w'.wire.said ≡ w.wire.said ++ (worth e).said → w'.first ≡ w.first → Does w.stand e w'.stand → (w'.ending ≡ false → w'.wire.failed ≡ None) → w'.ending ≡ (w.ending || event_ends e) → BadKept (worth e).breaks w.wire w'.wire → IsWorker w'
+unfolding has_ended
+did w w' e was grown heard settled said first does on last bad = record {
+  heard = heard_push worth w.wire.heard w'.wire.heard w.events w'.events e w.held w'.held grown was.heard heard settled;
+  said = said ∙ ap (λ l. l ++ (worth e).said) was.said ∙ sym (outs_push worth w.events w'.events e grown);
   runs = chain_push Does w'.first w.stand w'.stand w.events w'.events e grown does (subst_first w.first w'.first (sym first) was.runs);
   none_owed = subst (λ (s : Stand). HoldNone s.owed) (sym first) was.none_owed;
-  over = last ∙ ap (λ b. b || event_ends e) was.over ∙ sym (ended_push w.events w'.events e grown);
+  over = last ∙ ap (λ b. b || event_ends e) was.over ∙ sym (any_push event_ends w.events w'.events e grown);
   goes_on = on;
-  broke = front_kept w.events w'.events e w.wire.rest w'.wire.rest grown was.broke front;
+  broke = still_bad worth w.wire w'.wire w.events w'.events e grown was.broke bad;
 }
   where
     subst_first : (a b : Stand) → a ≡ b → ∥ Runs Does a w.events w.stand ∥₁ → ∥ Runs Does b w.events w.stand ∥₁
@@ -126,7 +62,7 @@ pub some_of : {A : Type 0} (P : A → Type 0) (o : Option A) (x : A) → o ≡ S
 some_of P o x is h = subst (λ y. IfSome y P) is h
 
 -- a worker that decides PDUs still, and did no more than read or hear
-pub on_hearing : {L : Type 0} (w w' : Working L) → IsWorker w → w.ending ≡ false → w' ≡ record w { wire = w'.wire; held = w'.held } → w'.wire.heard ≡ ins w.events ++ those w'.held
+pub on_hearing : {L : Type 0} (w w' : Working L) → IsWorker w → w.ending ≡ false → w' ≡ record w { wire = w'.wire; held = w'.held } → w'.wire.heard ≡ ins worth w.events ++ those w'.held
     → w'.wire.said ≡ w.wire.said → w'.wire.failed ≡ None → IsWorker w'
 on_hearing w w' was on same heard said fine = subst IsWorker (sym same) (record {
   heard = heard;
@@ -135,21 +71,21 @@ on_hearing w w' was on same heard said fine = subst IsWorker (sym same) (record 
   none_owed = was.none_owed;
   over = was.over;
   goes_on = λ _. fine;
-  broke = λ h. none_broken w was on h;
+  broke = unbroken worth w.wire w'.wire w.events (was.goes_on on) was.broke;
 })
 
 -- a new worker
-pub began : {L : Type 0} (w : Working L) (e : Event) (p : Pdu) → w.events ≡ e ∷ [] → w.wire.heard ≡ [] → w.held ≡ None → in_of e ≡ [] → out_of e ≡ p ∷ [] → w.wire.said ≡ p ∷ []
-    → w.first ≡ w.stand → HoldNone w.first.owed → Does w.first e w.stand → w.wire.failed ≡ None → w.ending ≡ event_ends e → event_breaks e ≡ false → IsWorker w
+pub began : {L : Type 0} (w : Working L) (e : Event) (p : Pdu) → w.events ≡ e ∷ [] → w.wire.heard ≡ [] → w.held ≡ None → (worth e).decided ≡ [] → (worth e).said ≡ p ∷ [] → w.wire.said ≡ p ∷ []
+    → w.first ≡ w.stand → HoldNone w.first.owed → Does w.first e w.stand → w.wire.failed ≡ None → w.ending ≡ event_ends e → (worth e).breaks ≡ false → IsWorker w
 unfolding ins outs has_ended has_broken
 began w e p one heard held nothing sends said first none does on last unbroken = record {
-  heard = heard ∙ sym (ap (λ l. flat_map in_of l ++ those w.held) one ∙ ap (λ l. (l ++ []) ++ those w.held) nothing ∙ ap those held);
-  said = said ∙ sym (ap (flat_map out_of) one ∙ ap (λ l. l ++ []) sends);
+  heard = heard ∙ sym (ap (λ l. flat_map (λ x. (worth x).decided) l ++ those w.held) one ∙ ap (λ l. (l ++ []) ++ those w.held) nothing ∙ ap those held);
+  said = said ∙ sym (ap (flat_map (λ x. (worth x).said)) one ∙ ap (λ l. l ++ []) sends);
   runs = chain_first Does w.first w.first w.stand [] w.events e refl refl one does;
   none_owed = none;
   over = last ∙ goes_on (event_ends e) ∙ sym (ap (list_any event_ends) one);
   goes_on = λ _. on;
-  broke = λ h. absurd (true≢false (sym h ∙ ap (list_any event_breaks) one ∙ or_false (event_breaks e) ∙ unbroken));
+  broke = λ h. absurd (true≢false (sym h ∙ ap (list_any (λ x. (worth x).breaks)) one ∙ or-false (worth e).breaks ∙ unbroken));
 }
 
 pub sides_same : {q q' : List Question} {d d' : List Party} {f f' : List Query} {es es' : List Event} {s s' : Stand} {p p' : List (Result Polled LinkFault)} → q ≡ q' → d ≡ d' → f ≡ f' → es ≡ es' → s ≡ s' → p ≡ p'
@@ -160,38 +96,31 @@ sides_same a b c d e f = cc
 pub writes_same : {u u' o o' : List ℕ} {e e' : Bool} → u ≡ u' → o ≡ o' → e ≡ e' → writing u o e ≡ writing u' o' e'
 writes_same u o e = cc
 
--- a read's answer is its link's last
-pub ended_by : (rs : List (Result Polled LinkFault)) (r : Result Polled LinkFault) → has_link_ended (rs ++ r ∷ []) ≡ is_end_answer r
-unfolding has_link_ended
-ended_by [] r = refl
-ended_by (x ∷ []) r = refl
-ended_by (x ∷ y ∷ ys) r = ended_by (y ∷ ys) r
-
 -- a turn with one thing more
-pub goes_did : (n : ℕ) (a b : Scene) (ss ss' : List (Step Mark Event)) (e : Event) → ss' ≡ ss ++ Did e ∷ [] → b.side.asked ≡ a.side.asked → b.side.told ≡ a.side.told ++ tell_of e
-    → b.side.queries ≡ a.side.queries ++ find_of e → b.side.events ≡ a.side.events ++ e ∷ [] → Does a.side.stand e b.side.stand → b.side.polls ≡ a.side.polls → Sends a.writing e b.writing → LeadsOn n a b ss ss'
+pub goes_did : (n : ℕ) (a b : Scene) (ss ss' : List (Step Mark Event)) (e : Event) → ss' ≡ ss ++ Did e ∷ [] → b.side.asked ≡ a.side.asked → b.side.told ≡ a.side.told ++ (worth e).tells
+    → b.side.queries ≡ a.side.queries ++ (worth e).finds → b.side.events ≡ a.side.events ++ e ∷ [] → Does a.side.stand e b.side.stand → b.side.polls ≡ a.side.polls → Sends a.writing e b.writing → LeadsOn n a b ss ss'
 goes_did n a b ss ss' e grown asked told queried more does polls sends = λ start t. record {
-  turned = turned_did Does tell_of find_of n start.side a.side b.side ss ss' e grown asked told queried more does polls t.turned;
+  turned = turned_did Does worth n start.side a.side b.side ss ss' e grown asked told queried more does polls t.turned;
   written = runs_push Writes start.writing a.writing b.writing ss ss' (Did e) grown sends t.written;
 }
 
 pub goes_mark : (n : ℕ) (a b : Scene) (ss ss' : List (Step Mark Event)) (m : Mark) → ss' ≡ ss ++ Marked m ∷ [] → b.side ≡ a.side → Marks a.writing m b.writing → LeadsOn n a b ss ss'
 goes_mark n a b ss ss' m grown same marks = λ start t. record {
-  turned = turned_mark Does tell_of find_of n start.side a.side b.side ss ss' m grown same t.turned;
+  turned = turned_mark Does worth n start.side a.side b.side ss ss' m grown same t.turned;
   written = runs_push Writes start.writing a.writing b.writing ss ss' (Marked m) grown marks t.written;
 }
 
 pub goes_read : (n : ℕ) (a b : Scene) (ss ss' : List (Step Mark Event)) (r : Result Polled LinkFault) → ss' ≡ ss ++ Read r ∷ [] → b.side ≡ record a.side { polls = a.side.polls ++ r ∷ [] }
-    → b.writing ≡ record a.writing { ended = is_end_answer r } → LeadsOn n a b ss ss'
+    → b.writing ≡ record a.writing { ended = answers_end r } → LeadsOn n a b ss ss'
 goes_read n a b ss ss' r grown same reads = λ start t. record {
-  turned = turned_read Does tell_of find_of n start.side a.side b.side ss ss' r grown same t.turned;
+  turned = turned_read Does worth n start.side a.side b.side ss ss' r grown same t.turned;
   written = runs_push Writes start.writing a.writing b.writing ss ss' (Read r) grown reads t.written;
 }
 
 pub goes_ask : (n : ℕ) (a b : Scene) (ss ss' : List (Step Mark Event)) (p : Point) (answer : Bool) → ss' ≡ ss ++ Asked p answer ∷ []
     → b.side ≡ record a.side { asked = a.side.asked ++ record { point = p; turn = n; answer = answer } ∷ [] } → length a.writing.unsent < 65536 → b.writing ≡ a.writing → LeadsOn n a b ss ss'
 goes_ask n a b ss ss' p answer grown same few kept = λ start t. record {
-  turned = turned_ask Does tell_of find_of n start.side a.side b.side ss ss' p answer grown same t.turned;
+  turned = turned_ask Does worth n start.side a.side b.side ss ss' p answer grown same t.turned;
   written = runs_push Writes start.writing a.writing b.writing ss ss' (Asked p answer) grown (few, kept) t.written;
 }
 
@@ -206,22 +135,9 @@ kept_or_in p f = by_spent (fate_worth p f).spent
     by_spent true = refl
     by_spent false = refl
 
--- what the contract of a get says
-pub gets_from : (a b : Receiving Pdu) (r : Result (Got Pdu) Spent) → IfOk r (Hands a.got b.got) → IfOk r (GetServes a b.front) → IsOk r → Gets a b r
-gets_from a b (Ok found) h s e = (s, h)
-gets_from a b (Err fault) h s e = absurd (true≢false (sym e))
-
 pub stands_same : {u u' : Upstream} {t t' : TapView} {a a' : Receiving Pdu} {ss ss' : List (Sending MoItem)} {o o' : List Window} {b b' : Age} → u' ≡ u → t' ≡ t → a' ≡ a → ss' ≡ ss → o' ≡ o → b' ≡ b
     → stand u' t' a' ss' o' b' ≡ stand u t a ss o b
 stands_same d e f g h i = cc
-
--- a bad length that was met stands at the front
-pub bad_front : {L : Type 0} (old new : Wiring L) (e : FrameFault) → ((e ≡ NoMemory) × (new ≡ old)) ⊎ ((fault_at 65536 old.rest ≡ Some e) × (new ≡ record old { failed = Some e })) → e ≢ NoMemory → is_bad_front new.rest ≡ true
-bad_front {L = L} old new e found other = ⊎_elim (λ p. absurd (other p.0)) (λ p. ap (λ (w : Wiring L). is_bad_front w.rest) p.1 ∙ ap is_some p.0) found
-
--- a bad length leaves what was heard and what was said
-pub bad_heard : {L : Type 0} (old new : Wiring L) (e : FrameFault) → ((e ≡ NoMemory) × (new ≡ old)) ⊎ ((fault_at 65536 old.rest ≡ Some e) × (new ≡ record old { failed = Some e })) → new.heard ≡ old.heard
-bad_heard old new e h = ⊎_elim (λ x. ap (λ w. w.heard) x.1) (λ x. ap (λ w. w.heard) x.1) h
 
 -- the same scenes by other names
 pub goes_from : (n : ℕ) (a a' b : Scene) (ss ss' : List (Step Mark Event)) → a' ≡ a → LeadsOn n a' b ss ss' → LeadsOn n a b ss ss'
@@ -232,7 +148,7 @@ goes_to n a b b' ss ss' same f = subst (λ (x : Scene). LeadsOn n a x ss ss') (s
 
 -- the first steps of a turn are all its steps
 pub goes_first : (n : ℕ) (a b : Scene) (ss ss' : List (Step Mark Event)) → ss ≡ [] → LeadsOn n a b ss ss' → Changes n a b ss'
-goes_first n a b ss ss' none f = f a (subst (λ (l : List (Step Mark Event)). Changes n a a l) (sym none) (record { turned = turned_none Does tell_of find_of n a.side; written = runs_none Writes a.writing }))
+goes_first n a b ss ss' none f = f a (subst (λ (l : List (Step Mark Event)). Changes n a a l) (sym none) (record { turned = turned_none Does worth n a.side; written = runs_none Writes a.writing }))
 
 -- the same turn by other names
 pub turns_as : (n n' : ℕ) (a a' b b' : Scene) (ss ss' : List (Step Mark Event)) → n' ≡ n → a ≡ a' → b' ≡ b → ss' ≡ ss → Changes n a b ss → Changes n' a' b' ss'

@@ -1,6 +1,6 @@
 -- What an event is worth: what it decided and sends, whom it tells, what it asks the directory, whether nothing came of it, and what it ends.
 use Rattle.std.specs.Prelude.{ℕ, Bool, true, false, ◌||◌, List, [], ◌∷◌, ◌++◌, Option, Some, None, Result, Ok, Err, if◌then◌else◌}
-use Rattle.std.specs.List.{flat_map, list_any}
+use Rattle.std.specs.List.{list_any}
 use Rattle.std.specs.Result.{is_err}
 use Rattle.std.specs.declared.vec.Vec.{Vec}
 use Rattle.std.specs.declared.alloc.Global.{Global}
@@ -31,6 +31,7 @@ use Rattle.smx_turns.specs.declared.directory.Query.TheVariants.{Found}
 use Rattle.smx_turns.specs.declared.gate.Party.{Party}
 use Rattle.smx_turns.specs.declared.gate.Party.TheVariants.{Client, Slot}
 use Rattle.smx_turns.specs.declared.directory.Place.{Place}
+use Rattle.smx_turns.specs.Puts.{finds_nothing}
 use Rattle.smx_turns.specs.Worth.{Worth, no_worth, spent_worth, says}
 use Rattle.smx_upstream.specs.declared.event.Event.{Event}
 use Rattle.smx_upstream.specs.declared.event.Event.TheVariants.{Began, Opened, Looked, Expired, Shifted, Sought, Decided, Took, Broke, Unbound}
@@ -61,12 +62,6 @@ got_out (Ok (got.Item k n p)) under = answer_out p under
 got_out (Ok (got.Shut k)) under = []
 got_out (Ok got.Empty) under = []
 got_out (Err e) under = []
-
-abbrev pub finds_nothing : Result (Got Pdu) Spent → Bool
-finds_nothing (Ok (got.Item k n p)) = false
-finds_nothing (Ok (got.Shut k)) = false
-finds_nothing (Ok got.Empty) = true
-finds_nothing (Err e) = true
 
 -- who is to hear that its request was given up
 abbrev pub failed_tells : ℕ → Failed → List Party
@@ -172,42 +167,14 @@ worth (Took r) = record (says (request_up r.value)) { spent = is_spent_take r.va
 worth Broke = record (says (Some nack_of_undecoded)) { ends = true; breaks = true }
 worth (Unbound p) = says p.value
 
--- each by its name
-abbrev pub in_of : Event → List Pdu
-in_of e = (worth e).decided
-
-abbrev pub out_of : Event → List Pdu
-out_of e = (worth e).said
-
-abbrev pub find_of : Event → List Query
-find_of e = (worth e).finds
-
-abbrev pub tell_of : Event → List Party
-tell_of e = (worth e).tells
-
 abbrev pub is_quiet_event : Event → Bool
 is_quiet_event e = (worth e).quiet
 
 abbrev pub event_ends : Event → Bool
 event_ends e = (worth e).ends
 
-abbrev pub event_breaks : Event → Bool
-event_breaks e = (worth e).breaks
-
 abbrev pub is_spent : Event → Bool
 is_spent e = (worth e).spent
-
--- In: the PDUs that these events decided
-unfoldable pub ins : List Event → List Pdu
-ins es = flat_map in_of es
-
--- Out: the PDUs that they send
-unfoldable pub outs : List Event → List Pdu
-outs es = flat_map out_of es
-
--- whether one of them answered a bad length
-unfoldable pub has_broken : List Event → Bool
-has_broken es = list_any event_breaks es
 
 -- whether one of them was the last that decides
 unfoldable pub has_ended : List Event → Bool

@@ -7,11 +7,11 @@ use Rattle.smx_upstream.specs.declared.event.Event.{Event}
 use Rattle.smx_upstream.specs.declared.event.Event.TheVariants.{Sought, Decided, Took}
 use Rattle.smx_upstream.specs.declared.event.Fate.{Fate}
 use Rattle.smx_upstream.specs.declared.event.Fate.TheVariants as fate
-use Rattle.smx_upstream.specs.Events.{out_of}
+use Rattle.smx_upstream.specs.Events.{worth}
 
 -- the answer of a client that goes out
 abbrev pub answer_by : Event → List Pdu
-answer_by (Sought r under) = out_of (Sought r under)
+answer_by (Sought r under) = (worth (Sought r under)).said
 answer_by _ = []
 
 abbrev pub put_message : Pdu → Fate → List Pdu
@@ -43,8 +43,8 @@ AreOwn es = (answer message : ℕ → ℕ → Bool) → Suits answer message →
 
 -- what an event passes on: an answer of a client, or a request
 abbrev pub passed_by : Event → List Pdu
-passed_by (Sought r under) = out_of (Sought r under)
-passed_by (Took r) = out_of (Took r)
+passed_by (Sought r under) = (worth (Sought r under)).said
+passed_by (Took r) = (worth (Took r)).said
 passed_by _ = []
 
 unfoldable pub passed : List Event → List Pdu

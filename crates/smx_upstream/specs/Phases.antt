@@ -2,7 +2,6 @@
 use Rattle.std.specs.Prelude.{◌≡◌, ◌≢◌, ◌≤◌, ◌==◌, ℕ, Bool, true, false, List, [], ◌∷◌, length, Result, Ok, Err, Option, Some, None, if◌then◌else◌}
 use Rattle.smx_frame.specs.Stream.{HasNone}
 use Rattle.smx_link.specs.declared.link.Polled.{Polled}
-use Rattle.smx_link.specs.declared.link.Polled.TheVariants.{Octets, Nothing, End}
 use Rattle.smx_link.specs.declared.link.LinkFault.{LinkFault}
 use Rattle.smx_turns.specs.declared.gate.Point.TheVariants.{Reading, Taking}
 use Rattle.smx_turns.specs.declared.end.TurnEnd.{TurnEnd}
@@ -11,6 +10,8 @@ use Rattle.smx_turns.specs.declared.end.Fault.{Fault}
 use Rattle.smx_turns.specs.declared.end.Fault.TheVariants as fault
 use Rattle.smx_turns.specs.declared.step.Step.{Step}
 use Rattle.smx_turns.specs.declared.step.Step.TheVariants.{Asked, Read, Marked, Did}
+use Rattle.smx_turns.specs.Steps.{phase_from}
+use Rattle.smx_turns.specs.Wires.{is_end, some_wait}
 use Rattle.smx_upstream.specs.Events.{event_ends, is_spent}
 use Rattle.smx_upstream.specs.declared.wiring.Front.{Front}
 use Rattle.smx_upstream.specs.declared.wiring.Front.TheVariants as front
@@ -80,18 +81,8 @@ pub record Before : Type 0 where
   pub ending : Bool
   pub waited : Bool
 
-abbrev pub some_wait : List ℕ → Bool
-some_wait [] = false
-some_wait (octet ∷ octets) = true
-
 abbrev pub before : ℕ → Bool → List ℕ → Before
 before now ending unsent = record { now = now; ending = ending; waited = some_wait unsent }
-
--- whether the link has ended
-abbrev pub is_end : Polled → Bool
-is_end (Octets n) = false
-is_end Nothing = false
-is_end End = true
 
 abbrev pub unless_spent : Bool → Phase → Phase
 unless_spent true p = Exhausted
@@ -220,12 +211,8 @@ go t Settled s = from_settled s
 go t MayTake s = from_may_take s
 go t _ s = Wrong
 
-unfoldable pub phase_from : Before → Phase → List (Step Mark Event) → Phase
-phase_from t p [] = p
-phase_from t p (s ∷ ss) = phase_from t (go t p s) ss
-
 unfoldable pub phase_of : Before → List (Step Mark Event) → Phase
-phase_of t ss = phase_from t Opening ss
+phase_of t ss = phase_from (go t) Opening ss
 
 -- the link failed there
 abbrev pub MayFail : Phase → Type 0
@@ -315,10 +302,6 @@ abbrev pub when_front : Bool → Front → Phase
 when_front ended front.Whole = Deciding ended
 when_front ended front.Part = when_part ended
 when_front ended front.Broken = Closing
-
-abbrev pub end_of : Bool → TurnEnd
-end_of true = Worked
-end_of false = Done
 
 abbrev pub quiet_end : Bool → TurnEnd
 quiet_end true = Idle

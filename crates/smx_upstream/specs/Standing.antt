@@ -18,7 +18,7 @@ use Rattle.smx_box.specs.declared.receiver.Got.{Got}
 use Rattle.smx_box.specs.declared.receiver.Got.TheVariants as got
 use Rattle.smx_routes.specs.Window.{Window, IsFirstFree, message_for, without}
 use Rattle.smx_routes.specs.declared.mo_window.Waiting.{Waiting}
-use Rattle.smx_box.specs.Boxes.{Sending, Receiving, GetServes, Hands}
+use Rattle.smx_box.specs.Boxes.{Sending, Receiving}
 use Rattle.smx_session.specs.Binds.{own_bind}
 use Rattle.smx_session.specs.UpstreamTable.{bind_number}
 use Rattle.smx_session.specs.Moments.{Upstream, at, act_on, after_pdu, is_bound, enquiry, after_moment, is_silent, farewell, state_after_stop}
@@ -32,7 +32,7 @@ use Rattle.smx_upstream.specs.Ages.{next_turn, least_shift}
 use Rattle.smx_upstream.specs.Rising.{Rises}
 use Rattle.smx_turns.specs.declared.directory.Place.{Place}
 use Rattle.smx_turns.specs.declared.mo_item.MoItem.{MoItem}
-use Rattle.smx_turns.specs.Puts.{AtIndex, Puts, FindsFull, FindsSpent}
+use Rattle.smx_turns.specs.Puts.{AtIndex, Puts, FindsFull, FindsSpent, Gets}
 use Rattle.smx_upstream.specs.declared.event.Event.{Event}
 use Rattle.smx_upstream.specs.declared.event.Event.TheVariants.{Began, Opened, Looked, Expired, Shifted, Sought, Decided, Took, Broke, Unbound}
 use Rattle.smx_upstream.specs.declared.event.Fate.{Fate}
@@ -54,22 +54,13 @@ stand session tap answers senders owed age = record { session = session; tap = t
 abbrev pub bind_of : Upstream → Pdu
 bind_of u = record { command = BIND_TRANSCEIVER; status = ESME_ROK; number = bind_number; body = all_octets bind_fields (in_order (own_bind u.system_id u.password)) }
 
--- one step of the return box served the call, which is never spent
-abbrev pub Gets : Receiving Pdu → Receiving Pdu → Result (Got Pdu) Spent → Type 0
-Gets a b (Ok got) = GetServes a b.front got × Hands a.got b.got got
-Gets a b (Err e) = ⊥
-
 -- the message as an item for the client, under a number of this link's own
 abbrev pub item_for : ℕ → Place → ℕ → Pdu → MoItem
 item_for lane place given p = record { client = place.client; lane = lane; number = given; pdu = p }
 
--- of the windows just that of this slot changed, so
-abbrev pub AtSlot : ℕ → List Window → List Window → (Window → Window → Type 0) → Type 0
-AtSlot k ws ws' P = (x : Window) × (y : Window) × (slice_get ws k ≡ Some x) × (ws' ≡ set ws k y) × P x y
-
 -- the message that this answer of a slot is for is settled, and the answer goes out under the centre's number; or none of that slot waits for it, and nothing changed
 abbrev pub Answers : ℕ → Pdu → Option ℕ → List Window → List Window → Type 0
-Answers k p (Some number) ws ws' = AtSlot k ws ws' (λ w w'. (m : Waiting) × (message_for p.number p.command w.waiting ≡ Some m) × (number ≡ m.number) × (w' ≡ record w { waiting = without p.number w.waiting }))
+Answers k p (Some number) ws ws' = AtIndex k ws ws' (λ w w'. (m : Waiting) × (message_for p.number p.command w.waiting ≡ Some m) × (number ≡ m.number) × (w' ≡ record w { waiting = without p.number w.waiting }))
 Answers k p None ws ws' = ((w : Window) → slice_get ws k ≡ Some w → message_for p.number p.command w.waiting ≡ None) × (ws' ≡ ws)
 
 abbrev pub Settles : Result (Got Pdu) Spent → Option ℕ → List Window → List Window → Type 0
@@ -84,7 +75,7 @@ Keeps lane p given w w' = IsFirstFree w given × (w' ≡ record w { last = given
 
 -- a message that was put waits in its slot's window; for any other fate nothing changed
 abbrev pub Owes : ℕ → Pdu → Fate → List Window → List Window → Type 0
-Owes lane p (fate.Put place n given) ws ws' = AtSlot place.slot ws ws' (Keeps lane p given)
+Owes lane p (fate.Put place n given) ws ws' = AtIndex place.slot ws ws' (Keeps lane p given)
 Owes lane p (fate.Crowded place) ws ws' = ((w : Window) → slice_get ws place.slot ≡ Some w → length w.waiting ≡ w.places) × (ws' ≡ ws)
 Owes lane p _ ws ws' = ws' ≡ ws
 

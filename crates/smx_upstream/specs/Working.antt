@@ -1,7 +1,6 @@
 -- What contracts see of a worker.
-use Rattle.std.specs.Prelude.{◌≡◌, ℕ, Bool, true, false, List, ◌++◌, Option, None, is_some, Result}
+use Rattle.std.specs.Prelude.{◌≡◌, ℕ, Bool, true, false, List, ◌++◌, Option, None, Result}
 use Rattle.smx_pdu.specs.declared.pdu.Pdu.{Pdu}
-use Rattle.smx_frame.specs.Stream.{fault_at}
 use Rattle.smx_link.specs.Wiring.{Wiring}
 use Rattle.smx_link.specs.declared.link.Polled.{Polled}
 use Rattle.smx_link.specs.declared.link.LinkFault.{LinkFault}
@@ -15,10 +14,11 @@ use Rattle.smx_turns.specs.Runs.{Runs}
 use Rattle.smx_turns.specs.Steps.{Side, side, Turned}
 use Rattle.smx_upstream.specs.declared.mark.Mark.{Mark}
 use Rattle.smx_upstream.specs.declared.event.Event.{Event}
-use Rattle.smx_turns.specs.Worth.{those}
-use Rattle.smx_upstream.specs.Events.{ins, outs, tell_of, find_of, has_ended, has_broken}
+use Rattle.smx_turns.specs.Wires.{IsBad, has_ended as has_link_ended}
+use Rattle.smx_turns.specs.Worth.{those, ins, outs, has_broken}
+use Rattle.smx_upstream.specs.Events.{worth, has_ended}
 use Rattle.smx_upstream.specs.Phases.{Before, before}
-use Rattle.smx_upstream.specs.Writing.{Writing, Writes, writing, has_link_ended}
+use Rattle.smx_upstream.specs.Writing.{Writing, Writes, writing}
 use Rattle.smx_upstream.specs.Standing.{Stand, Does, HoldNone}
 
 pub record Working (L : Type 0) : Type 0 where
@@ -38,16 +38,12 @@ pub record Working (L : Type 0) : Type 0 where
   -- how its turns ended
   pub ends : List (Result TurnEnd Fault)
 
--- whether a bad length stands at the front
-abbrev pub is_bad_front : List ℕ → Bool
-is_bad_front rest = is_some (fault_at 65536 rest)
-
 -- what a worker keeps at every call
 pub record IsWorker {L : Type 0} (w : Working L) : Type 0 where
   -- In: the PDUs heard are those decided, and then one that waits
-  pub heard : w.wire.heard ≡ ins w.events ++ those w.held
+  pub heard : w.wire.heard ≡ ins worth w.events ++ those w.held
   -- Out: the PDUs said are those that the events send
-  pub said : w.wire.said ≡ outs w.events
+  pub said : w.wire.said ≡ outs worth w.events
   -- each event did what its call did, one after another
   pub runs : ∥ Runs Does w.first w.events w.stand ∥₁
   -- at first no client has a message of this link
@@ -57,7 +53,7 @@ pub record IsWorker {L : Type 0} (w : Working L) : Type 0 where
   -- no bad length was met, or all ends
   pub goes_on : w.ending ≡ false → w.wire.failed ≡ None
   -- a bad length that was answered stands at the front of what is left
-  pub broke : has_broken w.events ≡ true → is_bad_front w.wire.rest ≡ true
+  pub broke : has_broken worth w.events ≡ true → IsBad w.wire
 
 -- what the order of a turn at this moment depends on
 abbrev pub before_turn : {L : Type 0} → ℕ → Working L → Before
@@ -80,7 +76,7 @@ scene_of polls offered asked told queries w = record {
 
 -- the steps of a turn, and nothing else, lead from one scene to the other
 pub record Changes (turn : ℕ) (a b : Scene) (ss : List (Step Mark Event)) : Type 0 where
-  pub turned : Turned Does tell_of find_of turn a.side b.side ss
+  pub turned : Turned Does worth turn a.side b.side ss
   pub written : Runs Writes a.writing ss b.writing
 
 -- whatever led here, these steps lead on

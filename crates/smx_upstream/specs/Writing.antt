@@ -9,8 +9,8 @@ use Rattle.smx_upstream.specs.declared.mark.Mark.{Mark}
 use Rattle.smx_upstream.specs.declared.mark.Mark.TheVariants.{Offered, WriteFailed, Full, Part}
 use Rattle.smx_upstream.specs.declared.event.Event.{Event}
 use Rattle.smx_upstream.specs.declared.event.Event.TheVariants.{Decided, Broke}
-use Rattle.smx_upstream.specs.Events.{out_of}
-use Rattle.smx_upstream.specs.Phases.{some_wait, is_end}
+use Rattle.smx_turns.specs.Wires.{answers_end, some_wait}
+use Rattle.smx_upstream.specs.Events.{worth}
 
 -- the octets that the link has not taken, those that it was offered, and whether its last read said that it has ended
 pub record Writing : Type 0 where
@@ -20,16 +20,6 @@ pub record Writing : Type 0 where
 
 abbrev pub writing : List ℕ → List ℕ → Bool → Writing
 writing unsent offered ended = record { unsent = unsent; offered = offered; ended = ended }
-
-abbrev pub is_end_answer : Result Polled LinkFault → Bool
-is_end_answer (Ok polled) = is_end polled
-is_end_answer (Err e) = false
-
--- whether the last of a link's reads said that it has ended
-unfoldable pub has_link_ended : List (Result Polled LinkFault) → Bool
-has_link_ended [] = false
-has_link_ended (r ∷ []) = is_end_answer r
-has_link_ended (r ∷ s ∷ rs) = has_link_ended (s ∷ rs)
 
 -- fewer than 65,536 octets wait, or the link has ended: what is left of it is decided whole
 abbrev pub MayDecide : Writing → Type 0
@@ -57,11 +47,11 @@ Fits a _ = Unit {0}
 -- what an event says waits behind what waited
 pub record Sends (a : Writing) (e : Event) (b : Writing) : Type 0 where
   pub fits : Fits a e
-  pub same : b ≡ record a { unsent = a.unsent ++ spellings (out_of e) }
+  pub same : b ≡ record a { unsent = a.unsent ++ spellings (worth e).said }
 
 -- what a step does: the gate is asked only where fewer than 65,536 octets wait
 abbrev pub Writes : Writing → Step Mark Event → Writing → Type 0
 Writes a (Asked point answer) b = (length a.unsent < 65536) × (b ≡ a)
-Writes a (Read r) b = b ≡ record a { ended = is_end_answer r }
+Writes a (Read r) b = b ≡ record a { ended = answers_end r }
 Writes a (Marked m) b = Marks a m b
 Writes a (Did e) b = Sends a e b

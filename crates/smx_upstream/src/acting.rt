@@ -2,7 +2,8 @@
 ghost use Rattle.std.specs.Prelude.{◌≡◌, ◌≢◌, ◌≤◌, [], true, false, is_some, slice_get, Some, Err, OnErr, IsSome};
 ghost use Rattle.smx_session.specs.Moments.{is_bound};
 ghost use Rattle.smx_turns.specs.Worth.{those};
-ghost use Rattle.smx_upstream.specs.Events.{got_out, finds_nothing, request_up};
+ghost use Rattle.smx_upstream.specs.Events.{got_out, request_up};
+ghost use Rattle.smx_turns.specs.Puts.{finds_nothing};
 ghost use Rattle.smx_upstream.specs.Ages.{next_turn};
 ghost use Rattle.smx_upstream.specs.Standing.{Answers, Settles};
 ghost use Rattle.smx_upstream.specs.Working.{scene_of, writing_of, LeadsOn};

@@ -5,7 +5,8 @@ ghost use Rattle.smx_pdu.specs.Answers.{refusal};
 ghost use Rattle.smx_routes.specs.Window.{Window, IsFirstFree};
 ghost use Rattle.smx_turns.specs.Worth.{IsWorth};
 ghost use Rattle.smx_upstream.specs.Events.{fate_worth, decided_worth, kept_by, finding};
-ghost use Rattle.smx_upstream.specs.Standing.{AtSlot, Becomes, Owes, Reads};
+ghost use Rattle.smx_turns.specs.Puts.{AtIndex};
+ghost use Rattle.smx_upstream.specs.Standing.{Becomes, Owes, Reads};
 
 use crate::event::Fate;
 use crate::rising::{raise, stays_down};
@@ -123,7 +124,7 @@ fn keep_at(
 )
     requires { (w : Window) × (slice_get owed.old.items slot ≡ Some w)
         × IsFirstFree w given × (length w.waiting ≢ w.places) }
-    ensures { AtSlot slot owed.old.items owed.new.items (λ w v. IsFirstFree w given
+    ensures { AtIndex slot owed.old.items owed.new.items (λ w v. IsFirstFree w given
         × (v ≡ record w {
           last = given;
           waiting = w.waiting

@@ -4,11 +4,11 @@ ghost use mathlib.Core.List.{IsPrefix};
 ghost use Rattle.smx_link.specs.Wiring.{spellings};
 ghost use Rattle.smx_session.specs.declared.upstream_state.UpstreamState.TheVariants.{Binding};
 ghost use Rattle.smx_turns.specs.Runs.{Runs};
-ghost use Rattle.smx_turns.specs.Worth.{those};
-ghost use Rattle.smx_upstream.specs.Events.{ins, outs, has_ended, has_broken};
+ghost use Rattle.smx_turns.specs.Wires.{IsBad};
+ghost use Rattle.smx_turns.specs.Worth.{those, ins, outs, has_broken};
+ghost use Rattle.smx_upstream.specs.Events.{worth, has_ended};
 ghost use Rattle.smx_upstream.specs.Standing.{Does};
 ghost use Rattle.smx_upstream.specs.Laws.{KeepsTokens};
-ghost use Rattle.smx_upstream.specs.Working.{is_bad_front};
 ghost use Rattle.smx_upstream.specs.Owing.{AreOwn, passed};
 ghost use Rattle.smx_upstream.specs.declared.event.Event.{Event};
 
@@ -22,15 +22,14 @@ use smx_link::Link;
 pub fn law<L: Link + Drop>(worker: &UpstreamWorker<L>)
     ensures given { L.given worker.now.wire.link
         ≡ L.given worker.now.wire.start
-        ++ (spellings (ins worker.now.events ++ those worker.now.held) ++ worker.now.wire.rest) }
+        ++ (spellings (ins worth worker.now.events ++ those worker.now.held) ++ worker.now.wire.rest) }
     ensures taken { L.taken worker.now.wire.link ++ worker.now.wire.unsent
-        ≡ L.taken worker.now.wire.start ++ spellings (outs worker.now.events) }
+        ≡ L.taken worker.now.wire.start ++ spellings (outs worth worker.now.events) }
     ensures runs { ∥ Runs Does worker.now.first worker.now.events worker.now.stand ∥₁ }
     ensures over { worker.now.ending ≡ has_ended worker.now.events }
 
     // A bad length is answered just where one stands behind the PDUs that were decided.
-    ensures broke { has_broken worker.now.events ≡ true
-        → is_bad_front worker.now.wire.rest ≡ true }
+    ensures broke { has_broken worth worker.now.events ≡ true → IsBad worker.now.wire }
 
     // At each moment: of the answers of clients that went out, each answers a message of the centre
     // that this very link gave, under its number, and no message was answered twice.

@@ -3,11 +3,12 @@ ghost use Rattle.std.specs.Prelude.{◌≡◌, ◌≢◌, ◌+◌, ◌≤◌, �
 ghost use mathlib.Core.List.{IsPrefix};
 ghost use Rattle.smx_frame.specs.Stream.{HasNone};
 ghost use Rattle.smx_session.specs.Moments.{is_bound};
+ghost use Rattle.smx_turns.specs.Wires.{has_ended as has_link_ended};
 ghost use Rattle.smx_upstream.specs.Ages.{next_turn};
 ghost use Rattle.smx_upstream.specs.Working.{before_turn, scene_of, writing_of, LeadsOn};
-ghost use Rattle.smx_upstream.specs.Writing.{MayDecide, has_link_ended};
+ghost use Rattle.smx_upstream.specs.Writing.{MayDecide};
 ghost use Rattle.smx_upstream.specs.Quiet.{are_all_quiet};
-ghost use Rattle.smx_upstream.specs.Phases.{phase_of, when_next, when_progress, is_all_decided, end_of, quiet_end, link_faults, Before, Waits, LeadsTo, IsPart, IsTurn, Opening, Ready, Sated, MayRead, Deciding, Settled};
+ghost use Rattle.smx_upstream.specs.Phases.{phase_of, when_next, when_progress, is_all_decided, quiet_end, link_faults, Before, Waits, LeadsTo, IsPart, IsTurn, Opening, Ready, Sated, MayRead, Deciding, Settled};
 
 use crate::event::Event;
 use crate::mark::Mark;
@@ -17,15 +18,8 @@ use smx_link::Link;
 use smx_pdu::MAX_PDU;
 use smx_session::UpstreamState;
 use smx_shared::Exchange;
-use smx_turns::{Directory, Fault, Gate, Log, Point, Step, TurnEnd, ask};
+use smx_turns::{Directory, Fault, Gate, Log, Point, Step, TurnEnd, ask, last_end};
 use std::sync::Wait;
-
-// How a turn ends that only writes.
-fn end_of(left: bool) -> TurnEnd
-    ensures { result ≡ end_of left }
-{
-    if left { TurnEnd::Worked } else { TurnEnd::Done }
-}
 
 // How a turn ends that did all that there was to do.
 fn quiet_end(quiet: bool) -> TurnEnd
@@ -102,8 +96,7 @@ impl<L: Link + Drop> UpstreamWorker<L> {
             log.old log.new }
         ensures kept { (self.new.wire.link ≡ self.old.wire.link)
             × (self.new.stand.age.turns ≡ self.old.stand.age.turns)
-            × (self.new.first ≡ self.old.first) }
-        ensures ends { self.new.ends ≡ self.old.ends }
+            × (self.new.first ≡ self.old.first) × (self.new.ends ≡ self.old.ends) }
     {
         self.make_room()?;
         match self.fetch(log)? {
@@ -155,8 +148,7 @@ impl<L: Link + Drop> UpstreamWorker<L> {
             log.old log.new }
         ensures kept { (self.new.wire.link ≡ self.old.wire.link)
             × (self.new.stand.age.turns ≡ self.old.stand.age.turns)
-            × (self.new.first ≡ self.old.first) }
-        ensures ends { self.new.ends ≡ self.old.ends }
+            × (self.new.first ≡ self.old.first) × (self.new.ends ≡ self.old.ends) }
     {
         loop {
             if !ended && self.wire.unsent() >= MAX_PDU {
@@ -200,12 +192,11 @@ impl<L: Link + Drop> UpstreamWorker<L> {
             (G.told gate.new) queries self.new) log.old log.new }
         ensures kept { (self.new.held ≡ self.old.held)
             × (self.new.stand.age.turns ≡ self.old.stand.age.turns)
-            × (self.new.first ≡ self.old.first) }
-        ensures ends { self.new.ends ≡ self.old.ends }
+            × (self.new.first ≡ self.old.first) × (self.new.ends ≡ self.old.ends) }
     {
         let left = self.offer(log)?;
         if self.ending {
-            return Ok(Some(end_of(left)));
+            return Ok(Some(last_end(left)));
         }
         self.make_room()?;
         if self.look(now, log) {
@@ -255,15 +246,14 @@ impl<L: Link + Drop> UpstreamWorker<L> {
             (D.queries directory.new) self.new)
             log.old log.new }
         ensures kept { (self.new.stand.age.turns ≡ self.old.stand.age.turns)
-            × (self.new.first ≡ self.old.first) }
-        ensures ends { self.new.ends ≡ self.old.ends }
+            × (self.new.first ≡ self.old.first) × (self.new.ends ≡ self.old.ends) }
     {
         let ended = self.read(log)?;
         match self.decide_all(ended, at, rt, gate, directory, now, log)? {
             Progress::Brimming => return Ok(Some(TurnEnd::Worked)),
             Progress::Over => {
                 let left = self.offer(log)?;
-                return Ok(Some(end_of(left)));
+                return Ok(Some(last_end(left)));
             }
             Progress::Part => {}
         }
@@ -307,8 +297,7 @@ impl<L: Link + Drop> UpstreamWorker<L> {
             (D.queries directory.new) self.new)
             log.old log.new }
         ensures kept { (self.new.stand.age.turns ≡ self.old.stand.age.turns)
-            × (self.new.first ≡ self.old.first) }
-        ensures ends { self.new.ends ≡ self.old.ends }
+            × (self.new.first ≡ self.old.first) × (self.new.ends ≡ self.old.ends) }
     {
         self.make_ready()?;
         if self.wire.unsent() >= MAX_PDU {
@@ -349,8 +338,7 @@ impl<L: Link + Drop> UpstreamWorker<L> {
         ensures kept { (self.new.held ≡ self.old.held) × (self.new.wire.link ≡ self.old.wire.link)
             × (self.new.wire.rest ≡ self.old.wire.rest)
             × (self.new.stand.age.turns ≡ self.old.stand.age.turns)
-            × (self.new.first ≡ self.old.first) }
-        ensures ends { self.new.ends ≡ self.old.ends }
+            × (self.new.first ≡ self.old.first) × (self.new.ends ≡ self.old.ends) }
     {
         self.make_room()?;
         let may = ask(log, gate, Point::Taking, turn);
@@ -399,8 +387,7 @@ impl<L: Link + Drop> UpstreamWorker<L> {
             (D.queries directory.new) self.new)
             log.old log.new }
         ensures count { self.new.stand.age.turns ≡ (next_turn self.old.stand.age).turns }
-        ensures first { self.new.first ≡ self.old.first }
-        ensures ends { self.new.ends ≡ self.old.ends }
+        ensures kept { (self.new.first ≡ self.old.first) × (self.new.ends ≡ self.old.ends) }
     {
         let turn = self.open(log);
         match self.open_part(at, rt, gate, now, log) {

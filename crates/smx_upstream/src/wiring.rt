@@ -2,22 +2,22 @@
 ghost use Rattle.std.specs.Prelude.{◌≡◌, ◌≢◌, ◌+◌, ◌≤◌, ◌<◌, ◌++◌, [], ◌∷◌, true, false, length, Some, None, Ok, Err, OnOk, OnErr, IfOk, IsSome};
 ghost use Rattle.smx_frame.specs.Stream.{HasNone};
 ghost use Rattle.smx_turns.specs.Steps.{brings_none};
+ghost use Rattle.smx_turns.specs.Wires.{some_wait, has_ended as has_link_ended};
 ghost use Rattle.smx_turns.specs.declared.step.Step.TheVariants.{Did};
 ghost use Rattle.smx_upstream.specs.declared.event.Event.TheVariants.{Broke};
-ghost use Rattle.smx_upstream.specs.Events.{out_of};
+ghost use Rattle.smx_upstream.specs.Events.{worth};
 ghost use Rattle.smx_link.specs.Wiring.{spellings};
 ghost use Rattle.smx_upstream.specs.Working.{scene_of, writing_of, LeadsOn};
-ghost use Rattle.smx_upstream.specs.Writing.{MayDecide, has_link_ended};
-ghost use Rattle.smx_upstream.specs.Phases.{phase_of, some_wait, after_offer, unless_left, when_front, is_end, Before, LeadsTo, link_faults, Ready, Closing, MayRead, Deciding};
+ghost use Rattle.smx_upstream.specs.Writing.{MayDecide};
+ghost use Rattle.smx_upstream.specs.Phases.{phase_of, after_offer, unless_left, when_front, Before, LeadsTo, link_faults, Ready, Closing, MayRead, Deciding};
 
 use crate::event::Event;
 use crate::mark::Mark;
 use crate::worker::{UpstreamWorker, note};
-use smx_frame::FrameFault;
 use smx_link::{Link, Polled, Wire};
 use smx_pdu::Pdu;
 use smx_trace::Trace;
-use smx_turns::{Fault, Log, Outcome, Step};
+use smx_turns::{Fault, Log, Outcome, Step, is_end, is_memory};
 use std::alloc::Global;
 
 // What stands at the front of what was read.
@@ -31,28 +31,11 @@ pub(crate) enum Front {
     Broken,
 }
 
-fn is_end(polled: Polled) -> bool
-    ensures { result ≡ is_end polled }
-{
-    matches!(polled, Polled::End)
-}
-
 // Whether octets came.
 fn brings_none(polled: Polled) -> bool
     ensures { result ≡ brings_none (Ok polled) }
 {
     !matches!(polled, Polled::Octets(_))
-}
-
-// Whether memory was wanted, and no bad length was met.
-fn is_memory(fault: FrameFault) -> bool
-    ensures memory { result ≡ true → fault ≡ FrameFault.NoMemory }
-    ensures other { result ≡ false → fault ≢ FrameFault.NoMemory }
-{
-    match fault {
-        FrameFault::NoMemory => true,
-        FrameFault::Below16 | FrameFault::AboveMax => false,
-    }
 }
 
 // Answers a bad length.
@@ -63,8 +46,8 @@ fn break_off<L: Link + Drop>(
     log: &mut Log<Mark, Event>,
 )
     requires room { 65536 ≤ wire.old.room }
-    ensures said { wire.new.said ≡ wire.old.said ++ out_of Broke }
-    ensures unsent { wire.new.unsent ≡ wire.old.unsent ++ spellings (out_of Broke) }
+    ensures said { wire.new.said ≡ wire.old.said ++ (worth Broke).said }
+    ensures unsent { wire.new.unsent ≡ wire.old.unsent ++ spellings (worth Broke).said }
     ensures same { wire.new ≡ record wire.old {
       said = wire.new.said;
       unsent = wire.new.unsent;

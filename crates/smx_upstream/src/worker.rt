@@ -6,7 +6,7 @@ ghost use Rattle.smx_session.specs.declared.upstream_state.UpstreamState.TheVari
 ghost use Rattle.smx_turns.specs.declared.step.Step.TheVariants.{Did};
 ghost use Rattle.smx_upstream.specs.Ages.{new_age};
 ghost use Rattle.smx_turns.specs.Worth.{those, IsWorth};
-ghost use Rattle.smx_upstream.specs.Events.{worth, out_of, is_quiet_event};
+ghost use Rattle.smx_upstream.specs.Events.{worth, is_quiet_event};
 ghost use Rattle.smx_upstream.specs.Standing.{bind_of, stand, AreEmptied};
 
 use crate::age::Age;
@@ -169,9 +169,9 @@ pub(crate) fn note<L: Link + Drop, A: Drop>(
     requires room { 65536 ≤ wire.old.room }
     requires worth { IsWorth outcome (worth outcome.event) }
     ensures answer { result ≡ outcome.answer }
-    ensures said { wire.new.said ≡ wire.old.said ++ out_of outcome.event }
+    ensures said { wire.new.said ≡ wire.old.said ++ (worth outcome.event).said }
     ensures unsent { wire.new.unsent
-        ≡ wire.old.unsent ++ flat_map spelling (out_of outcome.event) }
+        ≡ wire.old.unsent ++ flat_map spelling (worth outcome.event).said }
     ensures same { wire.new ≡ record wire.old {
       said = wire.new.said;
       unsent = wire.new.unsent;

@@ -1,10 +1,10 @@
 //! The box's part of a turn: the answer that waits is put again, or an item is got.
-ghost use Rattle.std.specs.Prelude.{◌≡◌, ◌≢◌, ◌≤◌, ◌<◌, ℕ, List, length, Some, None, Ok, IsSome, true, false};
+ghost use Rattle.std.specs.Prelude.{◌≡◌, ◌≢◌, ◌≤◌, ◌<◌, ℕ, List, length, Some, None, Ok, IsSome, is_some, true, false};
 ghost use Rattle.smx_turns.specs.declared.directory.Query.{Query};
 ghost use Rattle.smx_turns.specs.declared.step.Step.TheVariants as step;
 ghost use Rattle.smx_client.specs.declared.event.Event.TheVariants as event;
 ghost use Rattle.smx_client.specs.declared.reply.Reply.{Reply};
-ghost use Rattle.smx_client.specs.Scenes.{scene_of, is_there};
+ghost use Rattle.smx_client.specs.Scenes.{scene_of};
 ghost use Rattle.smx_client.specs.Table.{Before, Phase, phase_of, go, after_reply, MayCollect, Clear, Draining, Deciding, IsPart};
 ghost use Rattle.smx_client.specs.Turns.{Leads};
 
@@ -21,7 +21,7 @@ use std::sync::Wait;
 
 // Whether one waits.
 pub(super) fn is_waiting<T>(place: &Option<T>) -> bool
-    ensures there { result ≡ is_there place.now }
+    ensures there { result ≡ is_some place.now }
     ensures some { result ≡ true → IsSome place.now }
     ensures none { result ≡ false → place.now ≡ None }
 {
@@ -90,7 +90,7 @@ impl<'d, L: Link + Drop> ClientWorker<'d, L> {
             self.new)
             log.new }
         ensures phase { (t : Before) → phase_of t log.old ≡ MayCollect t.lanes
-            → t.parked ≡ is_there self.old.parked → IsPart Clear result (phase_of t log.new) }
+            → t.parked ≡ is_some self.old.parked → IsPart Clear result (phase_of t log.new) }
         ensures parked { result ≡ Ok (Some Progress.Parked) → IsSome self.new.parked }
         ensures clear { result ≡ Ok None → self.new.parked ≡ None }
         ensures which { (result ≢ Ok (Some Progress.Settled)) × (result ≢ Ok (Some Progress.Closed))
@@ -155,7 +155,7 @@ impl<'d, L: Link + Drop> ClientWorker<'d, L> {
             self.new)
             log.new }
         ensures phase { (t : Before) → phase_of t log.old ≡ MayCollect t.lanes
-            → t.parked ≡ is_there self.old.parked → IsPart Clear result (phase_of t log.new) }
+            → t.parked ≡ is_some self.old.parked → IsPart Clear result (phase_of t log.new) }
         ensures parked { result ≡ Ok (Some Progress.Parked) → IsSome self.new.parked }
         ensures clear { result ≡ Ok None → self.new.parked ≡ None }
         ensures clogged { result ≡ Ok (Some Progress.Clogged)

@@ -4,7 +4,8 @@ ghost use Rattle.smx_shared.specs.Views.{locks_of};
 ghost use Rattle.smx_turns.specs.declared.directory.Query.{Query};
 ghost use Rattle.smx_client.specs.Scenes.{scene_of, Moves};
 ghost use Rattle.smx_client.specs.Table.{Before, Phase, phase_of, Written, MayCollect, after_collect, IsOffered, IsCollectedFrom, IsPart};
-ghost use Rattle.smx_client.specs.Turns.{Leads, is_some_left};
+ghost use Rattle.smx_client.specs.Turns.{Leads};
+ghost use Rattle.smx_turns.specs.Wires.{some_wait};
 
 use super::ClientWorker;
 use crate::event::{Event, Progress};
@@ -21,7 +22,7 @@ use std::sync::Wait;
 
 // Whether some of what was said waits.
 fn has_unsent<L: Link + Drop>(wire: &Wire<L>) -> bool
-    ensures left { result ≡ is_some_left wire.now.unsent }
+    ensures left { result ≡ some_wait wire.now.unsent }
     ensures some { result ≡ true → wire.now.unsent ≢ [] }
     ensures none { result ≡ false → wire.now.unsent ≡ [] }
 {
@@ -71,7 +72,6 @@ impl<'d, L: Link + Drop> ClientWorker<'d, L> {
     pub(super) fn make_room(&mut self) -> Result<(), Fault>
         ensures room { OnOk result (65536 ≤ self.new.wire.room) }
         ensures err { OnErr result (result ≡ Err Fault.NoMemory) }
-        ensures wire { self.new.wire ≡ record self.old.wire { room = self.new.wire.room } }
         ensures same { self.new ≡ record self.old {
           wire = record self.old.wire { room = self.new.wire.room };
         } }

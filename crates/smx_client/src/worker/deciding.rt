@@ -5,7 +5,7 @@ ghost use Rattle.smx_session.specs.ClientTable.{client_decides};
 ghost use Rattle.smx_session.specs.declared.act.Act.{Act};
 ghost use Rattle.smx_shared.specs.Views.{locks_of};
 ghost use Rattle.smx_turns.specs.declared.directory.Query.{Query};
-ghost use Rattle.smx_client.specs.Breaking.{IsBad};
+ghost use Rattle.smx_turns.specs.Wires.{IsBad};
 ghost use Rattle.smx_client.specs.Scenes.{scene_of, Moves};
 ghost use Rattle.smx_client.specs.Table.{Before, Phase, phase_of, Deciding, MaySubmit, Closing, Settled, after_reply, IsAt, IsDecided, IsPart, weight};
 ghost use Rattle.smx_client.specs.Turns.{Leads};
@@ -16,24 +16,12 @@ use crate::ledger::{mark, note};
 use crate::mark::{Mark, Stage};
 use crate::reply::answer_settled;
 use crate::saying::{offer_of, say_act, say_refusal, tell_accepted, verdict_of};
-use smx_frame::FrameFault;
 use smx_link::Link;
 use smx_session::{Act, ClientState};
 use smx_shared::Exchange;
-use smx_turns::{Fault, Gate, Log};
+use smx_turns::{Fault, Gate, Log, is_memory};
 use std::snapshot::Snapshot;
 use std::sync::Wait;
-
-// Whether memory was wanted, and no bad length was met.
-fn is_memory(fault: FrameFault) -> bool
-    ensures memory { result ≡ true → fault ≡ FrameFault.NoMemory }
-    ensures other { result ≡ false → fault ≢ FrameFault.NoMemory }
-{
-    match fault {
-        FrameFault::NoMemory => true,
-        FrameFault::Below16 | FrameFault::AboveMax => false,
-    }
-}
 
 // How far a turn comes where no whole PDU is left.
 fn part_end(ended: bool) -> Progress

@@ -5,16 +5,17 @@ ghost use Rattle.smx_shared.specs.Views.{locks_of};
 ghost use Rattle.smx_turns.specs.Rounds.{EndsSo};
 ghost use Rattle.smx_turns.specs.Runs.{Runs, RunsOn};
 ghost use Rattle.smx_turns.specs.Steps.{asks, polls, events, are_quiet};
+ghost use Rattle.smx_turns.specs.Wires.{has_ended};
+ghost use Rattle.smx_turns.specs.Worth.{tells};
 ghost use Rattle.smx_turns.specs.declared.end.Fault.{Fault};
 ghost use Rattle.smx_turns.specs.declared.end.TurnEnd.{TurnEnd};
 ghost use Rattle.smx_client.specs.Courses.{course, TurnsSo};
-ghost use Rattle.smx_client.specs.Events.{is_quiet_event, tells};
+ghost use Rattle.smx_client.specs.Events.{is_quiet_event, worth};
 ghost use Rattle.smx_client.specs.Marks.{is_quiet_mark};
 ghost use Rattle.smx_client.specs.Parts.{Does};
 ghost use Rattle.smx_client.specs.Scenes.{scene_of, before, Moves};
 ghost use Rattle.smx_client.specs.Serving.{parts_of};
-ghost use Rattle.smx_client.specs.Stages.{has_ended};
-ghost use Rattle.smx_client.specs.Table.{Before, Phase, phase_of, Opening, Closing, when_written, IsAt, EndsIn, IsTurn, Stands, last_end};
+ghost use Rattle.smx_client.specs.Table.{Before, Phase, phase_of, Opening, Closing, when_written, IsAt, EndsIn, IsTurn, Stands};
 ghost use Rattle.smx_client.specs.Turns.{Leads, Changes, faults};
 
 use super::ClientWorker;
@@ -23,7 +24,7 @@ use crate::mark::{Mark, Stage};
 use smx_link::Link;
 use smx_session::ClientState;
 use smx_shared::Exchange;
-use smx_turns::{Directory, Fault, Gate, Log, RunEnd, TurnEnd};
+use smx_turns::{Directory, Fault, Gate, Log, RunEnd, TurnEnd, last_end};
 use std::sync::Wait;
 
 // The number of the turn after so many. The count stays at its greatest.
@@ -47,13 +48,6 @@ fn end_of(progress: Progress, quiet: bool) -> TurnEnd
         Progress::Settled if quiet => TurnEnd::Idle,
         _ => TurnEnd::Worked,
     }
-}
-
-// How a turn ends that only writes: whether some is left.
-fn last_end(left: bool) -> TurnEnd
-    ensures { result ≡ last_end left }
-{
-    if left { TurnEnd::Worked } else { TurnEnd::Done }
 }
 
 impl<'d, L: Link + Drop> ClientWorker<'d, L> {
@@ -209,7 +203,7 @@ impl<'d, L: Link + Drop> ClientWorker<'d, L> {
 
         // So each of these lists grew by what the steps tell.
         ensures asks { G.asked gate.new ≡ G.asked gate.old ++ asks self.new.turns self.new.steps }
-        ensures told { G.told gate.new ≡ G.told gate.old ++ tells (events self.new.steps) }
+        ensures told { G.told gate.new ≡ G.told gate.old ++ tells worth (events self.new.steps) }
         ensures events { self.new.events ≡ self.old.events ++ events self.new.steps }
         ensures runs { Runs Does (parts_of self.old) (events self.new.steps) (parts_of self.new) }
         ensures reads { L.polls self.new.wire.link

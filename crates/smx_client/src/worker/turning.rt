@@ -1,12 +1,12 @@
 //! A turn, part by part.
-ghost use Rattle.std.specs.Prelude.{◌≡◌, ◌≢◌, ◌≤◌, ◌<◌, ℕ, Bool, true, false, List, length, Some, None, Ok, Err, IfOk, OnOk, IsSome, if◌then◌else◌};
+ghost use Rattle.std.specs.Prelude.{◌≡◌, ◌≢◌, ◌≤◌, ◌<◌, ℕ, Bool, true, false, List, length, Some, None, Ok, Err, IfOk, OnOk, IsSome, is_some, if◌then◌else◌};
 ghost use Rattle.smx_frame.specs.Stream.{HasNone};
 ghost use Rattle.smx_shared.specs.Views.{locks_of};
 ghost use Rattle.smx_turns.specs.declared.gate.Question.{Question};
 ghost use Rattle.smx_turns.specs.declared.gate.Party.{Party};
 ghost use Rattle.smx_turns.specs.declared.directory.Query.{Query};
-ghost use Rattle.smx_client.specs.Scenes.{scene_of, is_there, before};
-ghost use Rattle.smx_client.specs.Table.{Before, Phase, phase_of, Written, Clear, Deciding, Unentered, when_drained, IsFront, IsPart, ComesTo, after_bind, when_written, is_end};
+ghost use Rattle.smx_client.specs.Scenes.{scene_of, before};
+ghost use Rattle.smx_client.specs.Table.{Before, Phase, phase_of, Written, Clear, Deciding, Unentered, when_drained, IsFront, IsPart, ComesTo, after_bind, when_written};
 ghost use Rattle.smx_client.specs.Turns.{Leads};
 
 use super::ClientWorker;
@@ -15,10 +15,10 @@ use crate::event::{Event, Progress, Verdict};
 use crate::ledger::{ask, mark, reading};
 use crate::mark::{Mark, Stage};
 use crate::prefixes::{add_all, prefixes_at};
-use smx_link::{Link, Polled};
+use smx_link::Link;
 use smx_session::{ClientState, Kind};
 use smx_shared::Exchange;
-use smx_turns::{Directory, Fault, Gate, Log, Point};
+use smx_turns::{Directory, Fault, Gate, Log, Point, is_end};
 use std::sync::Wait;
 
 // Whether a client that is bound so is sent messages.
@@ -30,12 +30,6 @@ fn is_sent(kind: Kind) -> bool
         Kind::Tx => false,
         Kind::Rx | Kind::Trx => true,
     }
-}
-
-fn is_end(polled: Polled) -> bool
-    ensures { result ≡ is_end polled }
-{
-    matches!(polled, Polled::End)
 }
 
 // The stage after a read that answered so.
@@ -141,7 +135,7 @@ impl<'d, L: Link + Drop> ClientWorker<'d, L> {
             log.new }
         ensures phase { (t : Before) → phase_of t log.old ≡ Written
             → t.lanes ≡ length self.old.port.fronts → t.settled ≡ self.old.settled
-            → t.parked ≡ is_there self.old.parked → IsFront result (phase_of t log.new) }
+            → t.parked ≡ is_some self.old.parked → IsFront result (phase_of t log.new) }
         ensures clear { IfOk result (λ r. IfOk r (λ ended. self.new.parked ≡ None)) }
         ensures waits { result ≡ Ok (Err Progress.Parked) → IsSome self.new.parked }
         ensures clogged { result ≡ Ok (Err Progress.Clogged) → 65536 ≤ length self.new.wire.unsent }
@@ -341,7 +335,7 @@ impl<'d, L: Link + Drop> ClientWorker<'d, L> {
             (scene_of L.offered L.polls L.failures (G.asked gate.new) (G.told gate.new) queries
             self.new)
             log.new }
-        ensures phase { (t : Before) → t.parked ≡ is_there self.old.parked
+        ensures phase { (t : Before) → t.parked ≡ is_some self.old.parked
             → phase_of t log.old ≡ when_drained t.parked
             → IsPart (Deciding true) result (phase_of t log.new) }
         ensures waits { result ≡ Ok (Some Progress.Parked) → IsSome self.new.parked }

@@ -4,7 +4,7 @@ use Rattle.smx_turns.specs.declared.end.TurnEnd.TheVariants.{Idle, Done}
 use denote.Param.Always.{mut_next}
 use Rattle.smx_turns.proofs.Chains.{ran_none, runs_none}
 use Rattle.smx_turns.proofs.Logged.{ran_turn}
-use Rattle.smx_upstream.specs.Events.{tell_of, find_of}
+use Rattle.smx_upstream.specs.Events.{worth}
 use Rattle.smx_upstream.specs.Standing.{Does}
 use Rattle.smx_turns.proofs.Rounding.{last_one, round_more, end_as}
 use Rattle.smx_session.specs.Moments.{is_bound}
@@ -27,13 +27,13 @@ loop-turn-init g c = record {
 }
 
 pub returns-in-Ok-Done-clause-ran : goal.returns-in-Ok-Done-clause-ran
-returns-in-Ok-Done-clause-ran g c = ran_turn Does tell_of find_of _ _ _ _ _ _ c.loop-turn.invariant.ran c.turn.ensures.turned.turned
+returns-in-Ok-Done-clause-ran g c = ran_turn Does worth _ _ _ _ _ _ c.loop-turn.invariant.ran c.turn.ensures.turned.turned
 
 pub returns-in-Ok-Idle-clause-ran : goal.returns-in-Ok-Idle-clause-ran
-returns-in-Ok-Idle-clause-ran g c = ran_turn Does tell_of find_of _ _ _ _ _ _ c.loop-turn.invariant.ran c.turn.ensures.turned.turned
+returns-in-Ok-Idle-clause-ran g c = ran_turn Does worth _ _ _ _ _ _ c.loop-turn.invariant.ran c.turn.ensures.turned.turned
 
 pub returns-in-Err-clause-ran : goal.returns-in-Err-clause-ran
-returns-in-Err-clause-ran g c = ran_turn Does tell_of find_of _ _ _ _ _ _ c.loop-turn.invariant.ran c.turn.ensures.turned.turned
+returns-in-Err-clause-ran g c = ran_turn Does worth _ _ _ _ _ _ c.loop-turn.invariant.ran c.turn.ensures.turned.turned
 
 pub loop-turn-preserved : goal.loop-turn-preserved
 loop-turn-preserved g c = record {
@@ -43,7 +43,7 @@ loop-turn-preserved g c = record {
   first = c.turn.ensures.first ∙ c.loop-turn.invariant.first;
   ends = round_more _ _ _ _ (end_as _ _ _ _ c.in-Ok-Worked.field-0-is c.in-Ok-Worked.ensures.ends) c.loop-turn.invariant.ends;
   clocked = clocked_more _ _ _ _ _ _ _ _ c.turn.result c.loop-turn.invariant.clocked c.clock-now.ensures c.turn.ensures.order c.turn.ensures.turned c.turn.ensures.failures c.turn.ensures.ends;
-  ran = ran_turn Does tell_of find_of _ _ _ _ _ _ c.loop-turn.invariant.ran c.turn.ensures.turned.turned;
+  ran = ran_turn Does worth _ _ _ _ _ _ c.loop-turn.invariant.ran c.turn.ensures.turned.turned;
 }
 
 pub returns-in-Err-clause-held : goal.returns-in-Err-clause-held

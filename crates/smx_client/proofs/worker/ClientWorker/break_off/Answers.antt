@@ -2,10 +2,10 @@ use Rattle.std.proofs.Common.{◌++◌, refl, sym, ap, ◌∙◌, subst}
 use Rattle.std.proofs.lemmas.List.{append-nil}
 use Rattle.smx_link.specs.Wiring.{Wiring, spellings}
 use Rattle.smx_client.specs.declared.event.Event.TheVariants.{Broke}
-use Rattle.smx_client.specs.Breaking.{IsBad}
+use Rattle.smx_turns.specs.Wires.{IsBad}
 use Rattle.smx_client.specs.Events.{act_out}
 use Rattle.smx_client.specs.Serving.{Serving}
-use Rattle.smx_client.proofs.Breaking.{bad_as}
+use Rattle.smx_turns.proofs.Breaking.{bad_as}
 use Rattle.smx_client.proofs.Cells as cell
 use Rattle.smx_client.proofs.Doings as doing
 use Rattle.smx_client.proofs.Scenes.{happens}
@@ -19,8 +19,7 @@ invariant_of-self g c =
     did g.L.Link.polls _ _ (Broke c.of.result) c.self.invariant (ap (λ w. w.link) e) (ap (λ w. w.start) e) refl refl c.note.ensures.events (ap (λ w. w.heard) e) refl
     (doing.broke _ _ _ _ _ _ _ _ _ _ _ c.of.result c.of.ensures c.on_fault-act.ensures.act c.on_fault-act.ensures.state c.say_act.ensures.said)
     (still _ _ _ _ (ap (λ (w : Wiring g.row.L.Denot). w.rest) e) c.self.invariant.settled)
-    (ap (λ (w : Wiring g.row.L.Denot). w.failed) e) (ap (λ (w : Wiring g.row.L.Denot). w.rest) e)
-    (λ _. bad_as c.self.inside.wire c.say_act.new.wire (ap (λ (w : Wiring g.row.L.Denot). w.failed) e) (ap (λ (w : Wiring g.row.L.Denot). w.rest) e) (subst (λ (w : Serving g.row.L.Denot). IsBad w.wire) (sym c.self.view_is) c.requires.bad))
+    (record { stays = bad_as c.self.inside.wire c.say_act.new.wire (ap (λ (w : Wiring g.row.L.Denot). w.failed) e) (ap (λ (w : Wiring g.row.L.Denot). w.rest) e); met = λ _. bad_as c.self.inside.wire c.say_act.new.wire (ap (λ (w : Wiring g.row.L.Denot). w.failed) e) (ap (λ (w : Wiring g.row.L.Denot). w.rest) e) (subst (λ (w : Serving g.row.L.Denot). IsBad w.wire) (sym c.self.view_is) c.requires.bad) })
     (λ _ other. absurd (other c.on_fault-act.ensures.state))
 
 pub returns-clause-moves : goal.returns-clause-moves

@@ -12,6 +12,7 @@ use Rattle.smx_client.proofs.Cells as cell
 use Rattle.smx_client.proofs.Doings as doing
 use Rattle.smx_client.proofs.Fates.{own_out, says_session, ends_session}
 use Rattle.smx_client.proofs.Scenes.{happens}
+use Rattle.smx_turns.proofs.Breaking.{stays_bad}
 use Rattle.smx_client.proofs.Serving.{did, as_below, decides, undecided}
 use Rattle.smx_client.proofs.worker.ClientWorker.decide.Goals as goal
 
@@ -25,7 +26,7 @@ invariant_of-self-in-Answer-1 g c =
     (subst (λ (l : List Login). ((c.of-in_default-act.result.value, c.on_pdu.new.self) ≡ client_decides l s.session c.of.result.value) × Suits c.of-in_default-act.result.value Own) c.as_slice.ensures.value
     (says_session _ _ _ c.in-Some.pdu _ c.in-Ok.act _ c.of.ensures c.of-in_default-act.ensures c.in-Ok.ensures.act c.in-Ok.ensures.state c.in_default-act.not-Forward c.in_default-act.not-MoAnswer)))
     (undecided _ (ap (λ (w : Serving g.row.L.Denot). w.settled) c.self.view_is ∙ c.requires.undecided))
-    (ap (λ (w : Wiring g.row.L.Denot). w.failed) e) (ap (λ (w : Wiring g.row.L.Denot). w.rest) e) (λ told. absurd (cc))
+    (stays_bad refl (ap (λ (w : Wiring g.row.L.Denot). w.failed) e) (ap (λ (w : Wiring g.row.L.Denot). w.rest) e))
     (λ closed. absurd (c.requires.going (sym (ap (λ (w : Serving g.row.L.Denot). w.stage) c.self.view_is) ∙ closed)))
 
 pub returns-in_default-act-clause-moves : goal.returns-in_default-act-clause-moves

@@ -10,6 +10,7 @@ use Rattle.smx_client.proofs.Cells as cell
 use Rattle.smx_client.proofs.Doings as doing
 use Rattle.smx_client.proofs.Fates.{forward_out, forward_port, forward_lists, stays}
 use Rattle.smx_client.proofs.Scenes.{happens}
+use Rattle.smx_turns.proofs.Breaking.{stays_bad}
 use Rattle.smx_client.proofs.Serving.{did, as_below, decides, undecided, as_closed}
 use Rattle.smx_client.proofs.worker.ClientWorker.forward.Goals as goal
 
@@ -27,7 +28,7 @@ invariant_of-self g c =
     (stays _ _ s.held c.in-Some.pdu _ act.Forward _ (Submitted c.of-offered.result c.of.result) c.in-Some.ensures.value c.of-read.ensures c.of-2.ensures tt
     (subst (λ (w : Serving g.row.L.Denot). IfSome w.held (λ p. client_decides w.desk.accounts.items w.session p ≡ (act.Forward, w.session))) (sym c.self.view_is) c.requires.held)))
     (undecided _ (ap (λ (w : Serving g.row.L.Denot). w.settled) c.self.view_is ∙ c.requires.undecided))
-    (ap (λ (w : Wiring g.row.L.Denot). w.failed) e) (ap (λ (w : Wiring g.row.L.Denot). w.rest) e) (λ told. absurd (cc))
+    (stays_bad refl (ap (λ (w : Wiring g.row.L.Denot). w.failed) e) (ap (λ (w : Wiring g.row.L.Denot). w.rest) e))
     (as_closed g.L.Link.polls _ _ _ _ _ (ap (λ w. w.link) e) c.self.invariant.closed)
 
 pub returns-clause-leads : goal.returns-clause-leads

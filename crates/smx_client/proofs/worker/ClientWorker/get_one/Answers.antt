@@ -1,15 +1,15 @@
-use Rattle.std.proofs.Common.{true≢false, ◌++◌, length, refl, sym, ap, ◌∙◌, subst, Ok, IfOk, IsOk}
+use Rattle.std.proofs.Common.{is_some, true≢false, ◌++◌, length, refl, sym, ap, ◌∙◌, subst, Ok, IfOk, IsOk}
 use Rattle.smx_box.specs.Boxes.{GetServes, Hands}
 use Rattle.smx_link.specs.Wiring.{Wiring, spellings}
 use Rattle.smx_client.specs.declared.event.Event.TheVariants.{Got}
 use Rattle.smx_client.specs.declared.event.Delivery.TheVariants.{Dropped}
 use Rattle.smx_client.specs.Events.{got_out, got_told}
 use Rattle.smx_client.specs.Parts.{IsDelivered}
-use Rattle.smx_client.specs.Scenes.{is_there}
 use Rattle.smx_client.specs.Table.{IsPart, Clear, after_got}
 use Rattle.smx_client.proofs.Cells as cell
 use Rattle.smx_client.proofs.Doings as doing
 use Rattle.smx_client.proofs.Scenes.{happens}
+use Rattle.smx_turns.proofs.Breaking.{stays_bad}
 use Rattle.smx_client.proofs.Serving.{did, as_below, as_closed}
 use Rattle.smx_client.proofs.Settling.{still}
 use Rattle.smx_client.proofs.worker.ClientWorker.get_one.Goals as goal
@@ -30,7 +30,7 @@ invariant_of-self-in-Ok g c =
     )
     d.so d.parks d.count d.answer)
     (still _ _ _ _ (ap (λ (w : Wiring g.row.L.Denot). w.rest) e) c.self.invariant.settled)
-    (ap (λ (w : Wiring g.row.L.Denot). w.failed) e) (ap (λ (w : Wiring g.row.L.Denot). w.rest) e) (λ told. absurd (cc))
+    (stays_bad refl (ap (λ (w : Wiring g.row.L.Denot). w.failed) e) (ap (λ (w : Wiring g.row.L.Denot). w.rest) e))
     (as_closed g.L.Link.polls _ _ _ _ _ (ap (λ w. w.link) e) c.self.invariant.closed)
 
 pub returns-in-Err-clause-leads : goal.returns-in-Err-clause-leads
@@ -53,9 +53,9 @@ returns-in-Ok-clause-leads g c = rw (← c.self.view_is) (λ n queries base was.
 
 pub returns-in-Err-clause-phase : goal.returns-in-Err-clause-phase
 returns-in-Err-clause-phase g c = λ t at parked.
-    c.note.ensures.phase t _ at ∙ cell.boxed_got t c.of-seen.result Dropped (parked ∙ ap is_there c.requires.none) ∙ ap (λ r. after_got r Dropped) (c.of-seen.ensures ∙ c.in-Err.is)
+    c.note.ensures.phase t _ at ∙ cell.boxed_got t c.of-seen.result Dropped (parked ∙ ap is_some c.requires.none) ∙ ap (λ r. after_got r Dropped) (c.of-seen.ensures ∙ c.in-Err.is)
 
 pub returns-in-Ok-clause-phase : goal.returns-in-Ok-clause-phase
 returns-in-Ok-clause-phase g c = λ t at parked.
-    subst (λ p. IsPart Clear c.progress.result p) (sym (c.note-in-Ok.ensures.phase t _ at ∙ cell.boxed_got t c.of-seen.result c.deliver-delivery.result (parked ∙ ap is_there c.requires.none)
+    subst (λ p. IsPart Clear c.progress.result p) (sym (c.note-in-Ok.ensures.phase t _ at ∙ cell.boxed_got t c.of-seen.result c.deliver-delivery.result (parked ∙ ap is_some c.requires.none)
     ∙ ap (λ r. after_got r c.deliver-delivery.result) (c.of-seen.ensures ∙ c.in-Ok.is))) c.progress.ensures.phase

@@ -1,5 +1,6 @@
 use Rattle.std.proofs.Common.{ap, sym, ◌∙◌, refl}
-use Rattle.smx_client.proofs.Breaking.{none_broken}
+use Rattle.smx_turns.proofs.Breaking.{none_broken}
+use Rattle.smx_client.specs.Events.{worth}
 use Rattle.smx_client.proofs.Starts.{started, heard_first}
 use Rattle.smx_client.proofs.Settling.{none_begins}
 use Rattle.smx_client.proofs.worker.ClientWorker.new.Goals as goal
@@ -9,7 +10,7 @@ invariant_of-result g c = record {
   heard = heard_first _ _ c.new-3.ensures.none.0 c.new-6.ensures;
   runs = started _ _ _ _ _ _ _ _ _ _ _ _ c.new-6.ensures c.new-3.ensures.none.1 c.of.ensures c.new-2.ensures c.of-2.ensures c.of-3.ensures (ap (λ v. v.items) c.of-4.ensures);
   settled = λ settled. (refl, none_begins _ c.new-3.ensures.octets.0);
-  broken = none_broken c.new-3.result _ c.new-6.ensures;
+  broken = none_broken worth _ c.new-6.ensures;
   opened = λ opened ended. ap g.L.Link.polls (c.new-3.ensures.link.0 ∙ sym c.new-3.ensures.link.1);
   drained = λ drained. absurd (cc);
   closed = λ closed. absurd (cc);

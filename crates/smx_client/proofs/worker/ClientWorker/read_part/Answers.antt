@@ -4,11 +4,12 @@ use Rattle.smx_client.specs.Table.{Deciding, after_read}
 use Rattle.smx_link.specs.Wiring.{Wiring}
 use Rattle.smx_client.specs.Parts.{parts}
 use Rattle.smx_client.specs.Serving.{Serving}
-use Rattle.smx_client.proofs.Breaking.{unbroken}
+use Rattle.smx_turns.specs.Wires.{answers_end, has_ended}
+use Rattle.smx_turns.proofs.Breaking.{unbroken}
+use Rattle.smx_turns.proofs.Wires.{ended_by}
+use Rattle.smx_client.specs.Events.{worth}
 use Rattle.smx_client.proofs.Cells as cell
 use Rattle.smx_client.proofs.Scenes.{reads}
-use Rattle.smx_client.specs.Stages.{answers_end, has_ended}
-use Rattle.smx_client.proofs.Settling.{ended_last}
 use Rattle.smx_client.proofs.worker.ClientWorker.read_part.Goals as goal
 
 pub returns-then-not-ask-clause-phase : goal.returns-then-not-ask-clause-phase
@@ -58,12 +59,12 @@ returns-in-Err-clause-phase g c = λ t was held.
 
 pub invariant_of-self-in-Ok : goal.invariant_of-self-in-Ok
 invariant_of-self-in-Ok g c =
-    let last = ap has_ended c.read-answer.ensures.polls ∙ ended_last _ _ ∙ ap answers_end c.in-Ok.is ∙ sym c.is_end-ended.ensures in
+    let last = ap has_ended c.read-answer.ensures.polls ∙ ended_by _ _ ∙ ap answers_end c.in-Ok.is ∙ sym c.is_end-ended.ensures in
     record {
       heard = search rules;
       runs = search rules;
       settled = search rules;
-      broken = unbroken c.self.inside.wire c.read-answer.new.self _ (ap (λ (w : Serving g.row.L.Denot). w.wire.failed) c.self.view_is ∙ c.requires.goes_on) c.self.invariant.broken;
+      broken = unbroken worth c.self.inside.wire c.read-answer.new.self _ (ap (λ (w : Serving g.row.L.Denot). w.wire.failed) c.self.view_is ∙ c.requires.goes_on) c.self.invariant.broken;
       opened = λ opened ended. absurd (true≢false (sym ended ∙ last ∙ c.stage_after-self-inside.ensures.only.1 opened));
       drained = λ drained. last ∙ c.stage_after-self-inside.ensures.only.0 drained;
       closed = λ closed. absurd (c.stage_after-self-inside.ensures.goes_on closed);
@@ -74,8 +75,8 @@ invariant_of-self-in-Err g c = record {
   heard = search rules;
   runs = search rules;
   settled = search rules;
-  broken = unbroken c.self.inside.wire c.read-answer.new.self _ (ap (λ (w : Serving g.row.L.Denot). w.wire.failed) c.self.view_is ∙ c.requires.goes_on) c.self.invariant.broken;
-  opened = λ opened ended. absurd (true≢false (sym ended ∙ (ap has_ended c.read-answer.ensures.polls ∙ ended_last _ _ ∙ ap answers_end c.in-Err.is)));
+  broken = unbroken worth c.self.inside.wire c.read-answer.new.self _ (ap (λ (w : Serving g.row.L.Denot). w.wire.failed) c.self.view_is ∙ c.requires.goes_on) c.self.invariant.broken;
+  opened = λ opened ended. absurd (true≢false (sym ended ∙ (ap has_ended c.read-answer.ensures.polls ∙ ended_by _ _ ∙ ap answers_end c.in-Err.is)));
   drained = search rules;
   closed = search rules;
 }

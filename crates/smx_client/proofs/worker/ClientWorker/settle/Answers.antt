@@ -12,6 +12,7 @@ use Rattle.smx_client.proofs.Doings as doing
 use Rattle.smx_client.proofs.Fates.{own_out, stays, settles, settle_window}
 use Rattle.smx_client.proofs.Replying.{waits, clears, others}
 use Rattle.smx_client.proofs.Scenes.{happens}
+use Rattle.smx_turns.proofs.Breaking.{stays_bad}
 use Rattle.smx_client.proofs.Serving.{did, as_below, decides, undecided, as_closed}
 use Rattle.smx_client.proofs.worker.ClientWorker.settle.Goals as goal
 
@@ -29,7 +30,7 @@ invariant_of-self g c =
     (settle_window c.in-Some.pdu _ c.settle-found.result _ _ c.of-read.ensures c.settle-found.ensures.settled c.settle-found.ensures.none)
     e.so (ap (λ (w : Serving g.row.L.Denot). w.parked) c.self.view_is ∙ c.requires.none) e.parks e.count e.answer)
     (undecided _ (ap (λ (w : Serving g.row.L.Denot). w.settled) c.self.view_is ∙ c.requires.undecided))
-    refl refl (λ told. absurd (cc))
+    (stays_bad refl refl refl)
     (as_closed g.L.Link.polls _ _ _ _ _ refl c.self.invariant.closed)
 
 pub returns-clause-leads : goal.returns-clause-leads

@@ -1,4 +1,3 @@
-use Rattle.std.proofs.Common.{rules}
 use Rattle.smx_turns.proofs.Logged.{still_quiet, not_quiet}
 use Rattle.smx_turns.proofs.step.Log.push.Goals as goal
 

@@ -9,8 +9,10 @@ use Rattle.smx_upstream.specs.Events.{unless_kept, kept_by, fate_worth, decided_
 use Rattle.smx_upstream.specs.Standing.{Becomes, Owes}
 use Rattle.smx_upstream.specs.Phases.{Deciding, when_decided, unless_spent}
 use Rattle.smx_upstream.specs.Working.{writing_of}
-use Rattle.smx_upstream.specs.Writing.{MayDecide, has_link_ended}
-use Rattle.smx_upstream.proofs.Eventful.{did, front_same, goes_did, kept_or_in, stands_same, writes_same}
+use Rattle.smx_turns.specs.Wires.{has_ended as has_link_ended}
+use Rattle.smx_upstream.specs.Writing.{MayDecide}
+use Rattle.smx_turns.proofs.Breaking.{stays_bad}
+use Rattle.smx_upstream.proofs.Eventful.{did, goes_did, kept_or_in, stands_same, writes_same}
 use Rattle.smx_upstream.proofs.Cells.{stepped, cell_decided, at_its_moment, kept_spent}
 use Rattle.smx_upstream.proofs.worker.UpstreamWorker.decide.Goals as goal
 
@@ -30,7 +32,7 @@ invariant_of-self g c =
     (λ h. ap (λ w. w.failed) c.note.ensures.same ∙ c.self.invariant.goes_on (ap (λ w. w.ending) c.self.view_is ∙ c.requires.goes_on))
     (c.carry-fate.ensures.worth.2 ∙ ap (λ (p : Pdu). (decided_worth p c.on_pdu-act.result c.carry-fate.result.event).ends) (sym c.of-read.ensures)
     ∙ ap (λ (a : UpAct). (decided_worth c.of-read.result.value a c.carry-fate.result.event).ends) (sym c.of-chosen.ensures)
-    ∙ ap (λ b. b || (decided_worth c.of-read.result.value c.of-chosen.result.value c.carry-fate.result.event).ends) (sym (ap (λ w. w.ending) c.self.view_is ∙ c.requires.goes_on))) (front_same refl (ap (λ w. w.rest) c.note.ensures.same))
+    ∙ ap (λ b. b || (decided_worth c.of-read.result.value c.of-chosen.result.value c.carry-fate.result.event).ends) (sym (ap (λ w. w.ending) c.self.view_is ∙ c.requires.goes_on))) (stays_bad refl (ap (λ w. w.failed) c.note.ensures.same) (ap (λ w. w.rest) c.note.ensures.same))
 
 pub returns-clause-goes : goal.returns-clause-goes
 returns-clause-goes g c = rw (← c.self.view_is)

@@ -5,7 +5,8 @@ use Rattle.smx_turns.specs.declared.step.Step.TheVariants.{Did}
 use Rattle.smx_upstream.specs.declared.event.Event.TheVariants.{Expired}
 use Rattle.smx_upstream.specs.Phases.{Watched, Swept, unless_spent}
 use Rattle.smx_upstream.specs.Events.{expiry_tells, is_spent_expiry}
-use Rattle.smx_upstream.proofs.Eventful.{did, front_same, goes_did, goes_on, writes_same}
+use Rattle.smx_turns.proofs.Breaking.{stays_bad}
+use Rattle.smx_upstream.proofs.Eventful.{did, goes_did, goes_on, writes_same}
 use Rattle.smx_upstream.proofs.Cells.{stepped, cell_expired}
 use Rattle.smx_upstream.proofs.worker.UpstreamWorker.expire.Goals as goal
 
@@ -17,7 +18,7 @@ invariant_of-self g c =
           (subst (λ n. Expires c.self.inside.tap.front c.fail_expired-failed.new.self.front n c.self.inside.age.response_timer c.fail_expired-failed.result) c.latest-now.ensures c.fail_expired-failed.ensures.served),
       c.fail_expired-failed.ensures.same.0,
       refl,
-    ) c.self.invariant.goes_on (goes_on c.self.inside.ending) (front_same refl refl)
+    ) c.self.invariant.goes_on (goes_on c.self.inside.ending) (stays_bad refl refl refl)
 
 pub returns-clause-goes : goal.returns-clause-goes
 returns-clause-goes g c = rw (← c.self.view_is)

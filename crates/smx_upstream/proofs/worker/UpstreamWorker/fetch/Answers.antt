@@ -3,28 +3,33 @@ use Rattle.std.proofs.lemmas.List.{append-nil}
 use Rattle.smx_turns.specs.declared.step.Step.TheVariants.{Marked, Did}
 use Rattle.smx_upstream.specs.declared.mark.Mark.TheVariants.{Part}
 use Rattle.smx_upstream.specs.declared.event.Event.TheVariants.{Broke}
-use Rattle.smx_turns.specs.Worth.{those}
-use Rattle.smx_upstream.specs.Events.{ins, out_of}
+use Rattle.smx_turns.specs.Worth.{those, ins}
+use Rattle.smx_turns.proofs.Breaking.{bad_as, bad_front, bad_heard, none_bad}
+use Rattle.smx_upstream.specs.Events.{worth}
 use Rattle.smx_upstream.specs.Phases.{Deciding}
 use Rattle.smx_link.specs.Wiring.{spellings}
-use Rattle.smx_upstream.specs.Working.{is_bad_front, writing_of}
-use Rattle.smx_upstream.specs.Writing.{MayDecide, has_link_ended}
-use Rattle.smx_upstream.proofs.Eventful.{did, goes_did, goes_mark, bad_heard, bad_front, some_of, on_hearing, or_true, sides_same, writes_same}
+use Rattle.smx_upstream.specs.Working.{writing_of}
+use Rattle.smx_turns.specs.Wires.{has_ended as has_link_ended}
+use Rattle.smx_upstream.specs.Writing.{MayDecide}
+use Rattle.smx_upstream.proofs.Eventful.{did, goes_did, goes_mark, some_of, on_hearing, or_true, sides_same, writes_same}
 use Rattle.smx_upstream.proofs.Cells.{stepped, cell_broke, cell_part}
 use Rattle.smx_upstream.proofs.worker.UpstreamWorker.fetch.Goals as goal
 
 pub invariant_of-self-in-Err : goal.invariant_of-self-in-Err
 invariant_of-self-in-Err g c =
     did _ _ Broke c.self.invariant c.break_off.ensures.events (ap (λ w. w.heard) c.break_off.ensures.same ∙ bad_heard _ _ _ c.in-Err.ensures.bad) refl
-    (c.break_off.ensures.said ∙ ap (λ w. w.said ++ out_of Broke) c.in-Err.ensures.same) refl refl (λ h. search rules) (or_true c.self.inside.ending)
-    (record { same = λ unbroken. absurd (true≢false unbroken); bad = λ _. ap (λ w. is_bad_front w.rest) c.break_off.ensures.same ∙ bad_front _ _ _ c.in-Err.ensures.bad (c.is_memory.ensures.other c.if-is_memory.false) })
+    (c.break_off.ensures.said ∙ ap (λ w. w.said ++ (worth Broke).said) c.in-Err.ensures.same) refl refl (λ h. search rules) (or_true c.self.inside.ending)
+    (record {
+      stays = none_bad c.self.inside.wire (c.self.invariant.goes_on (ap (λ w. w.ending) c.self.view_is ∙ c.requires.goes_on));
+      met = λ _. bad_as c.hear.new.self c.break_off.new.wire (ap (λ w. w.failed) c.break_off.ensures.same) (ap (λ w. w.rest) c.break_off.ensures.same) (bad_front _ _ _ c.in-Err.ensures.bad (c.is_memory.ensures.other c.if-is_memory.false));
+    })
 
 pub invariant_of-self : goal.invariant_of-self
 invariant_of-self g c =
     let on = ap (λ w. w.ending) c.self.view_is ∙ c.requires.goes_on in
     let some = some_of _ _ _ c.in-Ok-Some.field-0-is c.in-Ok-Some.ensures.some in
     on_hearing _ _ c.self.invariant on refl
-    (some.0 ∙ ap (λ l. l ++ c.in-Ok-Some.pdu ∷ []) (c.self.invariant.heard ∙ ap (λ o. ins c.self.inside.events ++ those o) (ap (λ w. w.held) c.self.view_is ∙ c.requires.none) ∙ append-nil _))
+    (some.0 ∙ ap (λ l. l ++ c.in-Ok-Some.pdu ∷ []) (c.self.invariant.heard ∙ ap (λ o. ins worth c.self.inside.events ++ those o) (ap (λ w. w.held) c.self.view_is ∙ c.requires.none) ∙ append-nil _))
     (ap (λ w. w.said) c.in-Ok-Some.ensures.same) some.2
 
 pub returns-in-Ok-None-clause-phase : goal.returns-in-Ok-None-clause-phase
@@ -44,7 +49,7 @@ returns-else-is_memory-clause-goes g c = rw (← c.self.view_is)
     (ap (λ w. g.L.Link.polls w.link) c.break_off.ensures.same ∙ ap (λ w. g.L.Link.polls w.link) c.in-Err.ensures.same)
     (record {
       fits = (subst (λ w. MayDecide (writing_of g.L.Link.polls g.L.Link.offered w)) (sym c.self.view_is) c.requires.may);
-      same = writes_same (c.break_off.ensures.unsent ∙ ap (λ w. w.unsent ++ spellings (out_of Broke)) c.in-Err.ensures.same)
+      same = writes_same (c.break_off.ensures.unsent ∙ ap (λ w. w.unsent ++ spellings (worth Broke).said) c.in-Err.ensures.same)
           (ap (λ w. g.L.Link.offered w.link) c.break_off.ensures.same ∙ ap (λ w. g.L.Link.offered w.link) c.in-Err.ensures.same)
           (ap (λ w. has_link_ended (g.L.Link.polls w.link)) c.break_off.ensures.same ∙ ap (λ w. has_link_ended (g.L.Link.polls w.link)) c.in-Err.ensures.same);
     }))

@@ -4,8 +4,9 @@ use Rattle.smx_session.specs.Moments.{at, is_silent}
 use Rattle.smx_turns.specs.declared.step.Step.TheVariants.{Did}
 use Rattle.smx_upstream.specs.declared.event.Event.TheVariants.{Looked}
 use Rattle.smx_upstream.specs.Phases.{Written, when_looked}
-use Rattle.smx_upstream.specs.Writing.{has_link_ended}
-use Rattle.smx_upstream.proofs.Eventful.{did, front_same, goes_did, stands_same, goes_on, writes_same}
+use Rattle.smx_turns.specs.Wires.{has_ended as has_link_ended}
+use Rattle.smx_turns.proofs.Breaking.{stays_bad}
+use Rattle.smx_upstream.proofs.Eventful.{did, goes_did, stands_same, goes_on, writes_same}
 use Rattle.smx_upstream.proofs.Cells.{stepped, cell_looked, at_its_moment}
 use Rattle.smx_upstream.proofs.worker.UpstreamWorker.look.Goals as goal
 
@@ -13,7 +14,7 @@ pub invariant_of-self : goal.invariant_of-self
 invariant_of-self g c =
     did _ _ (Looked c.args.now c.of.result c.is_silent-silent.result) c.self.invariant c.note.ensures.events (ap (λ w. w.heard) c.note.ensures.same) refl c.note.ensures.said refl
     (c.of.ensures ∙ c.on_moment-due.ensures.enquiry, c.is_silent-silent.ensures.silent ∙ ap (λ u. is_silent u c.args.now) c.on_moment-due.ensures.session, stands_same (c.is_silent-silent.ensures.session ∙ ap (λ u. at u c.args.now) c.on_moment-due.ensures.session) refl refl refl refl refl)
-    (λ h. ap (λ w. w.failed) c.note.ensures.same ∙ c.self.invariant.goes_on h) (goes_on c.self.inside.ending) (front_same refl (ap (λ w. w.rest) c.note.ensures.same))
+    (λ h. ap (λ w. w.failed) c.note.ensures.same ∙ c.self.invariant.goes_on h) (goes_on c.self.inside.ending) (stays_bad refl (ap (λ w. w.failed) c.note.ensures.same) (ap (λ w. w.rest) c.note.ensures.same))
 
 pub returns-clause-goes : goal.returns-clause-goes
 returns-clause-goes g c = rw (← c.self.view_is)

@@ -3,9 +3,10 @@ use Rattle.smx_turns.specs.declared.end.Fault.TheVariants as fault
 use Rattle.smx_turns.specs.declared.step.Step.TheVariants.{Marked}
 use Rattle.smx_upstream.specs.declared.mark.Mark.TheVariants.{WriteFailed}
 use Rattle.smx_upstream.specs.Phases.{Ready, Closing, Failed}
-use Rattle.smx_upstream.specs.Writing.{has_link_ended}
+use Rattle.smx_turns.specs.Wires.{has_ended as has_link_ended}
+use Rattle.smx_turns.proofs.Wires.{clear_so}
 use Rattle.smx_upstream.proofs.Eventful.{goes_mark, sides_same, writes_same}
-use Rattle.smx_upstream.proofs.Cells.{stepped, cell_offered, cell_closed, cell_unwritten, cell_unclosed, said_so, clear_so, faulted_as}
+use Rattle.smx_upstream.proofs.Cells.{stepped, cell_offered, cell_closed, cell_unwritten, cell_unclosed, said_so, faulted_as}
 use Rattle.smx_upstream.proofs.worker.UpstreamWorker.offer.Goals as goal
 
 pub returns-then-is_err-clause-opening : goal.returns-then-is_err-clause-opening

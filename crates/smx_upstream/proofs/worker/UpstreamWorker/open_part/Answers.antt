@@ -1,7 +1,8 @@
 use Rattle.std.proofs.Common.{◌≢◌, [], List, ℕ, refl, sym, ap, ◌∙◌, subst}
 use Rattle.smx_upstream.specs.Working.{scene_of}
+use Rattle.smx_turns.specs.Rounds.{last_end}
 use Rattle.smx_turns.specs.declared.end.TurnEnd.{TurnEnd}
-use Rattle.smx_upstream.specs.Phases.{Written, Clear, Sated, Gone, Clogged, EndsEarly, phase_of, end_of, unless_left, when_kept, after_offer, when_looked}
+use Rattle.smx_upstream.specs.Phases.{Written, Clear, Sated, Gone, Clogged, EndsEarly, phase_of, unless_left, when_kept, after_offer, when_looked}
 use Rattle.smx_upstream.proofs.Eventful.{goes_then, goes_to}
 use Rattle.smx_upstream.proofs.Cells.{early, ends_clogged, ends_left, ends_gone, part_err, waits_as, wanted}
 use Rattle.smx_upstream.proofs.worker.UpstreamWorker.open_part.Goals as goal
@@ -36,7 +37,7 @@ returns-in_err-left-clause-phase g c = λ t same was.
 
 pub returns-then-self-clause-phase : goal.returns-then-self-clause-phase
 returns-then-self-clause-phase g c = λ t same was.
-    subst (λ (e : TurnEnd). EndsEarly e (phase_of t c.offer.new.log)) (sym c.end_of.ensures) (early (end_of c.in_ok-left.left) (phase_of t c.offer.new.log) (unless_left c.in_ok-left.left) ((c.in_ok-left.ensures.opening t (ap (λ x. x.waited) same) was) ∙ ap (λ e. after_offer e c.in_ok-left.left) (ap (λ x. x.ending) same ∙ sym (ap (λ w. w.ending) c.self.view_is ∙ ap (λ w. w.ending) c.offer.ensures.same) ∙ c.if-self.true)) (ends_left c.in_ok-left.left))
+    subst (λ (e : TurnEnd). EndsEarly e (phase_of t c.offer.new.log)) (sym c.last_end.ensures) (early (last_end c.in_ok-left.left) (phase_of t c.offer.new.log) (unless_left c.in_ok-left.left) ((c.in_ok-left.ensures.opening t (ap (λ x. x.waited) same) was) ∙ ap (λ e. after_offer e c.in_ok-left.left) (ap (λ x. x.ending) same ∙ sym (ap (λ w. w.ending) c.self.view_is ∙ ap (λ w. w.ending) c.offer.ensures.same) ∙ c.if-self.true)) (ends_left c.in_ok-left.left))
 
 pub returns-in_err-make_room-clause-phase : goal.returns-in_err-make_room-clause-phase
 returns-in_err-make_room-clause-phase g c = λ t same was.

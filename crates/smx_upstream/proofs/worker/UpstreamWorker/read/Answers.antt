@@ -2,8 +2,9 @@ use Rattle.std.proofs.Common.{refl, sym, ap, ◌∙◌, Ok, Err}
 use Rattle.smx_turns.specs.declared.end.Fault.TheVariants as fault
 use Rattle.smx_turns.specs.declared.step.Step.TheVariants.{Read}
 use Rattle.smx_upstream.specs.Phases.{MayRead, Failed, Deciding}
-use Rattle.smx_upstream.specs.Writing.{has_link_ended}
-use Rattle.smx_upstream.proofs.Eventful.{on_hearing, goes_read, sides_same, writes_same, ended_by}
+use Rattle.smx_turns.specs.Wires.{has_ended as has_link_ended}
+use Rattle.smx_turns.proofs.Wires.{ended_by}
+use Rattle.smx_upstream.proofs.Eventful.{on_hearing, goes_read, sides_same, writes_same}
 use Rattle.smx_upstream.proofs.Cells.{stepped, cell_read, faulted_as}
 use Rattle.smx_upstream.proofs.worker.UpstreamWorker.read.Goals as goal
 

@@ -3,7 +3,7 @@ use Rattle.smx_turns.specs.declared.gate.Point.TheVariants.{Reading}
 use Rattle.smx_turns.specs.declared.step.Step.TheVariants.{Asked, Marked}
 use Rattle.smx_upstream.specs.declared.mark.Mark.TheVariants.{Full}
 use Rattle.smx_upstream.specs.Phases.{Sated, when_may_read, Brimming, Stopped}
-use Rattle.smx_upstream.specs.Writing.{has_link_ended}
+use Rattle.smx_turns.specs.Wires.{has_ended as has_link_ended}
 use Rattle.smx_upstream.proofs.Eventful.{goes_mark, goes_ask, goes_then, sides_same, writes_same}
 use Rattle.smx_upstream.proofs.Cells.{stepped, cell_full, cell_reading, early, part_err, wanted, ends_brimming, ends_stopped, waits_as}
 use Rattle.smx_upstream.proofs.worker.UpstreamWorker.read_part.Goals as goal

@@ -5,7 +5,8 @@ use Rattle.smx_upstream.specs.declared.event.Event.TheVariants.{Shifted}
 use Rattle.smx_upstream.specs.Standing.{Shifts}
 use Rattle.smx_upstream.specs.Phases.{Swept, when_kept, unless_spent}
 use Rattle.smx_upstream.specs.Events.{is_spent_shift}
-use Rattle.smx_upstream.proofs.Eventful.{did, front_same, goes_did, goes_on, writes_same}
+use Rattle.smx_turns.proofs.Breaking.{stays_bad}
+use Rattle.smx_upstream.proofs.Eventful.{did, goes_did, goes_on, writes_same}
 use Rattle.smx_upstream.proofs.Cells.{stepped, cell_shifted}
 use Rattle.std.specs.Prelude.{Option, Result}
 use Rattle.std.specs.declared.vec.Vec.{Vec}
@@ -29,7 +30,7 @@ invariant_of-self g c =
       subst (Shifts c.self.inside.tap.front c.turn_over-entries.new.self.front c.least_shift-least.result) (sym c.of.ensures) (as_shifts _ _ _ _ c.turn_over-entries.ensures.served),
       c.turn_over-entries.ensures.same.0,
       refl,
-    ) c.self.invariant.goes_on (goes_on c.self.inside.ending) (front_same refl refl)
+    ) c.self.invariant.goes_on (goes_on c.self.inside.ending) (stays_bad refl refl refl)
 
 pub returns-clause-goes : goal.returns-clause-goes
 returns-clause-goes g c = rw (← c.self.view_is)

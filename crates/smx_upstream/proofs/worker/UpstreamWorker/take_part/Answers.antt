@@ -3,7 +3,7 @@ use Rattle.smx_session.specs.Moments.{is_bound}
 use Rattle.smx_turns.specs.declared.gate.Point.TheVariants.{Taking}
 use Rattle.smx_turns.specs.declared.step.Step.TheVariants.{Asked}
 use Rattle.smx_upstream.specs.Phases.{Settled, MayTake, HasTried, when_may_take, quiet_end, Refrained}
-use Rattle.smx_upstream.specs.Writing.{has_link_ended}
+use Rattle.smx_turns.specs.Wires.{has_ended as has_link_ended}
 use Rattle.smx_upstream.proofs.Eventful.{goes_ask, goes_then, sides_same, writes_same}
 use Rattle.smx_upstream.proofs.Cells.{stepped, cell_taking, wanted, turn_err, waits_as, refrained, ends_unbound, ends_tried}
 use Rattle.smx_upstream.proofs.worker.UpstreamWorker.take_part.Goals as goal
