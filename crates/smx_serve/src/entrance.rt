@@ -30,7 +30,7 @@ pub(crate) struct Entrance {
 }
 
 /// How many connections are accepted at a time; more wait for the next pass.
-const ACCEPTS: u64 = 64;
+const ACCEPTS: u64 = 8;
 
 // What came of waiting for a connection.
 #[derive(Drop)]
@@ -198,7 +198,7 @@ impl Entrance {
         self.more |= self.short;
     }
 
-    // Lets those in who wait, at most 64 of them; but near the end nobody. Nothing is said of one for
+    // Lets those in who wait, at most eight of them; but near the end nobody. Nothing is said of one for
     // the words of whose address there is no memory: it is closed.
     pub fn let_in<'d, R: Wait>(
         &mut self,

@@ -47,9 +47,11 @@ pub(crate) struct Pace<'d> {
     start: Instant,
     // The moment of the last tick.
     ticked: u64,
-    // How many passes there were since events were asked for, and at which moment that was.
+    // How many passes there were since events were asked for, at which moment that was, and whether they
+    // were waited for since the clock was read.
     passes: u64,
     polled: u64,
+    has_waited: bool,
 }
 
 impl<'d> Pace<'d> {
@@ -61,6 +63,7 @@ impl<'d> Pace<'d> {
             ticked: 0,
             passes: 0,
             polled: 0,
+            has_waited: false,
         }
     }
 
@@ -69,6 +72,9 @@ impl<'d> Pace<'d> {
         if let Ok(passed) = self.start.elapsed(rt) {
             self.moment.now = u64::try_from(passed.as_millis()).unwrap_or(u64::MAX);
             self.moment.chance = u64::from(passed.subsec_nanos() % 1_000_000);
+        }
+        if std::mem::take(&mut self.has_waited) {
+            self.polled = self.moment.now;
         }
         if self.moment.now < self.ticked.saturating_add(TICK) {
             return false;
@@ -86,6 +92,11 @@ impl<'d> Pace<'d> {
     pub fn polls(&mut self) {
         self.polled = self.moment.now;
         self.passes = 0;
+    }
+
+    /// Events are waited for: they come at the moment that is read next.
+    pub fn waits(&mut self) {
+        self.has_waited = true;
     }
 
     /// A pass is over.

@@ -124,6 +124,7 @@ impl<'d> Loop<'d> {
         self.let_in(rt);
         if are_idle(&self.lanes, &self.guests, &mut self.queues) {
             let time = if self.entrance.has_more() { 0 } else { timeout };
+            self.pace.waits();
             return self.wait(time);
         }
         self.look()?;
