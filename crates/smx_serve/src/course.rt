@@ -65,10 +65,16 @@ impl Course {
 
     /// The next link begins anew after a pause, which is twice the last one.
     pub fn delay(&mut self, moment: Moment<'_>) {
-        self.pause = pause_after(self.pause, moment.config.timers);
-        let pause = lengthened(self.pause, moment.chance);
+        let Moment {
+            config,
+            now,
+            chance,
+            ..
+        } = moment;
+        self.pause = pause_after(self.pause, config.timers);
+        let pause = lengthened(self.pause, chance);
         self.addresses.clear();
-        self.due = moment.now.saturating_add(pause);
+        self.due = now.saturating_add(pause);
     }
 
     /// In how many milliseconds from this moment the next link begins.

@@ -317,17 +317,18 @@ impl<'d> Guests<'d> {
         addresses: &mut Addresses,
         slot: usize,
     ) {
+        let Moment { config, now, .. } = moment;
         let Some(guest) = self.guests.get_mut(self.seating.place(slot)) else {
             return;
         };
-        if !guest.stays_late(moment.now, moment.config.timers.bind) {
+        if !guest.stays_late(now, config.timers.bind) {
             return;
         }
         let Some(guest) = self.take(slot) else {
             return;
         };
         guest.say(rt, moment, ClientNews::Late);
-        self.part(rt, queues, addresses, slot, guest, moment.now);
+        self.part(rt, queues, addresses, slot, guest, now);
     }
 
     /// Lets each client go that wasn't bound in time. A tick finds it.
