@@ -16,6 +16,7 @@ mod spelling;
 mod table;
 mod text;
 mod timers;
+mod unread_key;
 mod upstream;
 
 pub use account::Account;
@@ -29,4 +30,5 @@ pub use reading::read;
 pub use smx_whole_text::WriteFault;
 pub use spelling::unread;
 pub use timers::Timers;
+pub use unread_key::UnreadKey;
 pub use upstream::Upstream;

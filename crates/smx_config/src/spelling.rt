@@ -1,10 +1,11 @@
 //! Keys that nobody reads, in words for a person.
-ghost use Rattle.std.specs.Prelude.{◌≡◌, ◌+◌, length, IfOk, OnOk};
+ghost use Rattle.std.specs.Prelude.{◌≡◌, ◌++◌, [], IfOk, OnOk, string_bytes};
 ghost use Rattle.toml.specs.View.{table_view, view, items_view};
-ghost use Rattle.smx_config.specs.Unread.{unread_in, unread_within, unread_below, unread_among, unread_listed, unread_of, unread_count};
+ghost use Rattle.smx_config.specs.Unread.{names, unread_in, unread_within, unread_below, unread_among, unread_listed, unread_of, unread_names};
 
 use crate::section::Section;
 use crate::table::find;
+use crate::unread_key::UnreadKey;
 use std::alloc::{AllocError, Global};
 use strsim::levenshtein;
 use toml::{Table, Value};
@@ -23,40 +24,41 @@ fn nearest(alloc: Global, key: &str, names: &[&'static str]) -> Result<&'static 
     Ok(best)
 }
 
-// Words on a key that isn't read in its table. Of its value they show a number alone, since a text may
-// be a password.
+// A key that isn't read in its table, behind these words.
 fn on_key(
     alloc: Global,
     place: &str,
     key: &str,
     value: &Value,
     section: Section,
-) -> Result<String, AllocError> {
-    let names = section.keys(alloc)?;
-    let best = nearest(alloc, key, &names)?;
-    match value.as_integer() {
-        Some(number) => {
-            format!(in alloc; "{place}{key} = {number} is not read: did you mean {best}?")
-        }
-        None => format!(in alloc; "{place}{key} is not read: did you mean {best}?"),
-    }
+) -> Result<UnreadKey, AllocError>
+    ensures { IfOk result (λ unread. string_bytes unread.name ≡ place.now ++ key.now) }
+{
+    let all = section.keys(alloc)?;
+    let nearest = nearest(alloc, key, &all)?;
+    Ok(UnreadKey {
+        name: format!(in alloc; "{place}{key}")?,
+        number: value.as_integer(),
+        nearest,
+    })
 }
 
-// Adds words on each key of a table that isn't read there.
+// Adds each key of a table that isn't read there.
 fn on_table(
     alloc: Global,
     place: &str,
     table: &Table,
     section: Section,
-    all: &mut Vec<String>,
+    all: &mut Vec<UnreadKey>,
 ) -> Result<(), AllocError>
-    ensures { OnOk result (length all.new.items
-        ≡ length all.old.items + unread_in section (table_view table.now)) }
+    ensures { OnOk result (names all.new.items
+        ≡ names all.old.items ++ unread_in section place.now (table_view table.now)) }
 {
     for (key, value) in table.iter() {
         let key = key.as_str();
         if !section.reads(key) {
-            all.push(on_key(alloc, place, key, value, section)?)?;
+            let unread = on_key(alloc, place, key, value, section)?;
+            all.push(unread)?;
         }
     }
     Ok(())
@@ -68,10 +70,10 @@ fn on_value(
     place: &str,
     value: &Value,
     section: Section,
-    all: &mut Vec<String>,
+    all: &mut Vec<UnreadKey>,
 ) -> Result<(), AllocError>
-    ensures { OnOk result (length all.new.items
-        ≡ length all.old.items + unread_within section (view value.now)) }
+    ensures { OnOk result (names all.new.items
+        ≡ names all.old.items ++ unread_within section place.now (view value.now)) }
 {
     match value.as_table() {
         Some(table) => on_table(alloc, place, table, section, all),
@@ -85,10 +87,10 @@ fn on_member(
     key: &str,
     table: &Table,
     section: Section,
-    all: &mut Vec<String>,
+    all: &mut Vec<UnreadKey>,
 ) -> Result<(), AllocError>
-    ensures { OnOk result (length all.new.items
-        ≡ length all.old.items + unread_below section key.now (table_view table.now)) }
+    ensures { OnOk result (names all.new.items
+        ≡ names all.old.items ++ unread_below section key.now (table_view table.now)) }
 {
     match find(table, key) {
         Some(value) => {
@@ -105,10 +107,10 @@ fn on_items(
     key: &str,
     values: &[Value],
     section: Section,
-    all: &mut Vec<String>,
+    all: &mut Vec<UnreadKey>,
 ) -> Result<(), AllocError>
-    ensures { OnOk result (length all.new.items
-        ≡ length all.old.items + unread_among section (items_view values.now)) }
+    ensures { OnOk result (names all.new.items
+        ≡ names all.old.items ++ unread_among section key.now 0 (items_view values.now)) }
 {
     let mut index = 0_usize;
     for value in values {
@@ -125,10 +127,10 @@ fn on_list(
     key: &str,
     table: &Table,
     section: Section,
-    all: &mut Vec<String>,
+    all: &mut Vec<UnreadKey>,
 ) -> Result<(), AllocError>
-    ensures { OnOk result (length all.new.items
-        ≡ length all.old.items + unread_listed section key.now (table_view table.now)) }
+    ensures { OnOk result (names all.new.items
+        ≡ names all.old.items ++ unread_listed section key.now (table_view table.now)) }
 {
     match find(table, key) {
         Some(value) => match value.as_array() {
@@ -139,9 +141,9 @@ fn on_list(
     }
 }
 
-// A sentence on each key of a whole configuration that nobody reads.
-fn on_whole(alloc: Global, table: &Table) -> Result<Vec<String>, AllocError>
-    ensures { IfOk result (λ all. length all.items ≡ unread_of (table_view table.now)) }
+// Each key of a whole configuration that nobody reads.
+fn on_whole(alloc: Global, table: &Table) -> Result<Vec<UnreadKey>, AllocError>
+    ensures { IfOk result (λ all. names all.items ≡ unread_of (table_view table.now)) }
 {
     let mut all = Vec::new(alloc);
     on_table(alloc, "", table, Section::Top, &mut all)?;
@@ -152,10 +154,10 @@ fn on_whole(alloc: Global, table: &Table) -> Result<Vec<String>, AllocError>
     Ok(all)
 }
 
-/// A sentence on each key of a text that nobody reads, with the known key that is nearest. There is
-/// none where the text isn't TOML. Of the words no clause says anything.
-pub fn unread(alloc: Global, text: &str) -> Result<Vec<String>, AllocError>
-    ensures count { IfOk result (λ all. length all.items ≡ unread_count text.now) }
+/// Each key of a text that nobody reads, with the known key that is nearest, of which no clause says
+/// anything. There is none where the text isn't TOML.
+pub fn unread(alloc: Global, text: &str) -> Result<Vec<UnreadKey>, AllocError>
+    ensures names { IfOk result (λ all. names all.items ≡ unread_names text.now) }
 {
     match toml::table_from_str(alloc, text) {
         Ok(table) => on_whole(alloc, &table),
