@@ -3,7 +3,7 @@ use Rattle.std.proofs.Common.{◌≡◌, ◌==◌, ◌&&◌, ◌||◌, ℕ, Bool
 use Rattle.std.specs.Prelude.{if◌then◌else◌, nat_lt}
 use Rattle.std.proofs.lemmas.Bool.{eq-eqb}
 use Rattle.smx_turns.specs.Runs.{Runs}
-use Rattle.smx_slots.specs.Lines.{Standing, Call, stands, Makes, begun, Waits}
+use Rattle.smx_slots.specs.Lines.{Standing, Call, stands, Makes, turns_of, Waits}
 use Rattle.smx_slots.specs.Lines.Call.{Added, Begun}
 
 -- who joins stands behind all that are there
@@ -15,8 +15,8 @@ or_right : (a b : Bool) → (a || b) ≡ false → b ≡ false
 or_right true b neither = cc
 or_right false b neither = neither
 
-pub waits : (before after : Standing) (calls : List Call) (ahead behind : List ℕ) (party : ℕ) → before.parties ≡ ahead ++ party ∷ behind → Runs Makes before calls after → stands party (begun calls) ≡ false → Waits ahead party calls after
-unfolding Runs begun
+pub waits : (before after : Standing) (calls : List Call) (ahead behind : List ℕ) (party : ℕ) → before.parties ≡ ahead ++ party ∷ behind → Runs Makes before calls after → stands party (turns_of calls) ≡ false → Waits ahead party calls after
+unfolding Runs turns_of
 waits before after [] ahead behind party here runs free = record {
   rest = ahead;
   behind = behind;

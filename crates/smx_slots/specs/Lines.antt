@@ -13,8 +13,8 @@ abbrev pub stands : ℕ → List ℕ → Bool
 stands party parties = list_any (λ p. party == p) parties
 
 -- the party stands last, unless it is one of them or there is no such party
-abbrev pub joined : ℕ → Standing → Standing
-joined party line =
+abbrev pub with_party : ℕ → Standing → Standing
+with_party party line =
     if nat_lt party line.count && not (stands party line.parties) then record line { parties = line.parties ++ party ∷ [] } else line
 
 -- a call: a party comes, or the first one begins
@@ -24,20 +24,20 @@ pub data Call : Type 0 where
 
 -- what a call makes of a line
 abbrev pub Makes : Standing → Call → Standing → Type 0
-Makes before (Added party) after = after ≡ joined party before
+Makes before (Added party) after = after ≡ with_party party before
 Makes before (Begun party) after = before ≡ record after { parties = party ∷ after.parties }
 
 -- the parties that began, in order
-unfoldable pub begun : List Call → List ℕ
-begun [] = []
-begun (Added party ∷ calls) = begun calls
-begun (Begun party ∷ calls) = party ∷ begun calls
+unfoldable pub turns_of : List Call → List ℕ
+turns_of [] = []
+turns_of (Added party ∷ calls) = turns_of calls
+turns_of (Begun party ∷ calls) = party ∷ turns_of calls
 
 -- those that began are a front of those ahead, and the party stands behind the rest of them
 pub record Waits (ahead : List ℕ) (party : ℕ) (calls : List Call) (after : Standing) : Type 0 where
   pub rest : List ℕ
   pub behind : List ℕ
-  pub front : ahead ≡ begun calls ++ rest
+  pub front : ahead ≡ turns_of calls ++ rest
   pub place : after.parties ≡ rest ++ party ∷ behind
 
 -- between two turns of a party each other one that stands there has one: while a party waits for its turn,
@@ -45,4 +45,4 @@ pub record Waits (ahead : List ℕ) (party : ℕ) (calls : List Call) (after : S
 abbrev pub IsInTurn : Type 0
 IsInTurn =
     (before after : Standing) (calls : List Call) (ahead behind : List ℕ) (party : ℕ) → before.parties ≡ ahead ++ party ∷ behind
-    → Runs Makes before calls after → stands party (begun calls) ≡ false → Waits ahead party calls after
+    → Runs Makes before calls after → stands party (turns_of calls) ≡ false → Waits ahead party calls after

@@ -1,6 +1,6 @@
 -- Who is ready, in two classes, and who is stalled.
 use Rattle.std.specs.Prelude.{◌||◌, ℕ, List, Bool, false, slice_index_or, if◌then◌else◌}
-use Rattle.smx_slots.specs.Lines.{Standing, stands, joined}
+use Rattle.smx_slots.specs.Lines.{Standing, stands, with_party}
 
 -- those of the first class that are ready and the unbound ones, those that found a return box full; and by
 -- party whether it is of the first class, and whether its socket takes no octets
@@ -12,18 +12,18 @@ pub record Agenda : Type 0 where
   pub unwritable : List Bool
 
 -- the party has a mark
-abbrev pub marked : ℕ → List Bool → Bool
-marked party marks = slice_index_or marks party false
+abbrev pub has_mark : ℕ → List Bool → Bool
+has_mark party marks = slice_index_or marks party false
 
 abbrev pub is_ready : ℕ → Agenda → Bool
 is_ready party agenda = stands party agenda.first.parties || stands party agenda.unbound.parties
 
 abbrev pub is_stalled : ℕ → Agenda → Bool
-is_stalled party agenda = marked party agenda.unwritable || stands party agenda.crowded.parties
+is_stalled party agenda = has_mark party agenda.unwritable || stands party agenda.crowded.parties
 
 -- the party is ready, behind those of its class; one that is ready keeps its place, and one that is stalled stays so
-abbrev pub readied : ℕ → Agenda → Agenda
-readied party agenda =
+abbrev pub with_ready : ℕ → Agenda → Agenda
+with_ready party agenda =
     if is_ready party agenda || is_stalled party agenda then agenda
-    else if marked party agenda.is_first then record agenda { first = joined party agenda.first }
-    else record agenda { unbound = joined party agenda.unbound }
+    else if has_mark party agenda.is_first then record agenda { first = with_party party agenda.first }
+    else record agenda { unbound = with_party party agenda.unbound }

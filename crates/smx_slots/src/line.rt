@@ -1,6 +1,6 @@
 //! Parties in a line.
 ghost use Rattle.std.specs.Prelude.{◌≡◌, ◌++◌, ◌↔◌, [], length, option_to_list, IfOk, IsTrue, None};
-ghost use Rattle.smx_slots.specs.Lines.{joined, stands, IsInTurn};
+ghost use Rattle.smx_slots.specs.Lines.{with_party, stands, IsInTurn};
 
 use std::alloc::{AllocError, Global};
 use std::collections::VecDeque;
@@ -62,7 +62,7 @@ impl Line {
 
     /// The party stands last. Nothing changes where it stands there or there is no such party.
     pub fn add(&mut self, party: usize)
-        ensures { self.new ≡ joined party self.old }
+        ensures { self.new ≡ with_party party self.old }
     {
         if party >= self.marks.len() || self.marks[party] {
             return;

@@ -1,7 +1,7 @@
 //! Whose turn it is.
 ghost use Rattle.std.specs.Prelude.{◌≡◌, ◌++◌, ◌↔◌, [], length, option_to_list, replicate, slice_set, if◌then◌else◌, IfOk, IfSome, IsTrue, None, true, false};
-ghost use Rattle.smx_slots.specs.Lines.{joined, Standing};
-ghost use Rattle.smx_slots.specs.Schedules.{is_ready, is_stalled, marked, readied};
+ghost use Rattle.smx_slots.specs.Lines.{with_party, Standing};
+ghost use Rattle.smx_slots.specs.Schedules.{is_ready, is_stalled, has_mark, with_ready};
 
 use crate::line::Line;
 use std::alloc::{AllocError, Global};
@@ -37,7 +37,7 @@ impl Model for Schedule {
 
 // Whether the party has a mark.
 fn is_marked(marks: &[bool], party: usize) -> bool
-    ensures { result ≡ marked party marks.now }
+    ensures { result ≡ has_mark party marks.now }
 {
     match marks.get(party) {
         Some(mark) => *mark,
@@ -101,7 +101,7 @@ impl Schedule {
     /// This party is ready, behind those of its class that are. Nothing changes where it is ready or
     /// stalled, or there is no such party.
     pub fn add(&mut self, party: usize)
-        ensures { self.new ≡ readied party self.old }
+        ensures { self.new ≡ with_ready party self.old }
     {
         if self.is_ready(party) || self.is_stalled(party) {
             return;
@@ -160,8 +160,8 @@ impl Schedule {
 
     /// The socket of this party takes octets. Where it was stalled for that it is ready.
     pub fn resume(&mut self, party: usize)
-        ensures { self.new ≡ (if marked party self.old.unwritable
-            then readied party
+        ensures { self.new ≡ (if has_mark party self.old.unwritable
+            then with_ready party
             (record self.old { unwritable = slice_set self.old.unwritable party false })
             else self.old) }
     {
@@ -174,7 +174,7 @@ impl Schedule {
     /// This party found a return box full: it is stalled. Nothing changes where it is ready.
     pub fn crowd(&mut self, party: usize)
         ensures { self.new ≡ (if is_ready party self.old then self.old
-            else record self.old { crowded = joined party self.old.crowded }) }
+            else record self.old { crowded = with_party party self.old.crowded }) }
     {
         if !self.is_ready(party) {
             self.crowded.add(party);
@@ -187,7 +187,7 @@ impl Schedule {
             ≡ option_to_list result ++ self.new.crowded.parties }
         ensures count { self.new.crowded.count ≡ self.old.crowded.count }
         ensures ready { IfSome result (λ party. self.new
-            ≡ readied party (record self.old { crowded = self.new.crowded })) }
+            ≡ with_ready party (record self.old { crowded = self.new.crowded })) }
         ensures none { result ≡ None → (self.old.crowded.parties ≡ []) × (self.new ≡ self.old) }
     {
         let party = self.crowded.begin()?;
