@@ -31,8 +31,8 @@ const LANES: [u64; 2] = [1, 16];
 /// The octets of a block that comes from the heap and isn't asked of the system alone.
 const BLOCK: usize = 65_536;
 
-/// Blocks that are more than any run needs at once: 256 MB.
-const BLOCKS: u64 = 4_096;
+/// As many blocks as a run may reserve: 1 GB.
+const BLOCKS: u64 = 16_384;
 
 // A writer that only counts.
 #[derive(Drop)]

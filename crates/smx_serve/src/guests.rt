@@ -2,6 +2,7 @@
 
 use crate::addresses::Addresses;
 use crate::heard::bound_name;
+use crate::lingering::{Lingering, Parting};
 use crate::pace::Moment;
 use crate::queues::{Progress, Queues, TURNS, is_enough};
 use crate::seating::Seating;
@@ -10,14 +11,11 @@ use smx_client::Desk;
 use smx_notice::{ClientName, ClientNews, Notice};
 use smx_session::{ClientState, Kind};
 use smx_slots::{Bell, ClientEnds, Guide, Slots};
-use smx_socket::{Drained, Flushed, Socket};
+use smx_socket::Socket;
 use smx_turns::RunEnd;
 use std::alloc::{AllocError, Global};
 use std::rc::Rc;
 use std::sync::Wait;
-
-/// How long the socket of a client that is gone stays open, in milliseconds.
-const LINGER: u64 = 2_000;
 
 /// A client that is served.
 #[derive(Drop)]
@@ -166,56 +164,6 @@ impl Guest<'_> {
 /// The name of a client whose bind came behind so much else that it isn't kept.
 const UNNAMED: &str = "?";
 
-// The socket of a client that is gone, until all is written and its peer has closed too, or until this
-// moment. Octets that nobody reads before a socket is closed make the system reset the connection, and
-// then the peer loses what it hasn't read yet; so what comes is dropped until it has read all.
-#[derive(Drop)]
-struct Lingering {
-    socket: Rc<Socket>,
-    until: u64,
-    was_bound: bool,
-}
-
-// What becomes of such a socket.
-#[derive(Clone, Copy, PartialEq, Eq)]
-enum Parting {
-    // An event tells of it.
-    Waits,
-    // It may have more to read now.
-    Reads,
-    Over,
-}
-
-impl Lingering {
-    // Writes what waits, ends the writing side once nothing does, and reads once.
-    fn settle(&self, now: u64) -> Parting {
-        let flushed = self.socket.shut_write();
-        let drained = self.socket.drain();
-        match (flushed, drained) {
-            (Flushed::Failed, _) | (Flushed::All, Drained::Ended) => Parting::Over,
-            _ if now >= self.until => Parting::Over,
-            (_, Drained::More) => Parting::Reads,
-            (_, Drained::Nothing | Drained::Ended) => Parting::Waits,
-        }
-    }
-}
-
-// The socket that lingers at a slot, where one does.
-fn lingering_at(lingering: &[Option<Lingering>], slot: usize) -> Option<&Socket> {
-    match lingering.get(slot) {
-        Some(Some(lingering)) => Some(&lingering.socket),
-        _ => None,
-    }
-}
-
-// What becomes of the socket that lingers at a slot. None waits where none does.
-fn parting_at(lingering: &[Option<Lingering>], slot: usize, now: u64) -> Parting {
-    match lingering.get(slot) {
-        Some(Some(lingering)) => lingering.settle(now),
-        _ => Parting::Waits,
-    }
-}
-
 /// The clients that are served, each in its slot, and the sockets of those that are gone.
 #[derive(Drop)]
 pub(crate) struct Guests<'d> {
@@ -223,8 +171,7 @@ pub(crate) struct Guests<'d> {
     // The clients in no order, and where that of each slot stands.
     guests: Vec<Guest<'d>>,
     seating: Seating,
-    // By slot.
-    lingering: Vec<Option<Lingering>>,
+    lingering: Lingering,
 }
 
 impl<'d> Guests<'d> {
@@ -233,10 +180,7 @@ impl<'d> Guests<'d> {
         let count = slots.count();
         let guests = Vec::with_capacity(alloc, count)?;
         let seating = Seating::new(alloc, count)?;
-        let mut lingering = Vec::with_capacity(alloc, count)?;
-        for _ in 0..count {
-            lingering.push(None)?;
-        }
+        let lingering = Lingering::new(alloc, count)?;
         Ok(Guests {
             slots,
             guests,
@@ -373,7 +317,7 @@ impl<'d> Guests<'d> {
         if let Some(guest) = self.guests.get(self.seating.place(slot)) {
             return Some(&guest.socket);
         }
-        lingering_at(&self.lingering, slot)
+        self.lingering.socket(slot)
     }
 
     // Parts from a client that had the slot: the slot is free once its socket is.
@@ -390,13 +334,7 @@ impl<'d> Guests<'d> {
         let (socket, ends) = guest.close(rt, queues, addresses);
         self.slots.keep(slot, ends);
         queues.begin_anew(slot);
-        if let Some(place) = self.lingering.get_mut(slot) {
-            *place = Some(Lingering {
-                socket,
-                until: now.saturating_add(LINGER),
-                was_bound,
-            });
-        }
+        self.lingering.add(slot, socket, was_bound, now);
         self.settle(queues, slot, now);
     }
 
@@ -409,10 +347,7 @@ impl<'d> Guests<'d> {
                 None
             };
         }
-        match self.lingering.get(slot) {
-            Some(Some(lingering)) if !lingering.was_bound => Some(0),
-            _ => None,
-        }
+        self.lingering.is_of_stranger(slot).then_some(0)
     }
 
     // Where those who aren't bound hold half of the slots: that of one who is gone, or else of the
@@ -455,25 +390,21 @@ impl<'d> Guests<'d> {
             drop(socket);
             self.slots.keep(slot, ends);
         }
-        if let Some(place) = self.lingering.get_mut(slot) {
-            *place = None;
-        }
+        self.lingering.remove(slot);
         self.slots.free(slot);
     }
 
     // Goes on with the socket of a client that is gone, where the slot has one, and frees the slot where
     // that is over.
     fn settle(&mut self, queues: &mut Queues, slot: usize, now: u64) {
-        match parting_at(&self.lingering, slot, now) {
+        match self.lingering.settle(slot, now) {
             Parting::Waits => {}
             Parting::Reads => {
                 let party = queues.party(slot);
                 queues.schedule.add(party);
             }
             Parting::Over => {
-                if let Some(place) = self.lingering.get_mut(slot) {
-                    *place = None;
-                }
+                self.lingering.remove(slot);
                 self.slots.free(slot);
             }
         }
@@ -490,23 +421,11 @@ impl<'d> Guests<'d> {
 
     // Whether the socket of a client that is gone is open.
     pub fn is_lingering(&self) -> bool {
-        for place in self.lingering.as_slice() {
-            if place.is_some() {
-                return true;
-            }
-        }
-        false
+        !self.lingering.is_empty()
     }
 
     // Whether the socket of a client that is gone has octets left to write.
     pub fn is_writing(&self) -> bool {
-        for place in self.lingering.as_slice() {
-            if let Some(lingering) = place {
-                if lingering.socket.has_octets() {
-                    return true;
-                }
-            }
-        }
-        false
+        self.lingering.is_writing()
     }
 }

@@ -8,6 +8,7 @@ mod entrance;
 mod guests;
 mod heard;
 mod lane;
+mod lingering;
 mod linking;
 mod listening;
 mod log;
