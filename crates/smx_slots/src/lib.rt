@@ -7,6 +7,7 @@
 
 mod bell;
 mod boxes;
+mod fitting;
 mod guide;
 mod line;
 mod polling;
@@ -16,6 +17,7 @@ mod slots;
 
 pub use bell::Bell;
 pub use boxes::{ClientEnds, LaneEnds, ends_of};
+pub use fitting::clients_that_fit;
 pub use guide::Guide;
 pub use line::{Line, is_in_turn};
 pub use polling::is_poll_due;
