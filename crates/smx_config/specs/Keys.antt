@@ -5,7 +5,7 @@ use Rattle.std.specs.Str.{bytes_eq}
 use Rattle.smx_config.specs.declared.section.Section.{Section}
 use Rattle.smx_config.specs.declared.section.Section.TheVariants.{Top, Limits, Timers, Upstream, Account}
 use Rattle.smx_config.specs.declared.number.Number.{Number}
-use Rattle.smx_config.specs.declared.number.Number.TheVariants.{Clients, Places, Silence, Queue, Window, Client, History, Response, Reconnect, ReconnectMost, Enquire, Bind}
+use Rattle.smx_config.specs.declared.number.Number.TheVariants.{Clients, Places, Silence, Queue, Window, Client, History, Response, Reconnect, ReconnectMost, Enquire, Bind, ClientSilence, Message}
 use Rattle.smx_config.specs.declared.text.Text.{Text}
 use Rattle.smx_config.specs.declared.text.Text.TheVariants.{Listen, Address, SystemId, Password, Prefix}
 
@@ -18,7 +18,8 @@ pub record NumberRow : Type 0 where
   pub most : ℕ
   pub default : ℕ
 
--- silence, which is another name of enquire, and the timers are in milliseconds
+-- silence, which is another name of enquire, and the timers are in milliseconds; where 0 may stand, it is
+-- never
 abbrev pub number_row : Number → NumberRow
 number_row Clients = record { section = Top; key = codes "clients"; least = 1; most = 256; default = 8 }
 number_row Places = record { section = Top; key = codes "box"; least = 1; most = 256; default = 16 }
@@ -32,6 +33,8 @@ number_row Reconnect = record { section = Timers; key = codes "reconnect"; least
 number_row ReconnectMost = record { section = Timers; key = codes "reconnect_most"; least = 100; most = 3600000; default = 30000 }
 number_row Enquire = record { section = Timers; key = codes "enquire"; least = 100; most = 3600000; default = 30000 }
 number_row Bind = record { section = Timers; key = codes "bind"; least = 1000; most = 3600000; default = 10000 }
+number_row ClientSilence = record { section = Timers; key = codes "client_silence"; least = 0; most = 3600000; default = 60000 }
+number_row Message = record { section = Timers; key = codes "message"; least = 0; most = 3600000; default = 60000 }
 
 -- the number may stand at the key
 abbrev pub is_number : Number → ℕ → Bool
@@ -62,7 +65,7 @@ abbrev pub is_text : Text → List ℕ → Bool
 is_text key s = (nat_le (text_row key).fewest (length s) && nat_le (length s) (text_row key).longest) && ((text_row key).may_have_zero || not (has_zero s))
 
 abbrev pub all_numbers : List Number
-all_numbers = Clients ∷ Places ∷ Silence ∷ Queue ∷ Window ∷ Client ∷ History ∷ Response ∷ Reconnect ∷ ReconnectMost ∷ Enquire ∷ Bind ∷ []
+all_numbers = Clients ∷ Places ∷ Silence ∷ Queue ∷ Window ∷ Client ∷ History ∷ Response ∷ Reconnect ∷ ReconnectMost ∷ Enquire ∷ Bind ∷ ClientSilence ∷ Message ∷ []
 
 abbrev pub all_texts : List Text
 all_texts = Listen ∷ Address ∷ SystemId ∷ Password ∷ Prefix ∷ []

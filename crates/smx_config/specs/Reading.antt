@@ -76,7 +76,9 @@ stated_timers whole silence ms =
     given (number_or_default number.ReconnectMost ms) (λ reconnect_most.
     given (enquire_at whole silence ms) (λ enquire.
     given (number_or_default number.Bind ms) (λ bind.
-    Some (record { response = response; reconnect = reconnect; reconnect_most = reconnect_most; enquire = enquire; bind = bind }))))))
+    given (number_or_default number.ClientSilence ms) (λ client_silence.
+    given (number_or_default number.Message ms) (λ message.
+    Some (record { response = response; reconnect = reconnect; reconnect_most = reconnect_most; enquire = enquire; bind = bind; client_silence = client_silence; message = message }))))))))
 
 -- the timers that a file of this silence states; where the table is absent, each is the default
 abbrev pub timers_at : ℕ → Members → Option Timers

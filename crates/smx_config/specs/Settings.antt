@@ -50,6 +50,8 @@ pub record AreTimers (t : Timers) : Type 0 where
   pub reconnect_most : IsTrue (is_number number.ReconnectMost t.reconnect_most)
   pub enquire : IsTrue (is_number number.Enquire t.enquire)
   pub bind : IsTrue (is_number number.Bind t.bind)
+  pub client_silence : IsTrue (is_number number.ClientSilence t.client_silence)
+  pub message : IsTrue (is_number number.Message t.message)
 
 -- what every `Config` keeps
 pub record IsConfig (s : Settings) : Type 0 where

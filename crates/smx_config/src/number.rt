@@ -23,6 +23,8 @@ pub(crate) enum Number {
     ReconnectMost,
     Enquire,
     Bind,
+    ClientSilence,
+    Message,
 }
 
 /// The range of a key with a number, and where it stands.
@@ -60,8 +62,8 @@ impl Number {
         ensures { result.now ≡ all_numbers }
     {
         use Number::{
-            Bind, Client, Clients, Enquire, History, Places, Queue, Reconnect, ReconnectMost,
-            Response, Silence, Window,
+            Bind, Client, ClientSilence, Clients, Enquire, History, Message, Places, Queue,
+            Reconnect, ReconnectMost, Response, Silence, Window,
         };
         &[
             Clients,
@@ -76,6 +78,8 @@ impl Number {
             ReconnectMost,
             Enquire,
             Bind,
+            ClientSilence,
+            Message,
         ]
     }
 
@@ -102,6 +106,8 @@ impl Number {
             Number::ReconnectMost => row(Timers, "reconnect_most", 100, 3_600_000, 30_000),
             Number::Enquire => row(Timers, "enquire", 100, 3_600_000, 30_000),
             Number::Bind => row(Timers, "bind", 1_000, 3_600_000, 10_000),
+            Number::ClientSilence => row(Timers, "client_silence", 0, 3_600_000, 60_000),
+            Number::Message => row(Timers, "message", 0, 3_600_000, 60_000),
         }
     }
 
@@ -133,6 +139,13 @@ impl Number {
                  answer to that may take"
             }
             Number::Bind => "how long a client may be connected and not bound",
+            Number::ClientSilence => {
+                "a bound client's silence before it is enquired; also how long its answer to that may take; \
+                 0: never"
+            }
+            Number::Message => {
+                "how long a message that a client was sent may be unanswered; 0: for ever"
+            }
         }
     }
 

@@ -25,20 +25,13 @@ fn nearest(alloc: Global, key: &str, names: &[&'static str]) -> Result<&'static 
 }
 
 // A key that isn't read in its table, behind these words.
-fn on_key(
-    alloc: Global,
-    place: &str,
-    key: &str,
-    value: &Value,
-    section: Section,
-) -> Result<UnreadKey, AllocError>
+fn on_key(alloc: Global, place: &str, key: &str, section: Section) -> Result<UnreadKey, AllocError>
     ensures { IfOk result (λ unread. string_bytes unread.name ≡ place.now ++ key.now) }
 {
     let all = section.keys(alloc)?;
     let nearest = nearest(alloc, key, &all)?;
     Ok(UnreadKey {
         name: format!(in alloc; "{place}{key}")?,
-        number: value.as_integer(),
         nearest,
     })
 }
@@ -54,10 +47,10 @@ fn on_table(
     ensures { OnOk result (names all.new.items
         ≡ names all.old.items ++ unread_in section place.now (table_view table.now)) }
 {
-    for (key, value) in table.iter() {
+    for (key, _) in table.iter() {
         let key = key.as_str();
         if !section.reads(key) {
-            let unread = on_key(alloc, place, key, value, section)?;
+            let unread = on_key(alloc, place, key, section)?;
             all.push(unread)?;
         }
     }

@@ -25,6 +25,11 @@ pub struct Timers {
     pub enquire: u64,
     /// A client that is connected and not bound: from 1,000 on.
     pub bind: u64,
+    /// A bound client's silence before it is enquired (section 7.2), and its answer to that: from 0 on,
+    /// which is never.
+    pub client_silence: u64,
+    /// A message that a client was sent and hasn't answered: from 0 on, which is never.
+    pub message: u64,
 }
 
 // The number at `enquire` of the timers, in a whole file of this silence.
@@ -54,12 +59,16 @@ fn timers_in(whole: &Table, silence: u32, table: &Table) -> Option<Timers>
     let reconnect_most = Number::ReconnectMost.at(table)?;
     let enquire = enquire_at(whole, silence, table)?;
     let bind = Number::Bind.at(table)?;
+    let client_silence = Number::ClientSilence.at(table)?;
+    let message = Number::Message.at(table)?;
     Some(Timers {
         response: u64::from(response),
         reconnect: u64::from(reconnect),
         reconnect_most: u64::from(reconnect_most),
         enquire: u64::from(enquire),
         bind: u64::from(bind),
+        client_silence: u64::from(client_silence),
+        message: u64::from(message),
     })
 }
 

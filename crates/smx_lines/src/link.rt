@@ -29,7 +29,7 @@ impl Model for ClientLink {
     ghost Value = { ClientLink };
 
     ghost view = { λ l. record {
-      session = l.session;
+      session = l.session.state;
       stream = l.framer.stream;
       mailbox = l.mailbox;
     } };
@@ -50,8 +50,8 @@ impl ClientLink {
         ensures { result ≡ new_link places kind }
     {
         let session = match kind {
-            Some(kind) => ClientSession::bound(alloc, kind),
-            None => ClientSession::new(alloc),
+            Some(kind) => ClientSession::bound(alloc, kind, 0, 0),
+            None => ClientSession::new(alloc, 0, 0),
         };
         ClientLink {
             session,

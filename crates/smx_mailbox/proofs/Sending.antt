@@ -45,7 +45,7 @@ after_sent-full w (m ∷ ms) full = rw (le-leb w.places (length w.waiting) (omeg
 abbrev pub under : ℕ → Window → Message → Window
 under number w m = record w {
   last = number;
-  waiting = w.waiting ++ record { given = number; lane = m.lane; number = m.pdu.number; command = m.pdu.command } ∷ [];
+  waiting = w.waiting ++ record { given = number; lane = m.lane; number = m.pdu.number; command = m.pdu.command; since = 0 } ∷ [];
 }
 
 given_is : (w : Window) (m : Message) (number : ℕ) → IsFirstFree w number → with_given w m ≡ under number w m

@@ -35,7 +35,7 @@ next_number w = unwrap_or (find (λ n. not (waits n w.waiting)) (map (number_beh
 abbrev pub with_given : Window → Message → Window
 with_given w message = record w {
   last = next_number w;
-  waiting = w.waiting ++ record { given = next_number w; lane = message.lane; number = message.pdu.number; command = message.pdu.command } ∷ [];
+  waiting = w.waiting ++ record { given = next_number w; lane = message.lane; number = message.pdu.number; command = message.pdu.command; since = 0 } ∷ [];
 }
 
 -- the message as the client is sent it, under this number (SMPP 3.4, section 4.6.1)

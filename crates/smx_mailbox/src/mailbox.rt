@@ -94,7 +94,7 @@ impl Mailbox {
             return None;
         }
         let Message { lane, pdu } = self.waiting.pop_front()?;
-        let Ok(number) = self.window.give(lane, pdu.number, pdu.command) else {
+        let Ok(number) = self.window.give(lane, pdu.number, pdu.command, 0) else {
             unreachable!()
         };
         Some(Pdu {

@@ -131,6 +131,8 @@ fn tell_numbers(config: &Config, out: &mut Vec<u8>) -> io::Result<()> {
     let (reconnect, most) = (timers.reconnect, timers.reconnect_most);
     writeln!(out, "response {response} enquire {enquire} bind {bind}")?;
     writeln!(out, "reconnect {reconnect} to {most}")?;
+    let (silence, message) = (timers.client_silence, timers.message);
+    writeln!(out, "client_silence {silence} message {message}")?;
     writeln!(out, "queue {} window {}", limits.queue, limits.window)?;
     writeln!(out, "client {} history {}", limits.client, limits.history)
 }

@@ -52,12 +52,12 @@ fn client_act_text(alloc: Global, act: &Act) -> Result<String, AllocError> {
 // A client's session in this state.
 fn client_in(alloc: Global, state: ClientState) -> ClientSession {
     match state {
-        ClientState::Opened => ClientSession::new(alloc),
-        ClientState::BoundTx => ClientSession::bound(alloc, Kind::Tx),
-        ClientState::BoundRx => ClientSession::bound(alloc, Kind::Rx),
-        ClientState::BoundTrx => ClientSession::bound(alloc, Kind::Trx),
+        ClientState::Opened => ClientSession::new(alloc, 0, 0),
+        ClientState::BoundTx => ClientSession::bound(alloc, Kind::Tx, 0, 0),
+        ClientState::BoundRx => ClientSession::bound(alloc, Kind::Rx, 0, 0),
+        ClientState::BoundTrx => ClientSession::bound(alloc, Kind::Trx, 0, 0),
         ClientState::Ended => {
-            let mut session = ClientSession::new(alloc);
+            let mut session = ClientSession::new(alloc, 0, 0);
             let _ = session.on_fault();
             session
         }

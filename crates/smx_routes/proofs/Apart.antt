@@ -1,11 +1,11 @@
 -- One message alone waits under a number.
-use Rattle.std.proofs.Common.{◌≡◌, ◌≢◌, ◌<◌, ◌+◌, ◌==◌, ◌&&◌, ℕ, Bool, true, false, cond, Some, List, [], ◌∷◌, length, get_or, refl, sym, ap, ◌∙◌, arith, suc, zero}
+use Rattle.std.proofs.Common.{◌≡◌, ◌≢◌, ◌<◌, ◌+◌, ◌==◌, ◌&&◌, ℕ, Bool, true, false, cond, Some, List, [], ◌∷◌, length, get_or, nat_le, refl, sym, ap, ◌∙◌, arith, suc, zero}
 use Rattle.std.specs.List.{All, Contains, find}
 use Rattle.std.proofs.lemmas.Bool.{eq-eqb, ne_eqb, eqb-true}
 use Rattle.std.proofs.lemmas.List.Elements.{All-tail}
 use Rattle.smx_pdu.specs.Command.{is_response_to}
 use Rattle.smx_routes.specs.declared.mo_window.Waiting.{Waiting}
-use Rattle.smx_routes.specs.Window.{HaveDistinctNumbers, without, message_for}
+use Rattle.smx_routes.specs.Window.{HaveDistinctNumbers, without, message_for, overdue}
 
 -- nothing is taken out where nothing waits under the number
 pub without-other : (number : ℕ) (ws : List Waiting) → All (λ w. w.given ≢ number) ws → without number ws ≡ ws
@@ -48,3 +48,7 @@ length-settled ws number command w apart is =
     let there = found (λ (v : Waiting). (v.given == number) && is_response_to v.command command) ws w is in
     let same : w.given ≡ number = eqb-true w.given number (first_so (w.given == number) (is_response_to w.command command) there.1) in
     sym (ap (λ n. length (without n ws) + 1) same) ∙ length-without ws w apart there.0
+
+-- one message is overdue
+pub length-overdue : (ws : List Waiting) (until : ℕ) (w : Waiting) → HaveDistinctNumbers ws → overdue until ws ≡ Some w → length (without w.given ws) + 1 ≡ length ws
+length-overdue ws until w apart is = length-without ws w apart (found (λ (v : Waiting). nat_le v.since until) ws w is).0

@@ -7,14 +7,13 @@ use Rattle.std.specs.declared.result.Result.TheVariants.{Ok, Err}
 use Rattle.std.specs.Prelude.{bytes_eq}
 use Rattle.std.specs.Map.{lookup, IsKeyTest, AreApart, KeepsOthers}
 use Rattle.std.specs.Ordering.{nat_cmp, is_eq}
-use Rattle.std.specs.Cmp.{unsigned_tied, eq_by_cmp_equiv, nat_eq_equiv}
-use Rattle.std.specs.Cmp.Lexicographic.{slice_cmp, nat_list_cmp_total, nat_list_eq_equiv}
+use Rattle.std.specs.Cmp.{unsigned_tied, nat_eq_equiv}
+use Rattle.std.specs.Cmp.Lexicographic.{nat_list_eq_equiv}
 use Rattle.std.specs.Global.{Vec}
-use Rattle.std.specs.BTreeMap.{BTreeMap, get_by, UpdatesBy}
+use Rattle.std.specs.HashMap.{HashMap, get_by, UpdatesBy}
 use Rattle.std.specs.BTreeSet.{BTreeSet, contains}
 use Rattle.std.proofs.lemmas.Bool.{cases_Bool}
 use Rattle.std.proofs.lemmas.Slice.Eq.{bytes_eq-Decides}
-use Rattle.std.proofs.lemmas.Map.Text.{is_eq-slice_cmp}
 use Rattle.smx_routes.specs.declared.by_prefix.ByPrefix.{ByPrefix}
 use Rattle.smx_routes.specs.Private.Holders.{has_holder, HasSame, SetsHolder}
 
@@ -22,22 +21,21 @@ other_entries : {K X : Type 0} (eq : K → K → Bool) (test : K → Bool) (old 
 unfolding KeepsOthers
 other_entries eq test old new h = h
 
-apart : (bs cs ks : List ℕ) → bytes_eq bs cs ≡ false → is_eq (slice_cmp nat_cmp bs ks) ≡ true → is_eq (slice_cmp nat_cmp cs ks) ≡ false
+apart : (bs cs ks : List ℕ) → bytes_eq bs cs ≡ false → bytes_eq bs ks ≡ true → bytes_eq cs ks ≡ false
 apart bs cs ks other same =
-    is_eq-slice_cmp cs ks ∙ nat_list_eq_equiv.symm cs ks
-    ∙ sym (nat_list_eq_equiv.congr bs ks cs (sym (is_eq-slice_cmp bs ks) ∙ same)) ∙ other
+    nat_list_eq_equiv.symm cs ks ∙ sym (nat_list_eq_equiv.congr bs ks cs same) ∙ other
 
 -- the octets of another prefix find what they found
-others : {X : Type 0} (bs : List ℕ) (m n : BTreeMap (Vec ℕ) X) (w : Option X) → UpdatesBy (λ x y. slice_cmp nat_cmp x.items y.items) (λ k. slice_cmp nat_cmp bs k.items) m n w
-    → (cs : List ℕ) → bytes_eq bs cs ≡ false → get_by (λ k. slice_cmp nat_cmp cs k.items) n ≡ get_by (λ k. slice_cmp nat_cmp cs k.items) m
+others : {X S : Type 0} (bs : List ℕ) (m n : HashMap (Vec ℕ) X S) (w : Option X) → UpdatesBy (λ x y. bytes_eq x.items y.items) (λ k. bytes_eq bs k.items) m n w
+    → (cs : List ℕ) → bytes_eq bs cs ≡ false → get_by (λ k. bytes_eq cs k.items) n ≡ get_by (λ k. bytes_eq cs k.items) m
 others bs m n w updates cs other =
-    other_entries _ _ _ _ updates.3 _ (λ x y. (eq_by_cmp_equiv nat_list_cmp_total).congr cs x.items y.items) (λ k. apart bs cs k.items other)
+    other_entries _ _ _ _ updates.3 _ (λ x y. nat_list_eq_equiv.congr cs x.items y.items) (λ k. apart bs cs k.items other)
 
 -- whether a client is in the set, if there is one
 abbrev pub is_held : Option (BTreeSet ℕ) → ℕ → Bool
 is_held o client = option_map_or (λ clients. contains nat_cmp clients client) o false
 
-module _ (old new : ByPrefix) (prefix : List ℕ) (w : Option (BTreeSet ℕ)) (updates : UpdatesBy (λ x y. slice_cmp nat_cmp x.items y.items) (λ k. slice_cmp nat_cmp prefix k.items) old.clients new.clients w) where
+module _ (old new : ByPrefix) (prefix : List ℕ) (w : Option (BTreeSet ℕ)) (updates : UpdatesBy (λ x y. bytes_eq x.items y.items) (λ k. bytes_eq prefix k.items) old.clients new.clients w) where
   here : (p : List ℕ) (c : ℕ) → bytes_eq prefix p ≡ true → has_holder new p c ≡ is_held w c
   here p c same = subst (λ q. has_holder new q c ≡ is_held w c) ((bytes_eq-Decides prefix p).0 same) (ap (λ o. is_held o c) updates.1)
 
@@ -65,7 +63,7 @@ module _ (old new : ByPrefix) (prefix : List ℕ) (w : Option (BTreeSet ℕ)) (u
   ]
 
 -- a set with no clients taken out leaves the same
-pub none-HasSame : (mid new : ByPrefix) (prefix : List ℕ) → UpdatesBy (λ x y. slice_cmp nat_cmp x.items y.items) (λ k. slice_cmp nat_cmp prefix k.items) mid.clients new.clients None → ((c : ℕ) → has_holder mid prefix c ≡ false) → HasSame mid new
+pub none-HasSame : (mid new : ByPrefix) (prefix : List ℕ) → UpdatesBy (λ x y. bytes_eq x.items y.items) (λ k. bytes_eq prefix k.items) mid.clients new.clients None → ((c : ℕ) → has_holder mid prefix c ≡ false) → HasSame mid new
 none-HasSame mid new prefix updates none = same-HasSame mid new prefix None updates (λ c. sym (none c))
 
 -- what holds anyway

@@ -1,5 +1,5 @@
 -- The messages that a client was sent and has not answered, each under a number of its own.
-use Rattle.std.specs.Prelude.{◌≡◌, ◌≤◌, ◌<◌, ◌+◌, ◌%◌, ◌==◌, ◌&&◌, ℕ, List, Option, Bool, true, false, not, filter, Contains, All, AllPairs, ◌≢◌}
+use Rattle.std.specs.Prelude.{◌≡◌, ◌≤◌, ◌<◌, ◌+◌, ◌%◌, ◌==◌, ◌&&◌, nat_le, ℕ, List, Option, Bool, true, false, not, filter, Contains, All, AllPairs, ◌≢◌}
 use Rattle.std.specs.List.{list_any, find}
 use Rattle.smx_pdu.specs.Command.{is_response_to}
 use Rattle.smx_routes.specs.declared.fault.WindowFault.{WindowFault}
@@ -24,9 +24,9 @@ IsWindowFault places NoMemory = IsSize places
 abbrev pub waits : ℕ → List Waiting → Bool
 waits number messages = list_any (λ w. w.given == number) messages
 
--- the greatest sequence number (SMPP 3.4, section 5.1.4)
+-- the greatest number of a message: the greatest sequence number (SMPP 3.4, section 5.1.4) is the proxy's own enquire_link's
 abbrev pub greatest : ℕ
-greatest = 0x7FFF_FFFF
+greatest = 0x7FFF_FFFE
 
 -- the number so many places behind the one after the last, going round from the greatest to 1
 abbrev pub number_behind : ℕ → ℕ → ℕ
@@ -43,6 +43,10 @@ pub record IsFirstFree (w : Window) (number : ℕ) : Type 0 where
 -- the message that a response with this number and command answers (SMPP 3.4, sections 4.3 and 5.1.2.1)
 abbrev pub message_for : ℕ → ℕ → List Waiting → Option Waiting
 message_for number command messages = find (λ w. (w.given == number) && is_response_to w.command command) messages
+
+-- the first message that was sent at this moment or before
+abbrev pub overdue : ℕ → List Waiting → Option Waiting
+overdue until messages = find (λ w. nat_le w.since until) messages
 
 -- no message has a smaller number
 pub record IsFirst (messages : List Waiting) (w : Waiting) : Type 0 where

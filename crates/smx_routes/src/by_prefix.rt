@@ -3,13 +3,13 @@ ghost use Rattle.std.specs.Prelude.{◌≡◌, true, false, OnOk, OnErr};
 ghost use Rattle.smx_routes.specs.Private.Holders.{has_holder, HasNoHolder, HasSame, IsLeast, SetsHolder};
 
 use std::alloc::{AllocError, Global};
-use std::collections::{BTreeMap, BTreeSet};
+use std::collections::{BTreeSet, HashMap};
 
 #[derive(Drop)]
 pub(crate) struct ByPrefix {
     alloc: Global,
-    // A prefix that no client has is not among the keys.
-    clients: BTreeMap<Vec<u8>, BTreeSet<u64>>,
+    // A prefix that no client has is not among the keys. A look-up costs the same however many there are.
+    clients: HashMap<Vec<u8>, BTreeSet<u64>>,
 }
 
 impl ByPrefix {
@@ -19,7 +19,7 @@ impl ByPrefix {
     {
         ByPrefix {
             alloc,
-            clients: BTreeMap::new(alloc),
+            clients: HashMap::new(alloc),
         }
     }
 

@@ -1,15 +1,16 @@
 //! The messages that a client was sent and has not answered.
-ghost use Rattle.std.specs.Prelude.{◌≡◌, ◌≢◌, ◌≤◌, ◌+◌, ◌↔◌, [], ◌∷◌, ◌++◌, length, Some, None, IsTrue, IsErr, IfOk, IfErr, IfSome, IfNone, OnSome, OnErr, MatchOption};
+ghost use Rattle.std.specs.Prelude.{◌≡◌, ◌≢◌, ◌≤◌, ◌+◌, ◌↔◌, [], ◌∷◌, ◌++◌, length, Some, None, IsTrue, IsErr, IfOk, IfErr, IfSome, IfNone, OnSome, OnErr, MatchOption, All};
 ghost use Rattle.smx_pdu.specs.Command.{is_response_to};
-ghost use Rattle.smx_routes.specs.Window.{IsSize, IsWindowFault, greatest, waits, without, message_for, HaveDistinctNumbers, IsFirstFree, IsFirst};
+ghost use Rattle.smx_routes.specs.Window.{IsSize, IsWindowFault, greatest, waits, without, message_for, overdue, HaveDistinctNumbers, IsFirstFree, IsFirst};
 
 use crate::fault::WindowFault;
 use smx_pdu::is_response_to;
 use std::alloc::{AllocError, Global};
 use std::marker::Model;
 
-// The greatest sequence number (SMPP 3.4, section 5.1.4).
-const GREATEST: u32 = 0x7FFF_FFFF;
+// The greatest sequence number of a message: that of the standard but one (SMPP 3.4, section
+// 5.1.4), which the proxy's own enquire_link bears.
+const GREATEST: u32 = 0x7FFF_FFFE;
 
 /// A message that waits for its answer, as contracts see it.
 #[derive(Clone, Copy, Debug, PartialEq, Eq)]
@@ -22,6 +23,8 @@ pub struct Waiting {
     pub number: u32,
     /// The command id of the centre's request.
     pub command: u32,
+    /// The moment of its being sent, in milliseconds.
+    pub since: u64,
 }
 
 /// All places of the window wait for answers.
@@ -47,6 +50,16 @@ impl Model for MoWindow {
     ghost view = { window_of };
 
     ghost invariant = { HasPlaces };
+}
+
+// The first message that was sent at this moment or before.
+fn overdue(waiting: &[Waiting], until: u64) -> Option<Waiting>
+    ensures { result ≡ overdue until waiting.now }
+{
+    waiting
+        .iter()
+        .copied()
+        .find(|message| message.since <= until)
 }
 
 // The message that a response with the number and the command answers.
@@ -86,6 +99,13 @@ impl MoWindow {
             }),
             Err(AllocError) => Err(WindowFault::NoMemory),
         }
+    }
+
+    /// What it keeps: no message bears a number above the greatest.
+    pub fn law(&self)
+        ensures numbers { All (λ w. w.given ≤ greatest) self.now.waiting }
+    {
+        let _places = self.places;
     }
 
     /// How many messages it holds at most: 1 to 1,024.
@@ -133,15 +153,21 @@ impl MoWindow {
     }
 
     /// Gives a message of the centre the number under which the client is sent it: the next after the last one given,
-    /// from 1 to 0x7FFFFFFF and round, that no message waits under. `number` and `command` are the centre's.
-    /// It takes no memory.
-    pub fn give(&mut self, lane: usize, number: u32, command: u32) -> Result<u32, Full>
+    /// from 1 to 0x7FFFFFFE and round, that no message waits under. `number` and `command` are the centre's, `since`
+    /// is the moment. It takes no memory.
+    pub fn give(&mut self, lane: usize, number: u32, command: u32, since: u64) -> Result<u32, Full>
         ensures full { IsErr result ↔ (length self.old.waiting ≡ self.old.places) }
         ensures next { IfOk result (IsFirstFree self.old) }
         ensures ok { IfOk result (λ given. self.new ≡ record self.old {
           last = given;
           waiting = self.old.waiting
-              ++ record { given = given; lane = lane; number = number; command = command } ∷ [];
+              ++ record {
+                given = given;
+                lane = lane;
+                number = number;
+                command = command;
+                since = since;
+              } ∷ [];
         }) }
         ensures err { OnErr result (self.new ≡ self.old) }
     {
@@ -149,18 +175,24 @@ impl MoWindow {
             return Err(Full);
         }
         let given = self.next();
-        self.keep(given, lane, number, command);
+        self.keep(given, lane, number, command, since);
         Ok(given)
     }
 
     /// Takes a message in under the number that is given next, as `give` does.
-    pub fn keep(&mut self, given: u32, lane: usize, number: u32, command: u32)
+    pub fn keep(&mut self, given: u32, lane: usize, number: u32, command: u32, since: u64)
         requires room { length self.old.waiting ≢ self.old.places }
         requires next { IsFirstFree self.old given }
         ensures { self.new ≡ record self.old {
           last = given;
           waiting = self.old.waiting
-              ++ record { given = given; lane = lane; number = number; command = command } ∷ [];
+              ++ record {
+                given = given;
+                lane = lane;
+                number = number;
+                command = command;
+                since = since;
+              } ∷ [];
         } }
     {
         self.last = given;
@@ -169,6 +201,7 @@ impl MoWindow {
             lane,
             number,
             command,
+            since,
         });
     }
 
@@ -229,6 +262,24 @@ impl MoWindow {
         ensures none { IfNone result ((self.old.waiting ≡ []) × (self.new ≡ self.old)) }
     {
         let message = self.first()?;
+        self.remove(message.given);
+        Some((message.lane, message.number, message.command))
+    }
+
+    /// Takes out the first message that was sent at this moment or before: its lane, and the centre's number and
+    /// command. None where none waits for so long.
+    pub fn take_overdue(&mut self, until: u64) -> Option<(usize, u32, u32)>
+        ensures overdue { IfSome result (λ r. (w : Waiting)
+            × (overdue until self.old.waiting ≡ Some w)
+            × (r.0 ≡ w.lane)
+            × (r.1 ≡ w.number)
+            × (r.2 ≡ w.command)
+            × (self.new ≡ record self.old { waiting = without w.given self.old.waiting })) }
+        ensures one { OnSome result (length self.new.waiting + 1 ≡ length self.old.waiting) }
+        ensures none { IfNone result ((overdue until self.old.waiting ≡ None)
+            × (self.new ≡ self.old)) }
+    {
+        let message = overdue(self.waiting.as_slice(), until)?;
         self.remove(message.given);
         Some((message.lane, message.number, message.command))
     }

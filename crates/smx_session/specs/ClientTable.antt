@@ -1,5 +1,5 @@
 -- What a client's session does with each PDU in each state (SMPP 3.4, sections 2.2, 2.3 and 4).
-use Rattle.std.specs.Prelude.{ℕ, ◌+◌, Bool, List, [], ◌∷◌, nat_le, ◌==◌, if◌then◌else◌}
+use Rattle.std.specs.Prelude.{ℕ, ◌+◌, Bool, true, false, List, [], ◌∷◌, nat_le, ◌==◌, if◌then◌else◌}
 use Rattle.std.specs.List.{list_any}
 use Rattle.smx_pdu.specs.declared.pdu.Pdu.{Pdu}
 use Rattle.smx_pdu.specs.declared.command.TheConstants.{BIND_RECEIVER, BIND_TRANSMITTER, BIND_TRANSCEIVER, QUERY_SM, SUBMIT_SM, DELIVER_SM, UNBIND, REPLACE_SM, CANCEL_SM, OUTBIND, ENQUIRE_LINK, SUBMIT_MULTI, ALERT_NOTIFICATION, DATA_SM, GENERIC_NACK, RESPONSE}
@@ -107,6 +107,18 @@ client_cell row.Unknown BoundTx = nack
 client_cell row.Unknown BoundRx = nack
 client_cell row.Unknown BoundTrx = nack
 client_cell row.Unknown Ended = nack
+
+-- the number of the proxy's own enquire_link to a client, which no message to it bears
+abbrev pub client_enquiry_number : ℕ
+client_enquiry_number = 0x7FFF_FFFF
+
+-- whether a silent client is sent enquire_link (4.11, 7.2): once it is bound
+abbrev pub is_enquired : ClientState → Bool
+is_enquired Opened = false
+is_enquired BoundTx = true
+is_enquired BoundRx = true
+is_enquired BoundTrx = true
+is_enquired Ended = false
 
 -- the state of a session that is bound so
 abbrev pub bound_state : Kind → ClientState

@@ -3,3 +3,4 @@ pub mod Binds
 pub mod ClientTable
 pub mod UpstreamTable
 pub mod Moments
+pub mod ClientMoments

@@ -1,32 +1,56 @@
 //! A client's session.
 ghost use Rattle.std.specs.Prelude.{◌≡◌, IfOk, OnOk, OnErr};
 ghost use Rattle.smx_pdu.specs.Answers.{nack_of_undecoded};
-ghost use Rattle.smx_session.specs.ClientTable.{bound_state, client_decides, client_cell, client_row, Binds};
+ghost use Rattle.smx_session.specs.ClientTable.{bound_state, client_decides, client_cell, client_row, Binds, is_enquired};
+ghost use Rattle.smx_session.specs.ClientMoments.{client_at, after_octets, client_enquiry, after_client_moment, client_moment};
 
 use crate::account::Account;
 use crate::act::Act;
 use crate::bind_check::{Checked, bind_answer, check_bind};
 use crate::client_row::{ClientRow, client_row};
 use crate::client_state::ClientState::{self, BoundRx, BoundTrx, BoundTx, Ended, Opened};
+use crate::enquiry::Enquiry;
 use crate::kind::Kind;
 use smx_pdu::Pdu;
+use smx_pdu::command::ENQUIRE_LINK;
 use smx_pdu::status::{ESME_RALYBND, ESME_RINVBNDSTS, ESME_ROK};
 use std::alloc::{AllocError, Global};
 use std::marker::Model;
 
-/// A client's session. Contracts see it as its state.
+// The number of the proxy's own enquire_link to a client.
+const ENQUIRY_NUMBER: u32 = 0x7FFF_FFFF;
+
+/// A client's session. Moments are in milliseconds from any origin; one below the last one handed
+/// in counts as the last one. Contracts see it as its state and its moments.
 #[derive(Drop)]
 pub struct ClientSession {
     alloc: Global,
     state: ClientState,
+    // After so long without an octet it enquires. 0: never.
+    silence: u64,
+    // The last moment that was handed in.
+    latest: u64,
+    // That of the last octets, at first that of the start.
+    heard: u64,
+    // Since when an enquiry is unanswered.
+    enquired: Option<u64>,
+    // Whether it has ended for that.
+    silent: bool,
 }
 
 impl Model for ClientSession {
-    ghost use Rattle.smx_session.specs.declared.client_state.ClientState.{ClientState};
+    ghost use Rattle.smx_session.specs.ClientMoments.{Client};
 
-    ghost Value = { ClientState };
+    ghost Value = { Client };
 
-    ghost view = { λ s. s.state };
+    ghost view = { λ s. record {
+      state = s.state;
+      silence = s.silence;
+      latest = s.latest;
+      heard = s.heard;
+      enquired = s.enquired;
+      silent = s.silent;
+    } };
 }
 
 // The state of a session that is bound so.
@@ -40,40 +64,70 @@ fn bound_state(kind: Kind) -> ClientState
     }
 }
 
+// Whether a silent client is sent enquire_link in this state.
+fn is_enquired(state: ClientState) -> bool
+    ensures { result ≡ is_enquired state }
+{
+    match state {
+        BoundTx | BoundRx | BoundTrx => true,
+        Opened | Ended => false,
+    }
+}
+
 impl ClientSession {
-    /// A session with a client that has connected. It takes no memory.
-    pub fn new(alloc: Global) -> ClientSession
-        ensures { result ≡ ClientState.Opened }
+    // A session in this state.
+    fn begin(alloc: Global, state: ClientState, silence: u64, now: u64) -> ClientSession
+        ensures { result ≡ client_at state silence now }
     {
         ClientSession {
             alloc,
-            state: ClientState::Opened,
+            state,
+            silence,
+            latest: now,
+            heard: now,
+            enquired: None,
+            silent: false,
         }
     }
 
-    /// A session with a client that is bound so. It takes no memory.
-    pub fn bound(alloc: Global, kind: Kind) -> ClientSession
-        ensures { result ≡ bound_state kind }
+    /// A session with a client that has connected, with the silence after which it enquires, in
+    /// milliseconds (0: never), and the moment now. It takes no memory.
+    pub fn new(alloc: Global, silence: u64, now: u64) -> ClientSession
+        ensures { result ≡ client_at ClientState.Opened silence now }
     {
-        ClientSession {
-            alloc,
-            state: bound_state(kind),
-        }
+        ClientSession::begin(alloc, Opened, silence, now)
+    }
+
+    /// A session with a client that is bound so, with the same silence and moment. It takes no
+    /// memory.
+    pub fn bound(alloc: Global, kind: Kind, silence: u64, now: u64) -> ClientSession
+        ensures { result ≡ client_at (bound_state kind) silence now }
+    {
+        ClientSession::begin(alloc, bound_state(kind), silence, now)
     }
 
     pub fn state(&self) -> ClientState
-        ensures { result ≡ self.now }
+        ensures { result ≡ self.now.state }
     {
         self.state
+    }
+
+    /// Whether the session has ended since no octet came after an enquiry.
+    pub fn is_silent(&self) -> bool
+        ensures { result ≡ self.now.silent }
+    {
+        self.silent
     }
 
     /// Decides a PDU of the client. Only the answer to a bind that succeeds takes memory; where
     /// that is refused, the state stays.
     pub fn on_pdu(&mut self, pdu: &Pdu, accounts: &[Account]) -> Result<Act, AllocError>
-        ensures act { IfOk result (λ act. act ≡ (client_decides accounts.now self.old pdu.now).0) }
-        ensures state { OnOk result (self.new ≡ (client_decides accounts.now self.old pdu.now).1) }
+        ensures act { IfOk result (λ act. act ≡ (client_decides accounts.now self.old.state pdu.now).0) }
+        ensures state { OnOk result (self.new ≡ record self.old {
+          state = (client_decides accounts.now self.old.state pdu.now).1;
+        }) }
         ensures err { OnErr result (self.new ≡ self.old) }
-        ensures memory { OnErr result (Binds (client_cell (client_row pdu.now.command) self.old)
+        ensures memory { OnErr result (Binds (client_cell (client_row pdu.now.command) self.old.state)
             accounts.now pdu.now.body) }
     {
         let alloc = self.alloc;
@@ -103,12 +157,14 @@ impl ClientSession {
 
     // Decides a bind in the state Opened.
     fn on_bind(&mut self, kind: Kind, pdu: &Pdu, accounts: &[Account]) -> Result<Act, AllocError>
-        requires opened { self.old ≡ ClientState.Opened }
+        requires opened { self.old.state ≡ ClientState.Opened }
         requires bind { client_row pdu.now.command ≡ ClientRow.Bind kind }
-        ensures act { IfOk result (λ act. act ≡ (client_decides accounts.now self.old pdu.now).0) }
-        ensures state { OnOk result (self.new ≡ (client_decides accounts.now self.old pdu.now).1) }
+        ensures act { IfOk result (λ act. act ≡ (client_decides accounts.now self.old.state pdu.now).0) }
+        ensures state { OnOk result (self.new ≡ record self.old {
+          state = (client_decides accounts.now self.old.state pdu.now).1;
+        }) }
         ensures err { OnErr result (self.new ≡ self.old) }
-        ensures memory { OnErr result (Binds (client_cell (client_row pdu.now.command) self.old)
+        ensures memory { OnErr result (Binds (client_cell (client_row pdu.now.command) self.old.state)
             accounts.now pdu.now.body) }
     {
         match check_bind(accounts, pdu.body.as_slice()) {
@@ -128,9 +184,56 @@ impl ClientSession {
     /// Ends the session at a length that no PDU has, with generic_nack. It takes no memory.
     pub fn on_fault(&mut self) -> Act
         ensures act { result ≡ Act.Hangup nack_of_undecoded }
-        ensures state { self.new ≡ ClientState.Ended }
+        ensures state { self.new ≡ record self.old { state = ClientState.Ended } }
     {
         self.state = ClientState::Ended;
         Act::Hangup(Pdu::undecoded(self.alloc))
+    }
+
+    // Hands in a moment.
+    fn hand_in(&mut self, now: u64) -> u64
+        ensures value { result ≡ client_moment self.old now }
+        ensures latest { self.new ≡ record self.old { latest = client_moment self.old now } }
+    {
+        self.latest = self.latest.max(now);
+        self.latest
+    }
+
+    /// Octets of the client came at this moment: any of them count as life. It takes no memory.
+    pub fn on_octets(&mut self, now: u64)
+        ensures { self.new ≡ after_octets self.old now }
+    {
+        self.heard = self.hand_in(now);
+        self.enquired = None;
+    }
+
+    /// The enquire_link that is due at this moment (SMPP 3.4, section 4.11): the client is bound,
+    /// and no octet came for the silence. Where none comes for as long again, the session has
+    /// ended. It takes no memory.
+    pub fn on_moment(&mut self, now: u64) -> Enquiry
+        ensures enquiry { result ≡ client_enquiry self.old now }
+        ensures session { self.new ≡ after_client_moment self.old now }
+    {
+        let now = self.hand_in(now);
+        if !is_enquired(self.state) {
+            return Enquiry::NotDue;
+        }
+        match self.enquired {
+            None => {
+                if self.silence == 0 || now.saturating_sub(self.heard) < self.silence {
+                    return Enquiry::NotDue;
+                }
+                self.enquired = Some(now);
+                Enquiry::Due(Pdu::header_only(self.alloc, ENQUIRE_LINK, ESME_ROK, ENQUIRY_NUMBER))
+            }
+            Some(since) => {
+                if now.saturating_sub(since) < self.silence {
+                    return Enquiry::NotDue;
+                }
+                self.state = Ended;
+                self.silent = true;
+                Enquiry::Unanswered
+            }
+        }
     }
 }

@@ -117,7 +117,7 @@ fn play(rt: &impl Abort, alloc: Global, mailbox: &mut Mailbox, rows: &[Row]) {
 
 // Plays the rows on a mailbox of so many places that goes on behind this number.
 fn play_anew(rt: &impl Abort, alloc: Global, places: u32, last: u32, rows: &[Row]) {
-    assert!(rt; last <= 0x7FFF_FFFF);
+    assert!(rt; last <= 0x7FFF_FFFE);
     let mut mailbox = Mailbox::after(alloc, places, last).expect(rt, "no mailbox");
     play(rt, alloc, &mut mailbox, rows);
 }

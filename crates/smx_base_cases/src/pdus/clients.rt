@@ -1,7 +1,7 @@
 use crate::pdus::spelling::{copy, is_spelled, pdu_of};
 use crate::rows::check;
 use smx_pdu::Pdu;
-use smx_session::{Account, Act, ClientSession, ClientState, Kind};
+use smx_session::{Account, Act, ClientSession, ClientState, Enquiry, Kind};
 use std::alloc::Global;
 use std::process::Abort;
 use std::test::*;
@@ -70,7 +70,7 @@ type Row<'a> = (u32, &'a [u8], Option<(Kind, usize)>, &'a [u8], ClientState);
 fn holds(rt: &impl Abort, alloc: Global, accounts: &[Account], row: Row) -> bool {
     let (command, body, bound, octets, state) = row;
     let pdu = pdu_of(rt, alloc, command, 7, body);
-    let mut session = ClientSession::new(alloc);
+    let mut session = ClientSession::new(alloc, 0, 0);
     let act = session.on_pdu(&pdu, accounts).expect(rt, "out of memory");
     (session.state() == state) & sends(rt, alloc, &act, bound, octets)
 }
@@ -156,7 +156,7 @@ fn refused_memory(rt: HostRuntime) {
         return;
     };
     let pdu = Pdu::new(9, 0, 7, body).ok().expect(&rt, "short enough");
-    let mut session = ClientSession::new(rt.alloc());
+    let mut session = ClientSession::new(rt.alloc(), 0, 0);
     assert!(rt; binds_at_last(&mut session, &accounts, &pdu));
     assert!(rt; session.state() == ClientState::BoundTrx);
 }
@@ -165,8 +165,91 @@ fn refused_memory(rt: HostRuntime) {
 #[test]
 fn client_fault(rt: HostRuntime) {
     let octets = [0, 0, 0, 0x10, 0x80, 0, 0, 0, 0, 0, 0, 2, 0, 0, 0, 0];
-    let mut session = ClientSession::bound(rt.alloc(), Kind::Trx);
+    let mut session = ClientSession::bound(rt.alloc(), Kind::Trx, 0, 0);
     let act = session.on_fault();
     assert!(rt; sends(&rt, rt.alloc(), &act, None, &octets));
     assert!(rt; session.state() == ClientState::Ended);
+}
+
+// What a client's session is told at a moment, and what is found.
+#[derive(Clone, Copy)]
+enum Beat {
+    Octets(u64),
+    // Nothing is due.
+    Quiet(u64),
+    // The enquire_link with the number 7fffffff.
+    Enquires(u64),
+    // It is silent, and has ended.
+    Silent(u64),
+    Is(ClientState),
+}
+
+const ENQUIRY: [u8; 16] = [
+    0, 0, 0, 0x10, 0, 0, 0, 0x15, 0, 0, 0, 0, 0x7F, 0xFF, 0xFF, 0xFF,
+];
+
+fn beats(rt: &impl Abort, alloc: Global, session: &mut ClientSession, beat: Beat) -> bool {
+    match beat {
+        Beat::Octets(now) => {
+            session.on_octets(now);
+            true
+        }
+        Beat::Quiet(now) => matches!(session.on_moment(now), Enquiry::NotDue),
+        Beat::Enquires(now) => match session.on_moment(now) {
+            Enquiry::Due(pdu) => is_spelled(rt, alloc, &pdu, &ENQUIRY),
+            Enquiry::NotDue | Enquiry::Unanswered => false,
+        },
+        Beat::Silent(now) => {
+            matches!(session.on_moment(now), Enquiry::Unanswered) & session.is_silent()
+        }
+        Beat::Is(state) => (session.state() == state) & !session.is_silent(),
+    }
+}
+
+// Heard last at 5, it enquires at 1005; an octet at 2004 is life, so it enquires again at 3004 and
+// is silent at 4004. A second enquiry isn't sent, and a moment that goes back counts as the last one.
+const BEATS: [Beat; 12] = [
+    Beat::Octets(5),
+    Beat::Quiet(1004),
+    Beat::Enquires(1005),
+    Beat::Quiet(2004),
+    Beat::Octets(2004),
+    Beat::Quiet(3003),
+    Beat::Enquires(3004),
+    Beat::Quiet(30),
+    Beat::Quiet(4003),
+    Beat::Is(ClientState::BoundTx),
+    Beat::Silent(4004),
+    Beat::Quiet(90_000),
+];
+
+// Without a silence none is sent.
+const NEVER: [Beat; 2] = [Beat::Quiet(u64::MAX), Beat::Is(ClientState::BoundTx)];
+
+// Before it is bound none is sent.
+const UNBOUND: [Beat; 2] = [Beat::Quiet(u64::MAX), Beat::Is(ClientState::Opened)];
+
+fn plays(rt: &impl Abort, alloc: Global, mut session: ClientSession, rows: &[Beat]) {
+    for at in 0..rows.len() {
+        let holds = beats(rt, alloc, &mut session, rows[at]);
+        check(rt, holds, "beats", at);
+    }
+}
+
+#[test]
+fn client_moments(rt: HostRuntime) {
+    let alloc = rt.alloc();
+    plays(
+        &rt,
+        alloc,
+        ClientSession::bound(alloc, Kind::Tx, 1000, 0),
+        &BEATS,
+    );
+    plays(
+        &rt,
+        alloc,
+        ClientSession::bound(alloc, Kind::Tx, 0, 0),
+        &NEVER,
+    );
+    plays(&rt, alloc, ClientSession::new(alloc, 1000, 0), &UNBOUND);
 }

@@ -1,16 +1,15 @@
 -- Which clients have which prefixes, in a table by the prefixes.
-use Rattle.std.specs.Prelude.{◌≡◌, ◌≤◌, ℕ, Bool, true, false, List, Option, Some, None, if◌then◌else◌}
+use Rattle.std.specs.Prelude.{◌≡◌, ◌≤◌, ℕ, Bool, bytes_eq, true, false, List, Option, Some, None, if◌then◌else◌}
 use Rattle.std.specs.Option.{option_map_or}
 use Rattle.std.specs.Ordering.{nat_cmp}
-use Rattle.std.specs.Cmp.Lexicographic.{slice_cmp}
-use Rattle.std.specs.BTreeMap.{get_by}
+use Rattle.std.specs.HashMap.{get_by}
 use Rattle.std.specs.BTreeSet.{contains}
 use Rattle.smx_routes.specs.declared.by_prefix.ByPrefix.{ByPrefix}
 use Rattle.smx_routes.specs.Routing.{route, is_route}
 
 -- whether the client has the prefix
 abbrev pub has_holder : ByPrefix → List ℕ → ℕ → Bool
-has_holder a prefix client = option_map_or (λ clients. contains nat_cmp clients client) (get_by (λ k. slice_cmp nat_cmp prefix k.items) a.clients) false
+has_holder a prefix client = option_map_or (λ clients. contains nat_cmp clients client) (get_by (λ k. bytes_eq prefix k.items) a.clients) false
 
 abbrev pub HasNoHolder : ByPrefix → Type 0
 HasNoHolder a = (p : List ℕ) (c : ℕ) → has_holder a p c ≡ false

@@ -1,5 +1,5 @@
 -- What the fields of a window show, and what they keep.
-use Rattle.std.specs.Prelude.{◌≤◌, length, vec_capacity}
+use Rattle.std.specs.Prelude.{◌≤◌, length, vec_capacity, All}
 use Rattle.smx_routes.specs.declared.mo_window.MoWindow.TheInside.{Inside}
 use Rattle.smx_routes.specs.Window.{Window, IsSize, HaveDistinctNumbers, greatest}
 
@@ -12,3 +12,4 @@ pub record HasPlaces (a : Inside) : Type 0 where
   pub within : length a.waiting.items ≤ a.places
   pub apart : HaveDistinctNumbers a.waiting.items
   pub last : a.last ≤ greatest
+  pub numbers : All (λ w. w.given ≤ greatest) a.waiting.items

@@ -12,7 +12,7 @@ use Rattle.smx_config.proofs.spelling.on_table.Goals as goal
 pub loop-key-preserved-in-Continue-branch-2 : goal.loop-key-preserved-in-Continue-branch-2
 loop-key-preserved-in-Continue-branch-2 c =
     let (can, finite, same) = c.loop-key.invariant in
-    let e : Entry = (c.in-Some.key.now, c.in-Some.value.now) in
+    let e : Entry = (c.in-Some.key.now, c.in-Some.field-0-1.now) in
     let iter : c.loop-key.key-iterator ≡ e ∷ c.next.new.self = grind (arith, common_steps) in
     let unread : is_read c.args.section (string_bytes e.0) ≡ false = grind (arith, common_steps) in
     let here = unread_in-unread c.args.section c.args.place.now e c.next.new.self unread in
@@ -25,7 +25,7 @@ loop-key-preserved-in-Continue-branch-2 c =
 pub loop-key-preserved : goal.loop-key-preserved
 loop-key-preserved c =
     let (can, finite, same) = c.loop-key.invariant in
-    let e : Entry = (c.in-Some.key.now, c.in-Some.value.now) in
+    let e : Entry = (c.in-Some.key.now, c.in-Some.field-0-1.now) in
     let iter : c.loop-key.key-iterator ≡ e ∷ c.next.new.self = grind (arith, common_steps) in
     let read : is_read c.args.section (string_bytes e.0) ≡ true = grind (arith, common_steps) in
     (tt, tt, rw (iter, unread_in-read c.args.section c.args.place.now e c.next.new.self read) at same)
