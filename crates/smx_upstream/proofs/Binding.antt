@@ -112,7 +112,8 @@ module _ (s : Stand) where
   step t (event.Began p) d b = same t (event.Began p) refl (ap (λ x. x.session.state) d.1) (ap (λ x. x.owed) d.1) b
   step t (event.Opened n) d b = same t (event.Opened n) refl (ap (λ x. x.session.state) d.1) (ap (λ x. x.owed) d.1) b
   step t (event.Looked now due silent) d b = same t (event.Looked now due silent) refl (ap (λ x. x.session.state) d.2) (ap (λ x. x.owed) d.2) b
-  step t (event.Expired lane r) d b = same t (event.Expired lane r) refl (ap (λ x. x.session.state) d.3) (ap (λ x. x.owed) d.3) b
+  step t (event.Judged silent) d b = same t (event.Judged silent) refl (ap (λ x. x.session.state) d.1) (ap (λ x. x.owed) d.1) b
+  step t (event.Expired lane span r) d b = same t (event.Expired lane span r) refl (ap (λ x. x.session.state) d.3) (ap (λ x. x.owed) d.3) b
   step t (event.Shifted least r) d b = same t (event.Shifted least r) refl (ap (λ x. x.session.state) d.3) (ap (λ x. x.owed) d.3) b
   step t (event.Sought r under) d b = (sym (ap (λ x. x.session.state) d.2) ∙ b, λ none. got_none r.value under s.owed t.owed none d.1)
   step t (event.Decided p now a f) d b =

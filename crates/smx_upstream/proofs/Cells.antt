@@ -4,6 +4,8 @@ use Rattle.std.proofs.lemmas.Bool.{eq-eqb}
 use Rattle.std.specs.Result.{is_err}
 use Rattle.smx_pdu.specs.declared.pdu.Pdu.{Pdu}
 use Rattle.smx_link.specs.declared.link.Polled.{Polled}
+use Rattle.smx_link.specs.declared.link.Polled.TheVariants.{Octets, Nothing, End}
+use Rattle.smx_turns.specs.Wires.{is_end}
 use Rattle.smx_link.specs.declared.link.LinkFault.{LinkFault}
 use Rattle.smx_turns.specs.declared.gate.Point.TheVariants.{Reading, Taking}
 use Rattle.smx_turns.specs.declared.end.TurnEnd.{TurnEnd}
@@ -19,10 +21,12 @@ use Rattle.smx_turns.proofs.Wires.{clear_so}
 use Rattle.smx_upstream.specs.declared.mark.Mark.{Mark}
 use Rattle.smx_upstream.specs.declared.mark.Mark.TheVariants.{Offered, WriteFailed, Full, Part}
 use Rattle.smx_upstream.specs.declared.event.Event.{Event}
-use Rattle.smx_upstream.specs.declared.event.Event.TheVariants.{Opened, Looked, Expired, Shifted, Sought, Decided, Took, Broke}
+use Rattle.smx_upstream.specs.declared.event.Event.TheVariants.{Opened, Looked, Judged, Expired, Shifted, Sought, Decided, Took, Broke}
+use Rattle.smx_upstream.specs.declared.event.Span.{Span}
+use Rattle.smx_upstream.specs.declared.event.Span.TheVariants.{Once, Twice}
 use Rattle.smx_upstream.specs.declared.event.Fate.{Fate}
 use Rattle.smx_upstream.specs.Events.{kept_by, fate_worth, event_ends, is_spent_expiry, is_spent_shift, is_spent_take}
-use Rattle.smx_upstream.specs.Phases.{Phase, Before, Opening, Ready, Written, Clogged, Watched, Swept, Clear, Sated, Brimming, MayRead, Failed, Deciding, Closing, Settled, MayTake, HasTried, Stopped, Refrained, Gone, Drained, Wrong, go, from_opening, from_ready, from_written, from_watched, from_swept, from_clear, from_sated, from_may_read, from_deciding, from_closing, from_settled, from_may_take, phase_of, unless_spent, at_moment, if_so, after_offer, unless_left, when_looked, when_kept, when_decided, when_part, when_full, when_read, when_may_read, when_may_take, quiet_end, Waits, IsOver, IsTurnEnd, IsTurn, EndsEarly, IsPart, LeadsTo, Faulted, MayWant}
+use Rattle.smx_upstream.specs.Phases.{Phase, Before, Opening, Ready, Written, Clogged, Watched, Clear, CaughtUp, Sweeping, Sated, Brimming, MayRead, Failed, Deciding, Closing, Settled, MayTake, HasTried, Stopped, Refrained, Gone, Drained, Wrong, go, from_opening, from_ready, from_written, from_watched, from_sweeping, from_caught_up, from_clear, from_sated, from_may_read, from_deciding, from_closing, from_settled, from_may_take, phase_of, unless_spent, at_moment, if_so, after_offer, unless_left, when_looked, when_kept, when_judged, when_decided, when_part, when_full, when_read, when_may_read, when_may_take, quiet_end, Waits, IsOver, IsTurnEnd, IsTurn, EndsEarly, IsPart, LeadsTo, Faulted, MayWant}
 
 pub phase_none : (t : Before) (ss : List (Step Mark Event)) → ss ≡ [] → phase_of t ss ≡ Opening
 unfolding phase_of
@@ -68,19 +72,30 @@ pub cell_opened : (t : Before) (n : _) → go t Opening (Did (Opened n)) ≡ Rea
 unfolding go from_opening
 cell_opened t n = refl
 
-pub cell_expired : (t : Before) (left : Bool) (lane : _) (r : _) → go t (Watched left) (Did (Expired lane r)) ≡ unless_spent (is_spent_expiry r.value) (Swept left)
-unfolding go from_watched
-cell_expired t left lane r = refl
+pub cell_expired : (t : Before) (span : Span) (p : Phase) (lane : _) (r : _) → go t (Sweeping span p) (Did (Expired lane span r)) ≡ unless_spent (is_spent_expiry r.value) p
+unfolding go from_sweeping
+cell_expired t Once p lane r = refl
+cell_expired t Twice p lane r = refl
 
-pub cell_shifted : (t : Before) (left : Bool) (least : _) (r : _) → go t (Swept left) (Did (Shifted least r)) ≡ unless_spent (is_spent_shift r.value) (when_kept left)
-unfolding go from_swept
+pub cell_judged : (t : Before) (silent : Bool) → go t CaughtUp (Did (Judged silent)) ≡ when_judged silent
+unfolding go from_caught_up
+cell_judged t silent = refl
+
+-- where too many octets wait, and the link goes on
+pub full_of : (polled : Polled) → is_end polled ≡ false → when_full polled ≡ Sweeping Twice Brimming
+full_of End h = absurd (true≢false h)
+full_of Nothing h = refl
+full_of (Octets n) h = refl
+
+pub cell_shifted : (t : Before) (left : Bool) (least : _) (r : _) → go t (Watched left) (Did (Shifted least r)) ≡ unless_spent (is_spent_shift r.value) (when_kept left)
+unfolding go from_watched
 cell_shifted t left least r = refl
 
 pub cell_sought : (t : Before) (r : _) (under : _) → go t Clear (Did (Sought r under)) ≡ unless_spent (is_err r.value) Sated
 unfolding go from_clear
 cell_sought t r under = refl
 
-pub cell_full : (t : Before) → go t Sated (Marked Full) ≡ Brimming
+pub cell_full : (t : Before) → go t Sated (Marked Full) ≡ Sweeping Twice Brimming
 unfolding go from_sated
 cell_full t = refl
 
@@ -92,21 +107,21 @@ pub cell_read : (t : Before) (r : Result Polled LinkFault) → go t MayRead (Rea
 unfolding go from_may_read
 cell_read t r = refl
 
-pub cell_decided : (t : Before) (ended : Bool) (p : _) (now : _) (a : _) (f : _) → go t (Deciding ended) (Did (Decided p now a f)) ≡ at_moment t now (unless_spent (fate_worth p.value f).spent (when_decided ended (event_ends (Decided p now a f))))
+pub cell_decided : (t : Before) (polled : Polled) (p : _) (now : _) (a : _) (f : _) → go t (Deciding polled) (Did (Decided p now a f)) ≡ at_moment t now (unless_spent (fate_worth p.value f).spent (when_decided polled (event_ends (Decided p now a f))))
 unfolding go from_deciding
-cell_decided t ended p now a f = refl
+cell_decided t polled p now a f = refl
 
-pub cell_broke : (t : Before) (ended : Bool) → go t (Deciding ended) (Did Broke) ≡ Closing
+pub cell_broke : (t : Before) (polled : Polled) → go t (Deciding polled) (Did Broke) ≡ Closing
 unfolding go from_deciding
-cell_broke t ended = refl
+cell_broke t polled = refl
 
-pub cell_part : (t : Before) (ended : Bool) → go t (Deciding ended) (Marked Part) ≡ when_part ended
+pub cell_part : (t : Before) (polled : Polled) → go t (Deciding polled) (Marked Part) ≡ when_part polled
 unfolding go from_deciding
-cell_part t ended = refl
+cell_part t polled = refl
 
-pub cell_brim : (t : Before) (ended : Bool) → go t (Deciding ended) (Marked Full) ≡ when_full ended
+pub cell_brim : (t : Before) (polled : Polled) → go t (Deciding polled) (Marked Full) ≡ when_full polled
 unfolding go from_deciding
-cell_brim t ended = refl
+cell_brim t polled = refl
 
 pub cell_taking : (t : Before) (answer : Bool) → go t Settled (Asked Taking answer) ≡ when_may_take answer
 unfolding go from_settled

@@ -1,10 +1,10 @@
 -- One event more, and what a worker keeps.
-use Rattle.std.proofs.Common.{◌≡◌, ◌≢◌, ◌<◌, length, is_some, ℕ, List, [], ◌∷◌, ◌++◌, Bool, true, false, ◌||◌, true≢false, Option, IfSome, Some, None, Result, Ok, Err, IfOk, IsOk, if◌then◌else◌, sym, ◌∙◌, ap, refl, subst, append_assoc, ◌⊎◌, ⊎_elim}
+use Rattle.std.proofs.Common.{arith, max, ◌≡◌, ◌≢◌, ◌<◌, length, is_some, ℕ, List, [], ◌∷◌, ◌++◌, Bool, true, false, ◌||◌, true≢false, Option, IfSome, Some, None, Result, Ok, Err, IfOk, IsOk, if◌then◌else◌, sym, ◌∙◌, ap, refl, subst, append_assoc, ◌⊎◌, ⊎_elim}
 use Rattle.std.proofs.Math.Bool.{or-false}
 use Rattle.std.specs.List.{flat_map, list_any}
 use Rattle.smx_pdu.specs.declared.pdu.Pdu.{Pdu}
 use Rattle.smx_box.specs.Boxes.{Receiving, Sending}
-use Rattle.smx_session.specs.Moments.{Upstream}
+use Rattle.smx_session.specs.Moments.{Upstream, at}
 use Rattle.smx_shared.specs.Views.{TapView}
 use Rattle.smx_routes.specs.Window.{Window}
 use Rattle.smx_turns.specs.declared.gate.Point.{Point}
@@ -17,7 +17,9 @@ use Rattle.smx_turns.specs.declared.step.Step.{Step}
 use Rattle.smx_turns.specs.declared.step.Step.TheVariants.{Asked, Read, Marked, Did}
 use Rattle.smx_turns.specs.Runs.{Runs}
 use Rattle.smx_turns.proofs.Chains.{chain_push, chain_first, runs_none, runs_push}
-use Rattle.smx_turns.proofs.Logged.{turned_none, turned_did, turned_mark, turned_read, turned_ask}
+use Rattle.smx_turns.specs.Steps.{phase_from}
+use Rattle.smx_upstream.specs.Last.{last_after, last_request}
+use Rattle.smx_turns.proofs.Logged.{phase_push, turned_none, turned_did, turned_mark, turned_read, turned_ask}
 use Rattle.smx_link.specs.declared.link.Polled.{Polled}
 use Rattle.smx_link.specs.declared.link.LinkFault.{LinkFault}
 use Rattle.smx_upstream.specs.declared.age.Age.{Age}
@@ -33,6 +35,10 @@ use Rattle.smx_upstream.specs.Standing.{Stand, Does, HoldNone, stand}
 use Rattle.smx_upstream.specs.Writing.{Writes, Marks, Sends, writing}
 use Rattle.smx_upstream.specs.Working.{Working, IsWorker, Scene, Changes, LeadsOn}
 
+-- the last moment once more
+pub same_moment : (u : Upstream) → at u u.latest ≡ u
+same_moment u = let same : max u.latest u.latest ≡ u.latest = omega arith in ap (λ n. record u { latest = n }) same
+
 pub or_true : (b : Bool) → true ≡ (b || true)
 or_true true = refl
 or_true false = refl
@@ -43,16 +49,17 @@ goes_on b = sym (or-false b)
 
 -- a worker that did one thing more
 pub did : {L : Type 0} (w w' : Working L) (e : Event) → IsWorker w → w'.events ≡ w.events ++ e ∷ [] → w'.wire.heard ≡ w.wire.heard → (worth e).decided ++ those w'.held ≡ those w.held
-    → w'.wire.said ≡ w.wire.said ++ (worth e).said → w'.first ≡ w.first → Does w.stand e w'.stand → (w'.ending ≡ false → w'.wire.failed ≡ None) → w'.ending ≡ (w.ending || event_ends e) → BadKept (worth e).breaks w.wire w'.wire → IsWorker w'
-unfolding has_ended
-did w w' e was grown heard settled said first does on last bad = record {
+    → w'.wire.said ≡ w.wire.said ++ (worth e).said → w'.first ≡ w.first → Does w.stand e w'.stand → (w'.ending ≡ false → w'.wire.failed ≡ None) → w'.ending ≡ (w.ending || event_ends e) → BadKept (worth e).breaks w.wire w'.wire → w'.last ≡ last_after w.last e → IsWorker w'
+unfolding has_ended last_request
+did w w' e was grown heard settled said first does on ends bad last = record {
   heard = heard_push worth w.wire.heard w'.wire.heard w.events w'.events e w.held w'.held grown was.heard heard settled;
   said = said ∙ ap (λ l. l ++ (worth e).said) was.said ∙ sym (outs_push worth w.events w'.events e grown);
   runs = chain_push Does w'.first w.stand w'.stand w.events w'.events e grown does (subst_first w.first w'.first (sym first) was.runs);
   none_owed = subst (λ (s : Stand). HoldNone s.owed) (sym first) was.none_owed;
-  over = last ∙ ap (λ b. b || event_ends e) was.over ∙ sym (any_push event_ends w.events w'.events e grown);
+  over = ends ∙ ap (λ b. b || event_ends e) was.over ∙ sym (any_push event_ends w.events w'.events e grown);
   goes_on = on;
   broke = still_bad worth w.wire w'.wire w.events w'.events e grown was.broke bad;
+  last = last ∙ sym (phase_push last_after None w.events w'.events e w.last (last_after w.last e) grown refl (sym was.last));
 }
   where
     subst_first : (a b : Stand) → a ≡ b → ∥ Runs Does a w.events w.stand ∥₁ → ∥ Runs Does b w.events w.stand ∥₁
@@ -70,20 +77,22 @@ on_hearing w w' was on same heard said fine = subst IsWorker (sym same) (record 
   runs = was.runs;
   none_owed = was.none_owed;
   over = was.over;
+  last = was.last;
   goes_on = λ _. fine;
   broke = unbroken worth w.wire w'.wire w.events (was.goes_on on) was.broke;
 })
 
 -- a new worker
 pub began : {L : Type 0} (w : Working L) (e : Event) (p : Pdu) → w.events ≡ e ∷ [] → w.wire.heard ≡ [] → w.held ≡ None → (worth e).decided ≡ [] → (worth e).said ≡ p ∷ [] → w.wire.said ≡ p ∷ []
-    → w.first ≡ w.stand → HoldNone w.first.owed → Does w.first e w.stand → w.wire.failed ≡ None → w.ending ≡ event_ends e → (worth e).breaks ≡ false → IsWorker w
-unfolding ins outs has_ended has_broken
-began w e p one heard held nothing sends said first none does on last unbroken = record {
+    → w.first ≡ w.stand → HoldNone w.first.owed → Does w.first e w.stand → w.wire.failed ≡ None → w.ending ≡ event_ends e → (worth e).breaks ≡ false → w.last ≡ last_after None e → IsWorker w
+unfolding ins outs has_ended has_broken last_request
+began w e p one heard held nothing sends said first none does on ends unbroken last = record {
   heard = heard ∙ sym (ap (λ l. flat_map (λ x. (worth x).decided) l ++ those w.held) one ∙ ap (λ l. (l ++ []) ++ those w.held) nothing ∙ ap those held);
   said = said ∙ sym (ap (flat_map (λ x. (worth x).said)) one ∙ ap (λ l. l ++ []) sends);
   runs = chain_first Does w.first w.first w.stand [] w.events e refl refl one does;
   none_owed = none;
-  over = last ∙ goes_on (event_ends e) ∙ sym (ap (list_any event_ends) one);
+  over = ends ∙ goes_on (event_ends e) ∙ sym (ap (list_any event_ends) one);
+  last = last ∙ sym (ap (phase_from last_after None) one);
   goes_on = λ _. on;
   broke = λ h. absurd (true≢false (sym h ∙ ap (list_any (λ x. (worth x).breaks)) one ∙ or-false (worth e).breaks ∙ unbroken));
 }

@@ -44,6 +44,7 @@ use Rattle.smx_upstream.specs.declared.event.Fate.TheVariants as fate
 use Rattle.smx_upstream.specs.declared.event.Rise.{Rise}
 use Rattle.smx_upstream.specs.declared.event.Rise.TheVariants as rise
 use Rattle.smx_upstream.specs.Rising.{Rises}
+use Rattle.smx_upstream.specs.Ages.{time_of}
 use Rattle.smx_upstream.specs.Standing.{Stand, Does, Becomes, Shifts, item_for}
 use Rattle.smx_upstream.specs.Laws.{answer_known, fate_known, known_by, knowns, fate_put, put_by, puts_at, KeepsTokens}
 
@@ -82,7 +83,8 @@ note_step : (s t : Stand) (e : Event) → Does s e t → known_of t.tap.front.mi
 note_step s t (event.Began p) d = nothing _ _ (ap (λ x. known_of x.tap.front.mine) d.1)
 note_step s t (event.Opened n) d = nothing _ _ (ap (λ x. known_of x.tap.front.mine) d.1)
 note_step s t (event.Looked now due silent) d = nothing _ _ (ap (λ x. known_of x.tap.front.mine) d.2)
-note_step s t (event.Expired lane r) d = nothing _ _ (expiry_known s.tap.front t.tap.front s.session.latest s.age.response_timer r.value d.1)
+note_step s t (event.Judged silent) d = nothing _ _ (ap (λ x. known_of x.tap.front.mine) d.1)
+note_step s t (event.Expired lane span r) d = nothing _ _ (expiry_known s.tap.front t.tap.front s.session.latest (time_of span s.age) r.value d.1)
 note_step s t (event.Shifted least r) d = nothing _ _ (shift_note s.tap.front t.tap.front least r.value d.1)
 note_step s t (event.Sought r under) d = nothing _ _ (ap (λ x. known_of x.tap.front.mine) d.2)
 note_step s t (event.Decided p now a f) d = fate_note p.value a.value f s.tap s.senders t.tap t.senders d.1
@@ -152,7 +154,8 @@ seen_step : (s t : Stand) (e : Event) → Does s e t → IsPrefix s.tap.front.se
 seen_step s t (event.Began p) d = self _ _ (ap (λ x. x.tap.front.seen) d.1)
 seen_step s t (event.Opened n) d = self _ _ (ap (λ x. x.tap.front.seen) d.1)
 seen_step s t (event.Looked now due silent) d = self _ _ (ap (λ x. x.tap.front.seen) d.2)
-seen_step s t (event.Expired lane r) d = expiry_seen s.tap.front t.tap.front s.session.latest s.age.response_timer r.value d.1
+seen_step s t (event.Judged silent) d = self _ _ (ap (λ x. x.tap.front.seen) d.1)
+seen_step s t (event.Expired lane span r) d = expiry_seen s.tap.front t.tap.front s.session.latest (time_of span s.age) r.value d.1
 seen_step s t (event.Shifted least r) d = shift_seen s.tap.front t.tap.front least r.value d.1
 seen_step s t (event.Sought r under) d = self _ _ (ap (λ x. x.tap.front.seen) d.2)
 seen_step s t (event.Decided p now a f) d = fate_seen p.value a.value f s.tap s.senders t.tap t.senders d.1
@@ -177,7 +180,8 @@ lane_step : (s t : Stand) (e : Event) → Does s e t → t.tap.lane ≡ s.tap.la
 lane_step s t (event.Began p) d = ap (λ x. x.tap.lane) d.1
 lane_step s t (event.Opened n) d = ap (λ x. x.tap.lane) d.1
 lane_step s t (event.Looked now due silent) d = ap (λ x. x.tap.lane) d.2
-lane_step s t (event.Expired lane r) d = d.2
+lane_step s t (event.Judged silent) d = ap (λ x. x.tap.lane) d.1
+lane_step s t (event.Expired lane span r) d = d.2
 lane_step s t (event.Shifted least r) d = d.2
 lane_step s t (event.Sought r under) d = ap (λ x. x.tap.lane) d.2
 lane_step s t (event.Decided p now a f) d = fate_lane p.value a.value f s.tap s.senders t.tap t.senders d.1
@@ -220,7 +224,8 @@ put_step : (slot : ℕ) (s t : Stand) (e : Event) → Does s e t → contents_in
 put_step slot s t (event.Began p) d = nothing _ _ (ap (λ x. contents_in (slice_get x.senders slot)) d.1)
 put_step slot s t (event.Opened n) d = nothing _ _ (ap (λ x. contents_in (slice_get x.senders slot)) d.1)
 put_step slot s t (event.Looked now due silent) d = nothing _ _ (ap (λ x. contents_in (slice_get x.senders slot)) d.2)
-put_step slot s t (event.Expired lane r) d = nothing _ _ (ap (λ x. contents_in (slice_get x.senders slot)) d.3)
+put_step slot s t (event.Judged silent) d = nothing _ _ (ap (λ x. contents_in (slice_get x.senders slot)) d.1)
+put_step slot s t (event.Expired lane span r) d = nothing _ _ (ap (λ x. contents_in (slice_get x.senders slot)) d.3)
 put_step slot s t (event.Shifted least r) d = nothing _ _ (ap (λ x. contents_in (slice_get x.senders slot)) d.3)
 put_step slot s t (event.Sought r under) d = nothing _ _ (ap (λ x. contents_in (slice_get x.senders slot)) d.2)
 put_step slot s t (event.Decided p now a f) d = fate_puts slot p.value a.value f s.tap s.senders t.tap t.senders d.1

@@ -1,5 +1,6 @@
 pub mod Eventful
 pub mod Cells
+pub mod Judgements
 pub mod Keeping
 pub mod Clocking
 pub mod Owed

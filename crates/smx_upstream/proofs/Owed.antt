@@ -106,8 +106,8 @@ module _ (answer message : ℕ → ℕ → Bool) (suits : Suits answer message) 
         arith,
         at_slot place.slot w w' o.0 o.1 o.2 o.3,
         ap (λ (x : Window). owes x.waiting) o.4.1,
-        sum_by-append (λ (v : Waiting). cond (is_owed v) 1 0) o.0.waiting (record { given = given; lane = lane; number = p.number; command = p.command } ∷ []),
-        more (record { given = given; lane = lane; number = p.number; command = p.command }) [],
+        sum_by-append (λ (v : Waiting). cond (is_owed v) 1 0) o.0.waiting (record { given = given; lane = lane; number = p.number; command = p.command; since = 0 } ∷ []),
+        more (record { given = given; lane = lane; number = p.number; command = p.command; since = 0 }) [],
         sum_by-cons (λ (q : Pdu). cond (is_such message q) 1 0) p [],
       )
   fate_owes lane p (fate.Full place) w w' o = kept w w' o
@@ -133,7 +133,8 @@ module _ (answer message : ℕ → ℕ → Bool) (suits : Suits answer message) 
   step s t (event.Began p) d = kept s.owed t.owed (ap (λ x. x.owed) d.1)
   step s t (event.Opened n) d = kept s.owed t.owed (ap (λ x. x.owed) d.1)
   step s t (event.Looked now due silent) d = kept s.owed t.owed (ap (λ x. x.owed) d.2)
-  step s t (event.Expired lane r) d = kept s.owed t.owed (ap (λ x. x.owed) d.3)
+  step s t (event.Judged silent) d = kept s.owed t.owed (ap (λ x. x.owed) d.1)
+  step s t (event.Expired lane span r) d = kept s.owed t.owed (ap (λ x. x.owed) d.3)
   step s t (event.Shifted least r) d = kept s.owed t.owed (ap (λ x. x.owed) d.3)
   step s t (event.Sought r under) d = got_owes r.value under s.owed t.owed d.1
   step s t (event.Decided p now a f) d = fate_owes s.tap.lane p.value f s.owed t.owed d.2

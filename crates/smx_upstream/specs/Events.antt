@@ -34,7 +34,7 @@ use Rattle.smx_turns.specs.declared.directory.Place.{Place}
 use Rattle.smx_turns.specs.Puts.{finds_nothing}
 use Rattle.smx_turns.specs.Worth.{Worth, no_worth, spent_worth, says}
 use Rattle.smx_upstream.specs.declared.event.Event.{Event}
-use Rattle.smx_upstream.specs.declared.event.Event.TheVariants.{Began, Opened, Looked, Expired, Shifted, Sought, Decided, Took, Broke, Unbound}
+use Rattle.smx_upstream.specs.declared.event.Event.TheVariants.{Began, Opened, Looked, Judged, Expired, Shifted, Sought, Decided, Took, Broke, Unbound}
 use Rattle.smx_upstream.specs.declared.event.Fate.{Fate}
 use Rattle.smx_upstream.specs.declared.event.Fate.TheVariants as fate
 use Rattle.smx_upstream.specs.Rising.{said_last, stays_down}
@@ -159,7 +159,8 @@ abbrev pub worth : Event → Worth
 worth (Began p) = says (Some p.value)
 worth (Opened n) = no_worth
 worth (Looked now due silent) = says due.value
-worth (Expired lane r) = record no_worth { tells = expiry_tells lane r.value; quiet = is_err r.value; spent = is_spent_expiry r.value }
+worth (Judged silent) = no_worth
+worth (Expired lane span r) = record no_worth { tells = expiry_tells lane r.value; quiet = is_err r.value; spent = is_spent_expiry r.value }
 worth (Shifted least r) = record no_worth { spent = is_spent_shift r.value }
 worth (Sought r under) = record no_worth { said = got_out r.value under; quiet = finds_nothing r.value; spent = is_err r.value }
 worth (Decided p now a f) = decided_worth p.value a.value f

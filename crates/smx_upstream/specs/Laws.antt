@@ -37,7 +37,8 @@ abbrev pub known_by : Event → List Known
 known_by (event.Began p) = []
 known_by (event.Opened n) = []
 known_by (event.Looked now due silent) = []
-known_by (event.Expired lane r) = []
+known_by (event.Judged silent) = []
+known_by (event.Expired lane span r) = []
 known_by (event.Shifted least r) = []
 known_by (event.Sought r under) = []
 known_by (event.Decided p now a f) = fate_known p.value f
@@ -65,7 +66,8 @@ abbrev pub put_by : ℕ → ℕ → Event → List (Option MoItem)
 put_by slot lane (event.Began p) = []
 put_by slot lane (event.Opened n) = []
 put_by slot lane (event.Looked now due silent) = []
-put_by slot lane (event.Expired at r) = []
+put_by slot lane (event.Judged silent) = []
+put_by slot lane (event.Expired at span r) = []
 put_by slot lane (event.Shifted least r) = []
 put_by slot lane (event.Sought r under) = []
 put_by slot lane (event.Decided p now a f) = fate_put slot lane p.value f

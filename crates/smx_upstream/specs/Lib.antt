@@ -4,10 +4,12 @@ pub mod Rising
 pub mod Ages
 pub mod Standing
 pub mod Phases
+pub mod Judging
 pub mod Writing
 pub mod Working
 pub mod Timing
 pub mod Laws
 pub mod Losing
 pub mod Owing
+pub mod Last
 pub mod Abandoning

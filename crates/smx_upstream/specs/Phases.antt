@@ -1,7 +1,8 @@
 -- The order of an upstream turn.
-use Rattle.std.specs.Prelude.{◌≡◌, ◌≢◌, ◌≤◌, ◌==◌, ℕ, Bool, true, false, List, [], ◌∷◌, length, Result, Ok, Err, Option, Some, None, if◌then◌else◌}
+use Rattle.std.specs.Prelude.{◌≡◌, ◌≢◌, ◌≤◌, ◌==◌, ◌&&◌, ℕ, Bool, true, false, List, [], length, Result, Ok, Err, Option, Some, None, if◌then◌else◌}
 use Rattle.smx_frame.specs.Stream.{HasNone}
 use Rattle.smx_link.specs.declared.link.Polled.{Polled}
+use Rattle.smx_link.specs.declared.link.Polled.TheVariants.{Octets, Nothing, End}
 use Rattle.smx_link.specs.declared.link.LinkFault.{LinkFault}
 use Rattle.smx_turns.specs.declared.gate.Point.TheVariants.{Reading, Taking}
 use Rattle.smx_turns.specs.declared.end.TurnEnd.{TurnEnd}
@@ -11,7 +12,7 @@ use Rattle.smx_turns.specs.declared.end.Fault.TheVariants as fault
 use Rattle.smx_turns.specs.declared.step.Step.{Step}
 use Rattle.smx_turns.specs.declared.step.Step.TheVariants.{Asked, Read, Marked, Did}
 use Rattle.smx_turns.specs.Steps.{phase_from}
-use Rattle.smx_turns.specs.Wires.{is_end, some_wait}
+use Rattle.smx_turns.specs.Wires.{some_wait}
 use Rattle.smx_upstream.specs.Events.{event_ends, is_spent}
 use Rattle.smx_upstream.specs.declared.wiring.Front.{Front}
 use Rattle.smx_upstream.specs.declared.wiring.Front.TheVariants as front
@@ -22,7 +23,9 @@ use Rattle.smx_upstream.specs.declared.turning.Progress.TheVariants as progress
 use Rattle.smx_upstream.specs.declared.mark.Mark.{Mark}
 use Rattle.smx_upstream.specs.declared.mark.Mark.TheVariants.{Offered, WriteFailed, Full, Part}
 use Rattle.smx_upstream.specs.declared.event.Event.{Event}
-use Rattle.smx_upstream.specs.declared.event.Event.TheVariants.{Opened, Looked, Expired, Shifted, Sought, Decided, Took, Broke}
+use Rattle.smx_upstream.specs.declared.event.Event.TheVariants.{Opened, Looked, Judged, Expired, Shifted, Sought, Decided, Took, Broke}
+use Rattle.smx_upstream.specs.declared.event.Span.{Span}
+use Rattle.smx_upstream.specs.declared.event.Span.TheVariants.{Once, Twice}
 
 -- where a turn stands
 pub data Phase : Type 0 where
@@ -34,10 +37,8 @@ pub data Phase : Type 0 where
   Written : Bool → Phase
   -- octets are left, so no more is done
   Clogged : Phase
-  -- the moment was handed in, and the session isn't silent; whether octets are left
+  -- the moment was handed in; whether octets are left
   Watched : Bool → Phase
-  -- at most one request was given up; whether octets are left
-  Swept : Bool → Phase
   -- the lane was asked to turn over; no octets are left
   Clear : Phase
   -- the return box was held
@@ -48,10 +49,14 @@ pub data Phase : Type 0 where
   MayRead : Phase
   -- a read or a write failed
   Failed : Phase
-  -- PDUs are decided; whether the link has ended
-  Deciding : Bool → Phase
+  -- PDUs are decided, behind a read with this answer
+  Deciding : Polled → Phase
   -- the session is over, and what waits is to be written
   Closing : Phase
+  -- all that had come was read and decided, so the timers are judged
+  CaughtUp : Phase
+  -- at most one request is given up that has waited so long, and then the turn stands so
+  Sweeping : Span → Phase → Phase
   -- no whole PDU is left, and the link goes on
   Settled : Phase
   -- the gate said yes to a take
@@ -108,34 +113,45 @@ abbrev pub after_offer : Bool → Bool → Phase
 after_offer true left = unless_left left
 after_offer false left = Written left
 
+abbrev pub when_gone : Bool → Bool → Phase
+when_gone left true = Gone
+when_gone left false = Watched left
+
+-- where octets are left nothing is read: then the session is silent where it was so before
 abbrev pub when_looked : Bool → Bool → Phase
-when_looked left true = Gone
-when_looked left false = Watched left
+when_looked left silent = when_gone left (left && silent)
 
 abbrev pub when_kept : Bool → Phase
-when_kept true = Clogged
+when_kept true = Sweeping Twice Clogged
 when_kept false = Clear
 
-abbrev pub when_decided : Bool → Bool → Phase
-when_decided ended true = Closing
-when_decided ended false = Deciding ended
+abbrev pub when_decided : Polled → Bool → Phase
+when_decided polled true = Closing
+when_decided polled false = Deciding polled
 
-abbrev pub when_part : Bool → Phase
-when_part true = Drained
-when_part false = Settled
+-- more may have come behind octets
+abbrev pub when_part : Polled → Phase
+when_part End = Drained
+when_part Nothing = CaughtUp
+when_part (Octets n) = Sweeping Twice Settled
 
 -- what is left of an ended link is decided whole
-abbrev pub when_full : Bool → Phase
-when_full true = Wrong
-when_full false = Brimming
+abbrev pub when_full : Polled → Phase
+when_full End = Wrong
+when_full Nothing = Sweeping Twice Brimming
+when_full (Octets n) = Sweeping Twice Brimming
+
+abbrev pub when_judged : Bool → Phase
+when_judged true = Gone
+when_judged false = Sweeping Once Settled
 
 abbrev pub when_read : Result Polled LinkFault → Phase
-when_read (Ok polled) = Deciding (is_end polled)
+when_read (Ok polled) = Deciding polled
 when_read (Err e) = Failed
 
 abbrev pub when_may_read : Bool → Phase
 when_may_read true = MayRead
-when_may_read false = Stopped
+when_may_read false = Sweeping Twice Stopped
 
 abbrev pub when_may_take : Bool → Phase
 when_may_take true = MayTake
@@ -155,19 +171,20 @@ from_written t left (Did (Looked now due silent)) = at_moment t now (when_looked
 from_written t left _ = Wrong
 
 unfoldable pub from_watched : Bool → Step Mark Event → Phase
-from_watched left (Did (Expired lane r)) = unless_spent (is_spent (Expired lane r)) (Swept left)
+from_watched left (Did (Shifted least r)) = unless_spent (is_spent (Shifted least r)) (when_kept left)
 from_watched left _ = Wrong
 
-unfoldable pub from_swept : Bool → Step Mark Event → Phase
-from_swept left (Did (Shifted least r)) = unless_spent (is_spent (Shifted least r)) (when_kept left)
-from_swept left _ = Wrong
+unfoldable pub from_sweeping : Span → Phase → Step Mark Event → Phase
+from_sweeping Once p (Did (Expired lane Once r)) = unless_spent (is_spent (Expired lane Once r)) p
+from_sweeping Twice p (Did (Expired lane Twice r)) = unless_spent (is_spent (Expired lane Twice r)) p
+from_sweeping span p _ = Wrong
 
 unfoldable pub from_clear : Step Mark Event → Phase
 from_clear (Did (Sought r under)) = unless_spent (is_spent (Sought r under)) Sated
 from_clear _ = Wrong
 
 unfoldable pub from_sated : Step Mark Event → Phase
-from_sated (Marked Full) = Brimming
+from_sated (Marked Full) = Sweeping Twice Brimming
 from_sated (Asked Reading answer) = when_may_read answer
 from_sated _ = Wrong
 
@@ -175,17 +192,21 @@ unfoldable pub from_may_read : Step Mark Event → Phase
 from_may_read (Read r) = when_read r
 from_may_read _ = Wrong
 
-unfoldable pub from_deciding : Before → Bool → Step Mark Event → Phase
-from_deciding t ended (Did (Decided p now a f)) = at_moment t now (unless_spent (is_spent (Decided p now a f)) (when_decided ended (event_ends (Decided p now a f))))
-from_deciding t ended (Did Broke) = Closing
-from_deciding t ended (Marked Part) = when_part ended
-from_deciding t ended (Marked Full) = when_full ended
-from_deciding t ended _ = Wrong
+unfoldable pub from_deciding : Before → Polled → Step Mark Event → Phase
+from_deciding t polled (Did (Decided p now a f)) = at_moment t now (unless_spent (is_spent (Decided p now a f)) (when_decided polled (event_ends (Decided p now a f))))
+from_deciding t polled (Did Broke) = Closing
+from_deciding t polled (Marked Part) = when_part polled
+from_deciding t polled (Marked Full) = when_full polled
+from_deciding t polled _ = Wrong
 
 unfoldable pub from_closing : Step Mark Event → Phase
 from_closing (Marked (Offered waited left)) = unless_left left
 from_closing (Marked WriteFailed) = Failed
 from_closing _ = Wrong
+
+unfoldable pub from_caught_up : Step Mark Event → Phase
+from_caught_up (Did (Judged silent)) = when_judged silent
+from_caught_up _ = Wrong
 
 unfoldable pub from_settled : Step Mark Event → Phase
 from_settled (Asked Taking answer) = when_may_take answer
@@ -201,12 +222,13 @@ go t Opening s = from_opening s
 go t Ready s = from_ready t s
 go t (Written left) s = from_written t left s
 go t (Watched left) s = from_watched left s
-go t (Swept left) s = from_swept left s
 go t Clear s = from_clear s
 go t Sated s = from_sated s
 go t MayRead s = from_may_read s
-go t (Deciding ended) s = from_deciding t ended s
+go t (Deciding polled) s = from_deciding t polled s
 go t Closing s = from_closing s
+go t CaughtUp s = from_caught_up s
+go t (Sweeping span p) s = from_sweeping span p s
 go t Settled s = from_settled s
 go t MayTake s = from_may_take s
 go t _ s = Wrong
@@ -224,7 +246,7 @@ abbrev pub MayWant : Phase → Type 0
 MayWant (Written left) = Unit {0}
 MayWant Clear = Unit {0}
 MayWant Sated = Unit {0}
-MayWant (Deciding ended) = Unit {0}
+MayWant (Deciding polled) = Unit {0}
 MayWant Settled = Unit {0}
 MayWant _ = ⊥
 
@@ -288,20 +310,20 @@ IsPart q (Ok end) p = EndsOr q end p
 IsPart q (Err e) p = Faulted e p
 
 -- where deciding stops
-abbrev pub when_progress : Bool → Progress → Phase
-when_progress ended progress.Over = Closing
-when_progress ended progress.Brimming = when_full ended
-when_progress ended progress.Part = when_part ended
+abbrev pub when_progress : Polled → Progress → Phase
+when_progress polled progress.Over = Closing
+when_progress polled progress.Brimming = when_full polled
+when_progress polled progress.Part = when_part polled
 
-abbrev pub when_next : Bool → Next → Phase
-when_next ended next.More = Deciding ended
-when_next ended next.Part = when_part ended
-when_next ended next.Over = Closing
+abbrev pub when_next : Polled → Next → Phase
+when_next polled next.More = Deciding polled
+when_next polled next.Part = when_part polled
+when_next polled next.Over = Closing
 
-abbrev pub when_front : Bool → Front → Phase
-when_front ended front.Whole = Deciding ended
-when_front ended front.Part = when_part ended
-when_front ended front.Broken = Closing
+abbrev pub when_front : Polled → Front → Phase
+when_front polled front.Whole = Deciding polled
+when_front polled front.Part = when_part polled
+when_front polled front.Broken = Closing
 
 abbrev pub quiet_end : Bool → TurnEnd
 quiet_end true = Idle

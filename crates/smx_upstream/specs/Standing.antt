@@ -1,5 +1,5 @@
 -- What a worker stands on, and what each event does to it.
-use Rattle.std.specs.Prelude.{true, ◌≡◌, ◌≢◌, ◌≤◌, ◌++◌, [], ◌∷◌, ℕ, List, length, set, slice_get, Option, Some, None, Result, Ok, Err, MatchResult}
+use Rattle.std.specs.Prelude.{Bool, true, ◌&&◌, nat_lt, ◌≡◌, ◌≢◌, ◌≤◌, ◌++◌, [], ◌∷◌, ℕ, List, length, slice_get, Option, Some, None, Result, Ok, Err, MatchResult}
 use Rattle.smx_pdu.specs.declared.pdu.Pdu.{Pdu}
 use Rattle.smx_pdu.specs.declared.body_fault.BodyFault.{BodyFault}
 use Rattle.smx_pdu.specs.declared.command.TheConstants.{BIND_TRANSCEIVER}
@@ -21,20 +21,20 @@ use Rattle.smx_routes.specs.declared.mo_window.Waiting.{Waiting}
 use Rattle.smx_box.specs.Boxes.{Sending, Receiving}
 use Rattle.smx_session.specs.Binds.{own_bind}
 use Rattle.smx_session.specs.UpstreamTable.{bind_number}
-use Rattle.smx_session.specs.Moments.{Upstream, at, act_on, after_pdu, is_bound, enquiry, after_moment, is_silent, farewell, state_after_stop}
+use Rattle.smx_session.specs.Moments.{Upstream, act_on, after_pdu, is_bound, enquiry, after_moment, is_silent, farewell, state_after_stop}
 use Rattle.smx_session.specs.declared.up_act.UpAct.{UpAct}
 use Rattle.smx_session.specs.declared.up_act.UpAct.TheVariants as act
 use Rattle.smx_shared.specs.Views.{TapView}
 use Rattle.smx_shared.specs.Serving.{Takes, Expires, AnswerServes, TurnServes, IsTurnFault}
 use Rattle.std.specs.Option.{option_map}
 use Rattle.smx_upstream.specs.declared.age.Age.{Age}
-use Rattle.smx_upstream.specs.Ages.{next_turn, least_shift}
+use Rattle.smx_upstream.specs.Ages.{next_turn, least_shift, time_of}
 use Rattle.smx_upstream.specs.Rising.{Rises}
 use Rattle.smx_turns.specs.declared.directory.Place.{Place}
 use Rattle.smx_turns.specs.declared.mo_item.MoItem.{MoItem}
 use Rattle.smx_turns.specs.Puts.{AtIndex, Puts, FindsFull, FindsSpent, Gets}
 use Rattle.smx_upstream.specs.declared.event.Event.{Event}
-use Rattle.smx_upstream.specs.declared.event.Event.TheVariants.{Began, Opened, Looked, Expired, Shifted, Sought, Decided, Took, Broke, Unbound}
+use Rattle.smx_upstream.specs.declared.event.Event.TheVariants.{Began, Opened, Looked, Judged, Expired, Shifted, Sought, Decided, Took, Broke, Unbound}
 use Rattle.smx_upstream.specs.declared.event.Fate.{Fate}
 use Rattle.smx_upstream.specs.declared.event.Fate.TheVariants as fate
 
@@ -71,7 +71,7 @@ Settles (Err e) under ws ws' = (under ≡ None) × (ws' ≡ ws)
 
 -- the message waits for its answer under the number given
 abbrev pub Keeps : ℕ → Pdu → ℕ → Window → Window → Type 0
-Keeps lane p given w w' = IsFirstFree w given × (w' ≡ record w { last = given; waiting = w.waiting ++ record { given = given; lane = lane; number = p.number; command = p.command } ∷ [] })
+Keeps lane p given w w' = IsFirstFree w given × (w' ≡ record w { last = given; waiting = w.waiting ++ record { given = given; lane = lane; number = p.number; command = p.command; since = 0 } ∷ [] })
 
 -- a message that was put waits in its slot's window; for any other fate nothing changed
 abbrev pub Owes : ℕ → Pdu → Fate → List Window → List Window → Type 0
@@ -122,13 +122,17 @@ Becomes p a (fate.BoxSpent place) t ss t' ss' = (a ≡ act.Mo) × Reads p × AtI
 abbrev pub Shifts : Front Note Limits → Front Note Limits → ℕ → Result (Option (Vec Entry Global)) TurnFault → Type 0
 Shifts f g least r = MatchResult r (λ o. TurnServes f g least (option_map (λ es. es.items) o)) (IsTurnFault f g)
 
+-- whether an enquiry was unanswered for the silence at an earlier moment than this one already
+abbrev pub was_silent : Upstream → ℕ → Bool
+was_silent u now = nat_lt u.latest now && is_silent u u.latest
+
 -- what an event does
 abbrev pub Does : Stand → Event → Stand → Type 0
 Does s (Began p) t = (p.value ≡ bind_of s.session) × (t ≡ s)
 Does s (Opened n) t = (n ≡ (next_turn s.age).turns) × (t ≡ record s { age = next_turn s.age })
-Does s (Looked now due silent) t = (due.value ≡ enquiry s.session now) × (silent ≡ is_silent (after_moment s.session now) now)
-    × (t ≡ record s { session = at (after_moment s.session now) now })
-Does s (Expired lane r) t = (lane ≡ s.tap.lane) × Expires s.tap.front t.tap.front s.session.latest s.age.response_timer r.value × (t.tap.lane ≡ s.tap.lane)
+Does s (Looked now due silent) t = (due.value ≡ enquiry s.session now) × (silent ≡ was_silent s.session now) × (t ≡ record s { session = after_moment s.session now })
+Does s (Judged silent) t = (silent ≡ is_silent s.session s.session.latest) × (t ≡ s)
+Does s (Expired lane span r) t = (lane ≡ s.tap.lane) × Expires s.tap.front t.tap.front s.session.latest (time_of span s.age) r.value × (t.tap.lane ≡ s.tap.lane)
     × (t ≡ record s { tap = t.tap })
 Does s (Shifted least r) t = (least ≡ least_shift s.age) × Shifts s.tap.front t.tap.front least r.value × (t.tap.lane ≡ s.tap.lane) × (t ≡ record s { tap = t.tap })
 Does s (Sought r under) t = Gets s.answers t.answers r.value × Settles r.value under s.owed t.owed × (t ≡ record s { answers = t.answers; owed = t.owed })

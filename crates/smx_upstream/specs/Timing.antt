@@ -8,6 +8,7 @@ use Rattle.smx_turns.specs.declared.gate.Party.{Party}
 use Rattle.smx_turns.specs.declared.directory.Query.{Query}
 use Rattle.smx_turns.specs.declared.end.TurnEnd.{TurnEnd}
 use Rattle.smx_turns.specs.declared.end.Fault.{Fault}
+use Rattle.smx_upstream.specs.Judging.{AreJudged}
 use Rattle.smx_upstream.specs.Phases.{phase_of, link_faults, IsTurn}
 use Rattle.smx_upstream.specs.Quiet.{are_all_quiet}
 use Rattle.smx_upstream.specs.Working.{Working, before_turn, scene_of, Changes}
@@ -28,6 +29,7 @@ pub record TurnsAt {C L : Type 0} (gives : C → ℕ → C → Type 0) (polls : 
   pub end : Result TurnEnd Fault
   pub asked : gives a.clock now b.clock
   pub order : IsTurn (is_bound b.worker.stand.session.state) (are_all_quiet b.worker.steps) end (phase_of (before_turn now a.worker) b.worker.steps)
+  pub judged : AreJudged b.worker.steps
   pub turned : Changes b.worker.stand.age.turns (scene_of polls offered a.asked a.told a.queries a.worker) (scene_of polls offered b.asked b.told b.queries b.worker) b.worker.steps
   pub fails : failures b.worker.wire.link ≡ failures a.worker.wire.link + link_faults end
   pub ends : b.worker.ends ≡ a.worker.ends ++ end ∷ []

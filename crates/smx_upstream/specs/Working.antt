@@ -17,6 +17,8 @@ use Rattle.smx_upstream.specs.declared.event.Event.{Event}
 use Rattle.smx_turns.specs.Wires.{IsBad, has_ended as has_link_ended}
 use Rattle.smx_turns.specs.Worth.{those, ins, outs, has_broken}
 use Rattle.smx_upstream.specs.Events.{worth, has_ended}
+use Rattle.smx_upstream.specs.declared.last.LastRequest.{LastRequest}
+use Rattle.smx_upstream.specs.Last.{last_request}
 use Rattle.smx_upstream.specs.Phases.{Before, before}
 use Rattle.smx_upstream.specs.Writing.{Writing, Writes, writing}
 use Rattle.smx_upstream.specs.Standing.{Stand, Does, HoldNone}
@@ -33,6 +35,8 @@ pub record Working (L : Type 0) : Type 0 where
   pub ending : Bool
   -- all that it did
   pub events : List Event
+  -- the request that was sent last
+  pub last : Option LastRequest
   -- the steps of its last turn
   pub steps : List (Step Mark Event)
   -- how its turns ended
@@ -50,6 +54,8 @@ pub record IsWorker {L : Type 0} (w : Working L) : Type 0 where
   pub none_owed : HoldNone w.first.owed
   -- just an event of which that came left nothing but writing to do
   pub over : w.ending ≡ has_ended w.events
+  -- the request that was sent last is that of the events
+  pub last : w.last ≡ last_request w.events
   -- no bad length was met, or all ends
   pub goes_on : w.ending ≡ false → w.wire.failed ≡ None
   -- a bad length that was answered stands at the front of what is left

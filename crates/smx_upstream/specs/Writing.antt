@@ -1,8 +1,6 @@
 -- What a turn's steps do to the octets for the link.
-use Rattle.std.specs.Prelude.{◌≡◌, ◌≤◌, ◌<◌, ℕ, Bool, false, List, [], ◌∷◌, ◌++◌, length, Result, Ok, Err}
+use Rattle.std.specs.Prelude.{◌≡◌, ◌≤◌, ◌<◌, ℕ, Bool, false, List, ◌++◌, length}
 use Rattle.smx_link.specs.Wiring.{spellings}
-use Rattle.smx_link.specs.declared.link.Polled.{Polled}
-use Rattle.smx_link.specs.declared.link.LinkFault.{LinkFault}
 use Rattle.smx_turns.specs.declared.step.Step.{Step}
 use Rattle.smx_turns.specs.declared.step.Step.TheVariants.{Asked, Read, Marked, Did}
 use Rattle.smx_upstream.specs.declared.mark.Mark.{Mark}

@@ -8,10 +8,12 @@ ghost use Rattle.smx_upstream.specs.Ages.{next_turn};
 ghost use Rattle.smx_upstream.specs.Standing.{Answers, Settles};
 ghost use Rattle.smx_upstream.specs.Working.{scene_of, writing_of, LeadsOn};
 ghost use Rattle.smx_upstream.specs.Writing.{MayDecide};
-ghost use Rattle.smx_upstream.specs.Phases.{phase_of, when_looked, when_kept, when_decided, unless_spent, Before, LeadsTo, Opening, Ready, Written, Swept, Clear, Sated, Deciding, MayTake, HasTried};
+ghost use Rattle.smx_upstream.specs.Phases.{phase_of, when_gone, when_kept, when_decided, unless_spent, Before, LeadsTo, Opening, Ready, Written, Watched, Clear, Sated, Deciding, MayTake, HasTried};
 
 use crate::carry::carry;
 use crate::event::Event;
+use crate::judging::was_silent;
+use crate::last::last_taken;
 use crate::mark::Mark;
 use crate::spent::{is_spent_shift, is_spent_take, unless_spent};
 use crate::worker::{UpstreamWorker, jot, note};
@@ -97,11 +99,12 @@ fn request_in(taken: Result<Sent, TakeFault>) -> Option<Pdu>
 }
 
 impl<L: Link + Drop> UpstreamWorker<L> {
-    // Hands in the moment. True where the session is silent.
-    pub(crate) fn look(&mut self, now: u64, log: &mut Log<Mark, Event>) -> bool
+    // Hands in the moment. True where octets are left, and the session was silent at an earlier moment
+    // already.
+    pub(crate) fn look(&mut self, left: bool, now: u64, log: &mut Log<Mark, Event>) -> bool
         requires room { 65536 ≤ self.old.wire.room }
-        ensures phase { (t : Before) (left : _) → t.now ≡ now → phase_of t log.old ≡ Written left
-            → phase_of t log.new ≡ when_looked left result }
+        ensures phase { (t : Before) → t.now ≡ now → phase_of t log.old ≡ Written left
+            → phase_of t log.new ≡ when_gone left result }
         ensures left { self.old.wire.unsent ≢ [] → self.new.wire.unsent ≢ [] }
         ensures goes { (turn asked told queries : _) → LeadsOn turn
             (scene_of L.polls L.offered asked told queries self.old)
@@ -116,15 +119,15 @@ impl<L: Link + Drop> UpstreamWorker<L> {
           events = self.new.events;
         } }
     {
+        let silent = was_silent(&mut self.session, now);
         let due = self.session.on_moment(now);
-        let silent = self.session.is_silent(now);
         let event = Event::Looked(now, Snapshot::of(&due), silent);
         let outcome = Outcome {
             event,
             quiet: due.is_none(),
             sent: due,
             ends: false,
-            answer: silent,
+            answer: left && silent,
         };
         note(outcome, &mut self.wire, &mut self.events, log)
     }
@@ -159,7 +162,7 @@ impl<L: Link + Drop> UpstreamWorker<L> {
             ≡ Some self.old.stand.tap.front.lock }
         ensures lock { slice_get at.now self.new.stand.tap.lane
             ≡ Some self.new.stand.tap.front.lock }
-        ensures phase { (t : Before) (left : _) → phase_of t log.old ≡ Swept left
+        ensures phase { (t : Before) (left : _) → phase_of t log.old ≡ Watched left
             → LeadsTo result (λ _. when_kept left) (phase_of t log.new) }
         ensures err { OnErr result (result ≡ Err Fault.Spent) }
         ensures goes { (turn asked told queries : _) → LeadsOn turn
@@ -238,12 +241,14 @@ impl<L: Link + Drop> UpstreamWorker<L> {
             room = self.new.wire.room;
           };
           stand = record self.old.stand { tap = self.new.stand.tap };
+          last = self.new.last;
           events = self.new.events;
         } }
     {
         let taken = self.tap.take(at, rt, self.session.latest());
         let event = Event::Took(Snapshot::of(&taken));
         let spent = is_spent_take(&taken);
+        self.last = last_taken(&taken, self.last);
         let sent = request_in(taken);
         let outcome = Outcome {
             event,
@@ -274,9 +279,9 @@ impl<L: Link + Drop> UpstreamWorker<L> {
         requires may { MayDecide (writing_of L.polls L.offered self.old) }
         ensures lock { slice_get at.now self.new.stand.tap.lane
             ≡ Some self.new.stand.tap.front.lock }
-        ensures phase { (t : Before) (ended : _) → t.now ≡ now → phase_of t log.old ≡ Deciding ended
+        ensures phase { (t : Before) (polled : _) → t.now ≡ now → phase_of t log.old ≡ Deciding polled
             → phase_of t log.new
-            ≡ unless_spent (is_some self.new.held) (when_decided ended result) }
+            ≡ unless_spent (is_some self.new.held) (when_decided polled result) }
         ensures over { self.new.ending ≡ result }
         ensures goes { (turn : _) → LeadsOn turn
             (scene_of L.polls L.offered (G.asked gate.old) (G.told gate.old)

@@ -1,7 +1,8 @@
 //! How many turns a worker made, when its lane is turned over, and how long it waits for answers.
 ghost use Rattle.std.specs.Prelude.{◌≡◌};
-ghost use Rattle.smx_upstream.specs.Ages.{new_age, next_turn, least_shift};
+ghost use Rattle.smx_upstream.specs.Ages.{new_age, next_turn, least_shift, time_of};
 
+use crate::event::Span;
 use std::cmp::Ord;
 
 /// A worker's turns, how much its lane may store, and its response timer.
@@ -34,6 +35,16 @@ impl Age {
             turns: self.turns.saturating_add(1),
             history: self.history,
             response_timer: self.response_timer,
+        }
+    }
+
+    // How long a request has waited that is given up.
+    pub(crate) fn time_of(self, span: Span) -> u64
+        ensures { result ≡ time_of span self }
+    {
+        match span {
+            Span::Once => self.response_timer,
+            Span::Twice => self.response_timer.saturating_mul(2),
         }
     }
 

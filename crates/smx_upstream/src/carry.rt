@@ -128,10 +128,16 @@ fn keep_at(
         × (v ≡ record w {
           last = given;
           waiting = w.waiting
-              ++ record { given = given; lane = lane; number = number; command = command } ∷ [];
+              ++ record {
+                given = given;
+                lane = lane;
+                number = number;
+                command = command;
+                since = 0;
+              } ∷ [];
         })) }
 {
-    owed[slot].keep(given, lane, number, command);
+    owed[slot].keep(given, lane, number, command, 0);
 }
 
 // A message goes into the box of the slot that the directory names, under a number of this link's own.

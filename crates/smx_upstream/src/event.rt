@@ -44,6 +44,15 @@ pub enum Fate {
     BoxSpent(Place),
 }
 
+/// How long a request has waited that is given up.
+#[derive(Clone, Copy, Debug, PartialEq, Eq)]
+pub enum Span {
+    /// For the response timer: all that had come was read.
+    Once,
+    /// For twice the response timer: more may have come.
+    Twice,
+}
+
 /// What a worker did once, whole.
 #[derive(Drop)]
 pub enum Event {
@@ -51,10 +60,13 @@ pub enum Event {
     Began(Snapshot<Pdu>),
     /// A turn of this number began.
     Opened(u64),
-    /// The moment was handed in: the enquiry that was due, and whether the session was silent.
+    /// The moment was handed in: the enquiry that was due, and whether the session was silent at an
+    /// earlier one already.
     Looked(u64, Snapshot<Option<Pdu>>, bool),
-    /// The lane of this number was to give up a request that has waited for the response timer, and gave this.
-    Expired(usize, Snapshot<Result<Failed, ExpiryFault>>),
+    /// All that had come was read: whether the session is silent.
+    Judged(bool),
+    /// The lane of this number was to give up a request that has waited so long, and gave this.
+    Expired(usize, Span, Snapshot<Result<Failed, ExpiryFault>>),
     /// The lane was to hand out its entries, for at least so many, and gave this.
     Shifted(usize, Snapshot<Result<Option<Vec<Entry>>, TurnFault>>),
     /// The return box was held, and gave this: an answer goes out under this number of the centre's,

@@ -1,10 +1,10 @@
 //! A request that the centre has left without an answer for too long.
 ghost use Rattle.std.specs.Prelude.{◌≡◌, ◌++◌, slice_get, Some, Err, OnErr};
 ghost use Rattle.smx_upstream.specs.Events.{expiry_tells};
-ghost use Rattle.smx_upstream.specs.Phases.{phase_of, Before, LeadsTo, Watched, Swept};
+ghost use Rattle.smx_upstream.specs.Phases.{phase_of, Phase, Before, LeadsTo, Sweeping};
 ghost use Rattle.smx_upstream.specs.Working.{scene_of, LeadsOn};
 
-use crate::event::Event;
+use crate::event::{Event, Span};
 use crate::mark::Mark;
 use crate::spent::{is_spent_expiry, unless_spent};
 use crate::worker::{UpstreamWorker, jot};
@@ -29,10 +29,11 @@ fn tell<G: Gate>(gate: &mut G, lane: usize, failed: &Result<Failed, ExpiryFault>
 }
 
 impl<L: Link + Drop> UpstreamWorker<L> {
-    // Gives up at most one request: one that was taken so long ago as the response timer says, as of the last moment
-    // that was handed in.
+    // Gives up at most one request: one that was taken so long ago, as of the last moment that was
+    // handed in.
     pub(crate) fn expire<R: Wait, G: Gate>(
         &mut self,
+        span: Span,
         at: &Exchange,
         rt: &R,
         gate: &mut G,
@@ -42,8 +43,8 @@ impl<L: Link + Drop> UpstreamWorker<L> {
             ≡ Some self.old.stand.tap.front.lock }
         ensures lock { slice_get at.now self.new.stand.tap.lane
             ≡ Some self.new.stand.tap.front.lock }
-        ensures phase { (t : Before) (left : _) → phase_of t log.old ≡ Watched left
-            → LeadsTo result (λ _. Swept left) (phase_of t log.new) }
+        ensures phase { (t : Before) (p : Phase) → phase_of t log.old ≡ Sweeping span p
+            → LeadsTo result (λ _. p) (phase_of t log.new) }
         ensures err { OnErr result (result ≡ Err Fault.Spent) }
         ensures goes { (turn queries : _) → LeadsOn turn
             (scene_of L.polls L.offered (G.asked gate.old) (G.told gate.old) queries self.old)
@@ -56,9 +57,10 @@ impl<L: Link + Drop> UpstreamWorker<L> {
     {
         let lane = self.tap.lane();
         let now = self.session.latest();
-        let failed = self.tap.fail_expired(at, rt, now, self.age.response_timer);
+        let time = self.age.time_of(span);
+        let failed = self.tap.fail_expired(at, rt, now, time);
         tell(gate, lane, &failed);
-        let event = Event::Expired(lane, Snapshot::of(&failed));
+        let event = Event::Expired(lane, span, Snapshot::of(&failed));
         jot(event, failed.is_err(), &mut self.events, log);
         unless_spent(is_spent_expiry(&failed))
     }

@@ -7,6 +7,8 @@ mod age;
 mod carry;
 mod event;
 mod expiring;
+mod judging;
+mod last;
 mod laws;
 mod losing;
 mod mark;
@@ -19,7 +21,8 @@ mod wiring;
 mod worker;
 
 pub use abandoning::{AbandonEnd, Abandoned, Round, give_up_queued};
-pub use event::{Event, Fate, Rise};
+pub use event::{Event, Fate, Rise, Span};
+pub use last::LastRequest;
 pub use laws::law;
 pub use losing::{Lost, lose};
 pub use mark::Mark;

@@ -11,6 +11,7 @@ ghost use Rattle.smx_upstream.specs.Quiet.{are_all_quiet};
 ghost use Rattle.smx_upstream.specs.Standing.{Does};
 ghost use Rattle.smx_upstream.specs.Timing.{TurnsAt, timing};
 ghost use Rattle.smx_upstream.specs.Working.{before_turn, scene_of, Changes};
+ghost use Rattle.smx_upstream.specs.Judging.{AreJudged};
 ghost use Rattle.smx_upstream.specs.Losing.{Loses};
 ghost use Rattle.smx_upstream.specs.Phases.{phase_of, is_all_decided, link_faults, Before, Waits, IsTurn, IsOver};
 
@@ -40,8 +41,8 @@ pub struct Closed<L: Link + Drop> {
 
 impl<L: Link + Drop> UpstreamWorker<L> {
     /// One turn: it writes what waits, hands in the moment (in milliseconds), gets at most one
-    /// answer from the return box, reads at most 4,096 octets, decides each whole PDU and takes at
-    /// most one request. After a fault only `close` is called.
+    /// answer from the return box, reads at most 4,096 octets, decides each whole PDU, judges the
+    /// timers and takes at most one request. After a fault only `close` is called.
     pub fn turn<R: Wait, G: Gate, D: Directory>(
         &mut self,
         at: &Exchange,
@@ -79,6 +80,9 @@ impl<L: Link + Drop> UpstreamWorker<L> {
         ensures count { self.new.stand.age.turns ≡ (next_turn self.old.stand.age).turns }
         ensures ends { self.new.ends ≡ self.old.ends ++ result ∷ [] }
         ensures first { self.new.first ≡ self.old.first }
+
+        // A timer is judged only behind a read of the turn that found that nothing more had come.
+        ensures judged { AreJudged self.new.steps }
     {
         let mut log = Log::new();
         let end = self.run_turn(at, rt, gate, directory, now, &mut log);

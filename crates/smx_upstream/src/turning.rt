@@ -3,22 +3,22 @@ ghost use Rattle.std.specs.Prelude.{◌≡◌, ◌≢◌, ◌+◌, ◌≤◌, �
 ghost use mathlib.Core.List.{IsPrefix};
 ghost use Rattle.smx_frame.specs.Stream.{HasNone};
 ghost use Rattle.smx_session.specs.Moments.{is_bound};
-ghost use Rattle.smx_turns.specs.Wires.{has_ended as has_link_ended};
+ghost use Rattle.smx_turns.specs.Wires.{is_end, has_ended as has_link_ended};
 ghost use Rattle.smx_upstream.specs.Ages.{next_turn};
 ghost use Rattle.smx_upstream.specs.Working.{before_turn, scene_of, writing_of, LeadsOn};
 ghost use Rattle.smx_upstream.specs.Writing.{MayDecide};
 ghost use Rattle.smx_upstream.specs.Quiet.{are_all_quiet};
 ghost use Rattle.smx_upstream.specs.Phases.{phase_of, when_next, when_progress, is_all_decided, quiet_end, link_faults, Before, Waits, LeadsTo, IsPart, IsTurn, Opening, Ready, Sated, MayRead, Deciding, Settled};
 
-use crate::event::Event;
+use crate::event::{Event, Span};
 use crate::mark::Mark;
 use crate::wiring::Front;
 use crate::worker::UpstreamWorker;
-use smx_link::Link;
+use smx_link::{Link, Polled};
 use smx_pdu::MAX_PDU;
 use smx_session::UpstreamState;
 use smx_shared::Exchange;
-use smx_turns::{Directory, Fault, Gate, Log, Point, Step, TurnEnd, ask, last_end};
+use smx_turns::{Directory, Fault, Gate, Log, Point, Step, TurnEnd, ask, is_end, last_end};
 use std::sync::Wait;
 
 // How a turn ends that did all that there was to do.
@@ -78,8 +78,8 @@ impl<L: Link + Drop> UpstreamWorker<L> {
         requires may { MayDecide (writing_of L.polls L.offered self.old) }
         ensures lock { slice_get at.now self.new.stand.tap.lane
             ≡ Some self.new.stand.tap.front.lock }
-        ensures phase { (t : Before) (ended : _) → t.now ≡ now → phase_of t log.old ≡ Deciding ended
-            → LeadsTo result (when_next ended) (phase_of t log.new) }
+        ensures phase { (t : Before) (polled : _) → t.now ≡ now → phase_of t log.old ≡ Deciding polled
+            → LeadsTo result (when_next polled) (phase_of t log.new) }
         ensures held { OnOk result (self.new.held ≡ None) }
         ensures more { result ≡ Ok Next.More
             → (length self.new.wire.rest < length self.old.wire.rest) × (self.new.ending ≡ false) }
@@ -114,7 +114,7 @@ impl<L: Link + Drop> UpstreamWorker<L> {
     // Decides each whole PDU, as far as what waits for the link allows it.
     pub(crate) fn decide_all<R: Wait, G: Gate, D: Directory>(
         &mut self,
-        ended: bool,
+        polled: Polled,
         at: &Exchange,
         rt: &R,
         gate: &mut G,
@@ -126,18 +126,18 @@ impl<L: Link + Drop> UpstreamWorker<L> {
             ≡ Some self.old.stand.tap.front.lock }
         requires none { self.old.held ≡ None }
         requires goes_on { self.old.ending ≡ false }
-        requires ended { ended ≡ has_link_ended (L.polls self.old.wire.link) }
+        requires ended { is_end polled ≡ has_link_ended (L.polls self.old.wire.link) }
         ensures lock { slice_get at.now self.new.stand.tap.lane
             ≡ Some self.new.stand.tap.front.lock }
-        ensures phase { (t : Before) → t.now ≡ now → phase_of t log.old ≡ Deciding ended
-            → LeadsTo result (when_progress ended) (phase_of t log.new) }
+        ensures phase { (t : Before) → t.now ≡ now → phase_of t log.old ≡ Deciding polled
+            → LeadsTo result (when_progress polled) (phase_of t log.new) }
         ensures held { OnOk result (self.new.held ≡ None) }
         ensures part { result ≡ Ok Progress.Part
             → HasNone 65536 self.new.wire.rest × (self.new.ending ≡ false) }
-        ensures few { result ≡ Ok Progress.Part → ended ≡ false
+        ensures few { result ≡ Ok Progress.Part → is_end polled ≡ false
             → length self.new.wire.unsent < 65536 }
         ensures brimming { result ≡ Ok Progress.Brimming
-            → (ended ≡ false) × (65536 ≤ length self.new.wire.unsent) }
+            → (is_end polled ≡ false) × (65536 ≤ length self.new.wire.unsent) }
         ensures over { result ≡ Ok Progress.Over → self.new.ending ≡ true }
         ensures faults { link_faults result ≡ 0 }
         ensures goes { (turn : _) → LeadsOn turn
@@ -150,6 +150,7 @@ impl<L: Link + Drop> UpstreamWorker<L> {
             × (self.new.stand.age.turns ≡ self.old.stand.age.turns)
             × (self.new.first ≡ self.old.first) × (self.new.ends ≡ self.old.ends) }
     {
+        let ended = is_end(polled);
         loop {
             if !ended && self.wire.unsent() >= MAX_PDU {
                 log.push(&Step::Marked(Mark::Full), false);
@@ -163,8 +164,9 @@ impl<L: Link + Drop> UpstreamWorker<L> {
         }
     }
 
-    // Writes what waits, hands in the moment, gives up at most one request that has waited for too long, turns the lane
-    // over where it is time, and gets at most one answer. `None` where the turn goes on.
+    // Writes what waits, hands in the moment, turns the lane over where it is time, and gets at most one
+    // answer. Where octets are left it gives up at most one request that has waited for too long, and does
+    // no more. `None` where the turn goes on.
     pub(crate) fn open_part<R: Wait, G: Gate>(
         &mut self,
         at: &Exchange,
@@ -199,12 +201,12 @@ impl<L: Link + Drop> UpstreamWorker<L> {
             return Ok(Some(last_end(left)));
         }
         self.make_room()?;
-        if self.look(now, log) {
+        if self.look(left, now, log) {
             return Ok(Some(TurnEnd::Done));
         }
-        self.expire(at, rt, gate, log)?;
         self.renew(at, rt, log)?;
         if left {
+            self.expire(Span::Twice, at, rt, gate, log)?;
             return Ok(Some(TurnEnd::Worked));
         }
         self.make_room()?;
@@ -212,7 +214,7 @@ impl<L: Link + Drop> UpstreamWorker<L> {
         Ok(None)
     }
 
-    // Reads once, and decides what came. `None` where the turn goes on.
+    // Reads once, decides what came, and judges the timers. `None` where the turn goes on.
     pub(crate) fn read_on<R: Wait, G: Gate, D: Directory>(
         &mut self,
         at: &Exchange,
@@ -248,22 +250,22 @@ impl<L: Link + Drop> UpstreamWorker<L> {
         ensures kept { (self.new.stand.age.turns ≡ self.old.stand.age.turns)
             × (self.new.first ≡ self.old.first) × (self.new.ends ≡ self.old.ends) }
     {
-        let ended = self.read(log)?;
-        match self.decide_all(ended, at, rt, gate, directory, now, log)? {
-            Progress::Brimming => return Ok(Some(TurnEnd::Worked)),
+        let polled = self.read(log)?;
+        match self.decide_all(polled, at, rt, gate, directory, now, log)? {
+            Progress::Brimming => {
+                self.expire(Span::Twice, at, rt, gate, log)?;
+                return Ok(Some(TurnEnd::Worked));
+            }
             Progress::Over => {
                 let left = self.offer(log)?;
                 return Ok(Some(last_end(left)));
             }
             Progress::Part => {}
         }
-        if ended {
-            return Ok(Some(TurnEnd::Done));
-        }
-        Ok(None)
+        self.judge(polled, at, rt, gate, log)
     }
 
-    // Asks for leave, reads once, and decides what came. `None` where the turn goes on.
+    // Asks for leave, reads once, decides what came, and judges the timers. `None` where the turn goes on.
     pub(crate) fn read_part<R: Wait, G: Gate, D: Directory>(
         &mut self,
         at: &Exchange,
@@ -302,10 +304,12 @@ impl<L: Link + Drop> UpstreamWorker<L> {
         self.make_ready()?;
         if self.wire.unsent() >= MAX_PDU {
             log.push(&Step::Marked(Mark::Full), false);
+            self.expire(Span::Twice, at, rt, gate, log)?;
             return Ok(Some(TurnEnd::Worked));
         }
         let may = ask(log, gate, Point::Reading, turn);
         if !may {
+            self.expire(Span::Twice, at, rt, gate, log)?;
             return Ok(Some(TurnEnd::Idle));
         }
         self.read_on(at, rt, gate, directory, now, log)

@@ -2,7 +2,7 @@
 ghost use Rattle.std.specs.Prelude.{◌≡◌, ◌≢◌, ◌+◌, ◌≤◌, ◌<◌, ◌++◌, [], ◌∷◌, true, false, length, Some, None, Ok, Err, OnOk, OnErr, IfOk, IsSome};
 ghost use Rattle.smx_frame.specs.Stream.{HasNone};
 ghost use Rattle.smx_turns.specs.Steps.{brings_none};
-ghost use Rattle.smx_turns.specs.Wires.{some_wait, has_ended as has_link_ended};
+ghost use Rattle.smx_turns.specs.Wires.{is_end, some_wait, has_ended as has_link_ended};
 ghost use Rattle.smx_turns.specs.declared.step.Step.TheVariants.{Did};
 ghost use Rattle.smx_upstream.specs.declared.event.Event.TheVariants.{Broke};
 ghost use Rattle.smx_upstream.specs.Events.{worth};
@@ -17,7 +17,7 @@ use crate::worker::{UpstreamWorker, note};
 use smx_link::{Link, Polled, Wire};
 use smx_pdu::Pdu;
 use smx_trace::Trace;
-use smx_turns::{Fault, Log, Outcome, Step, is_end, is_memory};
+use smx_turns::{Fault, Log, Outcome, Step, is_memory};
 use std::alloc::Global;
 
 // What stands at the front of what was read.
@@ -128,13 +128,13 @@ impl<L: Link + Drop> UpstreamWorker<L> {
         }
     }
 
-    // Reads once. True where the link has ended.
-    pub(crate) fn read(&mut self, log: &mut Log<Mark, Event>) -> Result<bool, Fault>
+    // Reads once.
+    pub(crate) fn read(&mut self, log: &mut Log<Mark, Event>) -> Result<Polled, Fault>
         requires intake { 4096 ≤ self.old.wire.intake }
         requires goes_on { self.old.ending ≡ false }
         ensures phase { (t : Before) → phase_of t log.old ≡ MayRead
             → LeadsTo result Deciding (phase_of t log.new) }
-        ensures ended { IfOk result (λ ended. ended
+        ensures ended { IfOk result (λ polled. is_end polled
             ≡ has_link_ended (L.polls self.new.wire.link)) }
         ensures offered { L.offered self.new.wire.link ≡ L.offered self.old.wire.link }
         ensures failures { L.failures self.new.wire.link
@@ -159,7 +159,7 @@ impl<L: Link + Drop> UpstreamWorker<L> {
             }
         };
         log.push(&Step::Read(Ok(polled)), brings_none(polled));
-        Ok(is_end(polled))
+        Ok(polled)
     }
 
     // Sets the next whole PDU apart, or says that none is there, or answers a bad length.
@@ -168,8 +168,8 @@ impl<L: Link + Drop> UpstreamWorker<L> {
         requires none { self.old.held ≡ None }
         requires goes_on { self.old.ending ≡ false }
         requires may { MayDecide (writing_of L.polls L.offered self.old) }
-        ensures phase { (t : Before) (ended : _) → phase_of t log.old ≡ Deciding ended
-            → LeadsTo result (when_front ended) (phase_of t log.new) }
+        ensures phase { (t : Before) (polled : _) → phase_of t log.old ≡ Deciding polled
+            → LeadsTo result (when_front polled) (phase_of t log.new) }
         ensures whole { result ≡ Ok Front.Whole
             → IsSome self.new.held × (length self.new.wire.rest < length self.old.wire.rest)
             × (self.new.ending ≡ false) × (65536 ≤ self.new.wire.room)

@@ -11,6 +11,7 @@ ghost use Rattle.smx_upstream.specs.Standing.{bind_of, stand, AreEmptied};
 
 use crate::age::Age;
 use crate::event::Event;
+use crate::last::LastRequest;
 use crate::mark::Mark;
 use smx_box::{Receiver, Sender};
 use smx_link::{Link, Wire};
@@ -96,6 +97,8 @@ pub struct UpstreamWorker<L: Link + Drop> {
     pub(crate) age: Age,
     pub(crate) origin: Origin,
     pub(crate) events: Trace<Event>,
+    // The request that was sent last.
+    pub(crate) last: Option<LastRequest>,
     // Those of the last turn.
     pub(crate) steps: Trace<Step<Mark, Event>>,
     // How the turns ended.
@@ -116,6 +119,7 @@ impl<L: Link + Drop> Model for UpstreamWorker<L> {
       held = w.held;
       ending = w.ending;
       events = w.events;
+      last = w.last;
       steps = w.steps;
       ends = w.ends;
     } };
@@ -128,6 +132,7 @@ impl<L: Link + Drop> Model for UpstreamWorker<L> {
       held = w.held;
       ending = w.ending;
       events = w.events;
+      last = w.last;
       steps = w.steps;
       ends = w.ends;
     }) };
@@ -198,7 +203,8 @@ impl<L: Link + Drop> UpstreamWorker<L> {
     /// A worker whose first PDU is the session's bind (SMPP 3.4, section 4.1.5). It takes memory
     /// for 65,536 octets; where that is wanted the parts come back. Its lane's history may have
     /// `history` entries, an eighth of which is worth a shift. A request that is not answered within
-    /// `response_timer` milliseconds of its take is given up (section 7.2), at most one in a turn.
+    /// `response_timer` milliseconds of its take is given up (section 7.2), at most one in a turn: once
+    /// nothing more comes, or after twice that time.
     pub fn new(
         alloc: Global,
         parts: Parts<L>,
@@ -257,6 +263,7 @@ impl<L: Link + Drop> UpstreamWorker<L> {
             age,
             origin,
             events: Trace::new().and(&event),
+            last: None,
             steps: Trace::new(),
             ends: Trace::new(),
         })

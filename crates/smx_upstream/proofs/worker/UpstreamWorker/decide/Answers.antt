@@ -32,7 +32,7 @@ invariant_of-self g c =
     (λ h. ap (λ w. w.failed) c.note.ensures.same ∙ c.self.invariant.goes_on (ap (λ w. w.ending) c.self.view_is ∙ c.requires.goes_on))
     (c.carry-fate.ensures.worth.2 ∙ ap (λ (p : Pdu). (decided_worth p c.on_pdu-act.result c.carry-fate.result.event).ends) (sym c.of-read.ensures)
     ∙ ap (λ (a : UpAct). (decided_worth c.of-read.result.value a c.carry-fate.result.event).ends) (sym c.of-chosen.ensures)
-    ∙ ap (λ b. b || (decided_worth c.of-read.result.value c.of-chosen.result.value c.carry-fate.result.event).ends) (sym (ap (λ w. w.ending) c.self.view_is ∙ c.requires.goes_on))) (stays_bad refl (ap (λ w. w.failed) c.note.ensures.same) (ap (λ w. w.rest) c.note.ensures.same))
+    ∙ ap (λ b. b || (decided_worth c.of-read.result.value c.of-chosen.result.value c.carry-fate.result.event).ends) (sym (ap (λ w. w.ending) c.self.view_is ∙ c.requires.goes_on))) (stays_bad refl (ap (λ w. w.failed) c.note.ensures.same) (ap (λ w. w.rest) c.note.ensures.same)) refl
 
 pub returns-clause-goes : goal.returns-clause-goes
 returns-clause-goes g c = rw (← c.self.view_is)

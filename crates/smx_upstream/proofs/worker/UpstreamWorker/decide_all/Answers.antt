@@ -8,7 +8,7 @@ use Rattle.smx_upstream.proofs.worker.UpstreamWorker.decide_all.Goals as goal
 
 pub returns-then-unsent-ge-MAX_PDU-clause-phase : goal.returns-then-unsent-ge-MAX_PDU-clause-phase
 returns-then-unsent-ge-MAX_PDU-clause-phase g c = λ t same was.
-    stepped t _ _ (Marked Full) (Deciding c.args.ended) _ c.push.ensures (cell_brim t c.args.ended) (c.loop-self.invariant.phase t same was)
+    stepped t _ _ (Marked Full) (Deciding c.args.polled) _ c.push.ensures (cell_brim t c.args.polled) (c.loop-self.invariant.phase t same was)
 
 pub returns-then-unsent-ge-MAX_PDU-clause-goes : goal.returns-then-unsent-ge-MAX_PDU-clause-goes
 returns-then-unsent-ge-MAX_PDU-clause-goes g c = λ turn.
@@ -23,14 +23,14 @@ loop-self-preserved g c = record {
   turns = search rules;
   first = search rules;
   ends = search rules;
-  phase = λ t same was. c.in_ok-decide_next.ensures.phase t c.args.ended same (c.loop-self.invariant.phase t same was) ∙ ap (when_next c.args.ended) c.in-More.is;
+  phase = λ t same was. c.in_ok-decide_next.ensures.phase t c.args.polled same (c.loop-self.invariant.phase t same was) ∙ ap (when_next c.args.polled) c.in-More.is;
   goes = λ turn. goes_then turn _ _ _ _ _ _ (c.loop-self.invariant.goes turn) (c.decide_next.ensures.goes turn);
 }
 
 pub returns-in-Part-clause-phase : goal.returns-in-Part-clause-phase
 returns-in-Part-clause-phase g c = λ t same was.
-    c.in_ok-decide_next.ensures.phase t c.args.ended same (c.loop-self.invariant.phase t same was) ∙ ap (when_next c.args.ended) c.in-Part.is
+    c.in_ok-decide_next.ensures.phase t c.args.polled same (c.loop-self.invariant.phase t same was) ∙ ap (when_next c.args.polled) c.in-Part.is
 
 pub returns-in_err-decide_next-clause-phase : goal.returns-in_err-decide_next-clause-phase
 returns-in_err-decide_next-clause-phase g c = λ t same was.
-    leads_err _ _ _ _ c.from_residual.ensures.0 c.from_residual.ensures.1 (c.in_err-decide_next.ensures.phase t c.args.ended same (c.loop-self.invariant.phase t same was))
+    leads_err _ _ _ _ c.from_residual.ensures.0 c.from_residual.ensures.1 (c.in_err-decide_next.ensures.phase t c.args.polled same (c.loop-self.invariant.phase t same was))

@@ -12,7 +12,7 @@ invariant-loop-self g l = record {
   turns : l.self.stand.age.turns ≡ l.fn.self.stand.age.turns;
   first : l.self.first ≡ l.fn.self.first;
   ends : l.self.ends ≡ l.fn.self.ends;
-  phase : (t : Before) → t.now ≡ l.fn.now → phase_of t l.fn.log ≡ Deciding l.fn.ended → phase_of t l.log ≡ Deciding l.fn.ended;
+  phase : (t : Before) → t.now ≡ l.fn.now → phase_of t l.fn.log ≡ Deciding l.fn.polled → phase_of t l.log ≡ Deciding l.fn.polled;
   goes : (turn : ℕ) → LeadsOn turn (scene_of g.L.Link.polls g.L.Link.offered (g.G.Gate.asked l.fn.gate) (g.G.Gate.told l.fn.gate) (g.D.Directory.queries l.fn.directory) l.fn.self)
       (scene_of g.L.Link.polls g.L.Link.offered (g.G.Gate.asked l.gate) (g.G.Gate.told l.gate) (g.D.Directory.queries l.directory) l.self) l.fn.log l.log;
 }

@@ -3,7 +3,8 @@ use Rattle.std.proofs.lemmas.List.{append-nil}
 use Rattle.smx_shared.specs.Serving.{Expires}
 use Rattle.smx_turns.specs.declared.step.Step.TheVariants.{Did}
 use Rattle.smx_upstream.specs.declared.event.Event.TheVariants.{Expired}
-use Rattle.smx_upstream.specs.Phases.{Watched, Swept, unless_spent}
+use Rattle.smx_upstream.specs.Phases.{Sweeping, unless_spent}
+use Rattle.smx_upstream.specs.Ages.{time_of}
 use Rattle.smx_upstream.specs.Events.{expiry_tells, is_spent_expiry}
 use Rattle.smx_turns.proofs.Breaking.{stays_bad}
 use Rattle.smx_upstream.proofs.Eventful.{did, goes_did, goes_on, writes_same}
@@ -12,26 +13,28 @@ use Rattle.smx_upstream.proofs.worker.UpstreamWorker.expire.Goals as goal
 
 pub invariant_of-self : goal.invariant_of-self
 invariant_of-self g c =
-    did _ _ (Expired c.lane-lane.result c.of.result) c.self.invariant c.jot.ensures.events refl refl (sym (append-nil _)) refl (
+    did _ _ (Expired c.lane-lane.result c.args.span c.of.result) c.self.invariant c.jot.ensures.events refl refl (sym (append-nil _)) refl (
       c.lane-lane.ensures,
-      subst (λ r. Expires c.self.inside.tap.front c.fail_expired-failed.new.self.front c.self.inside.session.latest c.self.inside.age.response_timer r) (sym c.of.ensures)
-          (subst (λ n. Expires c.self.inside.tap.front c.fail_expired-failed.new.self.front n c.self.inside.age.response_timer c.fail_expired-failed.result) c.latest-now.ensures c.fail_expired-failed.ensures.served),
+      subst (λ r. Expires c.self.inside.tap.front c.fail_expired-failed.new.self.front c.self.inside.session.latest (time_of c.args.span c.self.inside.age) r) (sym c.of.ensures)
+          (subst (λ n. Expires c.self.inside.tap.front c.fail_expired-failed.new.self.front c.self.inside.session.latest n c.fail_expired-failed.result) c.time_of-time.ensures
+          (subst (λ n. Expires c.self.inside.tap.front c.fail_expired-failed.new.self.front n c.time_of-time.result c.fail_expired-failed.result) c.latest-now.ensures c.fail_expired-failed.ensures.served)),
       c.fail_expired-failed.ensures.same.0,
       refl,
-    ) c.self.invariant.goes_on (goes_on c.self.inside.ending) (stays_bad refl refl refl)
+    ) c.self.invariant.goes_on (goes_on c.self.inside.ending) (stays_bad refl refl refl) refl
 
 pub returns-clause-goes : goal.returns-clause-goes
 returns-clause-goes g c = rw (← c.self.view_is)
-    (λ turn queries. goes_did turn _ _ _ _ (Expired c.lane-lane.result c.of.result) c.jot.ensures.log c.tell.ensures.asked
+    (λ turn queries. goes_did turn _ _ _ _ (Expired c.lane-lane.result c.args.span c.of.result) c.jot.ensures.log c.tell.ensures.asked
     (c.tell.ensures.told ∙ ap (λ r. g.G.Gate.told c.args.gate.now ++ expiry_tells c.lane-lane.result r) (sym c.of.ensures)) (sym (append-nil queries)) c.jot.ensures.events (
       c.lane-lane.ensures,
-      subst (λ r. Expires c.self.inside.tap.front c.fail_expired-failed.new.self.front c.self.inside.session.latest c.self.inside.age.response_timer r) (sym c.of.ensures)
-          (subst (λ n. Expires c.self.inside.tap.front c.fail_expired-failed.new.self.front n c.self.inside.age.response_timer c.fail_expired-failed.result) c.latest-now.ensures c.fail_expired-failed.ensures.served),
+      subst (λ r. Expires c.self.inside.tap.front c.fail_expired-failed.new.self.front c.self.inside.session.latest (time_of c.args.span c.self.inside.age) r) (sym c.of.ensures)
+          (subst (λ n. Expires c.self.inside.tap.front c.fail_expired-failed.new.self.front c.self.inside.session.latest n c.fail_expired-failed.result) c.time_of-time.ensures
+          (subst (λ n. Expires c.self.inside.tap.front c.fail_expired-failed.new.self.front n c.time_of-time.result c.fail_expired-failed.result) c.latest-now.ensures c.fail_expired-failed.ensures.served)),
       c.fail_expired-failed.ensures.same.0,
       refl,
     ) refl (record { fits = tt; same = writes_same (sym (append-nil _)) refl refl }))
 
 pub returns-clause-phase : goal.returns-clause-phase
-returns-clause-phase g c = λ t left was.
-    c.unless_spent.ensures.leads (Swept left) _ (stepped t _ _ (Did (Expired c.lane-lane.result c.of.result)) (Watched left) _ c.jot.ensures.log (cell_expired t left _ _) was
-    ∙ ap (λ b. unless_spent b (Swept left)) (ap is_spent_expiry c.of.ensures ∙ sym c.is_spent_expiry.ensures))
+returns-clause-phase g c = λ t p was.
+    c.unless_spent.ensures.leads p _ (stepped t _ _ (Did (Expired c.lane-lane.result c.args.span c.of.result)) (Sweeping c.args.span p) _ c.jot.ensures.log (cell_expired t c.args.span p _ _) was
+    ∙ ap (λ b. unless_spent b p) (ap is_spent_expiry c.of.ensures ∙ sym c.is_spent_expiry.ensures))

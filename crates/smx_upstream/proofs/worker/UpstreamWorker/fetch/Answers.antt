@@ -1,4 +1,4 @@
-use Rattle.std.proofs.Common.{rules, true≢false, [], ◌∷◌, ◌++◌, refl, sym, ap, ◌∙◌, subst}
+use Rattle.std.proofs.Common.{rules, [], ◌∷◌, ◌++◌, refl, sym, ap, ◌∙◌, subst}
 use Rattle.std.proofs.lemmas.List.{append-nil}
 use Rattle.smx_turns.specs.declared.step.Step.TheVariants.{Marked, Did}
 use Rattle.smx_upstream.specs.declared.mark.Mark.TheVariants.{Part}
@@ -22,7 +22,7 @@ invariant_of-self-in-Err g c =
     (record {
       stays = none_bad c.self.inside.wire (c.self.invariant.goes_on (ap (λ w. w.ending) c.self.view_is ∙ c.requires.goes_on));
       met = λ _. bad_as c.hear.new.self c.break_off.new.wire (ap (λ w. w.failed) c.break_off.ensures.same) (ap (λ w. w.rest) c.break_off.ensures.same) (bad_front _ _ _ c.in-Err.ensures.bad (c.is_memory.ensures.other c.if-is_memory.false));
-    })
+    }) refl
 
 pub invariant_of-self : goal.invariant_of-self
 invariant_of-self g c =

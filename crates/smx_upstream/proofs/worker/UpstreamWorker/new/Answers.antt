@@ -13,4 +13,4 @@ invariant_of-result g c =
     (stands_same c.of-origin.ensures.session c.of-origin.ensures.tap c.of-origin.ensures.answers (ap (λ v. v.items) c.of-origin.ensures.senders) (ap (λ v. v.items) c.of-origin.ensures.owed) c.of-origin.ensures.age)
     (subst HoldNone (ap (λ v. v.items) (sym c.of-origin.ensures.owed)) (emptied_none c.args.parts.owed.items c.let_go.new.owed.items c.let_go.ensures))
     (c.of.ensures ∙ c.in-Ok.ensures ∙ ap bind_of (sym c.of-origin.ensures.session), sym (stands_same c.of-origin.ensures.session c.of-origin.ensures.tap c.of-origin.ensures.answers (ap (λ v. v.items) c.of-origin.ensures.senders) (ap (λ v. v.items) c.of-origin.ensures.owed) c.of-origin.ensures.age))
-    (ap (λ w. w.failed) c.say.ensures.same ∙ ap (λ w. w.failed) c.make_room.ensures.same ∙ c.new-wire.ensures.failed) refl refl
+    (ap (λ w. w.failed) c.say.ensures.same ∙ ap (λ w. w.failed) c.make_room.ensures.same ∙ c.new-wire.ensures.failed) refl refl refl

@@ -10,7 +10,7 @@ use Rattle.smx_upstream.proofs.worker.UpstreamWorker.open.Goals as goal
 
 pub invariant_of-self : goal.invariant_of-self
 invariant_of-self g c =
-    did _ _ (Opened c.next_turn-age.result.turns) c.self.invariant c.jot.ensures.events refl refl (sym (append-nil _)) refl (ap (λ a. a.turns) c.next_turn-age.ensures, stands_same refl refl refl refl refl c.next_turn-age.ensures) c.self.invariant.goes_on (goes_on c.self.inside.ending) (stays_bad refl refl refl)
+    did _ _ (Opened c.next_turn-age.result.turns) c.self.invariant c.jot.ensures.events refl refl (sym (append-nil _)) refl (ap (λ a. a.turns) c.next_turn-age.ensures, stands_same refl refl refl refl refl c.next_turn-age.ensures) c.self.invariant.goes_on (goes_on c.self.inside.ending) (stays_bad refl refl refl) refl
 
 pub returns-clause-phase : goal.returns-clause-phase
 returns-clause-phase g c = λ t. stepped t _ _ (Did (Opened c.next_turn-age.result.turns)) Opening _ c.jot.ensures.log (cell_opened t _)

@@ -2,10 +2,16 @@ use Rattle.std.proofs.Common.{◌≢◌, [], List, ℕ, refl, sym, ap, ◌∙◌
 use Rattle.smx_upstream.specs.Working.{scene_of}
 use Rattle.smx_turns.specs.Rounds.{last_end}
 use Rattle.smx_turns.specs.declared.end.TurnEnd.{TurnEnd}
-use Rattle.smx_upstream.specs.Phases.{Written, Clear, Sated, Gone, Clogged, EndsEarly, phase_of, unless_left, when_kept, after_offer, when_looked}
+use Rattle.smx_upstream.specs.Phases.{Written, Clear, Sated, Gone, Clogged, EndsEarly, phase_of, unless_left, when_kept, after_offer, when_gone}
 use Rattle.smx_upstream.proofs.Eventful.{goes_then, goes_to}
 use Rattle.smx_upstream.proofs.Cells.{early, ends_clogged, ends_left, ends_gone, part_err, waits_as, wanted}
 use Rattle.smx_upstream.proofs.worker.UpstreamWorker.open_part.Goals as goal
+
+pub returns-in_err-left-clause-goes : goal.returns-in_err-left-clause-goes
+returns-in_err-left-clause-goes g c = λ turn queries. c.offer.ensures.goes turn (g.G.Gate.asked c.args.gate.now) (g.G.Gate.told c.args.gate.now) queries
+
+pub returns-then-self-clause-goes : goal.returns-then-self-clause-goes
+returns-then-self-clause-goes g c = λ turn queries. c.offer.ensures.goes turn (g.G.Gate.asked c.args.gate.now) (g.G.Gate.told c.args.gate.now) queries
 
 pub returns-in_err-make_room-clause-goes : goal.returns-in_err-make_room-clause-goes
 returns-in_err-make_room-clause-goes g c = λ turn queries. (goes_to turn _ _ _ _ _ (ap (λ w. scene_of g.L.Link.polls g.L.Link.offered (g.G.Gate.asked c.args.gate.now) (g.G.Gate.told c.args.gate.now) queries w) c.make_room.ensures.same) (c.offer.ensures.goes turn (g.G.Gate.asked c.args.gate.now) (g.G.Gate.told c.args.gate.now) queries))
@@ -13,23 +19,23 @@ returns-in_err-make_room-clause-goes g c = λ turn queries. (goes_to turn _ _ _ 
 pub returns-then-look-clause-goes : goal.returns-then-look-clause-goes
 returns-then-look-clause-goes g c = λ turn queries. (goes_then turn _ _ _ _ _ _ (goes_to turn _ _ _ _ _ (ap (λ w. scene_of g.L.Link.polls g.L.Link.offered (g.G.Gate.asked c.args.gate.now) (g.G.Gate.told c.args.gate.now) queries w) c.make_room.ensures.same) (c.offer.ensures.goes turn (g.G.Gate.asked c.args.gate.now) (g.G.Gate.told c.args.gate.now) queries)) (c.look.ensures.goes turn (g.G.Gate.asked c.args.gate.now) (g.G.Gate.told c.args.gate.now) queries))
 
-pub returns-in_err-expire-clause-goes : goal.returns-in_err-expire-clause-goes
-returns-in_err-expire-clause-goes g c = λ turn queries. (goes_then turn _ _ _ _ _ _ (goes_then turn _ _ _ _ _ _ (goes_to turn _ _ _ _ _ (ap (λ w. scene_of g.L.Link.polls g.L.Link.offered (g.G.Gate.asked c.args.gate.now) (g.G.Gate.told c.args.gate.now) queries w) c.make_room.ensures.same) (c.offer.ensures.goes turn (g.G.Gate.asked c.args.gate.now) (g.G.Gate.told c.args.gate.now) queries)) (c.look.ensures.goes turn (g.G.Gate.asked c.args.gate.now) (g.G.Gate.told c.args.gate.now) queries)) (c.expire.ensures.goes turn queries))
-
 pub returns-in_err-renew-clause-goes : goal.returns-in_err-renew-clause-goes
-returns-in_err-renew-clause-goes g c = λ turn queries. (goes_then turn _ _ _ _ _ _ (goes_then turn _ _ _ _ _ _ (goes_then turn _ _ _ _ _ _ (goes_to turn _ _ _ _ _ (ap (λ w. scene_of g.L.Link.polls g.L.Link.offered (g.G.Gate.asked c.args.gate.now) (g.G.Gate.told c.args.gate.now) queries w) c.make_room.ensures.same) (c.offer.ensures.goes turn (g.G.Gate.asked c.args.gate.now) (g.G.Gate.told c.args.gate.now) queries)) (c.look.ensures.goes turn (g.G.Gate.asked c.args.gate.now) (g.G.Gate.told c.args.gate.now) queries)) (c.expire.ensures.goes turn queries)) (c.renew.ensures.goes turn (g.G.Gate.asked c.expire.new.gate) (g.G.Gate.told c.expire.new.gate) queries))
+returns-in_err-renew-clause-goes g c = λ turn queries. (goes_then turn _ _ _ _ _ _ (goes_then turn _ _ _ _ _ _ (goes_to turn _ _ _ _ _ (ap (λ w. scene_of g.L.Link.polls g.L.Link.offered (g.G.Gate.asked c.args.gate.now) (g.G.Gate.told c.args.gate.now) queries w) c.make_room.ensures.same) (c.offer.ensures.goes turn (g.G.Gate.asked c.args.gate.now) (g.G.Gate.told c.args.gate.now) queries)) (c.look.ensures.goes turn (g.G.Gate.asked c.args.gate.now) (g.G.Gate.told c.args.gate.now) queries)) (c.renew.ensures.goes turn (g.G.Gate.asked c.args.gate.now) (g.G.Gate.told c.args.gate.now) queries))
+
+pub returns-in_err-expire-clause-goes : goal.returns-in_err-expire-clause-goes
+returns-in_err-expire-clause-goes g c = λ turn queries. (goes_then turn _ _ _ _ _ _ (goes_then turn _ _ _ _ _ _ (goes_then turn _ _ _ _ _ _ (goes_to turn _ _ _ _ _ (ap (λ w. scene_of g.L.Link.polls g.L.Link.offered (g.G.Gate.asked c.args.gate.now) (g.G.Gate.told c.args.gate.now) queries w) c.make_room.ensures.same) (c.offer.ensures.goes turn (g.G.Gate.asked c.args.gate.now) (g.G.Gate.told c.args.gate.now) queries)) (c.look.ensures.goes turn (g.G.Gate.asked c.args.gate.now) (g.G.Gate.told c.args.gate.now) queries)) (c.renew.ensures.goes turn (g.G.Gate.asked c.args.gate.now) (g.G.Gate.told c.args.gate.now) queries)) (c.expire.ensures.goes turn queries))
 
 pub returns-then-left-clause-goes : goal.returns-then-left-clause-goes
-returns-then-left-clause-goes g c = λ turn queries. (goes_then turn _ _ _ _ _ _ (goes_then turn _ _ _ _ _ _ (goes_then turn _ _ _ _ _ _ (goes_to turn _ _ _ _ _ (ap (λ w. scene_of g.L.Link.polls g.L.Link.offered (g.G.Gate.asked c.args.gate.now) (g.G.Gate.told c.args.gate.now) queries w) c.make_room.ensures.same) (c.offer.ensures.goes turn (g.G.Gate.asked c.args.gate.now) (g.G.Gate.told c.args.gate.now) queries)) (c.look.ensures.goes turn (g.G.Gate.asked c.args.gate.now) (g.G.Gate.told c.args.gate.now) queries)) (c.expire.ensures.goes turn queries)) (c.renew.ensures.goes turn (g.G.Gate.asked c.expire.new.gate) (g.G.Gate.told c.expire.new.gate) queries))
+returns-then-left-clause-goes g c = λ turn queries. (goes_then turn _ _ _ _ _ _ (goes_then turn _ _ _ _ _ _ (goes_then turn _ _ _ _ _ _ (goes_to turn _ _ _ _ _ (ap (λ w. scene_of g.L.Link.polls g.L.Link.offered (g.G.Gate.asked c.args.gate.now) (g.G.Gate.told c.args.gate.now) queries w) c.make_room.ensures.same) (c.offer.ensures.goes turn (g.G.Gate.asked c.args.gate.now) (g.G.Gate.told c.args.gate.now) queries)) (c.look.ensures.goes turn (g.G.Gate.asked c.args.gate.now) (g.G.Gate.told c.args.gate.now) queries)) (c.renew.ensures.goes turn (g.G.Gate.asked c.args.gate.now) (g.G.Gate.told c.args.gate.now) queries)) (c.expire.ensures.goes turn queries))
 
 pub returns-in_err-make_room-2-clause-goes : goal.returns-in_err-make_room-2-clause-goes
-returns-in_err-make_room-2-clause-goes g c = λ turn queries. (goes_to turn _ _ _ _ _ (ap (λ w. scene_of g.L.Link.polls g.L.Link.offered (g.G.Gate.asked c.expire.new.gate) (g.G.Gate.told c.expire.new.gate) queries w) c.make_room-2.ensures.same) (goes_then turn _ _ _ _ _ _ (goes_then turn _ _ _ _ _ _ (goes_then turn _ _ _ _ _ _ (goes_to turn _ _ _ _ _ (ap (λ w. scene_of g.L.Link.polls g.L.Link.offered (g.G.Gate.asked c.args.gate.now) (g.G.Gate.told c.args.gate.now) queries w) c.make_room.ensures.same) (c.offer.ensures.goes turn (g.G.Gate.asked c.args.gate.now) (g.G.Gate.told c.args.gate.now) queries)) (c.look.ensures.goes turn (g.G.Gate.asked c.args.gate.now) (g.G.Gate.told c.args.gate.now) queries)) (c.expire.ensures.goes turn queries)) (c.renew.ensures.goes turn (g.G.Gate.asked c.expire.new.gate) (g.G.Gate.told c.expire.new.gate) queries)))
+returns-in_err-make_room-2-clause-goes g c = λ turn queries. (goes_to turn _ _ _ _ _ (ap (λ w. scene_of g.L.Link.polls g.L.Link.offered (g.G.Gate.asked c.args.gate.now) (g.G.Gate.told c.args.gate.now) queries w) c.make_room-2.ensures.same) (goes_then turn _ _ _ _ _ _ (goes_then turn _ _ _ _ _ _ (goes_to turn _ _ _ _ _ (ap (λ w. scene_of g.L.Link.polls g.L.Link.offered (g.G.Gate.asked c.args.gate.now) (g.G.Gate.told c.args.gate.now) queries w) c.make_room.ensures.same) (c.offer.ensures.goes turn (g.G.Gate.asked c.args.gate.now) (g.G.Gate.told c.args.gate.now) queries)) (c.look.ensures.goes turn (g.G.Gate.asked c.args.gate.now) (g.G.Gate.told c.args.gate.now) queries)) (c.renew.ensures.goes turn (g.G.Gate.asked c.args.gate.now) (g.G.Gate.told c.args.gate.now) queries)))
 
 pub returns-in_err-seek-clause-goes : goal.returns-in_err-seek-clause-goes
-returns-in_err-seek-clause-goes g c = λ turn queries. (goes_then turn _ _ _ _ _ _ (goes_to turn _ _ _ _ _ (ap (λ w. scene_of g.L.Link.polls g.L.Link.offered (g.G.Gate.asked c.expire.new.gate) (g.G.Gate.told c.expire.new.gate) queries w) c.make_room-2.ensures.same) (goes_then turn _ _ _ _ _ _ (goes_then turn _ _ _ _ _ _ (goes_then turn _ _ _ _ _ _ (goes_to turn _ _ _ _ _ (ap (λ w. scene_of g.L.Link.polls g.L.Link.offered (g.G.Gate.asked c.args.gate.now) (g.G.Gate.told c.args.gate.now) queries w) c.make_room.ensures.same) (c.offer.ensures.goes turn (g.G.Gate.asked c.args.gate.now) (g.G.Gate.told c.args.gate.now) queries)) (c.look.ensures.goes turn (g.G.Gate.asked c.args.gate.now) (g.G.Gate.told c.args.gate.now) queries)) (c.expire.ensures.goes turn queries)) (c.renew.ensures.goes turn (g.G.Gate.asked c.expire.new.gate) (g.G.Gate.told c.expire.new.gate) queries))) (c.seek.ensures.goes turn (g.G.Gate.asked c.expire.new.gate) (g.G.Gate.told c.expire.new.gate) queries))
+returns-in_err-seek-clause-goes g c = λ turn queries. (goes_then turn _ _ _ _ _ _ (goes_to turn _ _ _ _ _ (ap (λ w. scene_of g.L.Link.polls g.L.Link.offered (g.G.Gate.asked c.args.gate.now) (g.G.Gate.told c.args.gate.now) queries w) c.make_room-2.ensures.same) (goes_then turn _ _ _ _ _ _ (goes_then turn _ _ _ _ _ _ (goes_to turn _ _ _ _ _ (ap (λ w. scene_of g.L.Link.polls g.L.Link.offered (g.G.Gate.asked c.args.gate.now) (g.G.Gate.told c.args.gate.now) queries w) c.make_room.ensures.same) (c.offer.ensures.goes turn (g.G.Gate.asked c.args.gate.now) (g.G.Gate.told c.args.gate.now) queries)) (c.look.ensures.goes turn (g.G.Gate.asked c.args.gate.now) (g.G.Gate.told c.args.gate.now) queries)) (c.renew.ensures.goes turn (g.G.Gate.asked c.args.gate.now) (g.G.Gate.told c.args.gate.now) queries))) (c.seek.ensures.goes turn (g.G.Gate.asked c.args.gate.now) (g.G.Gate.told c.args.gate.now) queries))
 
 pub returns-clause-goes : goal.returns-clause-goes
-returns-clause-goes g c = λ turn queries. (goes_then turn _ _ _ _ _ _ (goes_to turn _ _ _ _ _ (ap (λ w. scene_of g.L.Link.polls g.L.Link.offered (g.G.Gate.asked c.expire.new.gate) (g.G.Gate.told c.expire.new.gate) queries w) c.make_room-2.ensures.same) (goes_then turn _ _ _ _ _ _ (goes_then turn _ _ _ _ _ _ (goes_then turn _ _ _ _ _ _ (goes_to turn _ _ _ _ _ (ap (λ w. scene_of g.L.Link.polls g.L.Link.offered (g.G.Gate.asked c.args.gate.now) (g.G.Gate.told c.args.gate.now) queries w) c.make_room.ensures.same) (c.offer.ensures.goes turn (g.G.Gate.asked c.args.gate.now) (g.G.Gate.told c.args.gate.now) queries)) (c.look.ensures.goes turn (g.G.Gate.asked c.args.gate.now) (g.G.Gate.told c.args.gate.now) queries)) (c.expire.ensures.goes turn queries)) (c.renew.ensures.goes turn (g.G.Gate.asked c.expire.new.gate) (g.G.Gate.told c.expire.new.gate) queries))) (c.seek.ensures.goes turn (g.G.Gate.asked c.expire.new.gate) (g.G.Gate.told c.expire.new.gate) queries))
+returns-clause-goes g c = λ turn queries. (goes_then turn _ _ _ _ _ _ (goes_to turn _ _ _ _ _ (ap (λ w. scene_of g.L.Link.polls g.L.Link.offered (g.G.Gate.asked c.args.gate.now) (g.G.Gate.told c.args.gate.now) queries w) c.make_room-2.ensures.same) (goes_then turn _ _ _ _ _ _ (goes_then turn _ _ _ _ _ _ (goes_to turn _ _ _ _ _ (ap (λ w. scene_of g.L.Link.polls g.L.Link.offered (g.G.Gate.asked c.args.gate.now) (g.G.Gate.told c.args.gate.now) queries w) c.make_room.ensures.same) (c.offer.ensures.goes turn (g.G.Gate.asked c.args.gate.now) (g.G.Gate.told c.args.gate.now) queries)) (c.look.ensures.goes turn (g.G.Gate.asked c.args.gate.now) (g.G.Gate.told c.args.gate.now) queries)) (c.renew.ensures.goes turn (g.G.Gate.asked c.args.gate.now) (g.G.Gate.told c.args.gate.now) queries))) (c.seek.ensures.goes turn (g.G.Gate.asked c.args.gate.now) (g.G.Gate.told c.args.gate.now) queries))
 
 pub returns-in_err-left-clause-phase : goal.returns-in_err-left-clause-phase
 returns-in_err-left-clause-phase g c = λ t same was.
@@ -45,42 +51,36 @@ returns-in_err-make_room-clause-phase g c = λ t same was.
 
 pub returns-then-look-clause-phase : goal.returns-then-look-clause-phase
 returns-then-look-clause-phase g c = λ t same was.
-    early _ _ Gone (c.look.ensures.phase t c.in_ok-left.left (ap (λ x. x.now) same) ((c.in_ok-left.ensures.opening t (ap (λ x. x.waited) same) was) ∙ ap (λ e. after_offer e c.in_ok-left.left) (ap (λ x. x.ending) same ∙ sym (ap (λ w. w.ending) c.self.view_is ∙ ap (λ w. w.ending) c.offer.ensures.same) ∙ c.if-self.false)) ∙ ap (when_looked c.in_ok-left.left) c.if-look.true) ends_gone
-
-pub returns-in_err-expire-clause-phase : goal.returns-in_err-expire-clause-phase
-returns-in_err-expire-clause-phase g c = λ t same was.
-    part_err Sated _ _ _ c.from_residual-in_err-expire.ensures.0 c.from_residual-in_err-expire.ensures.1 (c.in_err-expire.ensures.phase t c.in_ok-left.left (c.look.ensures.phase t c.in_ok-left.left (ap (λ x. x.now) same) ((c.in_ok-left.ensures.opening t (ap (λ x. x.waited) same) was) ∙ ap (λ e. after_offer e c.in_ok-left.left) (ap (λ x. x.ending) same ∙ sym (ap (λ w. w.ending) c.self.view_is ∙ ap (λ w. w.ending) c.offer.ensures.same) ∙ c.if-self.false)) ∙ ap (when_looked c.in_ok-left.left) c.if-look.false))
+    early _ _ Gone (c.look.ensures.phase t (ap (λ x. x.now) same) ((c.in_ok-left.ensures.opening t (ap (λ x. x.waited) same) was) ∙ ap (λ e. after_offer e c.in_ok-left.left) (ap (λ x. x.ending) same ∙ sym (ap (λ w. w.ending) c.self.view_is ∙ ap (λ w. w.ending) c.offer.ensures.same) ∙ c.if-self.false)) ∙ ap (when_gone c.in_ok-left.left) c.if-look.true) ends_gone
 
 pub returns-in_err-renew-clause-phase : goal.returns-in_err-renew-clause-phase
 returns-in_err-renew-clause-phase g c = λ t same was.
-    part_err Sated _ _ _ c.from_residual-in_err-renew.ensures.0 c.from_residual-in_err-renew.ensures.1 (c.in_err-renew.ensures.phase t c.in_ok-left.left (c.in_ok-expire.ensures.phase t c.in_ok-left.left (c.look.ensures.phase t c.in_ok-left.left (ap (λ x. x.now) same) ((c.in_ok-left.ensures.opening t (ap (λ x. x.waited) same) was) ∙ ap (λ e. after_offer e c.in_ok-left.left) (ap (λ x. x.ending) same ∙ sym (ap (λ w. w.ending) c.self.view_is ∙ ap (λ w. w.ending) c.offer.ensures.same) ∙ c.if-self.false)) ∙ ap (when_looked c.in_ok-left.left) c.if-look.false)))
+    part_err Sated _ _ _ c.from_residual-in_err-renew.ensures.0 c.from_residual-in_err-renew.ensures.1 (c.in_err-renew.ensures.phase t c.in_ok-left.left (c.look.ensures.phase t (ap (λ x. x.now) same) ((c.in_ok-left.ensures.opening t (ap (λ x. x.waited) same) was) ∙ ap (λ e. after_offer e c.in_ok-left.left) (ap (λ x. x.ending) same ∙ sym (ap (λ w. w.ending) c.self.view_is ∙ ap (λ w. w.ending) c.offer.ensures.same) ∙ c.if-self.false)) ∙ ap (when_gone c.in_ok-left.left) c.if-look.false))
+
+pub returns-in_err-expire-clause-phase : goal.returns-in_err-expire-clause-phase
+returns-in_err-expire-clause-phase g c = λ t same was.
+    part_err Sated _ _ _ c.from_residual-in_err-expire.ensures.0 c.from_residual-in_err-expire.ensures.1 (c.in_err-expire.ensures.phase t Clogged (c.in_ok-renew.ensures.phase t c.in_ok-left.left (c.look.ensures.phase t (ap (λ x. x.now) same) ((c.in_ok-left.ensures.opening t (ap (λ x. x.waited) same) was) ∙ ap (λ e. after_offer e c.in_ok-left.left) (ap (λ x. x.ending) same ∙ sym (ap (λ w. w.ending) c.self.view_is ∙ ap (λ w. w.ending) c.offer.ensures.same) ∙ c.if-self.false)) ∙ ap (when_gone c.in_ok-left.left) c.if-look.false) ∙ ap when_kept c.if-left.true))
 
 pub returns-then-left-clause-phase : goal.returns-then-left-clause-phase
 returns-then-left-clause-phase g c = λ t same was.
-    early _ _ Clogged ((c.in_ok-renew.ensures.phase t c.in_ok-left.left (c.in_ok-expire.ensures.phase t c.in_ok-left.left (c.look.ensures.phase t c.in_ok-left.left (ap (λ x. x.now) same) ((c.in_ok-left.ensures.opening t (ap (λ x. x.waited) same) was) ∙ ap (λ e. after_offer e c.in_ok-left.left) (ap (λ x. x.ending) same ∙ sym (ap (λ w. w.ending) c.self.view_is ∙ ap (λ w. w.ending) c.offer.ensures.same) ∙ c.if-self.false)) ∙ ap (when_looked c.in_ok-left.left) c.if-look.false))) ∙ ap when_kept c.if-left.true) ends_clogged
+    early _ _ Clogged (c.in_ok-expire.ensures.phase t Clogged (c.in_ok-renew.ensures.phase t c.in_ok-left.left (c.look.ensures.phase t (ap (λ x. x.now) same) ((c.in_ok-left.ensures.opening t (ap (λ x. x.waited) same) was) ∙ ap (λ e. after_offer e c.in_ok-left.left) (ap (λ x. x.ending) same ∙ sym (ap (λ w. w.ending) c.self.view_is ∙ ap (λ w. w.ending) c.offer.ensures.same) ∙ c.if-self.false)) ∙ ap (when_gone c.in_ok-left.left) c.if-look.false) ∙ ap when_kept c.if-left.true)) ends_clogged
 
 pub returns-then-left-clause-waits : goal.returns-then-left-clause-waits
 returns-then-left-clause-waits g c = λ t same was.
-    waits_as _ Clogged _ _ ((c.in_ok-renew.ensures.phase t c.in_ok-left.left (c.in_ok-expire.ensures.phase t c.in_ok-left.left (c.look.ensures.phase t c.in_ok-left.left (ap (λ x. x.now) same) ((c.in_ok-left.ensures.opening t (ap (λ x. x.waited) same) was) ∙ ap (λ e. after_offer e c.in_ok-left.left) (ap (λ x. x.ending) same ∙ sym (ap (λ w. w.ending) c.self.view_is ∙ ap (λ w. w.ending) c.offer.ensures.same) ∙ c.if-self.false)) ∙ ap (when_looked c.in_ok-left.left) c.if-look.false))) ∙ ap when_kept c.if-left.true)
-    (subst (λ (l : List ℕ). l ≢ []) (sym (ap (λ w. w.wire.unsent) c.renew.ensures.same ∙ ap (λ w. w.wire.unsent) c.expire.ensures.same))
+    waits_as _ Clogged _ _ (c.in_ok-expire.ensures.phase t Clogged (c.in_ok-renew.ensures.phase t c.in_ok-left.left (c.look.ensures.phase t (ap (λ x. x.now) same) ((c.in_ok-left.ensures.opening t (ap (λ x. x.waited) same) was) ∙ ap (λ e. after_offer e c.in_ok-left.left) (ap (λ x. x.ending) same ∙ sym (ap (λ w. w.ending) c.self.view_is ∙ ap (λ w. w.ending) c.offer.ensures.same) ∙ c.if-self.false)) ∙ ap (when_gone c.in_ok-left.left) c.if-look.false) ∙ ap when_kept c.if-left.true))
+    (subst (λ (l : List ℕ). l ≢ []) (sym (ap (λ w. w.wire.unsent) c.expire.ensures.same ∙ ap (λ w. w.wire.unsent) c.renew.ensures.same))
     (c.look.ensures.left (subst (λ (l : List ℕ). l ≢ []) (sym (ap (λ w. w.wire.unsent) c.make_room.ensures.same)) (c.in_ok-left.ensures.left.0 c.if-left.true))))
 
 pub returns-in_err-make_room-2-clause-phase : goal.returns-in_err-make_room-2-clause-phase
 returns-in_err-make_room-2-clause-phase g c = λ t same was.
-    part_err Sated _ _ _ c.from_residual-in_err-make_room-2.ensures.0 c.from_residual-in_err-make_room-2.ensures.1 (wanted _ _ _ Clear c.in_err-make_room-2.ensures.err refl ((c.in_ok-renew.ensures.phase t c.in_ok-left.left (c.in_ok-expire.ensures.phase t c.in_ok-left.left (c.look.ensures.phase t c.in_ok-left.left (ap (λ x. x.now) same) ((c.in_ok-left.ensures.opening t (ap (λ x. x.waited) same) was) ∙ ap (λ e. after_offer e c.in_ok-left.left) (ap (λ x. x.ending) same ∙ sym (ap (λ w. w.ending) c.self.view_is ∙ ap (λ w. w.ending) c.offer.ensures.same) ∙ c.if-self.false)) ∙ ap (when_looked c.in_ok-left.left) c.if-look.false))) ∙ ap when_kept c.if-left.false) tt)
+    part_err Sated _ _ _ c.from_residual-in_err-make_room-2.ensures.0 c.from_residual-in_err-make_room-2.ensures.1 (wanted _ _ _ Clear c.in_err-make_room-2.ensures.err refl (c.in_ok-renew.ensures.phase t c.in_ok-left.left (c.look.ensures.phase t (ap (λ x. x.now) same) ((c.in_ok-left.ensures.opening t (ap (λ x. x.waited) same) was) ∙ ap (λ e. after_offer e c.in_ok-left.left) (ap (λ x. x.ending) same ∙ sym (ap (λ w. w.ending) c.self.view_is ∙ ap (λ w. w.ending) c.offer.ensures.same) ∙ c.if-self.false)) ∙ ap (when_gone c.in_ok-left.left) c.if-look.false) ∙ ap when_kept c.if-left.false) tt)
 
 pub returns-in_err-seek-clause-phase : goal.returns-in_err-seek-clause-phase
 returns-in_err-seek-clause-phase g c = λ t same was.
-    part_err Sated _ _ _ c.from_residual-in_err-seek.ensures.0 c.from_residual-in_err-seek.ensures.1 (c.in_err-seek.ensures.phase t ((c.in_ok-renew.ensures.phase t c.in_ok-left.left (c.in_ok-expire.ensures.phase t c.in_ok-left.left (c.look.ensures.phase t c.in_ok-left.left (ap (λ x. x.now) same) ((c.in_ok-left.ensures.opening t (ap (λ x. x.waited) same) was) ∙ ap (λ e. after_offer e c.in_ok-left.left) (ap (λ x. x.ending) same ∙ sym (ap (λ w. w.ending) c.self.view_is ∙ ap (λ w. w.ending) c.offer.ensures.same) ∙ c.if-self.false)) ∙ ap (when_looked c.in_ok-left.left) c.if-look.false))) ∙ ap when_kept c.if-left.false))
-
-pub returns-clause-phase : goal.returns-clause-phase
-returns-clause-phase g c = λ t same was. (c.in_ok-seek.ensures.phase t ((c.in_ok-renew.ensures.phase t c.in_ok-left.left (c.in_ok-expire.ensures.phase t c.in_ok-left.left (c.look.ensures.phase t c.in_ok-left.left (ap (λ x. x.now) same) ((c.in_ok-left.ensures.opening t (ap (λ x. x.waited) same) was) ∙ ap (λ e. after_offer e c.in_ok-left.left) (ap (λ x. x.ending) same ∙ sym (ap (λ w. w.ending) c.self.view_is ∙ ap (λ w. w.ending) c.offer.ensures.same) ∙ c.if-self.false)) ∙ ap (when_looked c.in_ok-left.left) c.if-look.false))) ∙ ap when_kept c.if-left.false))
+    part_err Sated _ _ _ c.from_residual-in_err-seek.ensures.0 c.from_residual-in_err-seek.ensures.1 (c.in_err-seek.ensures.phase t (c.in_ok-renew.ensures.phase t c.in_ok-left.left (c.look.ensures.phase t (ap (λ x. x.now) same) ((c.in_ok-left.ensures.opening t (ap (λ x. x.waited) same) was) ∙ ap (λ e. after_offer e c.in_ok-left.left) (ap (λ x. x.ending) same ∙ sym (ap (λ w. w.ending) c.self.view_is ∙ ap (λ w. w.ending) c.offer.ensures.same) ∙ c.if-self.false)) ∙ ap (when_gone c.in_ok-left.left) c.if-look.false) ∙ ap when_kept c.if-left.false))
 
 pub returns-clause-waits : goal.returns-clause-waits
-returns-clause-waits g c = λ t same was. waits_as _ Sated _ _ (c.in_ok-seek.ensures.phase t ((c.in_ok-renew.ensures.phase t c.in_ok-left.left (c.in_ok-expire.ensures.phase t c.in_ok-left.left (c.look.ensures.phase t c.in_ok-left.left (ap (λ x. x.now) same) ((c.in_ok-left.ensures.opening t (ap (λ x. x.waited) same) was) ∙ ap (λ e. after_offer e c.in_ok-left.left) (ap (λ x. x.ending) same ∙ sym (ap (λ w. w.ending) c.self.view_is ∙ ap (λ w. w.ending) c.offer.ensures.same) ∙ c.if-self.false)) ∙ ap (when_looked c.in_ok-left.left) c.if-look.false))) ∙ ap when_kept c.if-left.false)) tt
+returns-clause-waits g c = λ t same was. waits_as _ Sated _ _ (c.in_ok-seek.ensures.phase t (c.in_ok-renew.ensures.phase t c.in_ok-left.left (c.look.ensures.phase t (ap (λ x. x.now) same) ((c.in_ok-left.ensures.opening t (ap (λ x. x.waited) same) was) ∙ ap (λ e. after_offer e c.in_ok-left.left) (ap (λ x. x.ending) same ∙ sym (ap (λ w. w.ending) c.self.view_is ∙ ap (λ w. w.ending) c.offer.ensures.same) ∙ c.if-self.false)) ∙ ap (when_gone c.in_ok-left.left) c.if-look.false) ∙ ap when_kept c.if-left.false)) tt
 
-pub returns-in_err-left-clause-goes : goal.returns-in_err-left-clause-goes
-returns-in_err-left-clause-goes g c = λ turn queries. c.offer.ensures.goes turn (g.G.Gate.asked c.args.gate.now) (g.G.Gate.told c.args.gate.now) queries
-
-pub returns-then-self-clause-goes : goal.returns-then-self-clause-goes
-returns-then-self-clause-goes g c = λ turn queries. c.offer.ensures.goes turn (g.G.Gate.asked c.args.gate.now) (g.G.Gate.told c.args.gate.now) queries
+pub returns-clause-phase : goal.returns-clause-phase
+returns-clause-phase g c = λ t same was. c.in_ok-seek.ensures.phase t (c.in_ok-renew.ensures.phase t c.in_ok-left.left (c.look.ensures.phase t (ap (λ x. x.now) same) ((c.in_ok-left.ensures.opening t (ap (λ x. x.waited) same) was) ∙ ap (λ e. after_offer e c.in_ok-left.left) (ap (λ x. x.ending) same ∙ sym (ap (λ w. w.ending) c.self.view_is ∙ ap (λ w. w.ending) c.offer.ensures.same) ∙ c.if-self.false)) ∙ ap (when_gone c.in_ok-left.left) c.if-look.false) ∙ ap when_kept c.if-left.false)

@@ -1,7 +1,7 @@
 use Rattle.std.proofs.Common.{refl, sym, ap, ◌∙◌, Ok, Err}
 use Rattle.smx_turns.specs.declared.end.Fault.TheVariants as fault
 use Rattle.smx_turns.specs.declared.step.Step.TheVariants.{Read}
-use Rattle.smx_upstream.specs.Phases.{MayRead, Failed, Deciding}
+use Rattle.smx_upstream.specs.Phases.{MayRead, Failed}
 use Rattle.smx_turns.specs.Wires.{has_ended as has_link_ended}
 use Rattle.smx_turns.proofs.Wires.{ended_by}
 use Rattle.smx_upstream.proofs.Eventful.{on_hearing, goes_read, sides_same, writes_same}
@@ -36,7 +36,7 @@ returns-clause-goes g c = rw (← c.self.view_is)
 
 pub returns-clause-phase : goal.returns-clause-phase
 returns-clause-phase g c = λ t was.
-    stepped t _ _ (Read (Ok c.in-Ok.polled)) MayRead _ c.push-2.ensures (cell_read t (Ok c.in-Ok.polled)) was ∙ ap Deciding (sym c.is_end.ensures)
+    stepped t _ _ (Read (Ok c.in-Ok.polled)) MayRead _ c.push-2.ensures (cell_read t (Ok c.in-Ok.polled)) was
 
 pub returns-clause-ended : goal.returns-clause-ended
-returns-clause-ended g c = c.is_end.ensures ∙ sym (ended_by _ (Ok c.in-Ok.polled)) ∙ sym (ap has_link_ended c.in-Ok.ensures.polls)
+returns-clause-ended g c = sym (ended_by _ (Ok c.in-Ok.polled)) ∙ sym (ap has_link_ended c.in-Ok.ensures.polls)

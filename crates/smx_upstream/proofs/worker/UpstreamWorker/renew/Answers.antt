@@ -3,7 +3,7 @@ use Rattle.std.proofs.lemmas.List.{append-nil}
 use Rattle.smx_turns.specs.declared.step.Step.TheVariants.{Did}
 use Rattle.smx_upstream.specs.declared.event.Event.TheVariants.{Shifted}
 use Rattle.smx_upstream.specs.Standing.{Shifts}
-use Rattle.smx_upstream.specs.Phases.{Swept, when_kept, unless_spent}
+use Rattle.smx_upstream.specs.Phases.{Watched, when_kept, unless_spent}
 use Rattle.smx_upstream.specs.Events.{is_spent_shift}
 use Rattle.smx_turns.proofs.Breaking.{stays_bad}
 use Rattle.smx_upstream.proofs.Eventful.{did, goes_did, goes_on, writes_same}
@@ -30,7 +30,7 @@ invariant_of-self g c =
       subst (Shifts c.self.inside.tap.front c.turn_over-entries.new.self.front c.least_shift-least.result) (sym c.of.ensures) (as_shifts _ _ _ _ c.turn_over-entries.ensures.served),
       c.turn_over-entries.ensures.same.0,
       refl,
-    ) c.self.invariant.goes_on (goes_on c.self.inside.ending) (stays_bad refl refl refl)
+    ) c.self.invariant.goes_on (goes_on c.self.inside.ending) (stays_bad refl refl refl) refl
 
 pub returns-clause-goes : goal.returns-clause-goes
 returns-clause-goes g c = rw (← c.self.view_is)
@@ -43,5 +43,5 @@ returns-clause-goes g c = rw (← c.self.view_is)
 
 pub returns-clause-phase : goal.returns-clause-phase
 returns-clause-phase g c = λ t left was.
-    c.unless_spent.ensures.leads (when_kept left) _ (stepped t _ _ (Did (Shifted c.least_shift-least.result c.of.result)) (Swept left) _ c.jot.ensures.log (cell_shifted t left _ _) was
+    c.unless_spent.ensures.leads (when_kept left) _ (stepped t _ _ (Did (Shifted c.least_shift-least.result c.of.result)) (Watched left) _ c.jot.ensures.log (cell_shifted t left _ _) was
     ∙ ap (λ b. unless_spent b (when_kept left)) (ap is_spent_shift c.of.ensures ∙ sym c.is_spent_shift-spent.ensures))

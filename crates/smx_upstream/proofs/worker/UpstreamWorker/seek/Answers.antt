@@ -17,7 +17,7 @@ pub invariant_of-self : goal.invariant_of-self
 invariant_of-self g c =
     did _ _ (Sought c.of.result c.settle-under.result) c.self.invariant c.note.ensures.events (ap (λ w. w.heard) c.note.ensures.same) refl c.note.ensures.said refl
     (subst (λ r. Gets c.self.inside.answers c.get-found.new.self r) (sym c.of.ensures) (gets_from c.self.inside.answers c.get-found.new.self c.get-found.result c.get-found.ensures.got c.get-found.ensures.served c.get-found.ensures.never_spent), subst (λ r. Settles r c.settle-under.result c.self.inside.owed.items c.settle-under.new.owed.items) (sym c.of.ensures) c.settle-under.ensures, refl)
-    (λ h. ap (λ w. w.failed) c.note.ensures.same ∙ c.self.invariant.goes_on h) (goes_on c.self.inside.ending) (stays_bad refl (ap (λ w. w.failed) c.note.ensures.same) (ap (λ w. w.rest) c.note.ensures.same))
+    (λ h. ap (λ w. w.failed) c.note.ensures.same ∙ c.self.invariant.goes_on h) (goes_on c.self.inside.ending) (stays_bad refl (ap (λ w. w.failed) c.note.ensures.same) (ap (λ w. w.rest) c.note.ensures.same)) refl
 
 pub returns-clause-goes : goal.returns-clause-goes
 returns-clause-goes g c = rw (← c.self.view_is)

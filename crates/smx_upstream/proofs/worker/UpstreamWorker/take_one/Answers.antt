@@ -6,6 +6,7 @@ use Rattle.smx_turns.specs.declared.step.Step.TheVariants.{Did}
 use Rattle.smx_upstream.specs.declared.event.Event.TheVariants.{Took}
 use Rattle.smx_upstream.specs.Phases.{MayTake, HasTried, unless_spent}
 use Rattle.smx_upstream.specs.Events.{is_spent_take}
+use Rattle.smx_upstream.specs.Last.{last_taken}
 use Rattle.smx_turns.specs.Wires.{has_ended as has_link_ended}
 use Rattle.smx_turns.proofs.Breaking.{stays_bad}
 use Rattle.smx_upstream.proofs.Eventful.{did, goes_did, goes_on, writes_same}
@@ -16,7 +17,7 @@ pub invariant_of-self : goal.invariant_of-self
 invariant_of-self g c =
     did _ _ (Took c.of.result) c.self.invariant c.note.ensures.events (ap (λ w. w.heard) c.note.ensures.same) refl c.note.ensures.said refl
     (ap (λ w. is_bound w.stand.session.state) c.self.view_is ∙ c.requires.bound, subst (λ r. Takes c.self.inside.tap.front c.take-taken.new.self.front c.self.inside.session.latest r) (sym c.of.ensures) (subst (λ n. Takes c.self.inside.tap.front c.take-taken.new.self.front n c.take-taken.result) c.latest.ensures c.take-taken.ensures.served), c.take-taken.ensures.same.0, refl)
-    (λ h. ap (λ w. w.failed) c.note.ensures.same ∙ c.self.invariant.goes_on h) (goes_on c.self.inside.ending) (stays_bad refl (ap (λ w. w.failed) c.note.ensures.same) (ap (λ w. w.rest) c.note.ensures.same))
+    (λ h. ap (λ w. w.failed) c.note.ensures.same ∙ c.self.invariant.goes_on h) (goes_on c.self.inside.ending) (stays_bad refl (ap (λ w. w.failed) c.note.ensures.same) (ap (λ w. w.rest) c.note.ensures.same)) (c.last_taken-self-inside.ensures ∙ ap (λ r. last_taken r c.self.inside.last) (sym c.of.ensures))
 
 pub returns-clause-goes : goal.returns-clause-goes
 returns-clause-goes g c = rw (← c.self.view_is)

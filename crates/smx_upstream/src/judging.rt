@@ -1,0 +1,86 @@
+//! What the time says of a centre, once all that had come was read.
+ghost use Rattle.std.specs.Prelude.{◌≡◌, ◌≢◌, false, slice_get, Some, None, Ok, OnOk};
+ghost use Rattle.smx_frame.specs.Stream.{HasNone};
+ghost use Rattle.smx_turns.specs.Wires.{is_end};
+ghost use Rattle.smx_upstream.specs.Standing.{was_silent};
+ghost use Rattle.smx_upstream.specs.Working.{scene_of, LeadsOn};
+ghost use Rattle.smx_upstream.specs.Phases.{phase_of, link_faults, when_part, when_judged, Before, Waits, IsPart, CaughtUp, Settled};
+
+use crate::event::{Event, Span};
+use crate::mark::Mark;
+use crate::worker::{UpstreamWorker, jot};
+use smx_link::{Link, Polled};
+use smx_session::UpstreamSession;
+use smx_shared::Exchange;
+use smx_turns::{Fault, Gate, Log, TurnEnd};
+use std::sync::Wait;
+
+// Whether the session was silent at an earlier moment than this one already.
+pub(crate) fn was_silent(session: &mut UpstreamSession, now: u64) -> bool
+    ensures silent { result ≡ was_silent session.old now }
+    ensures same { session.new ≡ session.old }
+{
+    let last = session.latest();
+    let silent = session.is_silent(last);
+    last < now && silent
+}
+
+impl<L: Link + Drop> UpstreamWorker<L> {
+    // Whether the session is silent, as of the last moment that was handed in.
+    fn find_silent(&mut self, log: &mut Log<Mark, Event>) -> bool
+        ensures phase { (t : Before) → phase_of t log.old ≡ CaughtUp
+            → phase_of t log.new ≡ when_judged result }
+        ensures goes { (turn asked told queries : _) → LeadsOn turn
+            (scene_of L.polls L.offered asked told queries self.old)
+            (scene_of L.polls L.offered asked told queries self.new) log.old log.new }
+        ensures same { self.new ≡ record self.old { events = self.new.events } }
+    {
+        let last = self.session.latest();
+        let silent = self.session.is_silent(last);
+        jot(Event::Judged(silent), true, &mut self.events, log);
+        silent
+    }
+
+    // Judges the timers once each whole PDU was decided that came, behind a read with this answer. `None`
+    // where the turn goes on.
+    pub(crate) fn judge<R: Wait, G: Gate>(
+        &mut self,
+        polled: Polled,
+        at: &Exchange,
+        rt: &R,
+        gate: &mut G,
+        log: &mut Log<Mark, Event>,
+    ) -> Result<Option<TurnEnd>, Fault>
+        requires lock { slice_get at.now self.old.stand.tap.lane
+            ≡ Some self.old.stand.tap.front.lock }
+        requires part { HasNone 65536 self.old.wire.rest }
+        ensures lock { slice_get at.now self.new.stand.tap.lane
+            ≡ Some self.new.stand.tap.front.lock }
+        ensures phase { (t : Before) → phase_of t log.old ≡ when_part polled
+            → IsPart Settled result (phase_of t log.new) }
+        ensures waits { (t : Before) → phase_of t log.old ≡ when_part polled
+            → OnOk result (Waits (phase_of t log.new) self.new.wire.unsent self.new.wire.rest) }
+        ensures goes_on { result ≡ Ok None → is_end polled ≡ false }
+        ensures faults { link_faults result ≡ 0 }
+        ensures goes { (turn queries : _) → LeadsOn turn
+            (scene_of L.polls L.offered (G.asked gate.old) (G.told gate.old) queries self.old)
+            (scene_of L.polls L.offered (G.asked gate.new)
+            (G.told gate.new) queries self.new) log.old log.new }
+        ensures same { self.new ≡ record self.old {
+          stand = record self.old.stand { tap = self.new.stand.tap };
+          events = self.new.events;
+        } }
+    {
+        match polled {
+            Polled::End => return Ok(Some(TurnEnd::Done)),
+            Polled::Octets(_) => self.expire(Span::Twice, at, rt, gate, log)?,
+            Polled::Nothing => {
+                if self.find_silent(log) {
+                    return Ok(Some(TurnEnd::Done));
+                }
+                self.expire(Span::Once, at, rt, gate, log)?;
+            }
+        }
+        Ok(None)
+    }
+}
