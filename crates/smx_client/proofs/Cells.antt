@@ -1,6 +1,6 @@
 -- Cells of the turn's table.
 use Rattle.std.proofs.Common.{◌≡◌, ◌≢◌, ℕ, Bool, true, false, List, [], ◌∷◌, ◌++◌, sym, ◌∙◌, ap, refl, subst, Result, Option, None, IsSome, is_some, length, ◌≤◌}
-use Rattle.std.specs.Prelude.{if◌then◌else◌, ◌==◌}
+use Rattle.std.specs.Prelude.{if◌then◌else◌, ◌==◌, ◌+◌}
 use Rattle.std.proofs.lemmas.Bool.{eq-eqb}
 use Rattle.std.specs.declared.snapshot.Snapshot.{Snapshot}
 use Rattle.smx_pdu.specs.declared.pdu.Pdu.{Pdu}
@@ -11,6 +11,7 @@ use Rattle.smx_session.specs.declared.kind.Kind.{Kind}
 use Rattle.smx_session.specs.declared.kind.Kind.TheVariants as kind
 use Rattle.smx_session.specs.declared.act.Act.{Act}
 use Rattle.smx_session.specs.declared.act.Act.TheVariants as act
+use Rattle.smx_session.specs.declared.enquiry.Enquiry.{Enquiry}
 use Rattle.smx_shared.specs.declared.offer.Offer.{Offer}
 use Rattle.smx_shared.specs.declared.fault.SubmitFault.{SubmitFault}
 use Rattle.smx_link.specs.declared.link.Polled.{Polled}
@@ -26,7 +27,7 @@ use Rattle.smx_client.specs.declared.mark.Stage.{Stage}
 use Rattle.smx_client.specs.declared.mark.Stage.TheVariants.{Open, Drained, Closed}
 use Rattle.smx_client.specs.declared.mark.Mark.TheVariants.{Offered, WriteFailed, Waited, NoRoom, Part, Entered, Full as Clogs}
 use Rattle.smx_client.specs.declared.reply.Reply.{Reply}
-use Rattle.smx_client.specs.declared.event.Event.TheVariants.{Decided, Broke, Collected, PutAgain, Got as Fetched}
+use Rattle.smx_client.specs.declared.event.Event.TheVariants.{Decided, Broke, Collected, PutAgain, Heard, Expired, Looked, Got as Fetched}
 use Rattle.smx_client.specs.declared.event.Fate.TheVariants.{Own, Submitted, Settled as Settles}
 use Rattle.smx_client.specs.declared.event.Delivery.{Delivery}
 use Rattle.smx_client.specs.declared.event.Verdict.{Verdict}
@@ -38,7 +39,7 @@ use Rattle.smx_shared.specs.Views.{PortView}
 use Rattle.smx_turns.specs.Rounds.{last_end}
 use Rattle.smx_turns.proofs.Logged.{phase_push}
 use Rattle.smx_client.specs.Sayings.{IsVerdict}
-use Rattle.smx_client.specs.Table.{Before, Phase, Opening, Written, MayCollect, Clear, Draining, MayRead, Deciding, MaySubmit, Unentered, Settled, Stopped, Clogged, Closing, Ending, Over, Failed, Wrong, step_of, phase_of, go, from_opening, when_offered, when_written, halts, from_written, from_boxing, from_collecting, from_draining, from_clear, from_may_read, from_deciding, from_may_submit, from_entering, from_closing, after_reply, after_got, after_collect, after_read, after_act, after_bind, after_verdict, Faulted, EndsIn, Stands, IsAt}
+use Rattle.smx_client.specs.Table.{Before, Phase, Opening, Written, MayCollect, Clear, Draining, MayRead, Hearing, Ageing, Looking, Gone, Deciding, MaySubmit, Unentered, Settled, Stopped, Clogged, Closing, Ending, Over, Failed, Wrong, step_of, phase_of, go, from_opening, when_offered, when_written, halts, from_written, from_boxing, from_collecting, from_draining, from_clear, from_may_read, from_hearing, from_ageing, from_looking, from_deciding, from_may_submit, from_entering, from_closing, after_reply, after_got, after_collect, after_read, after_expired, is_given_at, after_look, after_act, after_bind, after_verdict, Faulted, EndsIn, Stands, IsAt}
 
 -- one step more
 pub phase_more : (t : Before) (ss ss' : List step_of) (s : step_of) (p : Phase) → ss' ≡ ss ++ s ∷ [] → phase_of t ss ≡ p → phase_of t ss' ≡ go t p s
@@ -74,27 +75,28 @@ module _ (t : Before) where
   unfolding go from_collecting
   collects n r x is = ap (λ o. if n == n then after_collect n o else Wrong) is ∙ ap (λ b. if b then after_collect n x else Wrong) (eq-eqb n n refl)
 
-  puts_again : (b : Bool) (lane : ℕ) (reply : Reply) → b ≡ true → (if t.lanes == t.lanes then from_boxing b (Did (PutAgain lane reply)) else Wrong) ≡ after_reply Clear reply
+  puts_again : (b : Bool) (lane : ℕ) (reply : Reply) → b ≡ true → (if t.lanes == t.lanes then from_boxing t.now b (Did (PutAgain lane reply)) else Wrong) ≡ after_reply Clear reply
   unfolding from_boxing
   puts_again b lane reply waits =
-      ap (λ c. if c then from_boxing b (Did (PutAgain lane reply)) else Wrong) (eq-eqb t.lanes t.lanes refl) ∙ ap (λ c. from_boxing c (Did (PutAgain lane reply))) waits
+      ap (λ c. if c then from_boxing t.now b (Did (PutAgain lane reply)) else Wrong) (eq-eqb t.lanes t.lanes refl) ∙ ap (λ c. from_boxing t.now c (Did (PutAgain lane reply))) waits
 
   pub boxed_again : (lane : ℕ) (reply : Reply) → t.parked ≡ true → go t (MayCollect t.lanes) (Did (PutAgain lane reply)) ≡ after_reply Clear reply
   unfolding go from_collecting
   boxed_again lane reply waits = puts_again t.parked lane reply waits
 
-  gets : (b : Bool) (r : Snapshot (Result (Got MoItem) BoxSpent)) (d : Delivery) → b ≡ false → (if t.lanes == t.lanes then from_boxing b (Did (Fetched r d)) else Wrong) ≡ after_got r.value d
+  gets : (b : Bool) (r : Snapshot (Result (Got MoItem) BoxSpent)) (d : Delivery) → b ≡ false → is_given_at t.now d ≡ true → (if t.lanes == t.lanes then from_boxing t.now b (Did (Fetched r d)) else Wrong) ≡ after_got r.value d
   unfolding from_boxing
-  gets b r d none =
-      ap (λ c. if c then from_boxing b (Did (Fetched r d)) else Wrong) (eq-eqb t.lanes t.lanes refl) ∙ ap (λ c. from_boxing c (Did (Fetched r d))) none
+  gets b r d none given =
+      ap (λ c. if c then from_boxing t.now b (Did (Fetched r d)) else Wrong) (eq-eqb t.lanes t.lanes refl) ∙ ap (λ c. from_boxing t.now c (Did (Fetched r d))) none
+      ∙ ap (λ c. if c then after_got r.value d else Wrong) given
 
-  pub boxed_got : (r : Snapshot (Result (Got MoItem) BoxSpent)) (d : Delivery) → t.parked ≡ false → go t (MayCollect t.lanes) (Did (Fetched r d)) ≡ after_got r.value d
+  pub boxed_got : (r : Snapshot (Result (Got MoItem) BoxSpent)) (d : Delivery) → t.parked ≡ false → is_given_at t.now d ≡ true → go t (MayCollect t.lanes) (Did (Fetched r d)) ≡ after_got r.value d
   unfolding go from_collecting
-  boxed_got r d none = gets t.parked r d none
+  boxed_got r d none given = gets t.parked r d none given
 
-  full : (b : Bool) → b ≡ false → (if t.lanes == t.lanes then from_boxing b (Marked NoRoom) else Wrong) ≡ Clear
+  full : (b : Bool) → b ≡ false → (if t.lanes == t.lanes then from_boxing t.now b (Marked NoRoom) else Wrong) ≡ Clear
   unfolding from_boxing
-  full b none = ap (λ c. if c then from_boxing b (Marked NoRoom) else Wrong) (eq-eqb t.lanes t.lanes refl) ∙ ap (λ c. from_boxing c (Marked NoRoom)) none
+  full b none = ap (λ c. if c then from_boxing t.now b (Marked NoRoom) else Wrong) (eq-eqb t.lanes t.lanes refl) ∙ ap (λ c. from_boxing t.now c (Marked NoRoom)) none
 
   pub boxed_full : t.parked ≡ false → go t (MayCollect t.lanes) (Marked NoRoom) ≡ Clear
   unfolding go from_collecting
@@ -114,11 +116,35 @@ module _ (t : Before) where
 
   pub waited : t.settled ≡ false → go t MayRead (Marked Waited) ≡ Deciding false
   unfolding go from_may_read
-  waited some = ap (λ b. from_may_read b (Marked Waited)) some
+  waited some = ap (λ b. from_may_read t b (Marked Waited)) some
 
-  pub came : (answer : Result Polled LinkFault) → t.settled ≡ true → go t MayRead (Read answer) ≡ after_read answer
+  pub came : (answer : Result Polled LinkFault) → t.settled ≡ true → go t MayRead (Read answer) ≡ after_read t answer
   unfolding go from_may_read
-  came answer none = ap (λ b. from_may_read b (Read answer)) none
+  came answer none = ap (λ b. from_may_read t b (Read answer)) none
+
+  hears : (at now : ℕ) → at ≡ now → from_hearing now (Did (Heard at)) ≡ Deciding false
+  unfolding from_hearing
+  hears at now is = ap (λ b. if b then Deciding false else Wrong) (eq-eqb at now is)
+
+  pub heard : (now : ℕ) → t.now ≡ now → go t Hearing (Did (Heard now)) ≡ Deciding false
+  unfolding go
+  heard now is = hears now t.now (sym is)
+
+  pub expires : (until : ℕ) (found : Option (ℕ × ℕ × ℕ)) (reply : Reply) → until + t.message_time ≡ t.now → go t Ageing (Did (Expired until found reply)) ≡ after_expired found reply
+  unfolding go from_ageing
+  expires until found reply is = ap (λ b. if b then after_expired found reply else Wrong) (eq-eqb (until + t.message_time) t.now is)
+
+  pub clogs_look : go t Looking (Marked Clogs) ≡ Clogged
+  unfolding go from_looking
+  clogs_look = refl
+
+  looks : (at now : ℕ) (e : Snapshot Enquiry) (x : Enquiry) → at ≡ now → e.value ≡ x → from_looking now (Did (Looked at e)) ≡ after_look x
+  unfolding from_looking
+  looks at now e x is seen = ap (λ b. if b then after_look e.value else Wrong) (eq-eqb at now is) ∙ ap after_look seen
+
+  pub looked : (now : ℕ) (e : Snapshot Enquiry) (x : Enquiry) → t.now ≡ now → e.value ≡ x → go t Looking (Did (Looked now e)) ≡ after_look x
+  unfolding go
+  looked now e x is seen = looks now t.now e x (sym is) seen
 
   pub clogs_decide : (ended : Bool) → go t (Deciding ended) (Marked Clogs) ≡ Clogged
   unfolding go from_deciding
@@ -197,7 +223,7 @@ last_ends t q true quiet end u rest held parked settled stage closed is h some n
     (subst (λ x. EndsIn Worked quiet x × Stands x u rest held parked settled stage) (sym (h.1 ∙ ending t h.0)) (tt, (some refl, closed)))
 last_ends t q false quiet end u rest held parked settled stage closed is h some none =
     let e = h.1 ∙ done t h.0 in
-    subst (λ y. EndsIn y quiet q × Stands q u rest held parked settled stage) (sym is) (e, subst (λ x. Stands x u rest held parked settled stage) (sym e) (none refl, closed))
+    subst (λ y. EndsIn y quiet q × Stands q u rest held parked settled stage) (sym is) (subst (EndsIn Done quiet) (sym e) tt, subst (λ x. Stands x u rest held parked settled stage) (sym e) (none refl, closed))
 
 -- some is left of what waited at a turn's start
 pub left_ends : (t : Before) (q : Phase) (left quiet : Bool) (u rest : List ℕ) (held : Option Pdu) (parked : Option Answer) (settled : Bool) (stage : Stage) → left ≡ true
@@ -219,25 +245,31 @@ begun t q left none h = h.1 ∙ ap (λ x. go t Opening (Marked (Offered h.0 x)))
 pub over_ends : (t : Before) (q : Phase) (quiet : Bool) (u rest : List ℕ) (held : Option Pdu) (parked : Option Answer) (settled : Bool) (stage : Stage) → q ≡ when_written t t.stage → t.stage ≡ stage → stage ≡ Closed → u ≡ []
     → EndsIn Done quiet q × Stands q u rest held parked settled stage
 over_ends t q quiet u rest held parked settled stage at same closed none =
-    let e = at ∙ ap (when_written t) (same ∙ closed) in (e, subst (λ x. Stands x u rest held parked settled stage) (sym e) (none, closed))
+    let e = at ∙ ap (when_written t) (same ∙ closed) in (subst (EndsIn Done quiet) (sym e) tt, subst (λ x. Stands x u rest held parked settled stage) (sym e) (none, closed))
 
 -- what is true where a part came so far
-pub stands_at : (at : Progress) (p : Phase) (u rest : List ℕ) (held : Option Pdu) (parked : Option Answer) (settled : Bool) (stage : Stage) → at ≢ progress.Closed → IsAt at p
+pub stands_at : (at : Progress) (p : Phase) (u rest : List ℕ) (held : Option Pdu) (parked : Option Answer) (settled : Bool) (stage : Stage) → at ≢ progress.Closed → at ≢ progress.Gone → IsAt at p
     → (at ≡ progress.Settled → (settled ≡ true) × (held ≡ None) × HasNone 65536 rest) → (at ≡ progress.Parked → IsSome parked) → (at ≡ progress.Clogged → 65536 ≤ length u)
     → Stands p u rest held parked settled stage
-stands_at progress.Settled p u rest held parked settled stage going is none waits clogged = subst (λ x. Stands x u rest held parked settled stage) (sym is) (none refl)
-stands_at progress.Parked p u rest held parked settled stage going is none waits clogged = subst (λ x. Stands x u rest held parked settled stage) (sym is) (waits refl)
-stands_at progress.Stopped p u rest held parked settled stage going is none waits clogged = subst (λ x. Stands x u rest held parked settled stage) (sym is) tt
-stands_at progress.Clogged p u rest held parked settled stage going is none waits clogged = subst (λ x. Stands x u rest held parked settled stage) (sym is) (clogged refl)
-stands_at progress.Closed p u rest held parked settled stage going is none waits clogged = absurd (going refl)
+stands_at progress.Settled p u rest held parked settled stage going stays is none waits clogged = subst (λ x. Stands x u rest held parked settled stage) (sym is) (none refl)
+stands_at progress.Parked p u rest held parked settled stage going stays is none waits clogged = subst (λ x. Stands x u rest held parked settled stage) (sym is) (waits refl)
+stands_at progress.Stopped p u rest held parked settled stage going stays is none waits clogged = subst (λ x. Stands x u rest held parked settled stage) (sym is) tt
+stands_at progress.Clogged p u rest held parked settled stage going stays is none waits clogged = subst (λ x. Stands x u rest held parked settled stage) (sym is) (clogged refl)
+stands_at progress.Closed p u rest held parked settled stage going stays is none waits clogged = absurd (going refl)
+stands_at progress.Gone p u rest held parked settled stage going stays is none waits clogged = absurd (stays refl)
+
+-- the session is silent
+pub gone_ends : (p : Phase) (quiet : Bool) (u rest : List ℕ) (held : Option Pdu) (parked : Option Answer) (settled : Bool) (stage : Stage) → p ≡ Gone → stage ≡ Closed
+    → EndsIn Done quiet p × Stands p u rest held parked settled stage
+gone_ends p quiet u rest held parked settled stage is closed = subst (λ x. EndsIn Done quiet x × Stands x u rest held parked settled stage) (sym is) (tt, closed)
 
 pub quiet_as : (end : TurnEnd) (q q' : Bool) (p : Phase) → q ≡ q' → EndsIn end q p → EndsIn end q' p
 quiet_as end q q' p same h = subst (λ b. EndsIn end b p) same h
 
-abbrev before_of : PortView → Stage → Bool → Option Answer → Before
-before_of v stage settled parked = record { lanes = length v.fronts; stage = stage; settled = settled; parked = is_some parked }
+abbrev before_of : ℕ → ℕ → PortView → Stage → Bool → Option Answer → Before
+before_of now time v stage settled parked = record { now = now; message_time = time; lanes = length v.fronts; stage = stage; settled = settled; parked = is_some parked }
 
 -- an offer leaves what the order depends on
-pub before_same : (t : Before) (v v' : PortView) (s s' : Stage) (b b' : Bool) (p p' : Option Answer) → t ≡ before_of v s b p → v' ≡ v → s' ≡ s → b' ≡ b → p' ≡ p → t ≡ before_of v' s' b' p'
-before_same t v v' s s' b b' p p' is port stage settled parked =
-    is ∙ ap (λ x. before_of x s b p) (sym port) ∙ ap (λ x. before_of v' x b p) (sym stage) ∙ ap (λ x. before_of v' s' x p) (sym settled) ∙ ap (λ x. before_of v' s' b' x) (sym parked)
+pub before_same : (t : Before) (now time : ℕ) (v v' : PortView) (s s' : Stage) (b b' : Bool) (p p' : Option Answer) → t ≡ before_of now time v s b p → v' ≡ v → s' ≡ s → b' ≡ b → p' ≡ p → t ≡ before_of now time v' s' b' p'
+before_same t now time v v' s s' b b' p p' is port stage settled parked =
+    is ∙ ap (λ x. before_of now time x s b p) (sym port) ∙ ap (λ x. before_of now time v' x b p) (sym stage) ∙ ap (λ x. before_of now time v' s' x p) (sym settled) ∙ ap (λ x. before_of now time v' s' b' x) (sym parked)

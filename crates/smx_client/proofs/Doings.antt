@@ -5,9 +5,10 @@ use Rattle.std.specs.declared.snapshot.Snapshot.{Snapshot}
 use Rattle.smx_pdu.specs.declared.pdu.Pdu.{Pdu}
 use Rattle.smx_pdu.specs.Answers.{nack_of_undecoded}
 use Rattle.smx_session.specs.ClientTable.{client_decides}
+use Rattle.smx_session.specs.ClientMoments.{Client, after_octets, client_enquiry, after_client_moment}
 use Rattle.smx_session.specs.declared.act.Act.{Act}
 use Rattle.smx_session.specs.declared.act.Act.TheVariants as act
-use Rattle.smx_session.specs.declared.client_state.ClientState.{ClientState}
+use Rattle.smx_session.specs.declared.enquiry.Enquiry.{Enquiry}
 use Rattle.smx_session.specs.declared.client_state.ClientState.TheVariants.{Ended}
 use Rattle.smx_lock.specs.declared.faults.Spent.{Spent}
 use Rattle.smx_box.specs.declared.fault.Spent.{Spent as BoxSpent}
@@ -23,12 +24,12 @@ use Rattle.smx_turns.specs.declared.mo_item.MoItem.{MoItem}
 use Rattle.smx_client.specs.declared.desk.Desk.{Desk}
 use Rattle.smx_client.specs.declared.reply.Parked.{Parked}
 use Rattle.smx_client.specs.declared.reply.Reply.{Reply}
-use Rattle.smx_client.specs.declared.event.Event.TheVariants.{Decided, Broke, Collected, PutAgain, Got as Fetched}
+use Rattle.smx_client.specs.declared.event.Event.TheVariants.{Decided, Broke, Collected, PutAgain, Heard, Expired, Looked, Got as Fetched}
 use Rattle.smx_client.specs.declared.event.Fate.TheVariants.{Own, Submitted, Settled}
 use Rattle.smx_client.specs.declared.event.Delivery.{Delivery}
-use Rattle.smx_client.specs.Replies.{PutSo, SettlesSo, Parks, put_in, parked_on, on_lane}
-use Rattle.smx_client.specs.Events.{act_out, refusal_out, response_out, got_out, got_answers, settled_out}
-use Rattle.smx_client.specs.Parts.{parts, Does, Suits, collect_step, submit_step, settle_step, got_step, Gets, delivery_senders, delivery_parks, IsOfferOf}
+use Rattle.smx_client.specs.Replies.{PutSo, SettlesSo, ExpiresSo, Parks, put_in, parked_on, on_lane}
+use Rattle.smx_client.specs.Events.{act_out, refusal_out, response_out, enquiry_out, got_out, got_answers, settled_out, expired_answers}
+use Rattle.smx_client.specs.Parts.{parts, Does, Suits, collect_step, submit_step, settle_step, expire_step, got_step, Gets, delivery_senders, delivery_parks, IsOfferOf}
 
 -- nothing is put, and nothing is to be answered
 still : (l : List (Option Pdu)) → l ≡ l ++ []
@@ -40,7 +41,7 @@ same_put x h k = still (put_in x k ++ parked_on k h)
 no_accept : (p : PortView) (all : List Accepted) → HasAccepted p all → HasAccepted p (all ++ [])
 no_accept p all has = subst (HasAccepted p) (sym (append-nil all)) has
 
-module _ (d : Desk) (said said' : List Pdu) (s : ClientState) (w : Window) (i : Receiving MoItem) (x : List (Sending Pdu)) (h : Option Parked) where
+module _ (d : Desk) (said said' : List Pdu) (s : Client) (w : Window) (i : Receiving MoItem) (x : List (Sending Pdu)) (h : Option Parked) where
   pub collected : (p p' : PortView) (lane : ℕ) (r0 : Result (Option Pdu) Spent) (r : Snapshot (Result (Option Pdu) Spent)) → r.value ≡ r0 → said' ≡ said ++ response_out r0
       → collect_step lane r0 p p' → ((all : List Accepted) → HasAccepted p all → HasAccepted p' all) → Does (parts d said p s w i x h) (Collected lane r) (parts d said' p' s w i x h)
   collected p p' lane r0 r seen says step lists = record {
@@ -57,7 +58,7 @@ module _ (d : Desk) (said said' : List Pdu) (s : ClientState) (w : Window) (i : 
     lanes = refl;
   }
 
-  pub broke : (p : PortView) (s' : ClientState) (a0 : Act) (a : Snapshot Act) → a.value ≡ a0 → a0 ≡ act.Hangup nack_of_undecoded → s' ≡ Ended → said' ≡ said ++ act_out a0
+  pub broke : (p : PortView) (s' : Client) (a0 : Act) (a : Snapshot Act) → a.value ≡ a0 → a0 ≡ act.Hangup nack_of_undecoded → s' ≡ record s { state = Ended } → said' ≡ said ++ act_out a0
       → Does (parts d said p s w i x h) (Broke a) (parts d said' p s' w i x h)
   broke p s' a0 a chosen is ended says = record {
     says = says ∙ ap (λ o. said ++ act_out o) (sym chosen);
@@ -73,14 +74,66 @@ module _ (d : Desk) (said said' : List Pdu) (s : ClientState) (w : Window) (i : 
     lanes = refl;
   }
 
-  -- the session alone decided
-  pub owned : (p : PortView) (s' : ClientState) (q : Snapshot Pdu) (a : Snapshot Act) → said' ≡ said ++ (act_out a.value ++ [])
-      → ((a.value, s') ≡ client_decides d.accounts.items s q.value) × Suits a.value Own → Does (parts d said p s w i x h) (Decided q a Own) (parts d said' p s' w i x h)
-  owned p s' q a says session = record {
-    says = says;
+  -- octets came
+  pub heard : (p : PortView) (s' : Client) (now : ℕ) → said' ≡ said → s' ≡ after_octets s now → Does (parts d said p s w i x h) (Heard now) (parts d said' p s' w i x h)
+  heard p s' now says session = record {
+    says = says ∙ sym (append-nil said);
     port = refl;
     lists = λ all has. no_accept p all has;
     session = session;
+    window = refl;
+    inbox = refl;
+    senders = refl;
+    answers = λ k within. same_put x h k;
+    parked = refl;
+    desk = refl;
+    lanes = refl;
+  }
+
+  -- a message was overdue, or none was
+  pub expired : (p : PortView) (w' : Window) (x' : List (Sending Pdu)) (h' : Option Parked) (until : ℕ) (found : Option (ℕ × ℕ × ℕ)) (reply : Reply)
+      → said' ≡ said → expire_step until found w w' → ExpiresSo found reply x x' → h ≡ None → Parks reply h' → length x' ≡ length x
+      → ((k : ℕ) → k < length x → put_in x' k ++ parked_on k h' ≡ put_in x k ++ parked_on k h ++ expired_answers k found)
+      → Does (parts d said p s w i x h) (Expired until found reply) (parts d said' p s w' i x' h')
+  expired p w' x' h' until found reply says window so none parks count answers = record {
+    says = says ∙ sym (append-nil said);
+    port = refl;
+    lists = λ all has. no_accept p all has;
+    session = refl;
+    window = window;
+    inbox = refl;
+    senders = so;
+    answers = answers;
+    parked = (none, parks);
+    desk = refl;
+    lanes = count;
+  }
+
+  -- the moment was handed in
+  pub looked : (p : PortView) (s' : Client) (now : ℕ) (e0 : Enquiry) (e : Snapshot Enquiry) → e.value ≡ e0 → e0 ≡ client_enquiry s now → s' ≡ after_client_moment s now → said' ≡ said ++ enquiry_out e0
+      → Does (parts d said p s w i x h) (Looked now e) (parts d said' p s' w i x h)
+  looked p s' now e0 e seen is session says = record {
+    says = says ∙ ap (λ o. said ++ enquiry_out o) (sym seen);
+    port = refl;
+    lists = λ all has. no_accept p all has;
+    session = (seen ∙ is, session);
+    window = refl;
+    inbox = refl;
+    senders = refl;
+    answers = λ k within. same_put x h k;
+    parked = refl;
+    desk = refl;
+    lanes = refl;
+  }
+
+  -- the session alone decided
+  pub owned : (p : PortView) (s' : Client) (q : Snapshot Pdu) (a : Snapshot Act) → said' ≡ said ++ (act_out a.value ++ [])
+      → ((a.value, s'.state) ≡ client_decides d.accounts.items s.state q.value) × Suits a.value Own → s' ≡ record s { state = s'.state } → Does (parts d said p s w i x h) (Decided q a Own) (parts d said' p s' w i x h)
+  owned p s' q a says session kept = record {
+    says = says;
+    port = refl;
+    lists = λ all has. no_accept p all has;
+    session = (session.0, session.1, kept);
     window = refl;
     inbox = refl;
     senders = refl;
@@ -93,13 +146,13 @@ module _ (d : Desk) (said said' : List Pdu) (s : ClientState) (w : Window) (i : 
   pub submitted : (p p' : PortView) (q : Snapshot Pdu) (a : Snapshot Act) (o : Snapshot Offer) (r : Snapshot (Result ℕ (Offer × SubmitFault)))
       → said' ≡ said ++ (act_out a.value ++ refusal_out q.value r.value) → IsOfferOf q.value o.value × submit_step o.value r.value p p'
       → ((all : List Accepted) → HasAccepted p all → HasAccepted p' (all ++ accepted_by o.value r.value))
-      → ((a.value, s) ≡ client_decides d.accounts.items s q.value) × Suits a.value (Submitted o r)
+      → ((a.value, s.state) ≡ client_decides d.accounts.items s.state q.value) × Suits a.value (Submitted o r)
       → Does (parts d said p s w i x h) (Decided q a (Submitted o r)) (parts d said' p' s w i x h)
   submitted p p' q a o r says step lists session = record {
     says = says;
     port = step;
     lists = lists;
-    session = session;
+    session = (session.0, session.1, refl);
     window = refl;
     inbox = refl;
     senders = refl;
@@ -110,7 +163,7 @@ module _ (d : Desk) (said said' : List Pdu) (s : ClientState) (w : Window) (i : 
   }
 
   pub settled : (p : PortView) (w' : Window) (x' : List (Sending Pdu)) (h' : Option Parked) (p0 : Pdu) (q : Snapshot Pdu) (a : Snapshot Act) (found : Option (ℕ × ℕ)) (reply : Reply)
-      → q.value ≡ p0 → said' ≡ said ++ (act_out a.value ++ []) → ((a.value, s) ≡ client_decides d.accounts.items s q.value) × Suits a.value (Settled found reply)
+      → q.value ≡ p0 → said' ≡ said ++ (act_out a.value ++ []) → ((a.value, s.state) ≡ client_decides d.accounts.items s.state q.value) × Suits a.value (Settled found reply)
       → settle_step q.value found w w' → SettlesSo p0 found reply x x' → h ≡ None → Parks reply h' → length x' ≡ length x
       → ((k : ℕ) → k < length x → put_in x' k ++ parked_on k h' ≡ put_in x k ++ parked_on k h ++ settled_out k p0 found)
       → Does (parts d said p s w i x h) (Decided q a (Settled found reply)) (parts d said' p s w' i x' h')
@@ -118,7 +171,7 @@ module _ (d : Desk) (said said' : List Pdu) (s : ClientState) (w : Window) (i : 
     says = says;
     port = refl;
     lists = λ all has. no_accept p all has;
-    session = session;
+    session = (session.0, session.1, refl);
     window = window;
     inbox = refl;
     senders = subst (λ o. SettlesSo o found reply x x') (sym seen) so;
@@ -155,7 +208,7 @@ again x x' h h0 h' a k had none was =
     ∙ ap (λ l. l ++ on_lane k a.lane (a.answer ∷ [])) (append-nil (put_in x k))
     ∙ ap (λ o. put_in x k ++ parked_on k o) had ∙ still (put_in x k ++ parked_on k h)
 
-pub put_again : (d : Desk) (said : List Pdu) (s : ClientState) (w : Window) (i : Receiving MoItem) (x x' : List (Sending Pdu)) (h h0 h' : Option Parked) (p : PortView) (a : Parked) (reply : Reply)
+pub put_again : (d : Desk) (said : List Pdu) (s : Client) (w : Window) (i : Receiving MoItem) (x x' : List (Sending Pdu)) (h h0 h' : Option Parked) (p : PortView) (a : Parked) (reply : Reply)
     → Some a ≡ h → h0 ≡ None → PutSo a.lane a.answer reply x x' → Parks reply h' → length x' ≡ length x
     → ((k : ℕ) → k < length x → put_in x' k ++ parked_on k h' ≡ put_in x k ++ parked_on k h0 ++ on_lane k a.lane (a.answer ∷ []))
     → Does (parts d said p s w i x h) (PutAgain a.lane reply) (parts d said p s w i x' h')

@@ -3,6 +3,7 @@ use Rattle.std.proofs.Common.{◌≡◌, ◌≢◌, ℕ, List, [], ◌++◌, sym
 use Rattle.std.proofs.lemmas.List.{append-nil}
 use Rattle.smx_pdu.specs.declared.pdu.Pdu.{Pdu}
 use Rattle.smx_session.specs.Login.{Login}
+use Rattle.smx_session.specs.ClientMoments.{Client}
 use Rattle.smx_session.specs.ClientTable.{client_decides, client_decision, client_cell, client_row, bind_decision, ClientCell}
 use Rattle.smx_session.specs.ClientTable.ClientCell.{checks, answer, nack, forward, message_answer, leave, ignore}
 use Rattle.smx_session.specs.Binds.{check_bind}
@@ -78,6 +79,10 @@ pub settle_window : (p q : Pdu) (found : Option (ℕ × ℕ)) (w u : Window) →
     → IfSome found (λ r. (row : Waiting) × (message_for p.number p.command w.waiting ≡ Some row) × (r.0 ≡ row.lane) × (r.1 ≡ row.number) × (u ≡ record w { waiting = without p.number w.waiting }))
     → IfNone found ((message_for p.number p.command w.waiting ≡ None) × (u ≡ w)) → settle_step q found w u
 settle_window p q found w u same some none = subst (λ x. settle_step x found w u) (sym same) (settle_is p found w u some none)
+
+-- its moments stay
+pub kept_of : (s t : Client) (state : ClientState) → t ≡ record s { state = state } → t ≡ record s { state = t.state }
+kept_of s t state is = is ∙ ap (λ x. record s { state = x }) (sym (ap (λ x. x.state) is))
 
 -- of the PDU that waits
 pub settles : (accounts : List Login) (s : ClientState) (h : Option Pdu) (p : Pdu) → Some p ≡ h → IfSome h (λ x. client_decides accounts s x ≡ (act.MoAnswer x.number, s))

@@ -182,7 +182,7 @@ module _ (n : ℕ) where
   offered_first t a b (Did e ∷ ss) begun right r = absurd (right (stays_wrong t ss))
 
 ends_past : (r : Result TurnEnd Fault) (quiet : Bool) → (IsTurn r quiet Opening → ⊥) × (IsTurn r quiet Wrong → ⊥)
-ends_past (Ok Done) quiet = (λ e. absurd (cc), λ e. absurd (cc))
+ends_past (Ok Done) quiet = (λ e. e, λ e. e)
 ends_past (Ok Idle) quiet = (λ e. e, λ e. e)
 ends_past (Ok Worked) quiet = (λ e. e, λ e. e)
 ends_past (Err fault.Link) quiet = (λ e. absurd (cc), λ e. absurd (cc))

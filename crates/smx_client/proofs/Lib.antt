@@ -2,6 +2,7 @@ pub mod Fates
 pub mod Doings
 pub mod Starts
 pub mod Laws
+pub mod Looking
 pub mod Scenes
 pub mod Cells
 pub mod Filters

@@ -26,24 +26,24 @@ clears Nobody h x is parks e = parks
 
 -- it comes no other way
 pub others : (r : Reply) (x : Result (Option Progress) Fault) → x ≡ progress_of r
-    → (x ≢ Ok (Some progress.Settled)) × (x ≢ Ok (Some progress.Closed)) × (x ≢ Ok (Some progress.Clogged))
-others Taken x is = (λ e. absurd (cc), λ e. absurd (cc), λ e. absurd (cc))
-others Full x is = (λ e. absurd (cc), λ e. absurd (cc), λ e. absurd (cc))
-others Spent x is = (λ e. absurd (cc), λ e. absurd (cc), λ e. absurd (cc))
-others Nobody x is = (λ e. absurd (cc), λ e. absurd (cc), λ e. absurd (cc))
+    → (x ≢ Ok (Some progress.Settled)) × (x ≢ Ok (Some progress.Closed)) × (x ≢ Ok (Some progress.Clogged)) × (x ≢ Ok (Some progress.Gone))
+others Taken x is = (λ e. absurd (cc), λ e. absurd (cc), λ e. absurd (cc), λ e. absurd (cc))
+others Full x is = (λ e. absurd (cc), λ e. absurd (cc), λ e. absurd (cc), λ e. absurd (cc))
+others Spent x is = (λ e. absurd (cc), λ e. absurd (cc), λ e. absurd (cc), λ e. absurd (cc))
+others Nobody x is = (λ e. absurd (cc), λ e. absurd (cc), λ e. absurd (cc), λ e. absurd (cc))
 
 pub delivery_waits : (d : Delivery) (h i : Option Parked) (x : Result (Option Progress) Fault) → x ≡ delivery_progress d → delivery_parks d h i → x ≡ Ok (Some progress.Parked) → IsSome i
-delivery_waits (Given n) h i x is parks e = absurd (cc)
+delivery_waits (Given n since) h i x is parks e = absurd (cc)
 delivery_waits (Refused r) h i x is parks e = waits r i x is parks.1 e
 delivery_waits Dropped h i x is parks e = absurd (cc)
 
 pub delivery_clears : (d : Delivery) (h i : Option Parked) (x : Result (Option Progress) Fault) → h ≡ None → x ≡ delivery_progress d → delivery_parks d h i → x ≡ Ok None → i ≡ None
-delivery_clears (Given n) h i x none is parks e = parks ∙ none
+delivery_clears (Given n since) h i x none is parks e = parks ∙ none
 delivery_clears (Refused r) h i x none is parks e = clears r i x is parks.1 e
 delivery_clears Dropped h i x none is parks e = parks ∙ none
 
 pub delivery_others : (d : Delivery) (x : Result (Option Progress) Fault) → x ≡ delivery_progress d
-    → (x ≢ Ok (Some progress.Settled)) × (x ≢ Ok (Some progress.Closed)) × (x ≢ Ok (Some progress.Clogged))
-delivery_others (Given n) x is = (λ e. absurd (cc), λ e. absurd (cc), λ e. absurd (cc))
+    → (x ≢ Ok (Some progress.Settled)) × (x ≢ Ok (Some progress.Closed)) × (x ≢ Ok (Some progress.Clogged)) × (x ≢ Ok (Some progress.Gone))
+delivery_others (Given n since) x is = (λ e. absurd (cc), λ e. absurd (cc), λ e. absurd (cc), λ e. absurd (cc))
 delivery_others (Refused r) x is = others r x is
-delivery_others Dropped x is = (λ e. absurd (cc), λ e. absurd (cc), λ e. absurd (cc))
+delivery_others Dropped x is = (λ e. absurd (cc), λ e. absurd (cc), λ e. absurd (cc), λ e. absurd (cc))

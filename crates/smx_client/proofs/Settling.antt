@@ -11,24 +11,27 @@ use Rattle.smx_turns.specs.declared.end.Fault.{Fault}
 use Rattle.smx_turns.specs.declared.end.TurnEnd.{TurnEnd}
 use Rattle.smx_turns.specs.declared.step.Step.TheVariants.{Asked, Read, Marked, Did}
 use Rattle.smx_turns.specs.Steps.{polls, phase_from}
-use Rattle.smx_client.specs.Table.{Before, Phase, Opening, Written, Left, MayCollect, Clear, Draining, MayRead, Deciding, MaySubmit, Entering, Unentered, Settled, Parked, Stopped, Clogged, Closing, Ending, Over, Failed, Exhausted, Wrong, step_of, phase_of, go, from_opening, from_written, from_boxing, from_collecting, from_draining, from_clear, from_may_read, from_deciding, from_may_submit, from_entering, from_closing, IsTurn}
+use Rattle.smx_client.specs.Table.{Before, Phase, Opening, Written, Left, MayCollect, Clear, Draining, MayRead, Hearing, Ageing, Looking, Gone, Deciding, MaySubmit, Entering, Unentered, Settled, Parked, Stopped, Clogged, Closing, Ending, Over, Failed, Exhausted, Wrong, step_of, phase_of, go, from_opening, from_written, from_boxing, from_collecting, from_draining, from_clear, from_may_read, from_hearing, from_ageing, from_looking, from_deciding, from_may_submit, from_entering, from_closing, IsTurn}
 use Rattle.smx_client.proofs.Filters.{stays_wrong, is_right}
 
-boxes : (b c : Bool) (answer : Result Polled LinkFault) → (if b then from_boxing c (Read answer) else Wrong) ≡ Wrong
+boxes : (now : ℕ) (b c : Bool) (answer : Result Polled LinkFault) → (if b then from_boxing now c (Read answer) else Wrong) ≡ Wrong
 unfolding from_boxing
-boxes true true answer = refl
-boxes true false answer = refl
-boxes false c answer = refl
+boxes now true true answer = refl
+boxes now true false answer = refl
+boxes now false c answer = refl
 
 reads_none : (t : Before) (p : Phase) (answer : Result Polled LinkFault) → t.settled ≡ false → go t p (Read answer) ≡ Wrong
-unfolding go from_opening from_written from_collecting from_draining from_clear from_may_read from_deciding from_may_submit from_entering from_closing
+unfolding go from_opening from_written from_collecting from_draining from_clear from_may_read from_hearing from_ageing from_looking from_deciding from_may_submit from_entering from_closing
 reads_none t Opening answer some_left = refl
 reads_none t Written answer some_left = refl
 reads_none t Left answer some_left = refl
-reads_none t (MayCollect n) answer some_left = boxes (n == t.lanes) t.parked answer
+reads_none t (MayCollect n) answer some_left = boxes t.now (n == t.lanes) t.parked answer
 reads_none t Clear answer some_left = refl
 reads_none t Draining answer some_left = refl
-reads_none t MayRead answer some_left = ap (λ b. from_may_read b (Read answer)) some_left
+reads_none t MayRead answer some_left = ap (λ b. from_may_read t b (Read answer)) some_left
+reads_none t Hearing answer some_left = refl
+reads_none t Ageing answer some_left = refl
+reads_none t Looking answer some_left = refl
 reads_none t (Deciding ended) answer some_left = refl
 reads_none t (MaySubmit ended) answer some_left = refl
 reads_none t (Entering ended account) answer some_left = refl
@@ -40,6 +43,7 @@ reads_none t Clogged answer some_left = refl
 reads_none t Closing answer some_left = refl
 reads_none t Ending answer some_left = refl
 reads_none t Over answer some_left = refl
+reads_none t Gone answer some_left = refl
 reads_none t Failed answer some_left = refl
 reads_none t Exhausted answer some_left = refl
 reads_none t Wrong answer some_left = refl

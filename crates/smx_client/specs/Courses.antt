@@ -25,8 +25,8 @@ pub record Course (L : Type 0) : Type 0 where
 abbrev pub course : {L : Type 0} → List Question → List Party → List Query → Serving L → Course L
 course asked told queries worker = record { worker = worker; asked = asked; told = told; queries = queries }
 
--- a turn in the table's order that ended so; its steps are all that gate, directory and link were asked
-pub record TurnsSo {L : Type 0} (offered : L → List ℕ) (polls : L → List (Result Polled LinkFault)) (failures : L → ℕ) (a : Course L) (end : Result TurnEnd Fault) (b : Course L) : Type 0 where
+-- a turn at this moment in the table's order that ended so; its steps are all that gate, directory and link were asked
+pub record TurnsSo {L : Type 0} (offered : L → List ℕ) (polls : L → List (Result Polled LinkFault)) (failures : L → ℕ) (now : ℕ) (a : Course L) (end : Result TurnEnd Fault) (b : Course L) : Type 0 where
   pub changes : Changes b.worker.turns (scene_of offered polls failures a.asked a.told a.queries a.worker) b.worker.steps (scene_of offered polls failures b.asked b.told b.queries b.worker)
-  pub order : IsTurn end (are_quiet is_quiet_mark is_quiet_event b.worker.steps) (phase_of (before a.worker) b.worker.steps)
+  pub order : IsTurn end (are_quiet is_quiet_mark is_quiet_event b.worker.steps) (phase_of (before now a.worker) b.worker.steps)
   pub ends : b.worker.ends ≡ a.worker.ends ++ end ∷ []

@@ -1,5 +1,5 @@
 -- What an event is worth: what it decided and says, whom it tells, whether nothing came of it, and what it ends.
-use Rattle.std.specs.Prelude.{ℕ, Bool, true, false, ◌||◌, List, [], ◌∷◌, ◌++◌, Option, Some, None, Result, Ok, Err}
+use Rattle.std.specs.Prelude.{ℕ, Bool, true, false, ◌||◌, is_none, List, [], ◌∷◌, ◌++◌, Option, Some, None, Result, Ok, Err}
 use Rattle.std.specs.List.{flat_map}
 use Rattle.std.specs.Result.{is_err}
 use Rattle.smx_pdu.specs.declared.pdu.Pdu.{Pdu}
@@ -9,6 +9,8 @@ use Rattle.smx_history.specs.declared.telling.Unaccepted.TheVariants.{AllFull, U
 use Rattle.smx_history.specs.Failures.{refusal_of}
 use Rattle.smx_session.specs.declared.act.Act.{Act}
 use Rattle.smx_session.specs.declared.act.Act.TheVariants as act
+use Rattle.smx_session.specs.declared.enquiry.Enquiry.{Enquiry}
+use Rattle.smx_session.specs.declared.enquiry.Enquiry.TheVariants.{NotDue, Due, Unanswered}
 use Rattle.smx_shared.specs.declared.offer.Offer.{Offer}
 use Rattle.smx_shared.specs.declared.fault.SubmitFault.{SubmitFault}
 use Rattle.smx_shared.specs.declared.fault.SubmitFault.TheVariants as submit
@@ -23,7 +25,7 @@ use Rattle.smx_turns.specs.declared.gate.Party.TheVariants.{Lane}
 use Rattle.smx_turns.specs.Puts.{finds_nothing}
 use Rattle.smx_turns.specs.Worth.{Worth, no_worth, says}
 use Rattle.smx_client.specs.declared.event.Event.{Event}
-use Rattle.smx_client.specs.declared.event.Event.TheVariants.{Decided, Broke, Collected, PutAgain, Got as Fetched}
+use Rattle.smx_client.specs.declared.event.Event.TheVariants.{Decided, Broke, Collected, PutAgain, Heard, Expired, Looked, Got as Fetched}
 use Rattle.smx_client.specs.declared.event.Fate.{Fate}
 use Rattle.smx_client.specs.declared.event.Fate.TheVariants.{Own, Submitted, Settled}
 use Rattle.smx_client.specs.declared.event.Delivery.{Delivery}
@@ -51,6 +53,22 @@ act_worth act.Ignore = no_worth
 abbrev pub act_out : Act → List Pdu
 act_out a = (act_worth a).said
 
+-- the enquire_link that is due
+abbrev pub enquiry_out : Enquiry → List Pdu
+enquiry_out NotDue = []
+enquiry_out (Due p) = p ∷ []
+enquiry_out Unanswered = []
+
+abbrev pub is_not_due : Enquiry → Bool
+is_not_due NotDue = true
+is_not_due (Due p) = false
+is_not_due Unanswered = false
+
+abbrev pub is_unanswered : Enquiry → Bool
+is_unanswered NotDue = false
+is_unanswered (Due p) = false
+is_unanswered Unanswered = true
+
 -- the answer to a refused request
 abbrev pub refusal_out : Pdu → Result ℕ (Offer × SubmitFault) → List Pdu
 refusal_out p (Ok lane) = []
@@ -66,7 +84,7 @@ abbrev pub message_as : ℕ → MoItem → Pdu
 message_as n item = record { command = item.pdu.command; status = 0; number = n; body = item.pdu.body }
 
 abbrev pub item_out : Got MoItem → Delivery → List Pdu
-item_out (Item p n item) (Given number) = message_as number item ∷ []
+item_out (Item p n item) (Given number since) = message_as number item ∷ []
 item_out _ _ = []
 
 abbrev pub got_out : Result (Got MoItem) BoxSpent → Delivery → List Pdu
@@ -85,6 +103,9 @@ event_accepts (Broke a) = []
 event_accepts (Collected lane r) = []
 event_accepts (Fetched g d) = []
 event_accepts (PutAgain lane reply) = []
+event_accepts (Heard now) = []
+event_accepts (Expired until found reply) = []
+event_accepts (Looked now e) = []
 
 abbrev pub settled_out : ℕ → Pdu → Option (ℕ × ℕ) → List (Option Pdu)
 settled_out k p None = []
@@ -103,6 +124,11 @@ abbrev pub got_answers : ℕ → Result (Got MoItem) BoxSpent → Delivery → L
 got_answers k (Ok found) d = item_answers k found d
 got_answers k (Err e) d = []
 
+-- of a message that the client didn't answer in time: its lane, and the centre's number and command
+abbrev pub expired_answers : ℕ → Option (ℕ × ℕ × ℕ) → List (Option Pdu)
+expired_answers k None = []
+expired_answers k (Some m) = on_lane k m.0 (refused_up (response_of m.2) m.1)
+
 -- the answers that an event has for the return box of lane k
 abbrev pub event_answers : ℕ → Event → List (Option Pdu)
 event_answers k (Decided p a f) = fate_answers k p.value f
@@ -110,6 +136,9 @@ event_answers k (Broke a) = []
 event_answers k (Collected lane r) = []
 event_answers k (Fetched g d) = got_answers k g.value d
 event_answers k (PutAgain lane reply) = []
+event_answers k (Heard now) = []
+event_answers k (Expired until found reply) = expired_answers k found
+event_answers k (Looked now e) = []
 
 -- the lane, where its return box took an answer
 abbrev pub lane_told : ℕ → Reply → List Party
@@ -137,9 +166,13 @@ refused_told (Ok found) reply = item_told found reply
 refused_told (Err e) reply = []
 
 abbrev pub got_told : Result (Got MoItem) BoxSpent → Delivery → List Party
-got_told r (Given number) = []
+got_told r (Given number since) = []
 got_told r (Refused reply) = refused_told r reply
 got_told r Dropped = []
+
+abbrev pub expired_told : Option (ℕ × ℕ × ℕ) → Reply → List Party
+expired_told None reply = []
+expired_told (Some m) reply = lane_told m.0 reply
 
 abbrev pub is_none_found : Result (Option Pdu) Spent → Bool
 is_none_found (Ok (Some p)) = false
@@ -193,6 +226,9 @@ worth (Broke a) = record no_worth { said = act_out a.value; quiet = false; ends 
 worth (Collected lane r) = record no_worth { said = response_out r.value; quiet = is_none_found r.value; spent = is_err r.value }
 worth (Fetched g d) = record no_worth { said = got_out g.value d; tells = got_told g.value d; quiet = finds_nothing g.value; spent = is_err g.value || is_spent_delivery d }
 worth (PutAgain lane reply) = record no_worth { tells = lane_told lane reply; quiet = is_refused reply; spent = is_spent_reply reply }
+worth (Heard now) = record no_worth { quiet = false }
+worth (Expired until found reply) = record no_worth { tells = expired_told found reply; quiet = is_none found; spent = is_spent_reply reply }
+worth (Looked now e) = record no_worth { said = enquiry_out e.value; quiet = is_not_due e.value; ends = is_unanswered e.value }
 
 -- whether nothing came of it
 abbrev pub is_quiet_event : Event → Bool

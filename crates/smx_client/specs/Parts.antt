@@ -4,9 +4,9 @@ use Rattle.smx_pdu.specs.declared.pdu.Pdu.{Pdu}
 use Rattle.smx_session.specs.Login.{Login}
 use Rattle.smx_pdu.specs.Answers.{nack_of_undecoded}
 use Rattle.smx_session.specs.ClientTable.{client_decides}
+use Rattle.smx_session.specs.ClientMoments.{Client, after_octets, client_enquiry, after_client_moment}
 use Rattle.smx_session.specs.declared.act.Act.{Act}
 use Rattle.smx_session.specs.declared.act.Act.TheVariants as act
-use Rattle.smx_session.specs.declared.client_state.ClientState.{ClientState}
 use Rattle.smx_session.specs.declared.client_state.ClientState.TheVariants.{Ended}
 use Rattle.smx_lock.specs.declared.faults.Spent.{Spent}
 use Rattle.smx_box.specs.declared.fault.Spent.{Spent as BoxSpent}
@@ -21,18 +21,18 @@ use Rattle.smx_box.specs.declared.receiver.Got.{Got}
 use Rattle.smx_box.specs.declared.receiver.Got.TheVariants.{Item, Shut, Empty}
 use Rattle.smx_routes.specs.declared.mo_window.Waiting.{Waiting}
 use Rattle.smx_box.specs.Boxes.{Sending, Receiving, GetServes, Hands}
-use Rattle.smx_routes.specs.Window.{Window, IsFirstFree, message_for, without}
+use Rattle.smx_routes.specs.Window.{Window, IsFirstFree, message_for, overdue, without}
 use Rattle.smx_turns.specs.Runs.{Runs}
 use Rattle.smx_turns.specs.declared.mo_item.MoItem.{MoItem}
 use Rattle.smx_client.specs.declared.desk.Desk.{Desk}
 use Rattle.smx_client.specs.declared.reply.Parked.{Parked}
 use Rattle.smx_client.specs.declared.event.Event.{Event}
-use Rattle.smx_client.specs.declared.event.Event.TheVariants.{Decided, Broke, Collected, PutAgain, Got as Fetched}
+use Rattle.smx_client.specs.declared.event.Event.TheVariants.{Decided, Broke, Collected, PutAgain, Heard, Expired, Looked, Got as Fetched}
 use Rattle.smx_client.specs.declared.event.Fate.{Fate}
 use Rattle.smx_client.specs.declared.event.Fate.TheVariants.{Own, Submitted, Settled}
 use Rattle.smx_client.specs.declared.event.Delivery.{Delivery}
 use Rattle.smx_client.specs.declared.event.Delivery.TheVariants.{Given, Refused, Dropped}
-use Rattle.smx_client.specs.Replies.{PutSo, ItemAnswersSo, SettlesSo, Parks, put_in, parked_on}
+use Rattle.smx_client.specs.Replies.{PutSo, ItemAnswersSo, SettlesSo, ExpiresSo, Parks, put_in, parked_on}
 use Rattle.smx_client.specs.Events.{worth, event_accepts, event_answers}
 
 -- the offer is the request that the PDU asks for
@@ -61,6 +61,9 @@ port_step v (Broke a) w = w ≡ v
 port_step v (Collected k r) w = collect_step k r.value v w
 port_step v (Fetched g d) w = w ≡ v
 port_step v (PutAgain lane reply) w = w ≡ v
+port_step v (Heard now) w = w ≡ v
+port_step v (Expired until found reply) w = w ≡ v
+port_step v (Looked now e) w = w ≡ v
 
 -- what may become of a PDU under that act
 abbrev pub Suits : Act → Fate → Type 0
@@ -72,10 +75,13 @@ Suits (act.Leave p) Own = Unit {0}
 Suits act.Ignore Own = Unit {0}
 Suits _ _ = ⊥
 
--- the session's table
-abbrev pub session_step : List Login → ClientState → Event → ClientState → Type 0
-session_step accounts s (Decided p a f) t = ((a.value, t) ≡ client_decides accounts s p.value) × Suits a.value f
-session_step accounts s (Broke a) t = (a.value ≡ act.Hangup nack_of_undecoded) × (t ≡ Ended)
+-- the session's table, and its moments
+abbrev pub session_step : List Login → Client → Event → Client → Type 0
+session_step accounts s (Decided p a f) t = ((a.value, t.state) ≡ client_decides accounts s.state p.value) × Suits a.value f × (t ≡ record s { state = t.state })
+session_step accounts s (Broke a) t = (a.value ≡ act.Hangup nack_of_undecoded) × (t ≡ record s { state = Ended })
+session_step accounts s (Heard now) t = t ≡ after_octets s now
+session_step accounts s (Expired until found reply) t = t ≡ s
+session_step accounts s (Looked now e) t = (e.value ≡ client_enquiry s now) × (t ≡ after_client_moment s now)
 session_step accounts s (Collected k r) t = t ≡ s
 session_step accounts s (Fetched g d) t = t ≡ s
 session_step accounts s (PutAgain lane reply) t = t ≡ s
@@ -93,16 +99,22 @@ fate_window p (Settled found reply) w u = settle_step p found w u
 
 -- an item waits under the number that it is given
 abbrev pub item_step : Got MoItem → Delivery → Window → Window → Type 0
-item_step (Item p n item) (Given number) w u = IsFirstFree w number × (u ≡ record w {
+item_step (Item p n item) (Given number since) w u = IsFirstFree w number × (u ≡ record w {
   last = number;
-  waiting = w.waiting ++ record { given = number; lane = item.lane; number = item.number; command = item.pdu.command } ∷ [];
+  waiting = w.waiting ++ record { given = number; lane = item.lane; number = item.number; command = item.pdu.command; since = since } ∷ [];
 })
-item_step _ (Given number) w u = ⊥
+item_step _ (Given number since) w u = ⊥
 item_step _ _ w u = u ≡ w
 
 abbrev pub got_step : Result (Got MoItem) BoxSpent → Delivery → Window → Window → Type 0
 got_step (Ok found) d w u = item_step found d w u
 got_step (Err e) d w u = u ≡ w
+
+-- the first message that was sent so long ago leaves the window, or there is none
+abbrev pub expire_step : ℕ → Option (ℕ × ℕ × ℕ) → Window → Window → Type 0
+expire_step until None w u = (overdue until w.waiting ≡ None) × (u ≡ w)
+expire_step until (Some m) w u = (row : Waiting) × (overdue until w.waiting ≡ Some row) × (m.0 ≡ row.lane) × (m.1 ≡ row.number) × (m.2 ≡ row.command)
+    × (u ≡ record w { waiting = without row.given w.waiting })
 
 abbrev pub window_step : Window → Event → Window → Type 0
 window_step w (Decided p a f) u = fate_window p.value f w u
@@ -110,10 +122,13 @@ window_step w (Broke a) u = u ≡ w
 window_step w (Collected k r) u = u ≡ w
 window_step w (Fetched g d) u = got_step g.value d w u
 window_step w (PutAgain lane reply) u = u ≡ w
+window_step w (Heard now) u = u ≡ w
+window_step w (Expired until found reply) u = expire_step until found w u
+window_step w (Looked now e) u = u ≡ w
 
 -- which delivery an item gets: dropped where its lane has no sender, refused where it is for another client
 abbrev pub IsDelivered : ℕ → ℕ → Got MoItem → Delivery → Type 0
-IsDelivered client lanes (Item p n item) (Given number) = (item.lane < lanes) × (item.client ≡ client)
+IsDelivered client lanes (Item p n item) (Given number since) = (item.lane < lanes) × (item.client ≡ client)
 IsDelivered client lanes (Item p n item) (Refused reply) = (item.lane < lanes) × ¬ (item.client ≡ client)
 IsDelivered client lanes (Item p n item) Dropped = ¬ (item.lane < lanes)
 IsDelivered client lanes (Shut p) Dropped = Unit {0}
@@ -131,6 +146,9 @@ inbox_step client lanes a (Broke act) b = b ≡ a
 inbox_step client lanes a (Collected k r) b = b ≡ a
 inbox_step client lanes a (Fetched g d) b = Gets client lanes a g.value d b
 inbox_step client lanes a (PutAgain lane reply) b = b ≡ a
+inbox_step client lanes a (Heard now) b = b ≡ a
+inbox_step client lanes a (Expired until found reply) b = b ≡ a
+inbox_step client lanes a (Looked now e) b = b ≡ a
 
 abbrev pub fate_senders : Pdu → Fate → List (Sending Pdu) → List (Sending Pdu) → Type 0
 fate_senders p Own ss tt = tt ≡ ss
@@ -138,7 +156,7 @@ fate_senders p (Submitted o r) ss tt = tt ≡ ss
 fate_senders p (Settled found reply) ss tt = SettlesSo p found reply ss tt
 
 abbrev pub delivery_senders : Result (Got MoItem) BoxSpent → Delivery → List (Sending Pdu) → List (Sending Pdu) → Type 0
-delivery_senders r (Given number) ss tt = tt ≡ ss
+delivery_senders r (Given number since) ss tt = tt ≡ ss
 delivery_senders r (Refused reply) ss tt = ItemAnswersSo r reply ss tt
 delivery_senders r Dropped ss tt = tt ≡ ss
 
@@ -149,6 +167,9 @@ senders_step h ss (Broke a) tt = tt ≡ ss
 senders_step h ss (Collected k r) tt = tt ≡ ss
 senders_step h ss (Fetched g d) tt = delivery_senders g.value d ss tt
 senders_step h ss (PutAgain lane reply) tt = (a : Parked) × (h ≡ Some a) × PutSo a.lane a.answer reply ss tt
+senders_step h ss (Heard now) tt = tt ≡ ss
+senders_step h ss (Expired until found reply) tt = ExpiresSo found reply ss tt
+senders_step h ss (Looked now e) tt = tt ≡ ss
 
 abbrev pub fate_parks : Fate → Option Parked → Option Parked → Type 0
 fate_parks Own h i = i ≡ h
@@ -156,7 +177,7 @@ fate_parks (Submitted o r) h i = i ≡ h
 fate_parks (Settled found reply) h i = (h ≡ None) × Parks reply i
 
 abbrev pub delivery_parks : Delivery → Option Parked → Option Parked → Type 0
-delivery_parks (Given number) h i = i ≡ h
+delivery_parks (Given number since) h i = i ≡ h
 delivery_parks (Refused reply) h i = (h ≡ None) × Parks reply i
 delivery_parks Dropped h i = i ≡ h
 
@@ -167,13 +188,16 @@ parked_step h (Broke a) i = i ≡ h
 parked_step h (Collected k r) i = i ≡ h
 parked_step h (Fetched g d) i = delivery_parks d h i
 parked_step h (PutAgain lane reply) i = (a : Parked) × (h ≡ Some a) × (lane ≡ a.lane) × Parks reply i
+parked_step h (Heard now) i = i ≡ h
+parked_step h (Expired until found reply) i = (h ≡ None) × Parks reply i
+parked_step h (Looked now e) i = i ≡ h
 
 pub record Parts : Type 0 where
   -- who may bind, and what was said to the client
   pub desk : Desk
   pub said : List Pdu
   pub port : PortView
-  pub session : ClientState
+  pub session : Client
   pub window : Window
   pub inbox : Receiving MoItem
   -- a sender for the return box of each lane, and the answer that waits for one
@@ -194,7 +218,7 @@ pub record Does (v : Parts) (e : Event) (w : Parts) : Type 0 where
   pub desk : w.desk ≡ v.desk
   pub lanes : length w.senders ≡ length v.senders
 
-abbrev pub parts : Desk → List Pdu → PortView → ClientState → Window → Receiving MoItem → List (Sending Pdu) → Option Parked → Parts
+abbrev pub parts : Desk → List Pdu → PortView → Client → Window → Receiving MoItem → List (Sending Pdu) → Option Parked → Parts
 parts desk said port session window inbox senders parked = record {
   desk = desk;
   said = said;

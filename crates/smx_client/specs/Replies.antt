@@ -54,6 +54,11 @@ abbrev pub SettlesSo : Pdu → Option (ℕ × ℕ) → Reply → List (Sending P
 SettlesSo p None reply ss tt = (reply ≡ Nobody) × (tt ≡ ss)
 SettlesSo p (Some found) reply ss tt = PutSo found.0 (answer_up p found.1) reply ss tt
 
+-- the answer to a message that the client didn't answer in time, where there is one
+abbrev pub ExpiresSo : Option (ℕ × ℕ × ℕ) → Reply → List (Sending Pdu) → List (Sending Pdu) → Type 0
+ExpiresSo None reply ss tt = (reply ≡ Nobody) × (tt ≡ ss)
+ExpiresSo (Some m) reply ss tt = AnswersSo m.0 (refused_up (response_of m.2) m.1) reply ss tt
+
 -- the answer waits then where its box refused it
 abbrev pub Parks : Reply → Option Parked → Type 0
 Parks Taken h = h ≡ None

@@ -11,8 +11,8 @@ use Rattle.smx_client.specs.Turns.{Scene, scene, Leads}
 
 module _ {L : Type 0} where
   -- what the order of its next turn depends on
-  abbrev pub before : Serving L → Before
-  before w = record { lanes = length w.port.fronts; stage = w.stage; settled = w.settled; parked = is_some w.parked }
+  abbrev pub before : ℕ → Serving L → Before
+  before now w = record { now = now; message_time = w.message_time; lanes = length w.port.fronts; stage = w.stage; settled = w.settled; parked = is_some w.parked }
 
   abbrev pub scene_of : (L → List ℕ) → (L → List (Result Polled LinkFault)) → (L → ℕ) → List Question → List Party → List Query → Serving L → Scene
   scene_of offered polls failures asked told queries w = scene asked told queries w.events (parts_of w) w.wire.unsent (offered w.wire.link) (polls w.wire.link) (failures w.wire.link)

@@ -7,8 +7,8 @@ use Rattle.smx_link.specs.declared.link.Polled.{Polled}
 use Rattle.smx_link.specs.declared.link.LinkFault.{LinkFault}
 use Rattle.smx_box.specs.Boxes.{Sending, Receiving}
 use Rattle.smx_routes.specs.Window.{Window}
-use Rattle.smx_session.specs.declared.client_state.ClientState.{ClientState}
-use Rattle.smx_session.specs.declared.client_state.ClientState.TheVariants.{Opened, Ended}
+use Rattle.smx_session.specs.ClientMoments.{Client}
+use Rattle.smx_session.specs.declared.client_state.ClientState.TheVariants.{Ended}
 use Rattle.smx_shared.specs.Views.{PortView}
 use Rattle.smx_turns.specs.declared.mo_item.MoItem.{MoItem}
 use Rattle.smx_turns.specs.declared.end.TurnEnd.{TurnEnd}
@@ -29,12 +29,14 @@ pub record Serving (L : Type 0) : Type 0 where
   -- who may bind
   pub desk : Desk
   pub port : PortView
-  pub session : ClientState
+  pub session : Client
   -- the box of its slot, and a sender for the return box of each lane
   pub inbox : Receiving MoItem
   pub senders : List (Sending Pdu)
   -- the messages that wait for an answer
   pub window : Window
+  -- how long a message may wait, in milliseconds (0: for ever)
+  pub message_time : ℕ
   -- the PDUs over its link
   pub wire : Wiring L
   -- the PDU that was heard and not decided yet
@@ -58,7 +60,7 @@ abbrev pub parts_of : {L : Type 0} → Serving L → Parts
 parts_of w = parts w.desk w.wire.said w.port w.session w.window w.inbox w.senders w.parked
 
 abbrev pub first_of : {L : Type 0} → Serving L → Parts
-first_of w = parts w.desk [] w.origin.port.value Opened w.origin.window.value w.origin.inbox.value w.origin.senders.value.items None
+first_of w = parts w.desk [] w.origin.port.value w.origin.session.value w.origin.window.value w.origin.inbox.value w.origin.senders.value.items None
 
 -- what a worker keeps at every call
 pub record IsServing {L : Type 0} (polls : L → List (Result Polled LinkFault)) (w : Serving L) : Type 0 where
@@ -74,4 +76,4 @@ pub record IsServing {L : Type 0} (polls : L → List (Result Polled LinkFault))
   pub opened : w.stage ≡ Open → has_ended (polls w.wire.link) ≡ true → polls w.wire.link ≡ polls w.wire.start
   pub drained : w.stage ≡ Drained → has_ended (polls w.wire.link) ≡ true
   -- closed once the session has ended, or the link has and every whole PDU was decided
-  pub closed : w.stage ≡ Closed → w.session ≢ Ended → (w.settled ≡ true) × (has_ended (polls w.wire.link) ≡ true)
+  pub closed : w.stage ≡ Closed → w.session.state ≢ Ended → (w.settled ≡ true) × (has_ended (polls w.wire.link) ≡ true)

@@ -1,5 +1,5 @@
 -- The order of a client's turn.
-use Rattle.std.specs.Prelude.{◌≡◌, ◌≢◌, ◌==◌, ◌≤◌, ℕ, ◌+◌, ◌*◌, Bool, true, false, List, [], ◌∷◌, length, Option, Some, None, IsSome, Result, Ok, Err, if◌then◌else◌}
+use Rattle.std.specs.Prelude.{◌≡◌, ◌≢◌, ◌==◌, ◌≤◌, ℕ, ◌+◌, ◌*◌, Bool, true, false, not, ◌&&◌, nat_le, List, [], ◌∷◌, length, Option, Some, None, IsSome, Result, Ok, Err, if◌then◌else◌}
 use Rattle.smx_pdu.specs.declared.pdu.Pdu.{Pdu}
 use Rattle.smx_frame.specs.Stream.{HasNone}
 use Rattle.smx_lock.specs.declared.faults.Spent.{Spent}
@@ -9,7 +9,9 @@ use Rattle.smx_session.specs.declared.kind.Kind.{Kind}
 use Rattle.smx_session.specs.declared.kind.Kind.TheVariants as kind
 use Rattle.smx_session.specs.declared.act.Act.{Act}
 use Rattle.smx_session.specs.declared.act.Act.TheVariants as act
+use Rattle.smx_session.specs.declared.enquiry.Enquiry.{Enquiry}
 use Rattle.smx_link.specs.declared.link.Polled.{Polled}
+use Rattle.smx_link.specs.declared.link.Polled.TheVariants.{Octets, Nothing, End}
 use Rattle.smx_link.specs.declared.link.LinkFault.{LinkFault}
 use Rattle.smx_turns.specs.declared.gate.Point.TheVariants.{Reading, Submitting, Collecting}
 use Rattle.smx_turns.specs.declared.end.Fault.{Fault}
@@ -18,7 +20,6 @@ use Rattle.smx_turns.specs.declared.end.TurnEnd.{TurnEnd}
 use Rattle.smx_turns.specs.declared.end.TurnEnd.TheVariants.{Worked, Idle, Done}
 use Rattle.smx_turns.specs.declared.mo_item.MoItem.{MoItem}
 use Rattle.smx_turns.specs.Steps.{phase_from}
-use Rattle.smx_turns.specs.Wires.{is_end}
 use Rattle.smx_turns.specs.declared.step.Step.{Step}
 use Rattle.smx_turns.specs.declared.step.Step.TheVariants.{Asked, Read, Marked, Did}
 use Rattle.smx_client.specs.declared.mark.Stage.{Stage}
@@ -28,7 +29,7 @@ use Rattle.smx_client.specs.declared.mark.Mark.TheVariants.{Offered, WriteFailed
 use Rattle.smx_client.specs.declared.reply.Reply.{Reply}
 use Rattle.smx_client.specs.declared.reply.Reply.TheVariants as reply
 use Rattle.smx_client.specs.declared.event.Event.{Event}
-use Rattle.smx_client.specs.declared.event.Event.TheVariants.{Decided, Broke, Collected, PutAgain, Got as Fetched}
+use Rattle.smx_client.specs.declared.event.Event.TheVariants.{Decided, Broke, Collected, PutAgain, Heard, Expired, Looked, Got as Fetched}
 use Rattle.smx_client.specs.declared.event.Fate.{Fate}
 use Rattle.smx_client.specs.declared.event.Fate.TheVariants.{Own, Submitted, Settled as Settles}
 use Rattle.smx_client.specs.declared.event.Delivery.{Delivery}
@@ -37,7 +38,7 @@ use Rattle.smx_client.specs.declared.event.Verdict.{Verdict}
 use Rattle.smx_client.specs.declared.event.Verdict.TheVariants as verdict
 use Rattle.smx_client.specs.declared.event.Progress.{Progress}
 use Rattle.smx_client.specs.declared.event.Progress.TheVariants as progress
-use Rattle.smx_client.specs.Events.{act_worth}
+use Rattle.smx_client.specs.Events.{act_worth, is_unanswered}
 
 -- where a turn stands
 pub data Phase : Type 0 where
@@ -55,6 +56,12 @@ pub data Phase : Type 0 where
   Draining : Phase
   -- the gate said yes to a read
   MayRead : Phase
+  -- a read gave octets
+  Hearing : Phase
+  -- a read answered that nothing more is there, and messages may have waited for too long
+  Ageing : Phase
+  -- the same, and none has
+  Looking : Phase
   -- PDUs are decided; whether the link has ended
   Deciding : Bool → Phase
   -- the gate said yes to a submit
@@ -76,6 +83,8 @@ pub data Phase : Type 0 where
   -- it was offered, and some is left
   Ending : Phase
   Over : Phase
+  -- an enquiry was answered by no octet
+  Gone : Phase
   -- the link failed
   Failed : Phase
   -- a lane or a box takes no more calls
@@ -83,8 +92,10 @@ pub data Phase : Type 0 where
   -- what no turn does
   Wrong : Phase
 
--- what a turn's order depends on: how many lanes there are, and at its start the stage, whether every whole PDU that came was decided, and whether an answer waits
+-- what a turn's order depends on: its moment, how long a message may wait, how many lanes there are, and at its start the stage, whether every whole PDU that came was decided, and whether an answer waits
 pub record Before : Type 0 where
+  pub now : ℕ
+  pub message_time : ℕ
   pub lanes : ℕ
   pub stage : Stage
   pub settled : Bool
@@ -139,12 +150,12 @@ progress_of reply.Spent = Err fault.Spent
 progress_of reply.Nobody = Ok None
 
 abbrev pub delivery_progress : Delivery → Result (Option Progress) Fault
-delivery_progress (Given number) = Ok None
+delivery_progress (Given number since) = Ok None
 delivery_progress (Refused reply) = progress_of reply
 delivery_progress Dropped = Ok None
 
 abbrev pub after_delivery : Delivery → Phase
-after_delivery (Given number) = Clear
+after_delivery (Given number since) = Clear
 after_delivery (Refused reply) = after_reply Clear reply
 after_delivery Dropped = Clear
 
@@ -152,13 +163,18 @@ abbrev pub after_got : Result (Got MoItem) BoxSpent → Delivery → Phase
 after_got (Ok found) d = after_delivery d
 after_got (Err e) d = Exhausted
 
+-- whether a message waits from this moment on
+abbrev pub is_given_at : ℕ → Delivery → Bool
+is_given_at now (Given number since) = since == now
+is_given_at now _ = true
+
 -- the box: an answer that waits goes before an item
-unfoldable pub from_boxing : Bool → step_of → Phase
-from_boxing true (Did (PutAgain lane reply)) = after_reply Clear reply
-from_boxing true _ = Wrong
-from_boxing false (Did (Fetched r d)) = after_got r.value d
-from_boxing false (Marked NoRoom) = Clear
-from_boxing false _ = Wrong
+unfoldable pub from_boxing : ℕ → Bool → step_of → Phase
+from_boxing now true (Did (PutAgain lane reply)) = after_reply Clear reply
+from_boxing now true _ = Wrong
+from_boxing now false (Did (Fetched r d)) = if is_given_at now d then after_got r.value d else Wrong
+from_boxing now false (Marked NoRoom) = Clear
+from_boxing now false _ = Wrong
 
 abbrev pub after_collect : ℕ → {A : Type 0} → Result A Spent → Phase
 after_collect n (Ok found) = MayCollect (n + 1)
@@ -167,7 +183,7 @@ after_collect n (Err e) = Exhausted
 unfoldable pub from_collecting : Before → ℕ → step_of → Phase
 from_collecting t n (Marked Clogs) = Clogged
 from_collecting t n (Did (Collected k r)) = if k == n then after_collect n r.value else Wrong
-from_collecting t n s = if n == t.lanes then from_boxing t.parked s else Wrong
+from_collecting t n s = if n == t.lanes then from_boxing t.now t.parked s else Wrong
 
 unfoldable pub from_draining : step_of → Phase
 from_draining (Did (PutAgain lane reply)) = after_reply (Deciding true) reply
@@ -178,16 +194,55 @@ from_clear (Asked Reading true) = MayRead
 from_clear (Asked Reading false) = Stopped
 from_clear _ = Wrong
 
-abbrev pub after_read : Result Polled LinkFault → Phase
-after_read (Ok found) = Deciding (is_end found)
-after_read (Err e) = Failed
+-- whether a message may have waited for too long
+abbrev pub is_ageing : Before → Bool
+is_ageing t = not (t.message_time == 0) && nat_le t.message_time t.now
+
+abbrev pub when_nothing : Before → Phase
+when_nothing t = if is_ageing t then Ageing else Looking
+
+abbrev pub after_found : Before → Polled → Phase
+after_found t (Octets n) = Hearing
+after_found t Nothing = when_nothing t
+after_found t End = Deciding true
+
+abbrev pub after_read : Before → Result Polled LinkFault → Phase
+after_read t (Ok found) = after_found t found
+after_read t (Err e) = Failed
 
 -- PDUs that came before go before a read
-unfoldable pub from_may_read : Bool → step_of → Phase
-from_may_read true (Read answer) = after_read answer
-from_may_read true _ = Wrong
-from_may_read false (Marked Waited) = Deciding false
-from_may_read false _ = Wrong
+unfoldable pub from_may_read : Before → Bool → step_of → Phase
+from_may_read t true (Read answer) = after_read t answer
+from_may_read t true _ = Wrong
+from_may_read t false (Marked Waited) = Deciding false
+from_may_read t false _ = Wrong
+
+-- octets count as life at the turn's moment
+unfoldable pub from_hearing : ℕ → step_of → Phase
+from_hearing now (Did (Heard at)) = if at == now then Deciding false else Wrong
+from_hearing now _ = Wrong
+
+abbrev pub after_expired : Option (ℕ × ℕ × ℕ) → Reply → Phase
+after_expired None reply = Looking
+after_expired (Some m) reply = after_reply Ageing reply
+
+-- only there messages are judged that were sent so long ago as one may wait, one after another, until none is left
+unfoldable pub from_ageing : Before → step_of → Phase
+from_ageing t (Did (Expired until found reply)) = if until + t.message_time == t.now then after_expired found reply else Wrong
+from_ageing t _ = Wrong
+
+abbrev pub after_one : Option Reply → Phase
+after_one None = Looking
+after_one (Some reply) = after_reply Ageing reply
+
+abbrev pub after_look : Enquiry → Phase
+after_look e = if is_unanswered e then Gone else Deciding false
+
+-- only there is silence judged, by the turn's moment
+unfoldable pub from_looking : ℕ → step_of → Phase
+from_looking now (Marked Clogs) = Clogged
+from_looking now (Did (Looked at e)) = if at == now then after_look e.value else Wrong
+from_looking now _ = Wrong
 
 -- a receiver and a transceiver are sent messages
 abbrev pub after_bind : Bool → Kind → ℕ → Phase
@@ -236,7 +291,10 @@ go t Written s = from_written s
 go t (MayCollect n) s = from_collecting t n s
 go t Clear s = from_clear s
 go t Draining s = from_draining s
-go t MayRead s = from_may_read t.settled s
+go t MayRead s = from_may_read t t.settled s
+go t Hearing s = from_hearing t.now s
+go t Ageing s = from_ageing t s
+go t Looking s = from_looking t.now s
 go t (Deciding ended) s = from_deciding ended s
 go t (MaySubmit ended) s = from_may_submit ended s
 go t (Entering ended account) s = from_entering ended account s
@@ -249,6 +307,8 @@ phase_of t ss = phase_from (go t) Opening ss
 -- memory may be wanted there
 abbrev pub Wants : Phase → Type 0
 Wants Opening = ⊥
+Wants Hearing = ⊥
+Wants Gone = ⊥
 Wants Failed = ⊥
 Wants Exhausted = ⊥
 Wants Wrong = ⊥
@@ -262,7 +322,9 @@ Faulted fault.NoMemory p = Wants p
 
 -- how a turn may end; whether nothing came of it
 abbrev pub EndsIn : TurnEnd → Bool → Phase → Type 0
-EndsIn Done quiet p = p ≡ Over
+EndsIn Done quiet Over = Unit {0}
+EndsIn Done quiet Gone = Unit {0}
+EndsIn Done quiet _ = ⊥
 EndsIn Idle quiet Stopped = Unit {0}
 EndsIn Idle quiet Settled = quiet ≡ true
 EndsIn Idle quiet _ = ⊥
@@ -282,6 +344,7 @@ abbrev pub Stands : Phase → {A : Type 0} → List ℕ → List ℕ → Option 
 Stands Left unsent rest held parked settled stage = unsent ≢ []
 Stands Ending unsent rest held parked settled stage = (unsent ≢ []) × (stage ≡ Closed)
 Stands Over unsent rest held parked settled stage = (unsent ≡ []) × (stage ≡ Closed)
+Stands Gone unsent rest held parked settled stage = stage ≡ Closed
 Stands Clogged unsent rest held parked settled stage = 65536 ≤ length unsent
 Stands Settled unsent rest held parked settled stage = (settled ≡ true) × (held ≡ None) × HasNone 65536 rest
 Stands Parked unsent rest held parked settled stage = IsSome parked
@@ -302,12 +365,20 @@ IsAt progress.Parked p = p ≡ Parked
 IsAt progress.Stopped p = p ≡ Stopped
 IsAt progress.Clogged p = p ≡ Clogged
 IsAt progress.Closed p = p ≡ Closing
+IsAt progress.Gone p = p ≡ Gone
 
 -- a part goes on to this phase, or comes so far
 abbrev pub IsPart : Phase → Result (Option Progress) Fault → Phase → Type 0
 IsPart q (Ok None) p = p ≡ q
 IsPart q (Ok (Some at)) p = IsAt at p
 IsPart q (Err e) p = Faulted e p
+
+-- what a read found, if PDUs that came before didn't go before it, or how far the turn comes
+abbrev pub IsRead : Before → Result (Result (Option Polled) Progress) Fault → Phase → Type 0
+IsRead t (Ok (Ok None)) p = p ≡ Deciding false
+IsRead t (Ok (Ok (Some found))) p = p ≡ after_found t found
+IsRead t (Ok (Err at)) p = IsAt at p
+IsRead t (Err e) p = Faulted e p
 
 -- whether the link has ended, or how far the turn comes
 abbrev pub IsFront : Result (Result Bool Progress) Fault → Phase → Type 0

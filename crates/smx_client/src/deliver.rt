@@ -1,11 +1,11 @@
 //! What becomes of an item from the box.
-ghost use Rattle.std.specs.Prelude.{◌≡◌, ◌≢◌, ◌++◌, ◌<◌, ◌≤◌, [], ◌∷◌, ℕ, length, None, Ok};
+ghost use Rattle.std.specs.Prelude.{◌≡◌, ◌≢◌, ◌++◌, ◌<◌, ◌≤◌, [], ◌∷◌, ℕ, length, None, Ok, true};
 ghost use Rattle.smx_client.specs.Replies.{put_in, parked_on};
 ghost use Rattle.smx_client.specs.Events.{item_out, item_answers, message_as, got_told};
 ghost use Rattle.smx_turns.specs.Puts.{finds_nothing};
 ghost use Rattle.smx_client.specs.Parts.{item_step, IsDelivered, delivery_senders, delivery_parks};
 ghost use Rattle.smx_client.specs.Sayings.{Spoke};
-ghost use Rattle.smx_client.specs.Table.{IsPart, Clear, after_delivery, delivery_progress};
+ghost use Rattle.smx_client.specs.Table.{IsPart, Clear, after_delivery, delivery_progress, is_given_at};
 
 use crate::event::{Delivery, Progress};
 use crate::reply::{Parked, refuse};
@@ -46,7 +46,7 @@ impl Delivery {
         ensures which { result ≡ delivery_progress self }
     {
         match self {
-            Delivery::Given(_) | Delivery::Dropped => Ok(None),
+            Delivery::Given(..) | Delivery::Dropped => Ok(None),
             Delivery::Refused(reply) => reply.progress(),
         }
     }
@@ -63,10 +63,12 @@ pub(crate) fn deliver<L: Link + Drop, R: Wait, G: Gate>(
     senders: &mut Vec<Sender<Pdu>>,
     parked: &mut Option<Parked>,
     got: Got<MoItem>,
+    now: u64,
 ) -> Delivery
     requires room { 65536 ≤ wire.old.room }
     requires none { parked.old ≡ None }
     requires free { length window.old.waiting ≢ window.old.places }
+    ensures given { is_given_at now result ≡ true }
     ensures delivered { IsDelivered client (length senders.old.items) got result }
     ensures window { item_step got result window.old window.new }
     ensures says { Spoke wire.old wire.new (item_out got result) }
@@ -94,9 +96,9 @@ pub(crate) fn deliver<L: Link + Drop, R: Wait, G: Gate>(
         reply.tell(gate, lane);
         return Delivery::Refused(reply);
     }
-    let Ok(number) = window.give(item.lane, item.number, item.pdu.command) else {
+    let Ok(number) = window.give(item.lane, item.number, item.pdu.command, now) else {
         unreachable!()
     };
     say_one(wire, &message_as(item, number));
-    Delivery::Given(number)
+    Delivery::Given(number, now)
 }

@@ -5,7 +5,7 @@ use crate::reply::Reply;
 use smx_box::{Got, Spent as BoxSpent};
 use smx_lock::Spent;
 use smx_pdu::Pdu;
-use smx_session::{Act, Kind};
+use smx_session::{Act, Enquiry, Kind};
 use smx_shared::{Offer, SubmitFault};
 use smx_turns::{Deed, MoItem};
 use std::snapshot::Snapshot;
@@ -24,8 +24,8 @@ pub enum Fate {
 /// What became of an item that was got.
 #[derive(Clone, Copy, Debug, PartialEq, Eq)]
 pub enum Delivery {
-    /// The client is sent it under this number.
-    Given(u32),
+    /// The client is sent it under this number, at this moment.
+    Given(u32, u64),
     /// It is for an earlier client of this slot, and the centre is told so.
     Refused(Reply),
     /// Its lane has no sender, or there was no item.
@@ -45,6 +45,14 @@ pub enum Event {
     Got(Snapshot<Result<Got<MoItem>, BoxSpent>>, Delivery),
     /// The answer that waited for the return box of this lane was put again.
     PutAgain(usize, Reply),
+    /// Octets came at this moment.
+    Heard(u64),
+    /// A read answered that nothing more is there: the first message that was sent at this moment or
+    /// before, its lane and the centre's number and command, and what became of the answer.
+    Expired(u64, Option<(usize, u32, u32)>, Reply),
+    /// A read answered that nothing more is there, and the moment was handed in: what it asks of
+    /// the session.
+    Looked(u64, Snapshot<Enquiry>),
 }
 
 impl Deed for Event {
@@ -87,4 +95,6 @@ pub(crate) enum Progress {
     Clogged,
     // Nothing more is decided.
     Closed,
+    // An enquiry was answered by no octet.
+    Gone,
 }

@@ -2,8 +2,8 @@
 ghost use Rattle.std.specs.Prelude.{◌≡◌, ◌++◌, ◌<◌, [], ◌∷◌, ℕ, length, slice_get, IfErr, None};
 ghost use Rattle.smx_pdu.specs.declared.pdu.Pdu.{Pdu};
 ghost use Rattle.smx_pdu.specs.Command.{response_of};
-ghost use Rattle.smx_client.specs.Replies.{answer_up, refused_up, on_lane, is_answer_taken, PutSo, AnswersSo, SettlesSo, Parks, put_in, parked_on};
-ghost use Rattle.smx_client.specs.Events.{settled_out, is_refused, lane_told, settled_told};
+ghost use Rattle.smx_client.specs.Replies.{answer_up, refused_up, on_lane, is_answer_taken, PutSo, AnswersSo, SettlesSo, ExpiresSo, Parks, put_in, parked_on};
+ghost use Rattle.smx_client.specs.Events.{settled_out, is_refused, lane_told, settled_told, expired_answers, expired_told};
 ghost use Rattle.smx_client.specs.Table.{Phase, IsPart, after_reply, progress_of};
 
 use crate::event::Progress;
@@ -172,4 +172,31 @@ pub(crate) fn refuse<R: Wait>(
     };
     let answer = Pdu::header_only(alloc, id, ESME_RX_T_APPN, number);
     put_or_park(rt, senders, parked, lane, answer)
+}
+
+// Answers a message that the client didn't answer in time, where there is one.
+pub(crate) fn answer_expired<R: Wait, G: Gate>(
+    rt: &R,
+    gate: &mut G,
+    alloc: Global,
+    senders: &mut Vec<Sender<Pdu>>,
+    parked: &mut Option<Parked>,
+    found: Option<(usize, u32, u32)>,
+) -> Reply
+    requires none { parked.old ≡ None }
+    ensures count { length senders.new.items ≡ length senders.old.items }
+    ensures so { ExpiresSo found result senders.old.items senders.new.items }
+    ensures parks { Parks result parked.new }
+    ensures answer { (k : ℕ) → k < length senders.old.items
+        → put_in senders.new.items k ++ parked_on k parked.new
+        ≡ put_in senders.old.items k ++ parked_on k parked.old ++ expired_answers k found }
+    ensures told { G.told gate.new ≡ G.told gate.old ++ expired_told found result }
+    ensures asked { G.asked gate.new ≡ G.asked gate.old }
+{
+    let Some((lane, number, command)) = found else {
+        return Reply::Nobody;
+    };
+    let reply = refuse(rt, alloc, senders, parked, lane, number, command);
+    reply.tell(gate, lane);
+    reply
 }

@@ -1,7 +1,7 @@
 //! What is said to a client.
 ghost use Rattle.std.specs.Prelude.{◌≡◌, ◌++◌, ◌≤◌, [], ◌∷◌, true, length};
 ghost use Rattle.smx_pdu.specs.Command.{is_forwarded};
-ghost use Rattle.smx_client.specs.Events.{act_out, refusal_out, response_out, why_unaccepted, is_none_found};
+ghost use Rattle.smx_client.specs.Events.{act_out, refusal_out, response_out, why_unaccepted, is_none_found, enquiry_out, is_not_due, is_unanswered};
 ghost use Rattle.smx_client.specs.Events.{submit_told};
 ghost use Rattle.smx_client.specs.Parts.{IsOfferOf};
 ghost use Rattle.smx_client.specs.Sayings.{Spoke, IsVerdict, asked_of};
@@ -11,7 +11,7 @@ use smx_history::{Unaccepted, refusal_of};
 use smx_link::{Link, Wire};
 use smx_lock::Spent;
 use smx_pdu::Pdu;
-use smx_session::Act;
+use smx_session::{Act, Enquiry};
 use smx_shared::{Offer, SubmitFault};
 use smx_turns::{Gate, Party};
 use std::alloc::Global;
@@ -60,6 +60,31 @@ pub(crate) fn say_act<L: Link + Drop>(wire: &mut Wire<L>, act: &Act)
         Act::Hangup(answer) => say_one(wire, answer),
         Act::Forward | Act::MoAnswer { .. } | Act::Ignore => say_none(wire),
     }
+}
+
+// Says the enquire_link that is due, where one is.
+pub(crate) fn say_enquiry<L: Link + Drop>(wire: &mut Wire<L>, enquiry: &Enquiry)
+    requires room { 65536 ≤ wire.old.room }
+    ensures { Spoke wire.old wire.new (enquiry_out enquiry.now) }
+{
+    match enquiry {
+        Enquiry::Due(pdu) => say_one(wire, pdu),
+        Enquiry::NotDue | Enquiry::Unanswered => say_none(wire),
+    }
+}
+
+// Whether nothing came of the moment.
+pub(crate) fn is_not_due(enquiry: &Enquiry) -> bool
+    ensures { result ≡ is_not_due enquiry.now }
+{
+    matches!(enquiry, Enquiry::NotDue)
+}
+
+// Whether the session has ended at the moment.
+pub(crate) fn is_unanswered(enquiry: &Enquiry) -> bool
+    ensures { result ≡ is_unanswered enquiry.now }
+{
+    matches!(enquiry, Enquiry::Unanswered)
 }
 
 fn why_unaccepted(fault: SubmitFault) -> Unaccepted

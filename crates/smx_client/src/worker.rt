@@ -1,8 +1,10 @@
 //! A client's worker, and what it keeps at every call.
-ghost use Rattle.std.specs.Prelude.{◌≡◌, ◌≢◌, ◌++◌, ◌<◌, ℕ, List, [], length, None, IfOk, IfErr, true};
+ghost use Rattle.std.specs.Prelude.{◌≡◌, ◌≢◌, ◌++◌, ◌<◌, ℕ, List, [], length, None, IfOk, IfErr, true, All};
 ghost use Rattle.smx_frame.specs.Stream.{HasNone};
 ghost use Rattle.smx_link.specs.Wiring.{spellings};
 ghost use Rattle.smx_routes.specs.Window.{IsSize};
+ghost use Rattle.smx_session.specs.ClientMoments.{client_at};
+ghost use Rattle.smx_session.specs.ClientTable.{client_enquiry_number};
 ghost use Rattle.smx_session.specs.declared.client_state.ClientState.TheVariants.{Opened, Ended};
 ghost use Rattle.smx_shared.specs.Offers.{Accepted};
 ghost use Rattle.smx_shared.specs.Ports.{HasAccepted};
@@ -33,6 +35,7 @@ mod boxing;
 mod closing;
 mod collecting;
 mod deciding;
+mod heeding;
 mod running;
 mod turning;
 
@@ -42,6 +45,7 @@ pub use running::run_client;
 #[derive(Drop)]
 pub struct Origin {
     port: Snapshot<Port>,
+    session: Snapshot<ClientSession>,
     window: Snapshot<MoWindow>,
     inbox: Snapshot<Receiver<MoItem>>,
     senders: Snapshot<Vec<Sender<Pdu>>>,
@@ -58,6 +62,8 @@ pub struct ClientWorker<'d, L: Link + Drop> {
     inbox: Receiver<MoItem>,
     senders: Vec<Sender<Pdu>>,
     window: MoWindow,
+    // How long a message may wait, in milliseconds. 0: for ever.
+    message_time: u64,
     wire: Wire<L>,
     // The PDU that was heard and not decided yet.
     held: Option<Pdu>,
@@ -87,6 +93,7 @@ impl<'d, L: Link + Drop> Model for ClientWorker<'d, L> {
       inbox = w.inbox;
       senders = w.senders.items;
       window = w.window;
+      message_time = w.message_time;
       wire = w.wire;
       held = w.held;
       parked = w.parked;
@@ -106,6 +113,7 @@ impl<'d, L: Link + Drop> Model for ClientWorker<'d, L> {
       inbox = w.inbox;
       senders = w.senders.items;
       window = w.window;
+      message_time = w.message_time;
       wire = w.wire;
       held = w.held;
       parked = w.parked;
@@ -122,7 +130,8 @@ impl<'d, L: Link + Drop> Model for ClientWorker<'d, L> {
 impl<'d, L: Link + Drop> ClientWorker<'d, L> {
     /// A worker over these parts: the client's port, who may bind, the box of its slot, a sender
     /// for the return box of each lane in their order, how many messages may wait for an answer (1
-    /// to 256), and its link. All parts come back where there is no memory for the window.
+    /// to 256), its link, the silence after which it enquires and how long a message may wait (in
+    /// milliseconds, 0: for ever), and the moment now. All parts come back where there is no memory for the window.
     pub fn new(
         alloc: Global,
         port: Port,
@@ -131,10 +140,17 @@ impl<'d, L: Link + Drop> ClientWorker<'d, L> {
         senders: Vec<Sender<Pdu>>,
         places: u32,
         link: L,
+        silence: u64,
+        message_time: u64,
+        now: u64,
     ) -> Result<ClientWorker<'d, L>, (Port, Receiver<MoItem>, Vec<Sender<Pdu>>, L)>
         requires lanes { length senders.items ≡ length port.fronts }
         requires places { IsSize places }
         ensures port { IfOk result (λ w. (w.port ≡ port) × (w.origin.port.value ≡ port)) }
+        ensures session { IfOk result
+            (λ w. (w.session ≡ client_at Opened silence now)
+            × (w.origin.session.value ≡ w.session)) }
+        ensures message_time { IfOk result (λ w. w.message_time ≡ message_time) }
         ensures desk { IfOk result (λ w. w.desk ≡ desk.now) }
         ensures boxes { IfOk result
             (λ w. (w.origin.inbox.value ≡ inbox) × (w.origin.senders.value ≡ senders)) }
@@ -151,8 +167,10 @@ impl<'d, L: Link + Drop> ClientWorker<'d, L> {
         let Ok(window) = MoWindow::new(alloc, places) else {
             return Err((port, inbox, senders, link));
         };
+        let session = ClientSession::new(alloc, silence, now);
         let origin = Origin {
             port: Snapshot::of(&port),
+            session: Snapshot::of(&session),
             window: Snapshot::of(&window),
             inbox: Snapshot::of(&inbox),
             senders: Snapshot::of(&senders),
@@ -161,10 +179,11 @@ impl<'d, L: Link + Drop> ClientWorker<'d, L> {
             alloc,
             desk,
             port,
-            session: ClientSession::new(alloc),
+            session,
             inbox,
             senders,
             window,
+            message_time,
             wire: Wire::new(alloc, link),
             held: None,
             parked: None,
@@ -182,7 +201,7 @@ impl<'d, L: Link + Drop> ClientWorker<'d, L> {
     /// then one that waits, then octets that no PDU has. Out: what it took, and then what waits, is
     /// what the events say. The port accepted what the events submitted. Each return box was put,
     /// or is to be put, the answers of the events. Each event is one step of the parts. Where the
-    /// worker has settled, no whole PDU is left. While it is open, the last read since it was made
+    /// worker has settled, no whole PDU is left. No message that waits bears an enquiry's number. While it is open, the last read since it was made
     /// answered no end; where it is drained, it did. It is closed only once the session has ended,
     /// or the link has and every whole PDU was decided.
     pub fn law(&self)
@@ -196,12 +215,13 @@ impl<'d, L: Link + Drop> ClientWorker<'d, L> {
             → put_in self.now.senders k ++ parked_on k self.now.parked
             ≡ put_in self.now.origin.senders.value.items k ++ answers k self.now.events }
         ensures chain { Chain
-            (parts self.now.desk [] self.now.origin.port.value Opened
+            (parts self.now.desk [] self.now.origin.port.value self.now.origin.session.value
             self.now.origin.window.value self.now.origin.inbox.value
             self.now.origin.senders.value.items None)
             self.now.events
             (parts self.now.desk self.now.wire.said self.now.port self.now.session
             self.now.window self.now.inbox self.now.senders self.now.parked) }
+        ensures apart { All (λ w. w.given ≢ client_enquiry_number) self.now.window.waiting }
         ensures settled { self.now.settled ≡ true
             → (self.now.held ≡ None) × HasNone 65536 self.now.wire.rest }
         ensures broken { has_broken worth self.now.events ≡ true → IsBad self.now.wire }
@@ -210,10 +230,11 @@ impl<'d, L: Link + Drop> ClientWorker<'d, L> {
             → L.polls self.now.wire.link ≡ L.polls self.now.wire.start }
         ensures drained { self.now.stage ≡ Stage.Drained
             → has_ended (L.polls self.now.wire.link) ≡ true }
-        ensures closed { self.now.stage ≡ Stage.Closed → self.now.session ≢ Ended
+        ensures closed { self.now.stage ≡ Stage.Closed → self.now.session.state ≢ Ended
             → (self.now.settled ≡ true) × (has_ended (L.polls self.now.wire.link) ≡ true) }
     {
         self.wire.law();
+        self.window.law();
     }
 
     /// The number of its client.
@@ -225,9 +246,16 @@ impl<'d, L: Link + Drop> ClientWorker<'d, L> {
 
     /// Whether its client is bound, and how.
     pub fn state(&self) -> ClientState
-        ensures { result ≡ self.now.session }
+        ensures { result ≡ self.now.session.state }
     {
         self.session.state()
+    }
+
+    /// Whether the session has ended since no octet came after an enquiry.
+    pub fn is_silent(&self) -> bool
+        ensures { result ≡ self.now.session.silent }
+    {
+        self.session.is_silent()
     }
 
     /// How many octets wait to be written.

@@ -31,6 +31,8 @@ const BOUND: [u8; 25] = *b"\0\0\0\x19\x80\0\0\x09\0\0\0\0\0\0\0\x01smx\0\x02\x10
 // What is done, and what is found.
 #[derive(Clone, Copy)]
 enum Step<'s> {
+    // The moment is this from now on, at first 0.
+    At(u64),
     // The worker is turned at most so often.
     Runs(u64, RunEnd),
     // How client 1 is bound, and how many octets wait for its link.
@@ -55,6 +57,7 @@ enum Step<'s> {
 pub struct Seat<'a, 'd, L: Link + Drop> {
     pub at: &'a Exchange,
     pub worker: ClientWorker<'d, L>,
+    pub now: u64,
     // A fault ended a run.
     faulty: bool,
     ghost fits: { locks_of worker.port.fronts ≡ at.now },
@@ -72,7 +75,15 @@ impl<L: Link + Drop> Seat<'_, '_, L> {
         if self.faulty {
             return RunEnd::Left;
         }
-        let end = run_client(&mut self.worker, self.at, rt, gate, directory, turns);
+        let end = run_client(
+            &mut self.worker,
+            self.at,
+            rt,
+            gate,
+            directory,
+            self.now,
+            turns,
+        );
         self.faulty = matches!(end, RunEnd::Fault(_));
         name_want(rt, end);
         end
@@ -106,6 +117,12 @@ struct Stand<'a, 'd> {
 impl Stand<'_, '_> {
     fn holds<R: Wait + Abort>(&mut self, rt: &R, alloc: Global, step: Step) -> bool {
         match step {
+            Step::At(now) => {
+                if let Some(seat) = &mut self.seat {
+                    seat.now = now;
+                }
+                true
+            }
             Step::Runs(turns, want) => match &mut self.seat {
                 Some(seat) => {
                     let World { gate, book } = &mut self.world;
@@ -213,7 +230,8 @@ fn return_boxes<R: Wait + Abort>(
     (senders, answers)
 }
 
-/// There must be a sender for each lane.
+/// There must be a sender for each lane. The silence and the time of a message are in
+/// milliseconds, 0: none.
 pub fn seat_of<'a, 'd, L: Link + Drop>(
     rt: &impl Abort,
     alloc: Global,
@@ -223,16 +241,31 @@ pub fn seat_of<'a, 'd, L: Link + Drop>(
     inbox: Receiver<MoItem>,
     senders: Vec<Sender<Pdu>>,
     link: L,
+    silence: u64,
+    message_time: u64,
 ) -> Seat<'a, 'd, L>
     requires { locks_of port.fronts ≡ at.now }
 {
     if senders.len() != port.lanes() {
         panic!(rt; "each lane has a sender")
     }
-    let worker = ClientWorker::new(alloc, port, desk, inbox, senders, 4, link).ok();
+    let worker = ClientWorker::new(
+        alloc,
+        port,
+        desk,
+        inbox,
+        senders,
+        4,
+        link,
+        silence,
+        message_time,
+        0,
+    )
+    .ok();
     Seat {
         at,
         worker: worker.expect(rt, "out of memory"),
+        now: 0,
         faulty: false,
     }
 }
@@ -245,6 +278,10 @@ struct Setting {
     script: Script,
     lanes: usize,
     places: usize,
+    // The silence after which it enquires.
+    silence: u64,
+    // How long a message may wait.
+    message_time: u64,
 }
 
 impl Setting {
@@ -254,6 +291,8 @@ impl Setting {
             script,
             lanes: 1,
             places: 4,
+            silence: 0,
+            message_time: 0,
         }
     }
 }
@@ -276,6 +315,8 @@ fn stand_at<'a, 'd, R: Wait + Abort>(
         script,
         lanes,
         places,
+        silence,
+        message_time,
         ..
     } = setting;
     let made = Boxed::new(rt, alloc, 1, 4).ok();
@@ -284,7 +325,18 @@ fn stand_at<'a, 'd, R: Wait + Abort>(
     let port = door.enter(at, rt).ok().expect(rt, "out of memory");
     let link = link_to(rt, script);
     Stand {
-        seat: Some(seat_of(rt, alloc, at, desk, port, inbox, senders, link)),
+        seat: Some(seat_of(
+            rt,
+            alloc,
+            at,
+            desk,
+            port,
+            inbox,
+            senders,
+            link,
+            silence,
+            message_time,
+        )),
         world: World::new(),
         messages,
         answers,

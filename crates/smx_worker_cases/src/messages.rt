@@ -53,7 +53,7 @@ fn guest<'a, 'd, R: Abort>(
     let Client { at, port, .. } = client;
     let ClientEnds { inbox, senders } = ends;
     let link = link_to(rt, script(alloc, 65_536, &CLIENT));
-    seat_of(rt, alloc, at, desk, port, inbox, senders, link)
+    seat_of(rt, alloc, at, desk, port, inbox, senders, link, 0, 0)
 }
 
 fn carrier<'a, R: Abort>(

@@ -71,7 +71,7 @@ fn guest<'a, R: Abort>(
         after,
         flag,
     });
-    seat_of(rt, alloc, at, desk, port, inbox, senders, link)
+    seat_of(rt, alloc, at, desk, port, inbox, senders, link, 0, 0)
 }
 
 // Whether the worker has left. After a turn that did nothing it sleeps.

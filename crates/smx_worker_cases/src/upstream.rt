@@ -15,7 +15,7 @@ use smx_routes::MoWindow;
 use smx_session::{UpstreamSession, UpstreamState};
 use smx_shared::{Door, Exchange, SubmitFault, Tap};
 use smx_turns::{MoItem, RunEnd};
-use smx_upstream::{Closed, Parts, UpstreamWorker, run_upstream};
+use smx_upstream::{Closed, LastRequest, Parts, UpstreamWorker, run_upstream};
 use std::alloc::Global;
 use std::process::Abort;
 use std::sync::Wait;
@@ -24,6 +24,7 @@ mod abandoned;
 mod hostile;
 mod passing;
 mod rows;
+mod timers;
 
 // bind_transceiver of `proxy` with the password `pw`, and the centre's answer.
 const BIND: [u8; 30] = [
@@ -99,6 +100,8 @@ enum Step<'s> {
     // It is to end, and says whether it was bound.
     Stops(bool),
     Stands(UpstreamState),
+    // Whose request was sent last over the link, and its command.
+    Last(Option<(u64, u32)>),
     // How often the gate was asked, and told.
     Asked(u64),
     Told(u64),
@@ -208,6 +211,10 @@ impl<'a> Stand<'a> {
                 Some(seat) => seat.worker.state() == want,
                 None => false,
             },
+            Step::Last(want) => match &self.seat {
+                Some(seat) => last_of(&seat.worker) == want,
+                None => false,
+            },
             Step::Asked(want) => self.world.gate.questions == want,
             Step::Told(want) => self.world.gate.tidings == want,
             Step::Closes(parts) => self.closes(rt, parts).is_some(),
@@ -262,6 +269,12 @@ impl<'a> Stand<'a> {
         self.seat = Some(Seat::new(rt, alloc, at, parts, 1_000));
         Some(lost.failed)
     }
+}
+
+// Whose request a worker sent last, and its command.
+fn last_of<L: Link + Drop>(worker: &UpstreamWorker<L>) -> Option<(u64, u32)> {
+    let LastRequest { client, command } = worker.last_request()?;
+    Some((client, command))
 }
 
 fn submit<R: Wait + Abort>(

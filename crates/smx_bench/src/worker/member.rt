@@ -42,7 +42,7 @@ impl<'a> Member<'a> {
         let Seat { at, port, .. } = seat;
         let ClientEnds { inbox, senders } = ends;
         let link = MemoryLink::new(flood);
-        match ClientWorker::new(alloc, port, desk, inbox, senders, 4, link) {
+        match ClientWorker::new(alloc, port, desk, inbox, senders, 4, link, 0, 0, 0) {
             Ok(worker) => Ok(Member {
                 at,
                 worker,
@@ -64,7 +64,7 @@ impl Worker for Member<'_> {
         if self.over {
             return RunEnd::Left;
         }
-        let end = run_client(&mut self.worker, self.at, rt, gate, nobody, turns);
+        let end = run_client(&mut self.worker, self.at, rt, gate, nobody, 0, turns);
         if let RunEnd::Fault(_) = end {
             self.over = true;
         }

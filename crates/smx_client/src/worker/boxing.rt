@@ -54,7 +54,8 @@ impl<'d, L: Link + Drop> ClientWorker<'d, L> {
         ensures parked { result ≡ Ok (Some Progress.Parked) → IsSome self.new.parked }
         ensures clear { result ≡ Ok None → self.new.parked ≡ None }
         ensures which { (result ≢ Ok (Some Progress.Settled)) × (result ≢ Ok (Some Progress.Closed))
-            × (result ≢ Ok (Some Progress.Clogged)) }
+            × (result ≢ Ok (Some Progress.Clogged))
+            × (result ≢ Ok (Some Progress.Gone)) }
         ensures same { self.new ≡ record self.old {
           senders = self.new.senders;
           parked = self.new.parked;
@@ -76,6 +77,7 @@ impl<'d, L: Link + Drop> ClientWorker<'d, L> {
         &mut self,
         rt: &R,
         gate: &mut G,
+        now: u64,
         log: &mut Log<Mark, Event>,
     ) -> Result<Option<Progress>, Fault>
         requires room { 65536 ≤ self.old.wire.room }
@@ -90,11 +92,13 @@ impl<'d, L: Link + Drop> ClientWorker<'d, L> {
             self.new)
             log.new }
         ensures phase { (t : Before) → phase_of t log.old ≡ MayCollect t.lanes
-            → t.parked ≡ is_some self.old.parked → IsPart Clear result (phase_of t log.new) }
+            → t.parked ≡ is_some self.old.parked → t.now ≡ now
+            → IsPart Clear result (phase_of t log.new) }
         ensures parked { result ≡ Ok (Some Progress.Parked) → IsSome self.new.parked }
         ensures clear { result ≡ Ok None → self.new.parked ≡ None }
         ensures which { (result ≢ Ok (Some Progress.Settled)) × (result ≢ Ok (Some Progress.Closed))
-            × (result ≢ Ok (Some Progress.Clogged)) }
+            × (result ≢ Ok (Some Progress.Clogged))
+            × (result ≢ Ok (Some Progress.Gone)) }
         ensures same { self.new ≡ record self.old {
           inbox = self.new.inbox;
           senders = self.new.senders;
@@ -132,6 +136,7 @@ impl<'d, L: Link + Drop> ClientWorker<'d, L> {
                     &mut self.senders,
                     &mut self.parked,
                     got,
+                    now,
                 );
                 note(&mut self.events, log, Event::Got(seen, delivery), empty);
                 delivery.progress()
@@ -145,6 +150,7 @@ impl<'d, L: Link + Drop> ClientWorker<'d, L> {
         &mut self,
         rt: &R,
         gate: &mut G,
+        now: u64,
         log: &mut Log<Mark, Event>,
     ) -> Result<Option<Progress>, Fault>
         ensures leads { (n : ℕ) (queries : List Query) → Leads n
@@ -155,13 +161,15 @@ impl<'d, L: Link + Drop> ClientWorker<'d, L> {
             self.new)
             log.new }
         ensures phase { (t : Before) → phase_of t log.old ≡ MayCollect t.lanes
-            → t.parked ≡ is_some self.old.parked → IsPart Clear result (phase_of t log.new) }
+            → t.parked ≡ is_some self.old.parked → t.now ≡ now
+            → IsPart Clear result (phase_of t log.new) }
         ensures parked { result ≡ Ok (Some Progress.Parked) → IsSome self.new.parked }
         ensures clear { result ≡ Ok None → self.new.parked ≡ None }
         ensures clogged { result ≡ Ok (Some Progress.Clogged)
             → 65536 ≤ length self.new.wire.unsent }
         ensures which { (result ≢ Ok (Some Progress.Settled))
-            × (result ≢ Ok (Some Progress.Closed)) }
+            × (result ≢ Ok (Some Progress.Closed))
+            × (result ≢ Ok (Some Progress.Gone)) }
         ensures same { self.new ≡ record self.old {
           inbox = self.new.inbox;
           senders = self.new.senders;
@@ -187,6 +195,6 @@ impl<'d, L: Link + Drop> ClientWorker<'d, L> {
             return Ok(Some(Progress::Clogged));
         }
         self.make_room()?;
-        self.get_one(rt, gate, log)
+        self.get_one(rt, gate, now, log)
     }
 }

@@ -145,7 +145,8 @@ impl<'d, L: Link + Drop> ClientWorker<'d, L> {
         ensures clogged { result ≡ Ok (Some Progress.Clogged)
             → 65536 ≤ length self.new.wire.unsent }
         ensures which { (result ≢ Ok (Some Progress.Settled)) × (result ≢ Ok (Some Progress.Closed))
-            × (result ≢ Ok (Some Progress.Parked)) }
+            × (result ≢ Ok (Some Progress.Parked))
+            × (result ≢ Ok (Some Progress.Gone)) }
         ensures locks { locks_of self.new.port.fronts ≡ locks_of self.old.port.fronts }
         ensures same { self.new ≡ record self.old {
           port = self.new.port;

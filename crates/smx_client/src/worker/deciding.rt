@@ -27,7 +27,8 @@ use std::sync::Wait;
 fn part_end(ended: bool) -> Progress
     ensures phase { (p : Phase) → p ≡ (if ended then Closing else Settled) → IsAt result p }
     ensures closed { result ≡ Progress.Closed → ended ≡ true }
-    ensures which { (result ≢ Progress.Parked) × (result ≢ Progress.Clogged) }
+    ensures which { (result ≢ Progress.Parked) × (result ≢ Progress.Clogged)
+        × (result ≢ Progress.Gone) }
 {
     if ended {
         Progress::Closed
@@ -82,7 +83,7 @@ impl<'d, L: Link + Drop> ClientWorker<'d, L> {
         ensures moves { Moves L.offered L.polls L.failures self.old log.old self.new log.new }
         ensures phase { (t : Before) (ended : Bool) → phase_of t log.old ≡ Deciding ended
             → phase_of t log.new ≡ Closing }
-        ensures over { self.new.session ≡ ClientState.Ended }
+        ensures over { self.new.session.state ≡ ClientState.Ended }
         ensures same { self.new ≡ record self.old {
           session = self.new.session;
           wire = record self.old.wire {
@@ -120,12 +121,13 @@ impl<'d, L: Link + Drop> ClientWorker<'d, L> {
         ensures settled { result ≡ Ok (Some Progress.Settled)
             → (self.new.settled ≡ true) × (self.new.held ≡ None)
             × HasNone 65536 self.new.wire.rest }
-        ensures over { result ≡ Ok (Some Progress.Closed) → self.new.session ≢ ClientState.Ended
+        ensures over { result ≡ Ok (Some Progress.Closed) → self.new.session.state ≢ ClientState.Ended
             → (self.new.settled ≡ true) × (ended ≡ true) }
         ensures failed { OnOk result
             (result ≢ Ok (Some Progress.Closed) → self.new.wire.failed ≡ None) }
         ensures which { (result ≢ Ok (Some Progress.Parked))
-            × (result ≢ Ok (Some Progress.Clogged)) }
+            × (result ≢ Ok (Some Progress.Clogged))
+            × (result ≢ Ok (Some Progress.Gone)) }
         ensures same { self.new ≡ record self.old {
           session = self.new.session;
           wire = record self.new.wire { link = self.old.wire.link; start = self.old.wire.start };
@@ -165,15 +167,15 @@ impl<'d, L: Link + Drop> ClientWorker<'d, L> {
             → IsDecided ended result (phase_of t log.new) }
         ensures held { OnOk result
             ((result ≢ Ok Verdict.Forward) → (result ≢ Ok Verdict.Settle) → self.new.held ≡ None) }
-        ensures over { result ≡ Ok Verdict.Over → self.new.session ≡ ClientState.Ended }
+        ensures over { result ≡ Ok Verdict.Over → self.new.session.state ≡ ClientState.Ended }
         ensures forward { result ≡ Ok Verdict.Forward
             → IfSome self.new.held (λ p.
-            client_decides self.new.desk.accounts.items self.new.session p
-            ≡ (Act.Forward, self.new.session)) }
+            client_decides self.new.desk.accounts.items self.new.session.state p
+            ≡ (Act.Forward, self.new.session.state)) }
         ensures settle { result ≡ Ok Verdict.Settle
             → IfSome self.new.held (λ p.
-            client_decides self.new.desk.accounts.items self.new.session p
-            ≡ (Act.MoAnswer p.number, self.new.session)) }
+            client_decides self.new.desk.accounts.items self.new.session.state p
+            ≡ (Act.MoAnswer p.number, self.new.session.state)) }
         ensures waits { (result ≡ Ok Verdict.Forward) ⊎ (result ≡ Ok Verdict.Settle)
             → IsSome self.new.held × (self.new.wire ≡ self.old.wire) }
         ensures same { self.new ≡ record self.old {
@@ -225,8 +227,8 @@ impl<'d, L: Link + Drop> ClientWorker<'d, L> {
         requires room { 65536 ≤ self.old.wire.room }
         requires below { length self.old.wire.unsent < 65536 }
         requires held { IfSome self.old.held (λ p.
-            client_decides self.old.desk.accounts.items self.old.session p
-            ≡ (Act.Forward, self.old.session)) }
+            client_decides self.old.desk.accounts.items self.old.session.state p
+            ≡ (Act.Forward, self.old.session.state)) }
         requires some { IsSome self.old.held }
         requires undecided { self.old.settled ≡ false }
         ensures leads { (n : ℕ) (queries : List Query) → Leads n
@@ -278,8 +280,8 @@ impl<'d, L: Link + Drop> ClientWorker<'d, L> {
         requires below { length self.old.wire.unsent < 65536 }
         requires none { self.old.parked ≡ None }
         requires held { IfSome self.old.held (λ p.
-            client_decides self.old.desk.accounts.items self.old.session p
-            ≡ (Act.MoAnswer p.number, self.old.session)) }
+            client_decides self.old.desk.accounts.items self.old.session.state p
+            ≡ (Act.MoAnswer p.number, self.old.session.state)) }
         requires some { IsSome self.old.held }
         requires undecided { self.old.settled ≡ false }
         ensures leads { (n : ℕ) (queries : List Query) → Leads n
@@ -292,7 +294,8 @@ impl<'d, L: Link + Drop> ClientWorker<'d, L> {
         ensures phase { (t : Before) (ended : Bool) → phase_of t log.old ≡ Deciding ended
             → IsPart (Deciding ended) result (phase_of t log.new) }
         ensures which { (result ≢ Ok (Some Progress.Settled)) × (result ≢ Ok (Some Progress.Closed))
-            × (result ≢ Ok (Some Progress.Clogged)) }
+            × (result ≢ Ok (Some Progress.Clogged))
+            × (result ≢ Ok (Some Progress.Gone)) }
         ensures waits { result ≡ Ok (Some Progress.Parked) → IsSome self.new.parked }
         ensures clear { result ≡ Ok None → self.new.parked ≡ None }
         ensures held { self.new.held ≡ None }

@@ -39,7 +39,7 @@ fn after(turns: u64) -> u64
 
 // How a turn ends that comes so far; whether nothing came of it.
 fn end_of(progress: Progress, quiet: bool) -> TurnEnd
-    requires { progress ≢ Progress.Closed }
+    requires { (progress ≢ Progress.Closed) × (progress ≢ Progress.Gone) }
     ensures phase { (p : Phase) → IsAt progress p → EndsIn result quiet p }
     ensures goes_on { result ≢ TurnEnd.Done }
 {
@@ -78,6 +78,7 @@ impl<'d, L: Link + Drop> ClientWorker<'d, L> {
         gate: &mut G,
         directory: &mut D,
         turn: u64,
+        now: u64,
         log: &mut Log<Mark, Event>,
     ) -> Result<TurnEnd, Fault>
         requires locks { locks_of self.old.port.fronts ≡ at.now }
@@ -90,7 +91,7 @@ impl<'d, L: Link + Drop> ClientWorker<'d, L> {
             (scene_of L.offered L.polls L.failures (G.asked gate.new) (G.told gate.new) (D.queries
             directory.new) self.new)
             log.new }
-        ensures phase { (t : Before) → t ≡ before self.old
+        ensures phase { (t : Before) → t ≡ before now self.old
             → phase_of t log.old ≡ when_written t self.old.stage
             → IsTurn result (are_quiet is_quiet_mark is_quiet_event log.new) (phase_of t log.new)
             × OnOk result (Stands (phase_of t log.new) self.new.wire.unsent self.new.wire.rest
@@ -101,16 +102,21 @@ impl<'d, L: Link + Drop> ClientWorker<'d, L> {
         ensures locks { locks_of self.new.port.fronts ≡ locks_of self.old.port.fronts }
         ensures same { self.new ≡ record self.new {
           desk = self.old.desk;
+          message_time = self.old.message_time;
           turns = self.old.turns;
           steps = self.old.steps;
           ends = self.old.ends;
           origin = self.old.origin;
         } }
     {
-        match self.middle_part(at, rt, gate, directory, turn, log)? {
+        match self.middle_part(at, rt, gate, directory, turn, now, log)? {
             Progress::Closed => {
                 self.stage = Stage::Closed;
                 self.last_part(log)
+            }
+            Progress::Gone => {
+                self.stage = Stage::Closed;
+                Ok(TurnEnd::Done)
             }
             progress => Ok(end_of(progress, log.is_quiet())),
         }
@@ -124,6 +130,7 @@ impl<'d, L: Link + Drop> ClientWorker<'d, L> {
         gate: &mut G,
         directory: &mut D,
         turn: u64,
+        now: u64,
         log: &mut Log<Mark, Event>,
     ) -> Result<TurnEnd, Fault>
         requires locks { locks_of self.old.port.fronts ≡ at.now }
@@ -135,7 +142,7 @@ impl<'d, L: Link + Drop> ClientWorker<'d, L> {
             (scene_of L.offered L.polls L.failures (G.asked gate.new) (G.told gate.new) (D.queries
             directory.new) self.new)
             log.new }
-        ensures phase { (t : Before) → t ≡ before self.old → phase_of t log.old ≡ Opening
+        ensures phase { (t : Before) → t ≡ before now self.old → phase_of t log.old ≡ Opening
             → IsTurn result (are_quiet is_quiet_mark is_quiet_event log.new) (phase_of t log.new)
             × OnOk result (Stands (phase_of t log.new) self.new.wire.unsent self.new.wire.rest
             self.new.held self.new.parked self.new.settled self.new.stage) }
@@ -145,6 +152,7 @@ impl<'d, L: Link + Drop> ClientWorker<'d, L> {
         ensures locks { locks_of self.new.port.fronts ≡ locks_of self.old.port.fronts }
         ensures same { self.new ≡ record self.new {
           desk = self.old.desk;
+          message_time = self.old.message_time;
           turns = self.old.turns;
           steps = self.old.steps;
           ends = self.old.ends;
@@ -159,15 +167,16 @@ impl<'d, L: Link + Drop> ClientWorker<'d, L> {
                 }
                 match self.stage {
                     Stage::Closed => Ok(TurnEnd::Done),
-                    _ => self.rest_part(at, rt, gate, directory, turn, log),
+                    _ => self.rest_part(at, rt, gate, directory, turn, now, log),
                 }
             }
         }
     }
 
-    /// One turn. `Worked` where something was done or octets or an answer wait, `Idle` where the
-    /// gate said no or there was nothing to do, `Done` once the client has left or its link has
-    /// ended and all is written. After a fault only `close` is called. What the turn did can be
+    /// One turn at a moment, in milliseconds, which was taken before the turn. `Worked` where
+    /// something was done or octets or an answer wait, `Idle` where the gate said no or there was
+    /// nothing to do, `Done` once the client has left or its link has ended and all is written, or
+    /// an enquiry was answered by no octet. After a fault only `close` is called. What the turn did can be
     /// read in the worker then, by contracts alone.
     pub fn turn<R: Wait, G: Gate, D: Directory>(
         &mut self,
@@ -175,6 +184,7 @@ impl<'d, L: Link + Drop> ClientWorker<'d, L> {
         rt: &R,
         gate: &mut G,
         directory: &mut D,
+        now: u64,
     ) -> Result<TurnEnd, Fault>
         requires locks { locks_of self.old.port.fronts ≡ at.now }
         requires goes_on { self.old.stage ≢ Stage.Closed → self.old.wire.failed ≡ None }
@@ -187,8 +197,8 @@ impl<'d, L: Link + Drop> ClientWorker<'d, L> {
             (scene_of L.offered L.polls L.failures (G.asked gate.new) (G.told gate.new) (D.queries
             directory.new) self.new) }
         ensures order { IsTurn result (are_quiet is_quiet_mark is_quiet_event self.new.steps)
-            (phase_of (before self.old) self.new.steps) }
-        ensures stands { OnOk result (Stands (phase_of (before self.old) self.new.steps)
+            (phase_of (before now self.old) self.new.steps) }
+        ensures stands { OnOk result (Stands (phase_of (before now self.old) self.new.steps)
             self.new.wire.unsent self.new.wire.rest self.new.held self.new.parked
             self.new.settled self.new.stage) }
 
@@ -197,7 +207,7 @@ impl<'d, L: Link + Drop> ClientWorker<'d, L> {
             → (self.old.held ≡ None) × HasNone 65536 self.old.wire.rest }
 
         // Nothing more is decided only once the session has ended, or the link, with nothing left.
-        ensures closed { self.new.stage ≡ Stage.Closed → self.new.session ≢ ClientState.Ended
+        ensures closed { self.new.stage ≡ Stage.Closed → self.new.session.state ≢ ClientState.Ended
             → (self.new.held ≡ None) × HasNone 65536 self.new.wire.rest
             × (has_ended (L.polls self.new.wire.link) ≡ true) }
 
@@ -220,11 +230,12 @@ impl<'d, L: Link + Drop> ClientWorker<'d, L> {
         ensures goes_on { OnOk result
             (self.new.stage ≢ Stage.Closed → self.new.wire.failed ≡ None) }
         ensures locks { locks_of self.new.port.fronts ≡ locks_of self.old.port.fronts }
+        ensures message_time { self.new.message_time ≡ self.old.message_time }
         ensures origin { self.new.origin ≡ self.old.origin }
     {
         let turn = after(self.turns);
         let mut log = Log::new();
-        let end = self.run_turn(at, rt, gate, directory, turn, &mut log);
+        let end = self.run_turn(at, rt, gate, directory, turn, now, &mut log);
         self.turns = turn;
         self.steps = log.into_steps();
         self.ends = self.ends.and(&end);
@@ -232,13 +243,14 @@ impl<'d, L: Link + Drop> ClientWorker<'d, L> {
     }
 }
 
-/// Turns a worker at most so often, and no more after a turn that wasn't `Worked`.
+/// Turns a worker at a moment at most so often, and no more after a turn that wasn't `Worked`.
 pub fn run_client<'d, L: Link + Drop, R: Wait, G: Gate, D: Directory>(
     worker: &mut ClientWorker<'d, L>,
     at: &Exchange,
     rt: &R,
     gate: &mut G,
     directory: &mut D,
+    now: u64,
     turns: u64,
 ) -> RunEnd
     requires locks { locks_of worker.old.port.fronts ≡ at.now }
@@ -249,7 +261,7 @@ pub fn run_client<'d, L: Link + Drop, R: Wait, G: Gate, D: Directory>(
 
     // It makes turns, and asks nothing else of the gate, the directory and the link.
     ensures turned { (ends : List (Result TurnEnd Fault)) × Runs (TurnsSo L.offered L.polls
-        L.failures) (course (G.asked gate.old) (G.told gate.old) (D.queries directory.old)
+        L.failures now) (course (G.asked gate.old) (G.told gate.old) (D.queries directory.old)
         worker.old) ends (course (G.asked gate.new) (G.told gate.new) (D.queries directory.new)
         worker.new) }
     ensures goes_on { ((fault : Fault) → result ≢ RunEnd.Fault fault)
@@ -258,7 +270,7 @@ pub fn run_client<'d, L: Link + Drop, R: Wait, G: Gate, D: Directory>(
     ensures origin { worker.new.origin ≡ worker.old.origin }
 {
     for _turn in 0..turns {
-        match worker.turn(at, rt, gate, directory) {
+        match worker.turn(at, rt, gate, directory, now) {
             Ok(TurnEnd::Worked) => {}
             Ok(TurnEnd::Idle) => return RunEnd::Idle,
             Ok(TurnEnd::Done) => return RunEnd::Left,

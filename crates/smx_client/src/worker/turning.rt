@@ -6,7 +6,7 @@ ghost use Rattle.smx_turns.specs.declared.gate.Question.{Question};
 ghost use Rattle.smx_turns.specs.declared.gate.Party.{Party};
 ghost use Rattle.smx_turns.specs.declared.directory.Query.{Query};
 ghost use Rattle.smx_client.specs.Scenes.{scene_of, before};
-ghost use Rattle.smx_client.specs.Table.{Before, Phase, phase_of, Written, Clear, Deciding, Unentered, when_drained, IsFront, IsPart, ComesTo, after_bind, when_written};
+ghost use Rattle.smx_client.specs.Table.{Before, Phase, phase_of, Written, Clear, Deciding, Unentered, when_drained, IsRead, IsFront, IsPart, ComesTo, after_bind, when_written};
 ghost use Rattle.smx_client.specs.Turns.{Leads};
 
 use super::ClientWorker;
@@ -15,7 +15,7 @@ use crate::event::{Event, Progress, Verdict};
 use crate::ledger::{ask, mark, reading};
 use crate::mark::{Mark, Stage};
 use crate::prefixes::{add_all, prefixes_at};
-use smx_link::Link;
+use smx_link::{Link, Polled};
 use smx_session::{ClientState, Kind};
 use smx_shared::Exchange;
 use smx_turns::{Directory, Fault, Gate, Log, Point, is_end};
@@ -56,14 +56,13 @@ fn part_entered(whole: bool) -> Result<Option<Progress>, Fault>
 }
 
 impl<'d, L: Link + Drop> ClientWorker<'d, L> {
-    // Asks for leave to read, and reads where every whole PDU that came was decided: whether the
-    // link has ended.
+    // Asks for leave to read, and reads where every whole PDU that came was decided: what it found.
     fn read_part<G: Gate>(
         &mut self,
         gate: &mut G,
         turn: u64,
         log: &mut Log<Mark, Event>,
-    ) -> Result<Result<bool, Progress>, Fault>
+    ) -> Result<Result<Option<Polled>, Progress>, Fault>
         requires goes_on { self.old.wire.failed ≡ None }
         requires opened { self.old.stage ≡ Stage.Open }
         ensures leads { (queries : List Query) → Leads turn
@@ -74,12 +73,11 @@ impl<'d, L: Link + Drop> ClientWorker<'d, L> {
             self.new)
             log.new }
         ensures phase { (t : Before) → phase_of t log.old ≡ Clear → t.settled ≡ self.old.settled
-            → IsFront result (phase_of t log.new) }
+            → IsRead t result (phase_of t log.new) }
         ensures which { IfOk result (λ r. (r ≢ Err Progress.Parked) × (r ≢ Err Progress.Clogged)
-            × (r ≢ Err Progress.Settled) × (r ≢ Err Progress.Closed)) }
+            × (r ≢ Err Progress.Settled) × (r ≢ Err Progress.Closed) × (r ≢ Err Progress.Gone)) }
         ensures stage { self.new.stage ≢ Stage.Closed }
-        ensures ended { IfOk result
-            (λ r. IfOk r (λ ended. ended ≡ true → self.new.stage ≡ Stage.Drained)) }
+        ensures ended { result ≡ Ok (Ok (Some Polled.End)) → self.new.stage ≡ Stage.Drained }
         ensures same { self.new ≡ record self.old {
           wire = record self.old.wire {
             link = self.new.wire.link;
@@ -99,16 +97,15 @@ impl<'d, L: Link + Drop> ClientWorker<'d, L> {
         let settled = self.settled;
         if !settled {
             mark(log, Mark::Waited, true);
-            return Ok(Ok(false));
+            return Ok(Ok(None));
         }
         self.settled = false;
         let answer = self.wire.read();
         reading(log, answer);
         match answer {
             Ok(polled) => {
-                let ended = is_end(polled);
-                self.stage = stage_after(ended);
-                Ok(Ok(ended))
+                self.stage = stage_after(is_end(polled));
+                Ok(Ok(Some(polled)))
             }
             Err(_) => Err(Fault::Link),
         }
@@ -121,6 +118,7 @@ impl<'d, L: Link + Drop> ClientWorker<'d, L> {
         rt: &R,
         gate: &mut G,
         turn: u64,
+        now: u64,
         log: &mut Log<Mark, Event>,
     ) -> Result<Result<bool, Progress>, Fault>
         requires locks { locks_of self.old.port.fronts ≡ at.now }
@@ -135,17 +133,21 @@ impl<'d, L: Link + Drop> ClientWorker<'d, L> {
             log.new }
         ensures phase { (t : Before) → phase_of t log.old ≡ Written
             → t.lanes ≡ length self.old.port.fronts → t.settled ≡ self.old.settled
-            → t.parked ≡ is_some self.old.parked → IsFront result (phase_of t log.new) }
+            → t.parked ≡ is_some self.old.parked → t.now ≡ now
+            → t.message_time ≡ self.old.message_time → IsFront result (phase_of t log.new) }
         ensures clear { IfOk result (λ r. IfOk r (λ ended. self.new.parked ≡ None)) }
         ensures waits { result ≡ Ok (Err Progress.Parked) → IsSome self.new.parked }
         ensures clogged { result ≡ Ok (Err Progress.Clogged) → 65536 ≤ length self.new.wire.unsent }
         ensures which { (result ≢ Ok (Err Progress.Settled)) × (result ≢ Ok (Err Progress.Closed)) }
+        ensures gone { result ≡ Ok (Err Progress.Gone)
+            → self.new.session.state ≡ ClientState.Ended }
         ensures locks { locks_of self.new.port.fronts ≡ locks_of self.old.port.fronts }
         ensures stage { self.new.stage ≢ Stage.Closed }
         ensures ended { IfOk result
             (λ r. IfOk r (λ ended. ended ≡ true → self.new.stage ≡ Stage.Drained)) }
         ensures same { self.new ≡ record self.old {
           port = self.new.port;
+          session = self.new.session;
           inbox = self.new.inbox;
           senders = self.new.senders;
           window = self.new.window;
@@ -162,10 +164,13 @@ impl<'d, L: Link + Drop> ClientWorker<'d, L> {
         if let Some(progress) = self.collect_part(at, rt, gate, turn, log)? {
             return Ok(Err(progress));
         }
-        if let Some(progress) = self.box_part(rt, gate, log)? {
+        if let Some(progress) = self.box_part(rt, gate, now, log)? {
             return Ok(Err(progress));
         }
-        self.read_part(gate, turn, log)
+        match self.read_part(gate, turn, log)? {
+            Err(progress) => Ok(Err(progress)),
+            Ok(found) => self.heed(rt, gate, found, now, log),
+        }
     }
 
     // Enters the client that has bound into the directory, where it is to be sent messages.
@@ -225,9 +230,10 @@ impl<'d, L: Link + Drop> ClientWorker<'d, L> {
             → IsPart (Deciding ended) result (phase_of t log.new) }
         ensures next { result ≡ Ok None → (self.new.held ≡ None) × (self.new.parked ≡ None) }
         ensures which { (result ≢ Ok (Some Progress.Settled))
-            × (result ≢ Ok (Some Progress.Clogged)) }
+            × (result ≢ Ok (Some Progress.Clogged))
+            × (result ≢ Ok (Some Progress.Gone)) }
         ensures over { result ≡ Ok (Some Progress.Closed)
-            → self.new.session ≡ ClientState.Ended }
+            → self.new.session.state ≡ ClientState.Ended }
         ensures waits { result ≡ Ok (Some Progress.Parked) → IsSome self.new.parked }
         ensures locks { locks_of self.new.port.fronts ≡ locks_of self.old.port.fronts }
         ensures same { self.new ≡ record self.old {
@@ -290,8 +296,9 @@ impl<'d, L: Link + Drop> ClientWorker<'d, L> {
         ensures settled { result ≡ Ok Progress.Settled
             → (self.new.settled ≡ true) × (self.new.held ≡ None)
             × HasNone 65536 self.new.wire.rest }
-        ensures over { result ≡ Ok Progress.Closed → self.new.session ≢ ClientState.Ended
+        ensures over { result ≡ Ok Progress.Closed → self.new.session.state ≢ ClientState.Ended
             → (self.new.settled ≡ true) × (ended ≡ true) }
+        ensures which { result ≢ Ok Progress.Gone }
         ensures waits { result ≡ Ok Progress.Parked → IsSome self.new.parked }
         ensures clogged { result ≡ Ok Progress.Clogged → 65536 ≤ length self.new.wire.unsent }
         ensures locks { locks_of self.new.port.fronts ≡ locks_of self.old.port.fronts }
@@ -341,7 +348,8 @@ impl<'d, L: Link + Drop> ClientWorker<'d, L> {
         ensures waits { result ≡ Ok (Some Progress.Parked) → IsSome self.new.parked }
         ensures clear { result ≡ Ok None → self.new.parked ≡ None }
         ensures which { (result ≢ Ok (Some Progress.Settled)) × (result ≢ Ok (Some Progress.Closed))
-            × (result ≢ Ok (Some Progress.Clogged)) }
+            × (result ≢ Ok (Some Progress.Clogged))
+            × (result ≢ Ok (Some Progress.Gone)) }
         ensures same { self.new ≡ record self.old {
           senders = self.new.senders;
           parked = self.new.parked;
@@ -362,6 +370,7 @@ impl<'d, L: Link + Drop> ClientWorker<'d, L> {
         gate: &mut G,
         directory: &mut D,
         turn: u64,
+        now: u64,
         log: &mut Log<Mark, Event>,
     ) -> Result<Progress, Fault>
         requires locks { locks_of self.old.port.fronts ≡ at.now }
@@ -374,7 +383,7 @@ impl<'d, L: Link + Drop> ClientWorker<'d, L> {
             (scene_of L.offered L.polls L.failures (G.asked gate.new) (G.told gate.new) (D.queries
             directory.new) self.new)
             log.new }
-        ensures phase { (t : Before) → t ≡ before self.old
+        ensures phase { (t : Before) → t ≡ before now self.old
             → phase_of t log.old ≡ when_written t self.old.stage
             → ComesTo result (phase_of t log.new) }
         ensures goes_on { OnOk result (result ≢ Ok Progress.Closed → self.new.wire.failed ≡ None) }
@@ -382,13 +391,15 @@ impl<'d, L: Link + Drop> ClientWorker<'d, L> {
         ensures settled { result ≡ Ok Progress.Settled
             → (self.new.settled ≡ true) × (self.new.held ≡ None)
             × HasNone 65536 self.new.wire.rest }
-        ensures over { result ≡ Ok Progress.Closed → self.new.session ≢ ClientState.Ended
+        ensures over { result ≡ Ok Progress.Closed → self.new.session.state ≢ ClientState.Ended
             → (self.new.settled ≡ true) × (self.new.stage ≡ Stage.Drained) }
+        ensures gone { result ≡ Ok Progress.Gone → self.new.session.state ≡ ClientState.Ended }
         ensures waits { result ≡ Ok Progress.Parked → IsSome self.new.parked }
         ensures clogged { result ≡ Ok Progress.Clogged → 65536 ≤ length self.new.wire.unsent }
         ensures locks { locks_of self.new.port.fronts ≡ locks_of self.old.port.fronts }
         ensures same { self.new ≡ record self.new {
           desk = self.old.desk;
+          message_time = self.old.message_time;
           turns = self.old.turns;
           steps = self.old.steps;
           ends = self.old.ends;
@@ -403,7 +414,7 @@ impl<'d, L: Link + Drop> ClientWorker<'d, L> {
                 }
                 self.decide_part(at, rt, gate, directory, turn, true, log)
             }
-            Stage::Open => match self.front_part(at, rt, gate, turn, log)? {
+            Stage::Open => match self.front_part(at, rt, gate, turn, now, log)? {
                 Err(progress) => Ok(progress),
                 Ok(ended) => self.decide_part(at, rt, gate, directory, turn, ended, log),
             },

@@ -1,5 +1,5 @@
 //! What passes between a client and its lanes.
-use super::Step::{Closes, Gets, Responds, Routes, Runs, Sends, Stands, Told};
+use super::Step::{At, Closes, Gets, Responds, Routes, Runs, Sends, Stands, Told};
 use super::*;
 use smx_turns::Fault;
 use std::cmp::Ord;
@@ -112,6 +112,8 @@ fn answer_waits_for_its_box(rt: HostRuntime) {
         script,
         lanes: 1,
         places: 1,
+        silence: 0,
+        message_time: 0,
     };
     lanes_after(&rt, rt.alloc(), setting, &WAITING_STEPS);
 }
@@ -158,6 +160,105 @@ fn turn_stops_where_many_octets_wait(rt: HostRuntime) {
         script: script(rt.alloc(), 100_000, &STOPPING_PIECES),
         lanes: 2,
         places: 1,
+        silence: 0,
+        message_time: 0,
     };
     lanes_after(&rt, rt.alloc(), setting, &STOPPING_STEPS);
+}
+
+// The proxy's enquire_link, number 7fffffff, and its answer.
+const ENQUIRY: &[u8] = b"\0\0\0\x10\0\0\0\x15\0\0\0\0\x7f\xff\xff\xff";
+
+const ENQUIRED: &[u8] = b"\0\0\0\x10\x80\0\0\x15\0\0\0\0\x7f\xff\xff\xff";
+
+// A client that is silent for a second is sent enquire_link, once. An octet of its answer is life.
+// After a second without an octet behind the next one it is silent, and the worker is done.
+const SILENT_PIECES: [Piece; 2] = [(0, BIND), (41, ENQUIRED)];
+
+const SILENT_STEPS: [Step; 18] = [
+    Runs(100, RunEnd::Idle),
+    At(999),
+    Runs(100, RunEnd::Idle),
+    Stands(ClientState::BoundTrx, 0),
+    At(1_000),
+    Runs(1, RunEnd::Turns),
+    Stands(ClientState::BoundTrx, 16),
+    Runs(100, RunEnd::Idle),
+    At(1_999),
+    Runs(1, RunEnd::Idle),
+    At(2_000),
+    Runs(100, RunEnd::Idle),
+    At(2_999),
+    Runs(1, RunEnd::Idle),
+    At(3_000),
+    Runs(1, RunEnd::Left),
+    Stands(ClientState::Ended, 0),
+    Closes(&[&BOUND, ENQUIRY, ENQUIRY], false),
+];
+
+#[test]
+fn silence_is_enquired(rt: HostRuntime) {
+    let mut setting = Setting::new(0, script(rt.alloc(), 4_096, &SILENT_PIECES));
+    setting.silence = 1_000;
+    lanes_after(&rt, rt.alloc(), setting, &SILENT_STEPS);
+}
+
+// A program that stood still for a minute: what came meanwhile is read before silence is judged.
+const STILL_PIECES: [Piece; 2] = [(0, BIND), (41, ENQUIRED)];
+
+const STILL_STEPS: [Step; 8] = [
+    Runs(100, RunEnd::Idle),
+    At(1_000),
+    Runs(1, RunEnd::Turns),
+    At(63_000),
+    Runs(100, RunEnd::Idle),
+    Stands(ClientState::BoundTrx, 0),
+    Runs(1, RunEnd::Idle),
+    Closes(&[&BOUND, ENQUIRY], false),
+];
+
+#[test]
+fn what_came_is_read_first(rt: HostRuntime) {
+    let mut setting = Setting::new(0, script(rt.alloc(), 4_096, &STILL_PIECES));
+    setting.silence = 1_000;
+    lanes_after(&rt, rt.alloc(), setting, &STILL_STEPS);
+}
+
+// Messages that the client doesn't answer in time are answered with 0x64, in the turn that judges
+// them. Its late answer to the first reaches nobody.
+const LATE: &[u8] = b"\0\0\0\x10\x80\0\0\x05\0\0\0\0\0\0\0\x01";
+
+const OVERDUE_PIECES: [Piece; 2] = [(0, BIND), (73, LATE)];
+
+const THIRD: &[u8] = b"\0\0\0\x10\0\0\0\x05\0\0\0\0\0\0\0\x03";
+
+const OVERDUE_STEPS: [Step; 21] = [
+    Runs(100, RunEnd::Idle),
+    Sends(3),
+    Sends(4),
+    At(1),
+    Runs(1, RunEnd::Turns),
+    At(2),
+    Runs(100, RunEnd::Idle),
+    At(5_000),
+    Runs(1, RunEnd::Idle),
+    Gets(None),
+    At(5_001),
+    Runs(1, RunEnd::Turns),
+    Gets(Some((0x8000_0005, 0x64, 3))),
+    Gets(None),
+    Sends(5),
+    Runs(100, RunEnd::Idle),
+    At(5_002),
+    Runs(100, RunEnd::Idle),
+    Gets(Some((0x8000_0005, 0x64, 4))),
+    Closes(&[&BOUND, SENT, THIRD], true),
+    Gets(Some((0x8000_0005, 0x64, 5))),
+];
+
+#[test]
+fn messages_have_their_time(rt: HostRuntime) {
+    let mut setting = Setting::new(0, script(rt.alloc(), 4_096, &OVERDUE_PIECES));
+    setting.message_time = 5_000;
+    lanes_after(&rt, rt.alloc(), setting, &OVERDUE_STEPS);
 }

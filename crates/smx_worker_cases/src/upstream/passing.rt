@@ -1,6 +1,6 @@
 //! What passes between a client's tokens and the centre.
 use super::Step::{
-    Answers, Asked, Closes, Collects, Gets, GoesOn, Runs, Stands, Stops, Submits, Told,
+    Answers, Asked, Closes, Collects, Gets, GoesOn, Last, Runs, Stands, Stops, Submits, Told,
 };
 use super::*;
 use crate::hall::is_of;
@@ -105,17 +105,22 @@ fn late_response_reaches_nobody(rt: HostRuntime) {
 }
 
 // Two requests are queued. The first is taken, and fails with the link at its second read; nothing is
-// accepted while the lane is down. The next worker takes the second, and nothing again.
+// accepted while the lane is down. The next worker takes the second, and nothing again. Each tells of
+// the submit_sm that it sent itself.
 const ANSWERING: [Piece; 2] = [(30, &BOUND), (64, &SECOND_RESPONSE)];
 
-const ANEW_STEPS: [Step; 9] = [
+const ANEW_STEPS: [Step; 13] = [
     Submits(Ok(0)),
     Submits(Ok(0)),
+    Last(None),
     Runs(0, 1_000, RunEnd::Fault(Fault::Link)),
+    Last(Some((1, 4))),
     GoesOn(1, &[&BIND, &SUBMIT], &ANSWERING),
+    Last(None),
     Collects(FAILED),
     Submits(Err(SubmitFault::AllFull)),
     Runs(0, 1_000, RunEnd::Idle),
+    Last(Some((1, 4))),
     Collects(ANSWERED_SECOND),
     Closes(&[&BIND, &SECOND]),
 ];

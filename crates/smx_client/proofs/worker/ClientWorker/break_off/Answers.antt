@@ -20,7 +20,7 @@ invariant_of-self g c =
     (doing.broke _ _ _ _ _ _ _ _ _ _ _ c.of.result c.of.ensures c.on_fault-act.ensures.act c.on_fault-act.ensures.state c.say_act.ensures.said)
     (still _ _ _ _ (ap (λ (w : Wiring g.row.L.Denot). w.rest) e) c.self.invariant.settled)
     (record { stays = bad_as c.self.inside.wire c.say_act.new.wire (ap (λ (w : Wiring g.row.L.Denot). w.failed) e) (ap (λ (w : Wiring g.row.L.Denot). w.rest) e); met = λ _. bad_as c.self.inside.wire c.say_act.new.wire (ap (λ (w : Wiring g.row.L.Denot). w.failed) e) (ap (λ (w : Wiring g.row.L.Denot). w.rest) e) (subst (λ (w : Serving g.row.L.Denot). IsBad w.wire) (sym c.self.view_is) c.requires.bad) })
-    (λ _ other. absurd (other c.on_fault-act.ensures.state))
+    (λ _ other. absurd (other (ap (λ x. x.state) c.on_fault-act.ensures.state)))
 
 pub returns-clause-moves : goal.returns-clause-moves
 returns-clause-moves g c = rw (← c.self.view_is) (λ n asked told queries base was.

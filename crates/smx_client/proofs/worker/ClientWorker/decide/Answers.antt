@@ -10,7 +10,7 @@ use Rattle.smx_client.specs.Parts.{Suits}
 use Rattle.smx_client.specs.Serving.{Serving}
 use Rattle.smx_client.proofs.Cells as cell
 use Rattle.smx_client.proofs.Doings as doing
-use Rattle.smx_client.proofs.Fates.{own_out, says_session, ends_session}
+use Rattle.smx_client.proofs.Fates.{own_out, says_session, ends_session, kept_of}
 use Rattle.smx_client.proofs.Scenes.{happens}
 use Rattle.smx_turns.proofs.Breaking.{stays_bad}
 use Rattle.smx_client.proofs.Serving.{did, as_below, decides, undecided}
@@ -23,8 +23,8 @@ invariant_of-self-in-Answer-1 g c =
     did g.L.Link.polls _ _ (Decided c.of.result c.of-in_default-act.result Own) c.self.invariant (ap (λ w. w.link) e) (ap (λ w. w.start) e) refl refl c.note.ensures.events (ap (λ w. w.heard) e)
     (decides s.held c.take.new.self c.in-Some.pdu _ c.of.ensures c.in-Some.ensures.value c.take.ensures.after)
     (doing.owned _ _ _ _ _ _ _ _ _ _ c.of.result c.of-in_default-act.result (c.say_act.ensures.said ∙ ap (λ l. s.wire.said ++ l) (own_out _ _ c.of-in_default-act.ensures))
-    (subst (λ (l : List Login). ((c.of-in_default-act.result.value, c.on_pdu.new.self) ≡ client_decides l s.session c.of.result.value) × Suits c.of-in_default-act.result.value Own) c.as_slice.ensures.value
-    (says_session _ _ _ c.in-Some.pdu _ c.in-Ok.act _ c.of.ensures c.of-in_default-act.ensures c.in-Ok.ensures.act c.in-Ok.ensures.state c.in_default-act.not-Forward c.in_default-act.not-MoAnswer)))
+    (subst (λ (l : List Login). ((c.of-in_default-act.result.value, c.on_pdu.new.self.state) ≡ client_decides l s.session.state c.of.result.value) × Suits c.of-in_default-act.result.value Own) c.as_slice.ensures.value
+    (says_session _ _ _ c.in-Some.pdu _ c.in-Ok.act _ c.of.ensures c.of-in_default-act.ensures c.in-Ok.ensures.act (ap (λ x. x.state) c.in-Ok.ensures.state) c.in_default-act.not-Forward c.in_default-act.not-MoAnswer)) (kept_of s.session _ _ c.in-Ok.ensures.state))
     (undecided _ (ap (λ (w : Serving g.row.L.Denot). w.settled) c.self.view_is ∙ c.requires.undecided))
     (stays_bad refl (ap (λ (w : Wiring g.row.L.Denot). w.failed) e) (ap (λ (w : Wiring g.row.L.Denot). w.rest) e))
     (λ closed. absurd (c.requires.going (sym (ap (λ (w : Serving g.row.L.Denot). w.stage) c.self.view_is) ∙ closed)))
@@ -34,8 +34,8 @@ returns-in_default-act-clause-moves g c = rw (← c.self.view_is) (λ n asked to
     let s = c.self.inside in
     c.note.ensures.leads n _ _ (happens g.L.Link.offered g.L.Link.polls g.L.Link.failures asked asked told told queries _ _ _ _ _ _ _ _ (Decided c.of.result c.of-in_default-act.result Own) (as_below _ _ c.self.view_is c.requires.below)
     (doing.owned _ _ _ _ _ _ _ _ _ _ c.of.result c.of-in_default-act.result (c.say_act.ensures.said ∙ ap (λ l. s.wire.said ++ l) (own_out _ _ c.of-in_default-act.ensures))
-    (subst (λ (l : List Login). ((c.of-in_default-act.result.value, c.on_pdu.new.self) ≡ client_decides l s.session c.of.result.value) × Suits c.of-in_default-act.result.value Own) c.as_slice.ensures.value
-    (says_session _ _ _ c.in-Some.pdu _ c.in-Ok.act _ c.of.ensures c.of-in_default-act.ensures c.in-Ok.ensures.act c.in-Ok.ensures.state c.in_default-act.not-Forward c.in_default-act.not-MoAnswer)))
+    (subst (λ (l : List Login). ((c.of-in_default-act.result.value, c.on_pdu.new.self.state) ≡ client_decides l s.session.state c.of.result.value) × Suits c.of-in_default-act.result.value Own) c.as_slice.ensures.value
+    (says_session _ _ _ c.in-Some.pdu _ c.in-Ok.act _ c.of.ensures c.of-in_default-act.ensures c.in-Ok.ensures.act (ap (λ x. x.state) c.in-Ok.ensures.state) c.in_default-act.not-Forward c.in_default-act.not-MoAnswer)) (kept_of s.session _ _ c.in-Ok.ensures.state))
     refl (sym (append-nil told)) c.note.ensures.events (c.say_act.ensures.unsent ∙ ap (λ l. s.wire.unsent ++ spellings l) (own_out _ _ c.of-in_default-act.ensures))
     (ap (λ w. w.link) c.say_act.ensures.same)) base was)
 
@@ -46,4 +46,4 @@ returns-in_default-act-clause-phase g c = λ t ended was. c.note.ensures.phase t
 pub returns-in_default-act-clause-over : goal.returns-in_default-act-clause-over
 returns-in_default-act-clause-over g c = λ e.
     let over : c.verdict_of-verdict.result ≡ Over = cc in
-    ends_session _ _ _ c.in-Some.pdu c.in-Ok.act _ c.in-Ok.ensures.act c.in-Ok.ensures.state c.verdict_of-verdict.ensures over
+    ends_session _ _ _ c.in-Some.pdu c.in-Ok.act _ c.in-Ok.ensures.act (ap (λ x. x.state) c.in-Ok.ensures.state) c.verdict_of-verdict.ensures over

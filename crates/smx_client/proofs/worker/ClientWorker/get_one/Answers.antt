@@ -5,7 +5,7 @@ use Rattle.smx_client.specs.declared.event.Event.TheVariants.{Got}
 use Rattle.smx_client.specs.declared.event.Delivery.TheVariants.{Dropped}
 use Rattle.smx_client.specs.Events.{got_out, got_told}
 use Rattle.smx_client.specs.Parts.{IsDelivered}
-use Rattle.smx_client.specs.Table.{IsPart, Clear, after_got}
+use Rattle.smx_client.specs.Table.{IsPart, Clear, after_got, is_given_at}
 use Rattle.smx_client.proofs.Cells as cell
 use Rattle.smx_client.proofs.Doings as doing
 use Rattle.smx_client.proofs.Scenes.{happens}
@@ -52,10 +52,10 @@ returns-in-Ok-clause-leads g c = rw (← c.self.view_is) (λ n queries base was.
     (d.says.unsent ∙ ap (λ r. s.wire.unsent ++ spellings (got_out r c.deliver-delivery.result)) (sym seen)) (ap (λ w. w.link) d.says.same)) base was)
 
 pub returns-in-Err-clause-phase : goal.returns-in-Err-clause-phase
-returns-in-Err-clause-phase g c = λ t at parked.
-    c.note.ensures.phase t _ at ∙ cell.boxed_got t c.of-seen.result Dropped (parked ∙ ap is_some c.requires.none) ∙ ap (λ r. after_got r Dropped) (c.of-seen.ensures ∙ c.in-Err.is)
+returns-in-Err-clause-phase g c = λ t at parked is.
+    c.note.ensures.phase t _ at ∙ cell.boxed_got t c.of-seen.result Dropped (parked ∙ ap is_some c.requires.none) refl ∙ ap (λ r. after_got r Dropped) (c.of-seen.ensures ∙ c.in-Err.is)
 
 pub returns-in-Ok-clause-phase : goal.returns-in-Ok-clause-phase
-returns-in-Ok-clause-phase g c = λ t at parked.
-    subst (λ p. IsPart Clear c.progress.result p) (sym (c.note-in-Ok.ensures.phase t _ at ∙ cell.boxed_got t c.of-seen.result c.deliver-delivery.result (parked ∙ ap is_some c.requires.none)
+returns-in-Ok-clause-phase g c = λ t at parked is.
+    subst (λ p. IsPart Clear c.progress.result p) (sym (c.note-in-Ok.ensures.phase t _ at ∙ cell.boxed_got t c.of-seen.result c.deliver-delivery.result (parked ∙ ap is_some c.requires.none) (ap (λ n. is_given_at n c.deliver-delivery.result) is ∙ c.deliver-delivery.ensures.given)
     ∙ ap (λ r. after_got r c.deliver-delivery.result) (c.of-seen.ensures ∙ c.in-Ok.is))) c.progress.ensures.phase

@@ -1,4 +1,4 @@
-use Rattle.std.proofs.Common.{◌++◌, ap, ◌∙◌}
+use Rattle.std.proofs.Common.{◌++◌, ap, ◌∙◌, arith}
 use Rattle.smx_link.specs.Wiring.{spellings}
 use Rattle.smx_client.specs.Replies.{put_in, parked_on}
 use Rattle.smx_client.specs.Events.{answers}
@@ -22,3 +22,6 @@ pub returns-clause-answers : goal.returns-clause-answers
 returns-clause-answers g c = rw (← c.self.view_is) (λ k within.
     let s = c.self.inside in
     put_first (put_in s.origin.senders.value.items k) (put_in s.senders.items k ++ parked_on k s.parked) (answers k s.events) (chain_answers k _ _ _ within c.self.invariant.runs))
+
+pub returns-clause-apart : goal.returns-clause-apart
+returns-clause-apart g c = rw (← c.self.view_is) (λ k d within same. let low = c.law-2.ensures.numbers k d within in omega (arith, low, same))

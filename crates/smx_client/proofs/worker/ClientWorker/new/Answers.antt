@@ -7,11 +7,11 @@ use Rattle.smx_client.proofs.worker.ClientWorker.new.Goals as goal
 
 pub invariant_of-result : goal.invariant_of-result
 invariant_of-result g c = record {
-  heard = heard_first _ _ c.new-3.ensures.none.0 c.new-6.ensures;
-  runs = started _ _ _ _ _ _ _ _ _ _ _ _ c.new-6.ensures c.new-3.ensures.none.1 c.of.ensures c.new-2.ensures c.of-2.ensures c.of-3.ensures (ap (λ v. v.items) c.of-4.ensures);
-  settled = λ settled. (refl, none_begins _ c.new-3.ensures.octets.0);
-  broken = none_broken worth _ c.new-6.ensures;
-  opened = λ opened ended. ap g.L.Link.polls (c.new-3.ensures.link.0 ∙ sym c.new-3.ensures.link.1);
+  heard = heard_first _ _ c.new-2.ensures.none.0 c.new-5.ensures;
+  runs = started _ _ _ _ _ _ _ _ _ _ _ _ _ c.new-5.ensures c.new-2.ensures.none.1 c.of.ensures c.of-2.ensures c.of-3.ensures c.of-4.ensures (ap (λ v. v.items) c.of-5.ensures);
+  settled = λ settled. (refl, none_begins _ c.new-2.ensures.octets.0);
+  broken = none_broken worth _ c.new-5.ensures;
+  opened = λ opened ended. ap g.L.Link.polls (c.new-2.ensures.link.0 ∙ sym c.new-2.ensures.link.1);
   drained = λ drained. absurd (cc);
   closed = λ closed. absurd (cc);
 }

@@ -1,6 +1,6 @@
 use Rattle.std.proofs.Common.{true≢false, ◌∙◌, ◌++◌, ◌+◌, ◌∷◌, [], ap, sym, rules}
 use Rattle.smx_link.specs.Links.{fault_count}
-use Rattle.smx_client.specs.Table.{Deciding, after_read}
+use Rattle.smx_client.specs.Table.{after_read}
 use Rattle.smx_link.specs.Wiring.{Wiring}
 use Rattle.smx_client.specs.Parts.{parts}
 use Rattle.smx_client.specs.Serving.{Serving}
@@ -50,16 +50,16 @@ returns-in-Err-clause-leads g c = rw (← c.self.view_is) (λ queries base was.
 pub returns-in-Ok-clause-phase : goal.returns-in-Ok-clause-phase
 returns-in-Ok-clause-phase g c = λ t was held.
     c.reading.ensures.phase t _ (c.if-not-ask.ensures.phase t _ was ∙ cell.yes_read t)
-    ∙ cell.came t c.read-answer.result (held ∙ ap (λ (w : Serving g.row.L.Denot). w.settled) (sym c.self.view_is) ∙ c.if-not-settled.false) ∙ ap after_read c.in-Ok.is ∙ ap Deciding (sym c.is_end-ended.ensures)
+    ∙ cell.came t c.read-answer.result (held ∙ ap (λ (w : Serving g.row.L.Denot). w.settled) (sym c.self.view_is) ∙ c.if-not-settled.false) ∙ ap (after_read t) c.in-Ok.is
 
 pub returns-in-Err-clause-phase : goal.returns-in-Err-clause-phase
 returns-in-Err-clause-phase g c = λ t was held.
     c.reading.ensures.phase t _ (c.if-not-ask.ensures.phase t _ was ∙ cell.yes_read t)
-    ∙ cell.came t c.read-answer.result (held ∙ ap (λ (w : Serving g.row.L.Denot). w.settled) (sym c.self.view_is) ∙ c.if-not-settled.false) ∙ ap after_read c.in-Err.is
+    ∙ cell.came t c.read-answer.result (held ∙ ap (λ (w : Serving g.row.L.Denot). w.settled) (sym c.self.view_is) ∙ c.if-not-settled.false) ∙ ap (after_read t) c.in-Err.is
 
 pub invariant_of-self-in-Ok : goal.invariant_of-self-in-Ok
 invariant_of-self-in-Ok g c =
-    let last = ap has_ended c.read-answer.ensures.polls ∙ ended_by _ _ ∙ ap answers_end c.in-Ok.is ∙ sym c.is_end-ended.ensures in
+    let last = ap has_ended c.read-answer.ensures.polls ∙ ended_by _ _ ∙ ap answers_end c.in-Ok.is ∙ sym c.is_end.ensures in
     record {
       heard = search rules;
       runs = search rules;

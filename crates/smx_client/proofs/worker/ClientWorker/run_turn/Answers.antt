@@ -21,5 +21,5 @@ returns-in-Closed-clause-phase g c = λ t is was.
 pub returns-in_default-clause-phase : goal.returns-in_default-clause-phase
 returns-in_default-clause-phase g c = λ t is was.
     let o = c.in-Ok.ensures in
-    c.rest_part.ensures.phase t (is ∙ ap before (sym o.same))
+    c.rest_part.ensures.phase t (is ∙ ap (before c.args.now) (sym o.same))
     (cell.begun t _ _ c.if-left.false (o.phase t Opening was) ∙ ap (when_written t) (ap (λ (x : Before). x.stage) is ∙ sym (ap (λ w. w.stage) o.same)))

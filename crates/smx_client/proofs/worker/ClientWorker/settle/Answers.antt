@@ -26,7 +26,7 @@ invariant_of-self g c =
     (sym (append-nil s.wire.said) ∙ ap (λ l. s.wire.said ++ l) (own_out (act.MoAnswer c.in-Some.pdu.number) _ c.of.ensures))
     (stays _ _ s.held c.in-Some.pdu _ (act.MoAnswer c.in-Some.pdu.number) _ (Settled c.settle-found.result c.answer_settled-reply.result) c.in-Some.ensures.value c.of-read.ensures c.of.ensures tt
     (settles _ _ s.held c.in-Some.pdu c.in-Some.ensures.value
-    (subst (λ (w : Serving g.row.L.Denot). IfSome w.held (λ p. client_decides w.desk.accounts.items w.session p ≡ (act.MoAnswer p.number, w.session))) (sym c.self.view_is) c.requires.held)))
+    (subst (λ (w : Serving g.row.L.Denot). IfSome w.held (λ p. client_decides w.desk.accounts.items w.session.state p ≡ (act.MoAnswer p.number, w.session.state))) (sym c.self.view_is) c.requires.held)))
     (settle_window c.in-Some.pdu _ c.settle-found.result _ _ c.of-read.ensures c.settle-found.ensures.settled c.settle-found.ensures.none)
     e.so (ap (λ (w : Serving g.row.L.Denot). w.parked) c.self.view_is ∙ c.requires.none) e.parks e.count e.answer)
     (undecided _ (ap (λ (w : Serving g.row.L.Denot). w.settled) c.self.view_is ∙ c.requires.undecided))
@@ -42,7 +42,7 @@ returns-clause-leads g c = rw (← c.self.view_is) (λ n queries base was.
     (sym (append-nil s.wire.said) ∙ ap (λ l. s.wire.said ++ l) (own_out (act.MoAnswer c.in-Some.pdu.number) _ c.of.ensures))
     (stays _ _ s.held c.in-Some.pdu _ (act.MoAnswer c.in-Some.pdu.number) _ (Settled c.settle-found.result c.answer_settled-reply.result) c.in-Some.ensures.value c.of-read.ensures c.of.ensures tt
     (settles _ _ s.held c.in-Some.pdu c.in-Some.ensures.value
-    (subst (λ (w : Serving g.row.L.Denot). IfSome w.held (λ p. client_decides w.desk.accounts.items w.session p ≡ (act.MoAnswer p.number, w.session))) (sym c.self.view_is) c.requires.held)))
+    (subst (λ (w : Serving g.row.L.Denot). IfSome w.held (λ p. client_decides w.desk.accounts.items w.session.state p ≡ (act.MoAnswer p.number, w.session.state))) (sym c.self.view_is) c.requires.held)))
     (settle_window c.in-Some.pdu _ c.settle-found.result _ _ c.of-read.ensures c.settle-found.ensures.settled c.settle-found.ensures.none)
     e.so (ap (λ (w : Serving g.row.L.Denot). w.parked) c.self.view_is ∙ c.requires.none) e.parks e.count e.answer)
     e.asked e.told c.note.ensures.events

@@ -21,7 +21,7 @@ returns-clause-order g c = ends_as _ _ _ _ c.into_steps-self-inside.ensures (c.r
 
 pub returns-clause-stands : goal.returns-clause-stands
 returns-clause-stands g c = stands_as _ _ _ _ _ _ _ _ _ _ c.into_steps-self-inside.ensures
-    (subst (λ (w : Serving g.row.L.Denot). OnOk c.run_turn-end.result (Stands (phase_of (before c.args.self.now) c.run_turn-end.new.log) w.wire.unsent w.wire.rest w.held w.parked w.settled w.stage))
+    (subst (λ (w : Serving g.row.L.Denot). OnOk c.run_turn-end.result (Stands (phase_of (before c.args.now c.args.self.now) c.run_turn-end.new.log) w.wire.unsent w.wire.rest w.held w.parked w.settled w.stage))
     (sym c.self-2.view_is) (c.run_turn-end.ensures.phase _ refl (phase_first _ _ c.new-log.ensures)).1)
 
 pub returns-clause-settled : goal.returns-clause-settled

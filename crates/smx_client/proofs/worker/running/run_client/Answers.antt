@@ -23,7 +23,7 @@ loop-turn-preserved g c = record {
   origin = search rules;
   goes_on = search rules;
   ends = round_more _ _ _ _ (end_as _ _ _ _ c.in-Ok-Worked.field-0-is c.in-Ok-Worked.ensures.ends) c.loop-turn.invariant.ends;
-  turned = turned_more g.L.Link.offered g.L.Link.polls g.L.Link.failures _ _ _ c.turn.result c.loop-turn.invariant.turned c.turn.ensures.changes c.turn.ensures.order c.turn.ensures.ends;
+  turned = turned_more g.L.Link.offered g.L.Link.polls g.L.Link.failures c.args.now _ _ _ c.turn.result c.loop-turn.invariant.turned c.turn.ensures.changes c.turn.ensures.order c.turn.ensures.ends;
   ran = ran_more Does _ _ _ _ _ _ _ c.loop-turn.invariant.ran c.in-Ok-Worked.ensures.events c.in-Ok-Worked.ensures.runs;
 }
 
@@ -49,10 +49,10 @@ pub returns-in-Err-clause-goes_on : goal.returns-in-Err-clause-goes_on
 returns-in-Err-clause-goes_on g c = λ other. absurd (other _ refl)
 
 pub returns-in-Ok-Idle-clause-turned : goal.returns-in-Ok-Idle-clause-turned
-returns-in-Ok-Idle-clause-turned g c = turned_more g.L.Link.offered g.L.Link.polls g.L.Link.failures _ _ _ c.turn.result c.loop-turn.invariant.turned c.turn.ensures.changes c.turn.ensures.order c.turn.ensures.ends
+returns-in-Ok-Idle-clause-turned g c = turned_more g.L.Link.offered g.L.Link.polls g.L.Link.failures c.args.now _ _ _ c.turn.result c.loop-turn.invariant.turned c.turn.ensures.changes c.turn.ensures.order c.turn.ensures.ends
 
 pub returns-in-Ok-Done-clause-turned : goal.returns-in-Ok-Done-clause-turned
-returns-in-Ok-Done-clause-turned g c = turned_more g.L.Link.offered g.L.Link.polls g.L.Link.failures _ _ _ c.turn.result c.loop-turn.invariant.turned c.turn.ensures.changes c.turn.ensures.order c.turn.ensures.ends
+returns-in-Ok-Done-clause-turned g c = turned_more g.L.Link.offered g.L.Link.polls g.L.Link.failures c.args.now _ _ _ c.turn.result c.loop-turn.invariant.turned c.turn.ensures.changes c.turn.ensures.order c.turn.ensures.ends
 
 pub returns-in-Err-clause-turned : goal.returns-in-Err-clause-turned
-returns-in-Err-clause-turned g c = turned_more g.L.Link.offered g.L.Link.polls g.L.Link.failures _ _ _ c.turn.result c.loop-turn.invariant.turned c.turn.ensures.changes c.turn.ensures.order c.turn.ensures.ends
+returns-in-Err-clause-turned g c = turned_more g.L.Link.offered g.L.Link.polls g.L.Link.failures c.args.now _ _ _ c.turn.result c.loop-turn.invariant.turned c.turn.ensures.changes c.turn.ensures.order c.turn.ensures.ends

@@ -16,7 +16,7 @@ invariant-loop-turn g l = record {
   origin : l.worker.origin ≡ l.fn.worker.origin;
   goes_on : l.worker.stage ≢ Closed → l.worker.wire.failed ≡ None;
   ends : l.worker.ends ≡ l.fn.worker.ends ++ worked_turns l._turn [];
-  turned : (ends : List (Result TurnEnd Fault)) × Runs (TurnsSo g.L.Link.offered g.L.Link.polls g.L.Link.failures) (course (g.G.Gate.asked l.fn.gate) (g.G.Gate.told l.fn.gate) (g.D.Directory.queries l.fn.directory) l.fn.worker)
+  turned : (ends : List (Result TurnEnd Fault)) × Runs (TurnsSo g.L.Link.offered g.L.Link.polls g.L.Link.failures l.fn.now) (course (g.G.Gate.asked l.fn.gate) (g.G.Gate.told l.fn.gate) (g.D.Directory.queries l.fn.directory) l.fn.worker)
       ends (course (g.G.Gate.asked l.gate) (g.G.Gate.told l.gate) (g.D.Directory.queries l.directory) l.worker);
   ran : RunsOn Does (parts_of l.fn.worker) l.fn.worker.events (parts_of l.worker) l.worker.events;
 }
