@@ -99,6 +99,40 @@ fn check_text<R: Print + Eprint + AllocGlobal>(rt: &R, path: &str, text: &str) -
     }
 }
 
+// A fault of a text in words.
+fn words_on<R: AllocGlobal>(rt: &R, path: &str, text: &str, fault: ConfigFault) -> Option<String> {
+    let alloc = rt.alloc();
+    match advice(alloc, text, fault) {
+        Ok(words) => format!(in alloc; "{path}: {words}").ok(),
+        Err(_) => format!(in alloc; "{path}: {fault}").ok(),
+    }
+}
+
+/// The configuration in the file with this path as it is now, or what is wrong with that, in words. There
+/// are none where there is no memory for them.
+pub(crate) fn read_again<R: Files + AllocGlobal>(
+    rt: &R,
+    path: &str,
+) -> Result<Config, Option<String>> {
+    let alloc = rt.alloc();
+    let file = match fs::open(rt, path) {
+        Ok(file) => file,
+        Err(error) => return Err(format!(in alloc; "{path}: {error}").ok()),
+    };
+    let mut file = Watched::new(file);
+    let text = match read_text(alloc, &mut file) {
+        Ok(text) => text,
+        Err(fault) => {
+            let error = file.error();
+            return Err(format!(in alloc; "{path}: {}", Because { fault, error }).ok());
+        }
+    };
+    match read(alloc, &text) {
+        Ok(config) => Ok(config),
+        Err(fault) => Err(words_on(rt, path, &text, fault)),
+    }
+}
+
 /// Checks the file with this path. The line of the check goes to standard output, and what would be
 /// right, in words that nothing fixes, to standard error.
 pub(crate) fn run<R: Files + Print + Eprint + AllocGlobal>(rt: &R, path: &str) -> ExitCode {

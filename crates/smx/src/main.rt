@@ -8,7 +8,7 @@ mod serving;
 mod watched;
 
 use config_file::config_of;
-use smx_options::{Asked, asked_of, words_of};
+use smx_options::{Asked, Serving, asked_of, words_of};
 use smx_serve::{Ended, Server, is_name};
 use std::io::IsTerminal;
 use std::process::ExitCode;
@@ -27,20 +27,24 @@ fn main(rt: HostRuntime) -> ExitCode {
         Ok(Asked::Relay(Some(path))) => relaying::run_file(&rt, path),
         Ok(Asked::Check(path)) => config_file::run(&rt, path),
         Ok(Asked::Keys) => config_file::tell_keys(&rt),
-        Ok(Asked::Serve(path, always_reads)) => {
+        Ok(Asked::Serve(path, how)) => {
             let Some(config) = config_of(&rt, path) else {
                 return ExitCode::from(CONFIG);
             };
-            let Some(server) = Server::new(&rt, rt.alloc()) else {
+            let Some(mut server) = Server::new(&rt, rt.alloc()) else {
                 let _ = eprintln!(rt; "{}", Ended::NoEvents);
                 return ExitCode::FAILURE;
             };
             let mut has_threads = true;
-            if always_reads || !rt.stdin().is_terminal() {
-                if let Some(remote) = server.remote() {
-                    let heeded = thread::spawn(&rt, move || serving::heed(&rt, &remote));
-                    has_threads &= heeded.is_ok();
-                }
+            if how.reads_terminal || !rt.stdin().is_terminal() {
+                let heeded = match serving::heard_by(rt.alloc(), &server, path) {
+                    Some((remote, log, file)) => thread::spawn(&rt, move || {
+                        serving::heed(&rt, &remote, &log, file.as_str())
+                    })
+                    .is_ok(),
+                    None => false,
+                };
+                has_threads &= heeded;
             }
             for (lane, upstream) in config.upstream.iter().enumerate() {
                 if !is_name(upstream.address.as_str()) {
@@ -51,11 +55,19 @@ fn main(rt: HostRuntime) -> ExitCode {
                     has_threads &= served.is_ok();
                 }
             }
+            let mut service = None;
+            if how.notifies {
+                service = server.service(rt.alloc());
+                has_threads &= match server.service(rt.alloc()) {
+                    Some(lines) => serving::is_written(rt, lines, rt.stdout()),
+                    None => false,
+                };
+            }
             if !has_threads {
                 let _ = eprintln!(rt; "{}", Ended::NoThreads);
                 return ExitCode::FAILURE;
             }
-            serving::run(rt, server, &config, rt.stderr())
+            serving::run(rt, server, &config, rt.stderr(), service)
         }
         Ok(Asked::Demo(path, is_verbose)) => {
             let errors = if is_verbose { Some(rt.stderr()) } else { None };

@@ -1,48 +1,86 @@
-//! The proxy, what stops it, and who writes its lines.
+//! The proxy, what it is told on standard input, and who writes its lines.
+use crate::config_file::read_again;
 use smx_config::Config;
+use smx_options::VERSION;
 use smx_serve::{Ended, Log, Notice, Remote, Server};
+use std::alloc::Global;
 use std::io::{ErrorKind, Read, Write};
 use std::net::{Net, TcpListener, TcpStream};
 use std::process::ExitCode;
-use std::rt::Clock;
+use std::rt::{Clock, Files};
 use std::sync::{Arc, Wait};
 use std::thread::{Threads, spawn};
 
-/// The line at which the proxy stops.
-const STOP: &[u8] = b"stop";
+/// One octet more than a line of meaning has.
+const MOST: usize = 7;
 
-// A line that comes in: of how many octets it is the beginning of the one at which the proxy stops, where
-// it is. No more of it is kept, however long it gets.
+/// What a line asks for.
 #[derive(Clone, Copy)]
-struct Line(Option<usize>);
+enum Order {
+    Stop,
+    Status,
+    Reload,
+}
+
+// The beginning of a line that comes in. No more of it is kept, however long it gets.
+#[derive(Clone, Copy)]
+struct Line {
+    octets: [u8; MOST],
+    count: usize,
+}
 
 impl Line {
     const fn new() -> Line {
-        Line(Some(0))
+        Line {
+            octets: [0; MOST],
+            count: 0,
+        }
     }
 
-    // The line behind this octet, which may be its end; whether the proxy stops at that.
-    fn hear(self, octet: u8) -> (Line, bool) {
-        let Line(begun) = self;
+    // What it asks for, if anything.
+    fn order(&self) -> Option<Order> {
+        let octets = self.octets.get(..self.count)?;
+        let octets = octets.strip_suffix(b"\r").unwrap_or(octets);
+        match octets {
+            b"stop" => Some(Order::Stop),
+            b"status" => Some(Order::Status),
+            b"reload" => Some(Order::Reload),
+            _ => None,
+        }
+    }
+
+    // One more octet, which may be the line's end: what it asks for then.
+    fn hear(&mut self, octet: u8) -> Option<Order> {
         if octet == b'\n' {
-            return (Line::new(), begun == Some(STOP.len()));
+            let order = self.order();
+            self.count = 0;
+            return order;
         }
-        let Some(matched) = begun else {
-            return (Line(None), false);
-        };
-        if octet == b'\r' && matched == STOP.len() {
-            return (Line(Some(matched)), false);
+        if let Some(place) = self.octets.get_mut(self.count) {
+            *place = octet;
         }
-        if STOP.get(matched) == Some(&octet) {
-            return (Line(Some(matched.saturating_add(1))), false);
-        }
-        (Line(None), false)
+        self.count = self.count.saturating_add(1);
+        None
     }
 }
 
-// Stops the proxy at a line `stop` of standard input. Other lines, whatever octets they have, and the
-// end of input are nothing.
-pub(crate) fn heed<R: Input>(rt: &R, remote: &Remote) {
+// Reads the file again for the proxy. Where it is at fault nothing changes, and that is said.
+fn reload<R: Files + Wait + AllocGlobal>(rt: &R, remote: &Remote, log: &Log, path: &str) {
+    match read_again(rt, path) {
+        Ok(config) => remote.reload(rt, config),
+        Err(words) => {
+            let words = words.as_deref().unwrap_or("no memory");
+            log.say(rt, Notice::NotReloaded(words));
+        }
+    }
+}
+
+// Does what lines of standard input ask for: `stop`, `status`, and `reload` of the file with this path.
+// Other lines, whatever octets they have, and the end of input are nothing.
+pub(crate) fn heed<R>(rt: &R, remote: &Remote, log: &Log, path: &str)
+where
+    R: Input + Files + Wait + AllocGlobal,
+{
     let mut reader = rt.reader();
     let mut buffer = [0u8; 4_096];
     let mut line = Line::new();
@@ -54,13 +92,25 @@ pub(crate) fn heed<R: Input>(rt: &R, remote: &Remote) {
             Err(_) => return,
         };
         for octet in buffer.get(..count).unwrap_or(&[]) {
-            let (next, stops) = line.hear(*octet);
-            line = next;
-            if stops {
-                remote.stop();
+            match line.hear(*octet) {
+                Some(Order::Stop) => remote.stop(),
+                Some(Order::Status) => remote.tell(),
+                Some(Order::Reload) => reload(rt, remote, log, path),
+                None => {}
             }
         }
     }
+}
+
+/// What is wanted to heed the lines of standard input: the proxy's remote, its log, and the file's path.
+/// None where there is no memory.
+pub(crate) fn heard_by(
+    alloc: Global,
+    server: &Server,
+    path: &str,
+) -> Option<(Arc<Remote>, Arc<Log>, String)> {
+    let path = String::from_str(alloc, path).ok()?;
+    Some((server.remote()?, server.log()?, path))
 }
 
 /// Writes a proxy's lines in a thread of its own, which nobody waits for but at the end. False where
@@ -75,7 +125,13 @@ where
 }
 
 // Serves until the proxy is stopped. Why it ended otherwise is its last line.
-fn serve<R>(rt: R, server: Server, config: &Config, log: &Log) -> ExitCode
+fn serve<R>(
+    rt: R,
+    server: Server,
+    config: &Config,
+    log: &Log,
+    service: Option<Arc<Log>>,
+) -> ExitCode
 where
     R: Clock + Wait + Net<Listener = TcpListener, Stream = TcpStream> + AllocGlobal + Copy + Drop,
 {
@@ -85,6 +141,9 @@ where
         log.say(&rt, Notice::Ended(ended));
     }
     log.finish(&rt);
+    if let Some(lines) = service {
+        lines.finish(&rt);
+    }
     if is_stopped {
         ExitCode::SUCCESS
     } else {
@@ -92,8 +151,15 @@ where
     }
 }
 
-/// Serves by this configuration, and writes lines there.
-pub(crate) fn run<R, W>(rt: R, server: Server, config: &Config, errors: W) -> ExitCode
+/// Serves by this configuration, and writes lines there. What a service manager is told is written at
+/// the end, too.
+pub(crate) fn run<R, W>(
+    rt: R,
+    server: Server,
+    config: &Config,
+    errors: W,
+    service: Option<Arc<Log>>,
+) -> ExitCode
 where
     R: Clock
         + Wait
@@ -115,5 +181,6 @@ where
         let _ = eprintln!(rt; "{}", Ended::NoThreads);
         return ExitCode::FAILURE;
     }
-    serve(rt, server, config, &log)
+    log.say(&rt, Notice::Started(VERSION));
+    serve(rt, server, config, &log, service)
 }

@@ -2,9 +2,14 @@
 #![tactic(auto)]
 
 mod ended;
+mod last_sent;
 mod notice;
+mod service;
 
 pub use ended::Ended;
+pub use last_sent::LastSent;
 pub use notice::{
-    ClientName, ClientNews, LinkLoss, MeteredKind, Notice, TurnedAway, UpstreamName, UpstreamNews,
+    AccountChange, ClientName, ClientNews, ClientState, LinkLoss, LinkState, MeteredKind, Notice,
+    Standing, TurnedAway, UpstreamName, UpstreamNews,
 };
+pub use service::{Counts, Service};

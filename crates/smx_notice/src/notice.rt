@@ -1,11 +1,12 @@
 //! What is said of the proxy's run: one line an event. The table *Lines* of docs/OPERATING.md has each.
 
 use crate::ended::Ended;
+use crate::last_sent::LastSent;
 use smx_pdu::status::Status;
 use smx_session::Kind;
 use smx_shared::EnterFault;
 use smx_turns::Fault;
-use std::fmt;
+use std::{fmt, io};
 
 /// An upstream, as lines name it: its index among the upstreams of the configuration, and its
 /// system_id and its address as they stand there.
@@ -28,8 +29,8 @@ pub struct ClientName<'a> {
 /// How a link to a centre was lost, or why none came about.
 #[derive(Clone, Copy)]
 pub enum LinkLoss {
-    /// No connection came about.
-    Unreached,
+    /// No connection came about, for this reason, where it is known.
+    Unreached(Option<io::Error>),
     /// The centre refused the bind with this status.
     Refused(u32),
     /// The centre closed the connection.
@@ -52,10 +53,11 @@ pub enum UpstreamNews<'a> {
     Bound,
     /// The proxy unbound, near its end.
     Unbound,
-    /// It has no link, so many requests failed with the last one, and in so many milliseconds it is
-    /// tried again.
+    /// It has no link, this request went out last over the last one, where one did, so many failed with
+    /// it, and in so many milliseconds it is tried again.
     Lost {
         loss: LinkLoss,
+        last: Option<LastSent<'a>>,
         failed: usize,
         again: u64,
     },
@@ -71,17 +73,34 @@ pub enum UpstreamNews<'a> {
     },
 }
 
+/// What became of the account that a client is bound by, when the configuration was read again.
+#[derive(Clone, Copy, PartialEq, Eq)]
+pub enum AccountChange {
+    Gone,
+    Password,
+    Prefixes,
+}
+
 /// What becomes of a client.
 #[derive(Clone, Copy)]
-pub enum ClientNews {
+pub enum ClientNews<'a> {
     Connected,
     Bound(Kind),
+    /// Its bind was refused with this status. Where no account has it, this is the system_id that the
+    /// bind said.
+    BindRefused { status: u32, said: Option<&'a [u8]> },
+    /// It stays as it is bound.
+    Kept(AccountChange),
+    /// It wasn't bound, and who may bind has changed.
+    Renewed,
     /// It unbound, or the proxy ends.
     Left,
     /// It closed its connection without an unbind.
     Closed,
     /// It said a PDU whose length is none.
     BadLength,
+    /// It was enquired, and no octet came.
+    Silent,
     /// It wasn't bound in time.
     Late,
     /// It wasn't bound, and another one connected.
@@ -108,17 +127,71 @@ pub enum MeteredKind {
     Gone,
     Refused,
     NotAccepted,
+    BindRefused,
+}
+
+/// How an upstream stands. Times are in milliseconds.
+#[derive(Clone, Copy)]
+pub enum LinkState {
+    /// It is bound for so long, and octets wait for its socket or don't.
+    Bound { time: u64, waits: bool },
+    /// So long ago its connection was begun, and its bind isn't answered.
+    Binding { time: u64 },
+    /// It has no link, and is tried again in so long.
+    Down { again: u64 },
+}
+
+/// How a client stands.
+#[derive(Clone, Copy)]
+pub struct ClientState {
+    /// As what it is bound, where it is.
+    pub kind: Option<Kind>,
+    /// How long it is connected, in milliseconds.
+    pub time: u64,
+    /// How many octets wait behind those at its socket.
+    pub octets: usize,
+    /// Octets wait at its socket.
+    pub waits: bool,
+}
+
+/// One part of how the proxy stands.
+#[derive(Clone, Copy)]
+pub enum Standing<'a> {
+    Upstream(UpstreamName<'a>, LinkState),
+    Client(ClientName<'a>, ClientState),
+    /// So many of all slots are taken, and so many of these by connections that close.
+    Slots {
+        taken: usize,
+        all: usize,
+        closing: usize,
+    },
 }
 
 /// One line for whoever runs the proxy. No password is in it.
 #[derive(Clone, Copy)]
 pub enum Notice<'a> {
+    /// The program of this version serves.
+    Started(&'a str),
     /// Clients can connect at this address.
     Listening(&'a str),
-    /// Nobody can connect at this address, which is tried again.
-    NotListening(&'a str),
+    /// Nobody can connect at this address, for this reason, and it is tried again.
+    NotListening(&'a str, io::Error),
+    /// So many descriptors can be had, and so many are wanted; so many clients are let in at most.
+    FewDescriptors {
+        found: usize,
+        wanted: usize,
+        clients: usize,
+    },
     Upstream(UpstreamName<'a>, UpstreamNews<'a>),
-    Client(ClientName<'a>, ClientNews),
+    Client(ClientName<'a>, ClientNews<'a>),
+    /// How a part of the proxy stands.
+    Status(Standing<'a>),
+    /// The configuration was read again, which has so many accounts.
+    Reloaded(usize),
+    /// The configuration was read again and is at fault.
+    NotReloaded(&'a str),
+    /// This key or table is another one in the file than what is served by.
+    NotTaken(&'a str),
     /// A connection from this address was closed at once.
     Refused(&'a str, TurnedAway),
     /// The system has no descriptor for a connection that waits.
@@ -139,6 +212,8 @@ impl Notice<'_> {
             Notice::Client(_, news) => Some(match news {
                 ClientNews::Connected => MeteredKind::Connected,
                 ClientNews::Bound(_) => MeteredKind::Bound,
+                ClientNews::BindRefused { .. } => MeteredKind::BindRefused,
+                ClientNews::Kept(_) | ClientNews::Renewed => return None,
                 _ => MeteredKind::Gone,
             }),
             Notice::Refused(_, _) => Some(MeteredKind::Refused),
@@ -176,7 +251,8 @@ impl fmt::Display for ClientName<'_> {
 impl fmt::Display for LinkLoss {
     fn fmt<W: fmt::Write>(&self, f: &mut fmt::Formatter<W>) -> fmt::Result {
         match *self {
-            LinkLoss::Unreached => f.write_str("can't be reached"),
+            LinkLoss::Unreached(None) => f.write_str("can't be reached"),
+            LinkLoss::Unreached(Some(error)) => write!(f, "can't be reached: {error}"),
             LinkLoss::Refused(status) => write!(f, "bind refused with status {}", Status(status)),
             LinkLoss::Closed => f.write_str("ended, it closed the connection"),
             LinkLoss::Unbound => f.write_str("ended, it unbound"),
@@ -195,11 +271,18 @@ impl fmt::Display for UpstreamNews<'_> {
             UpstreamNews::Unbound => f.write_str("unbound"),
             UpstreamNews::Lost {
                 loss,
+                last,
                 failed,
                 again,
             } => {
-                write!(f, "{loss}; {failed} requests failed; ")?;
-                write!(f, "it is tried again in {again} ms")
+                write!(f, "{loss}; ")?;
+                if let Some(last) = last {
+                    write!(f, "the last request on it was {last}; ")?;
+                }
+                write!(
+                    f,
+                    "{failed} requests failed; it is tried again in {again} ms"
+                )
             }
             UpstreamNews::Unknown { reason, again } => {
                 f.write_str("the name isn't known")?;
@@ -215,16 +298,50 @@ impl fmt::Display for UpstreamNews<'_> {
     }
 }
 
-impl fmt::Display for ClientNews {
+// The octets of a name that came from outside, in quotes. What isn't printable is escaped.
+#[derive(Clone, Copy)]
+struct Quoted<'a>(&'a [u8]);
+
+impl fmt::Display for Quoted<'_> {
+    fn fmt<W: fmt::Write>(&self, f: &mut fmt::Formatter<W>) -> fmt::Result {
+        let Quoted(octets) = *self;
+        write!(f, "\"{}\"", octets.escape_ascii())
+    }
+}
+
+impl fmt::Display for AccountChange {
+    fn fmt<W: fmt::Write>(&self, f: &mut fmt::Formatter<W>) -> fmt::Result {
+        f.write_str(match self {
+            AccountChange::Gone => "its account is gone; it stays until it leaves",
+            AccountChange::Password => "its password is another one now; it stays until it leaves",
+            AccountChange::Prefixes => "its prefixes are others for its next bind",
+        })
+    }
+}
+
+impl fmt::Display for ClientNews<'_> {
     fn fmt<W: fmt::Write>(&self, f: &mut fmt::Formatter<W>) -> fmt::Result {
         match *self {
             ClientNews::Connected => f.write_str("connected"),
             ClientNews::Bound(Kind::Tx) => f.write_str("bound as transmitter"),
             ClientNews::Bound(Kind::Rx) => f.write_str("bound as receiver"),
             ClientNews::Bound(Kind::Trx) => f.write_str("bound as transceiver"),
+            ClientNews::BindRefused {
+                status,
+                said: Some(said),
+            } => {
+                let (name, status) = (Quoted(said), Status(status));
+                write!(f, "bind as {name} refused, {status}: no such account")
+            }
+            ClientNews::BindRefused { status, said: None } => {
+                write!(f, "bind refused, {}", Status(status))
+            }
+            ClientNews::Kept(change) => write!(f, "{change}"),
+            ClientNews::Renewed => f.write_str("let go before its bind, as the accounts changed"),
             ClientNews::Left => f.write_str("left"),
             ClientNews::Closed => f.write_str("closed its connection"),
             ClientNews::BadLength => f.write_str("hung up, a bad length"),
+            ClientNews::Silent => f.write_str("answered no enquire_link"),
             ClientNews::Late => f.write_str("not bound in time"),
             ClientNews::Displaced => f.write_str("gave its place to another"),
             ClientNews::Fault(fault) => write!(f, "ended, {fault}"),
@@ -250,22 +367,93 @@ impl fmt::Display for MeteredKind {
             MeteredKind::Gone => "clients gone",
             MeteredKind::Refused => "connections refused",
             MeteredKind::NotAccepted => "connections not accepted",
+            MeteredKind::BindRefused => "binds refused",
         })
+    }
+}
+
+impl fmt::Display for LinkState {
+    fn fmt<W: fmt::Write>(&self, f: &mut fmt::Formatter<W>) -> fmt::Result {
+        match *self {
+            LinkState::Bound { time, waits } => {
+                write!(f, "bound for {time} ms")?;
+                f.write_str(if waits { ", octets wait" } else { "" })
+            }
+            LinkState::Binding { time } => write!(f, "connecting for {time} ms"),
+            LinkState::Down { again: 0 } => f.write_str("no link, its name is looked up"),
+            LinkState::Down { again } => write!(f, "no link, it is tried again in {again} ms"),
+        }
+    }
+}
+
+impl fmt::Display for ClientState {
+    fn fmt<W: fmt::Write>(&self, f: &mut fmt::Formatter<W>) -> fmt::Result {
+        let ClientState {
+            kind,
+            time,
+            octets,
+            waits,
+        } = *self;
+        f.write_str(match kind {
+            Some(Kind::Tx) => "transmitter",
+            Some(Kind::Rx) => "receiver",
+            Some(Kind::Trx) => "transceiver",
+            None => "not bound",
+        })?;
+        write!(f, ", connected for {time} ms, {octets} octets wait")?;
+        f.write_str(if waits {
+            " behind those at its socket"
+        } else {
+            ""
+        })
+    }
+}
+
+impl fmt::Display for Standing<'_> {
+    fn fmt<W: fmt::Write>(&self, f: &mut fmt::Formatter<W>) -> fmt::Result {
+        match *self {
+            Standing::Upstream(name, state) => write!(f, "{name}: {state}"),
+            Standing::Client(name, state) => write!(f, "{name}: {state}"),
+            Standing::Slots {
+                taken,
+                all,
+                closing,
+            } => write!(
+                f,
+                "{taken} of {all} slots are taken, {closing} of them close"
+            ),
+        }
     }
 }
 
 impl fmt::Display for Notice<'_> {
     fn fmt<W: fmt::Write>(&self, f: &mut fmt::Formatter<W>) -> fmt::Result {
         match *self {
+            Notice::Started(version) => write!(f, "smx {version}"),
             Notice::Listening(address) => write!(f, "listening on {address}"),
-            Notice::NotListening(address) => {
+            Notice::NotListening(address, error) => {
+                write!(f, "no connections can be awaited at {address}: {error}; ")?;
+                f.write_str("it is tried again every 2 seconds")
+            }
+            Notice::FewDescriptors {
+                found,
+                wanted,
+                clients,
+            } => {
+                write!(f, "the system gives {found} of {wanted} descriptors: ")?;
                 write!(
                     f,
-                    "no connections can be awaited at {address}; it is tried again every 2 seconds"
+                    "at most {clients} clients are let in; raise the limit of open files"
                 )
             }
             Notice::Upstream(name, news) => write!(f, "{name}: {news}"),
             Notice::Client(name, news) => write!(f, "{name}: {news}"),
+            Notice::Status(standing) => write!(f, "status: {standing}"),
+            Notice::Reloaded(accounts) => {
+                write!(f, "the configuration was read again, {accounts} accounts")
+            }
+            Notice::NotReloaded(reason) => write!(f, "nothing is changed: {reason}"),
+            Notice::NotTaken(key) => write!(f, "another {key} in the file wants a restart"),
             Notice::Refused(address, reason) => write!(f, "{address}: refused, {reason}"),
             Notice::NoDescriptor => f.write_str("no connection can be accepted now"),
             Notice::TooMany(count, kind) => write!(f, "{count} more lines left out: {kind}"),

@@ -5,7 +5,7 @@ mod options;
 mod words;
 
 use clap::Error;
-pub use options::Asked;
+pub use options::{Asked, Serving, VERSION};
 use std::process::ExitCode;
 use std::rt::Env;
 

@@ -2,8 +2,8 @@
 use clap::{Arg, ArgAction, Command, Error};
 use std::alloc::{AllocError, Global};
 
-/// The version that `--version` says.
-const VERSION: &str = "0.1.0";
+/// The version of the program.
+pub const VERSION: &str = "0.2.0";
 
 /// What smx is.
 const ABOUT: &str = "Lets many SMPP 3.4 clients (ESMEs) share a few binds to a message centre";
@@ -21,6 +21,17 @@ const VERBOSE: &str = "verbose";
 
 const KEYS: &str = "keys";
 
+const NOTIFY: &str = "notify";
+
+/// How the proxy is run.
+#[derive(Clone, Copy, Debug, PartialEq, Eq)]
+pub struct Serving {
+    /// Standard input is read also where it is a terminal, and not only where it is none.
+    pub reads_terminal: bool,
+    /// Standard output has lines for a service manager.
+    pub notifies: bool,
+}
+
 /// What the command line asks for.
 #[derive(Clone, Copy, Debug, PartialEq, Eq)]
 pub enum Asked<'a> {
@@ -30,9 +41,8 @@ pub enum Asked<'a> {
     Check(&'a str),
     /// Says which keys a configuration may have.
     Keys,
-    /// Runs the proxy by the configuration in the file with this path, and reads standard input also
-    /// where that is a terminal, or only where it is none.
-    Serve(&'a str, bool),
+    /// Runs the proxy by the configuration in the file with this path.
+    Serve(&'a str, Serving),
     /// Shows the proxy at work by the configuration in the file with this path, with its lines or
     /// without them.
     Demo(&'a str, bool),
@@ -88,6 +98,11 @@ fn command<'a>(alloc: Global) -> Result<Command<'a>, AllocError> {
         alloc,
         STDIN,
         "Read standard input also where it is a terminal",
+    ))?
+    .arg(flag(
+        alloc,
+        NOTIFY,
+        "Write lines for a service manager, as of sd_notify(3), on standard output",
     ))?;
     let demo = over_file(
         alloc,
@@ -137,7 +152,13 @@ pub(crate) fn read<'a>(alloc: Global, words: &'a [String]) -> Result<Asked<'a>, 
     };
     Ok(match name {
         "check" => Asked::Check(path),
-        "serve" => Asked::Serve(path, found.get_flag(STDIN)),
+        "serve" => Asked::Serve(
+            path,
+            Serving {
+                reads_terminal: found.get_flag(STDIN),
+                notifies: found.get_flag(NOTIFY),
+            },
+        ),
         "demo" => Asked::Demo(path, found.get_flag(VERBOSE)),
         _ => Asked::Nothing,
     })

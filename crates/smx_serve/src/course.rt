@@ -66,12 +66,12 @@ impl Course {
     /// The next link begins anew after a pause, which is twice the last one.
     pub fn delay(&mut self, moment: Moment<'_>) {
         let Moment {
-            config,
+            timers,
             now,
             chance,
             ..
         } = moment;
-        self.pause = pause_after(self.pause, config.timers);
+        self.pause = pause_after(self.pause, timers);
         let pause = lengthened(self.pause, chance);
         self.addresses.clear();
         self.due = now.saturating_add(pause);

@@ -2,6 +2,7 @@
 
 use smx_client::Desk;
 use smx_config::Config;
+use smx_notice::AccountChange;
 use smx_session::Account;
 use std::alloc::{AllocError, Global};
 
@@ -26,4 +27,64 @@ pub(crate) fn desk_of(alloc: Global, config: &Config) -> Result<Desk, AllocError
         prefixes.push(octets_of(alloc, account.prefixes.as_slice())?)?;
     }
     Ok(Desk { accounts, prefixes })
+}
+
+// Whether two lists of texts are the same.
+fn are_same_texts(one: &[Vec<u8>], other: &[Vec<u8>]) -> bool {
+    if one.len() != other.len() {
+        return false;
+    }
+    for (index, text) in one.iter().enumerate() {
+        match other.get(index) {
+            Some(found) if found.as_slice() == text.as_slice() => {}
+            _ => return false,
+        }
+    }
+    true
+}
+
+// Where the account with this system_id stands.
+fn place_of(desk: &Desk, system_id: &[u8]) -> Option<usize> {
+    let accounts = desk.accounts.as_slice();
+    accounts
+        .iter()
+        .position(|account| account.system_id.as_slice() == system_id)
+}
+
+// What became of the account with this place, where there is one, in another desk.
+fn change_at(desk: &Desk, place: usize, other: &Desk) -> Option<AccountChange> {
+    let account = desk.accounts.as_slice().get(place)?;
+    let Some(found) = place_of(other, account.system_id.as_slice()) else {
+        return Some(AccountChange::Gone);
+    };
+    let same = other.accounts.as_slice().get(found)?;
+    if !same.has_password(account.password.as_slice()) {
+        return Some(AccountChange::Password);
+    }
+    let prefixes = desk.prefixes.as_slice().get(place)?;
+    let others = other.prefixes.as_slice().get(found)?;
+    if are_same_texts(prefixes.as_slice(), others.as_slice()) {
+        None
+    } else {
+        Some(AccountChange::Prefixes)
+    }
+}
+
+/// What became of the account with this system_id in another desk, where it isn't the same there.
+pub(crate) fn change_of(desk: &Desk, system_id: &[u8], other: &Desk) -> Option<AccountChange> {
+    change_at(desk, place_of(desk, system_id)?, other)
+}
+
+/// Whether the same may bind by both, and for the same messages.
+pub(crate) fn is_same(desk: &Desk, other: &Desk) -> bool {
+    let count = desk.accounts.len();
+    if count != other.accounts.len() {
+        return false;
+    }
+    for place in 0..count {
+        if change_at(desk, place, other).is_some() {
+            return false;
+        }
+    }
+    true
 }

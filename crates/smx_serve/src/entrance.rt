@@ -1,7 +1,8 @@
 //! Where clients connect.
 
 use crate::addresses::Addresses;
-use crate::guests::{Guest, Guests};
+use crate::guest::Guest;
+use crate::guests::Guests;
 use crate::pace::Moment;
 use crate::queues::Queues;
 use crate::seats::{Gateway, Member};
@@ -106,6 +107,8 @@ impl Gateway {
             alloc,
             config,
             desk,
+            timers,
+            now,
             ..
         } = moment;
         let entrant = match self.enter(rt) {
@@ -117,7 +120,17 @@ impl Gateway {
             entrant.leave(rt);
             return Err((ends, TurnedAway::Unwatched));
         };
-        match Member::new(rt, alloc, entrant, desk, ends, config.places, link) {
+        match Member::new(
+            rt,
+            alloc,
+            entrant,
+            desk,
+            ends,
+            config.places,
+            link,
+            timers,
+            now,
+        ) {
             Ok(member) => Ok(Entered {
                 client,
                 member,
@@ -243,6 +256,8 @@ fn guest_of<'d>(entered: Entered<'d>, address: String, moment: Moment<'d>) -> Gu
         socket,
         desk: moment.desk,
         name: None,
+        kind: None,
+        heard: 0,
         since: moment.now,
         is_late: false,
     }

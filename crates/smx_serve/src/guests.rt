@@ -1,168 +1,19 @@
 //! The clients that are served.
 
 use crate::addresses::Addresses;
-use crate::heard::bound_name;
+use crate::guest::Guest;
 use crate::lingering::{Lingering, Parting};
 use crate::pace::Moment;
-use crate::queues::{Progress, Queues, TURNS, is_enough};
+use crate::queues::Queues;
 use crate::seating::Seating;
-use crate::seats::Member;
 use smx_client::Desk;
-use smx_notice::{ClientName, ClientNews, Notice};
-use smx_session::{ClientState, Kind};
-use smx_slots::{Bell, ClientEnds, Guide, Slots};
+use smx_notice::ClientNews;
+use smx_slots::{Roll, Slots};
 use smx_socket::Socket;
 use smx_turns::RunEnd;
+use smx_upstream::LastRequest;
 use std::alloc::{AllocError, Global};
-use std::rc::Rc;
 use std::sync::Wait;
-
-/// A client that is served.
-#[derive(Drop)]
-pub(crate) struct Guest<'d> {
-    pub client: u64,
-    pub address: String,
-    pub member: Member<'d>,
-    pub socket: Rc<Socket>,
-    pub desk: &'d Desk,
-    // The system_id of its account, once it is bound.
-    pub name: Option<&'d str>,
-    // Since which moment it is connected, in milliseconds, and whether the last tick found its bind
-    // late.
-    pub since: u64,
-    pub is_late: bool,
-}
-
-/// The end of what is written where the proxy hangs up: generic_nack of a bad length.
-pub(crate) const NACK: u64 = 0x0000_0002_0000_0000;
-
-// As what a client is bound; None where it isn't.
-fn kind_of(state: ClientState) -> Option<Kind> {
-    match state {
-        ClientState::BoundTx => Some(Kind::Tx),
-        ClientState::BoundRx => Some(Kind::Rx),
-        ClientState::BoundTrx => Some(Kind::Trx),
-        ClientState::Opened | ClientState::Ended => None,
-    }
-}
-
-impl Guest<'_> {
-    // Runs the worker turn by turn, until it is idle or the party's turn is over: how that ended, and
-    // where its session stands.
-    fn run<R: Wait>(
-        &mut self,
-        rt: &R,
-        bell: &mut Bell<'_>,
-        guide: &mut Guide<'_>,
-    ) -> (RunEnd, ClientState) {
-        let before = self.socket.traffic();
-        let mut ran = self.member.run(rt, bell, guide, 1);
-        for _ in 1..TURNS {
-            if ran.0 != RunEnd::Turns || is_enough(before, self.socket.traffic()) {
-                break;
-            }
-            ran = self.member.run(rt, bell, guide, 1);
-        }
-        ran
-    }
-
-    // Makes a turn of the client; who is told of something is ready then.
-    fn turn<R: Wait>(
-        &mut self,
-        rt: &R,
-        queues: &mut Queues,
-        addresses: &mut Addresses,
-        slot: usize,
-    ) -> (RunEnd, ClientState) {
-        let before = self.socket.traffic();
-        let mut bell = Bell::new(queues.lanes, &mut queues.schedule, &addresses.roll);
-        let mut guide = Guide::new(&mut addresses.routes, &addresses.roll);
-        let (end, state) = self.run(rt, &mut bell, &mut guide);
-        let progress = Progress {
-            end,
-            moved: self.socket.traffic() != before,
-            rang: bell.has_rung(),
-            writable: self.socket.is_writable(),
-        };
-        if kind_of(state).is_some() {
-            queues.bind(slot);
-        }
-        queues.was_turned(queues.party(slot), progress);
-        (end, state)
-    }
-
-    // Closes the worker; the lanes may have answers to its messages. Its socket and its ends are
-    // left.
-    fn close<R: Wait>(
-        self,
-        rt: &R,
-        queues: &mut Queues,
-        addresses: &mut Addresses,
-    ) -> (Rc<Socket>, ClientEnds) {
-        let Guest {
-            client,
-            member,
-            socket,
-            ..
-        } = self;
-        let mut guide = Guide::new(&mut addresses.routes, &addresses.roll);
-        let (ends, answered) = member.close(rt, &mut guide);
-        addresses.roll.remove(client);
-        if answered {
-            queues.add_lanes();
-        }
-        (socket, ends)
-    }
-
-    // Whether its bind is late, as an earlier tick found too: what had come while the program stood
-    // still was read between the two.
-    fn stays_late(&mut self, now: u64, most: u64) -> bool {
-        let was_late = self.is_late;
-        self.is_late = self.name.is_none() && now >= self.since.saturating_add(most);
-        was_late && self.is_late
-    }
-
-    // Says what becomes of its client.
-    fn say<R: Wait>(&self, rt: &R, moment: Moment<'_>, news: ClientNews) {
-        let name = ClientName {
-            client: self.client,
-            system_id: self.name,
-            address: self.address.as_str(),
-        };
-        moment.say(rt, Notice::Client(name, news));
-    }
-
-    // Why its client is gone.
-    fn farewell(&self, end: RunEnd) -> ClientNews {
-        match end {
-            RunEnd::Fault(fault) => ClientNews::Fault(fault),
-            _ if self.socket.has_ended() => ClientNews::Closed,
-            RunEnd::Left if self.socket.tail() == NACK => ClientNews::BadLength,
-            _ => ClientNews::Left,
-        }
-    }
-
-    // Says as what its client is bound, and by which account, where it is and that wasn't said.
-    fn say_bound<R: Wait>(&mut self, rt: &R, moment: Moment<'_>, state: ClientState) {
-        let Some(kind) = kind_of(state) else {
-            return;
-        };
-        if self.name.is_some() {
-            return;
-        }
-        let name = match self.socket.head(moment.alloc) {
-            Some(octets) => {
-                bound_name(octets.as_slice(), self.desk.accounts.as_slice()).unwrap_or(UNNAMED)
-            }
-            None => UNNAMED,
-        };
-        self.name = Some(name);
-        self.say(rt, moment, ClientNews::Bound(kind));
-    }
-}
-
-/// The name of a client whose bind came behind so much else that it isn't kept.
-const UNNAMED: &str = "?";
 
 /// The clients that are served, each in its slot, and the sockets of those that are gone.
 #[derive(Drop)]
@@ -189,6 +40,14 @@ impl<'d> Guests<'d> {
         })
     }
 
+    /// How many are bound.
+    pub fn bound(&self) -> usize {
+        self.guests
+            .iter()
+            .filter(|guest| guest.name.is_some())
+            .count()
+    }
+
     // The client has the slot now. There is room for as many as there are slots.
     pub fn seat(&mut self, slot: usize, guest: Guest<'d>) {
         if self.guests.len() < self.guests.capacity() {
@@ -211,7 +70,8 @@ impl<'d> Guests<'d> {
         let Some(guest) = self.guests.get_mut(self.seating.place(slot)) else {
             return RunEnd::Idle;
         };
-        let (end, state) = guest.turn(rt, queues, addresses, slot);
+        let (end, state) = guest.turn(rt, queues, addresses, slot, moment.now);
+        guest.say_refusals(rt, moment);
         guest.say_bound(rt, moment, state);
         end
     }
@@ -261,11 +121,11 @@ impl<'d> Guests<'d> {
         addresses: &mut Addresses,
         slot: usize,
     ) {
-        let Moment { config, now, .. } = moment;
+        let Moment { timers, now, .. } = moment;
         let Some(guest) = self.guests.get_mut(self.seating.place(slot)) else {
             return;
         };
-        if !guest.stays_late(now, config.timers.bind) {
+        if !guest.stays_late(now, timers.bind) {
             return;
         }
         let Some(guest) = self.take(slot) else {
@@ -298,6 +158,52 @@ impl<'d> Guests<'d> {
     ) {
         for slot in 0..queues.slots {
             self.let_go(rt, moment, queues, addresses, slot, RunEnd::Left);
+        }
+    }
+
+    // The slot's client.
+    pub fn at(&self, slot: usize) -> Option<&Guest<'d>> {
+        self.guests.get(self.seating.place(slot))
+    }
+
+    // The system_id of the account of the client whose request this was, while it is connected.
+    pub fn account_of(&self, roll: &Roll, last: Option<LastRequest>) -> Option<&'d str> {
+        let slot = roll.slot(last?.client)?;
+        self.at(slot)?.name
+    }
+
+    // How many slots clients have, and how many the sockets of those that are gone.
+    pub fn counts(&self) -> (usize, usize) {
+        let mut closing = 0_usize;
+        for slot in 0..self.slots.count() {
+            if self.lingering.socket(slot).is_some() {
+                closing = closing.saturating_add(1);
+            }
+        }
+        (self.guests.len(), closing)
+    }
+
+    // The accounts have changed: lets each client go that isn't bound yet, and says of each that is bound
+    // what became of its account.
+    pub fn renew<R: Wait>(
+        &mut self,
+        rt: &R,
+        moment: Moment<'_>,
+        queues: &mut Queues,
+        addresses: &mut Addresses,
+    ) {
+        for slot in 0..queues.slots {
+            let is_bound = match self.at(slot) {
+                Some(guest) => guest.say_change(rt, moment),
+                None => true,
+            };
+            if is_bound {
+                continue;
+            }
+            if let Some(guest) = self.take(slot) {
+                guest.say(rt, moment, ClientNews::Renewed);
+                self.part(rt, queues, addresses, slot, guest, moment.now);
+            }
         }
     }
 

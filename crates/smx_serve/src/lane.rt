@@ -3,7 +3,7 @@
 
 use crate::addresses::Addresses;
 use crate::course::{Course, Way};
-use crate::guests::NACK;
+use crate::guest::NACK;
 use crate::heard::bind_status;
 use crate::pace::Moment;
 use crate::queues::{Progress, Queues, TURNS, is_enough};
@@ -11,13 +11,15 @@ use crate::seats::{Carrier, Drawer};
 use crate::upstreams::{connect, session_of};
 use mio::Registry;
 use smx_config::Upstream;
-use smx_notice::LinkLoss;
+use smx_notice::{LinkLoss, LinkState};
 use smx_pdu::status::ESME_ROK;
 use smx_session::UpstreamState;
 use smx_slots::{Bell, Guide, LaneEnds};
 use smx_socket::Socket;
 use smx_turns::{Fault, RunEnd};
+use smx_upstream::LastRequest;
 use std::alloc::Global;
+use std::io;
 use std::net::{Net, SocketAddr};
 use std::rc::Rc;
 use std::sync::Wait;
@@ -38,8 +40,9 @@ pub(crate) struct Lane {
 struct Linked {
     carrier: Carrier,
     socket: Rc<Socket>,
-    // When it began to connect.
+    // When it began to connect, and the moment of its last turn.
     begun: u64,
+    turned: u64,
     // Since when it was bound, where its session stood after the last turn, and whether its worker has
     // ended.
     bound: Option<u64>,
@@ -62,18 +65,19 @@ pub(crate) struct Turned {
     pub newly_bound: bool,
 }
 
-/// How a link was lost, and how many requests failed with it.
+/// How a link was lost, which request went out last over it, and how many failed with it.
 #[derive(Clone, Copy)]
 pub(crate) struct Lost {
     pub loss: LinkLoss,
+    pub last: Option<LastRequest>,
     pub failed: usize,
 }
 
 /// Why no link could be begun.
 #[derive(Drop)]
 pub(crate) enum Unlinked {
-    /// The system refused, or there was no memory.
-    Unreached,
+    /// The system refused, for this reason, or there was no memory.
+    Unreached(Option<io::Error>),
     /// Its name has no address, for this reason.
     Unknown(String),
 }
@@ -108,7 +112,7 @@ impl Linked {
     // Why it has ended, where it wasn't told to.
     fn farewell(&self, alloc: Global, end: RunEnd) -> LinkLoss {
         if self.is_unreached(alloc, end) {
-            return LinkLoss::Unreached;
+            return LinkLoss::Unreached(None);
         }
         if let RunEnd::Fault(fault) = end {
             return LinkLoss::Fault(fault);
@@ -168,6 +172,7 @@ impl Linked {
         let mut guide = Guide::new(&mut addresses.routes, &addresses.roll);
         let end = self.run(rt, &mut bell, &mut guide, now);
         self.over = matches!(end, RunEnd::Left | RunEnd::Fault(_));
+        self.turned = now;
         let progress = Progress {
             end,
             moved: self.socket.traffic() != before,
@@ -203,6 +208,24 @@ impl Lane {
         match &self.link {
             Some(linked) => linked.state == UpstreamState::Bound,
             None => false,
+        }
+    }
+
+    // How it stands.
+    pub fn standing(&self, now: u64) -> LinkState {
+        let Some(linked) = &self.link else {
+            return LinkState::Down {
+                again: self.rest(now),
+            };
+        };
+        match linked.bound {
+            Some(bound) => LinkState::Bound {
+                time: now.saturating_sub(bound),
+                waits: linked.socket.has_octets(),
+            },
+            None => LinkState::Binding {
+                time: now.saturating_sub(linked.begun),
+            },
         }
     }
 
@@ -248,12 +271,13 @@ impl Lane {
         Some(turned)
     }
 
-    // Whether its bind waits for an answer since so many milliseconds.
-    pub fn is_late(&self, now: u64, most: u64) -> bool {
+    // Whether a turn found that its bind waits for an answer since so many milliseconds: it read what had
+    // come before.
+    pub fn is_late(&self, most: u64) -> bool {
         match &self.link {
             Some(linked) => {
                 let waits = linked.state == UpstreamState::Binding;
-                waits && now >= linked.begun.saturating_add(most)
+                waits && linked.turned >= linked.begun.saturating_add(most)
             }
             None => false,
         }
@@ -288,6 +312,7 @@ impl Lane {
         }
         Lost {
             loss: LinkLoss::Unanswered,
+            last: None,
             failed,
         }
     }
@@ -296,19 +321,22 @@ impl Lane {
     // address of its name is tried at once.
     pub fn lose<R: Wait>(&mut self, rt: &R, moment: Moment<'_>, end: RunEnd) -> Option<Lost> {
         let Moment { alloc, now, .. } = moment;
-        let (loss, has_held) = match &self.link {
-            Some(linked) => (linked.farewell(alloc, end), linked.has_held(now)),
+        let (loss, has_held, last) = match &self.link {
+            Some(linked) => {
+                let last = linked.carrier.last_request();
+                (linked.farewell(alloc, end), linked.has_held(now), last)
+            }
             None => return None,
         };
         let failed = self.part(rt, now);
-        if matches!(loss, LinkLoss::Unreached) && self.course.has_more() {
+        if matches!(loss, LinkLoss::Unreached(_)) && self.course.has_more() {
             return None;
         }
         if has_held {
             self.course.begin_anew();
         }
         self.course.delay(moment);
-        Some(Lost { loss, failed })
+        Some(Lost { loss, last, failed })
     }
 
     // In how many milliseconds from this moment it is tried again, where it has no link.
@@ -338,7 +366,7 @@ impl Lane {
         }
     }
 
-    // Begins to connect to this address. False where that can't be begun.
+    // Begins to connect to this address. Where that can't be begun, the system's reason, if it is one.
     fn link_to<R: Wait + Net>(
         &mut self,
         rt: &R,
@@ -346,18 +374,18 @@ impl Lane {
         moment: Moment<'_>,
         upstream: &Upstream,
         address: SocketAddr,
-    ) -> bool {
+    ) -> Result<(), Option<io::Error>> {
         let Some(spare) = self.spare.take() else {
-            return false;
+            return Err(None);
         };
         match link_to(rt, registry, moment, upstream, spare, address) {
             Ok(linked) => {
                 self.link = Some(linked);
-                true
+                Ok(())
             }
-            Err(spare) => {
+            Err((spare, reason)) => {
                 self.spare = Some(spare);
-                false
+                Err(reason)
             }
         }
     }
@@ -387,10 +415,12 @@ impl Lane {
                 }
                 Way::To(address) => address,
             };
-            let is_begun = self.link_to(rt, registry, moment, upstream, address);
-            if !is_begun && !self.course.has_more() {
-                self.course.delay(moment);
-                return Err(Unlinked::Unreached);
+            let begun = self.link_to(rt, registry, moment, upstream, address);
+            if let Err(reason) = begun {
+                if !self.course.has_more() {
+                    self.course.delay(moment);
+                    return Err(Unlinked::Unreached(reason));
+                }
             }
         }
         Ok(())
@@ -400,7 +430,8 @@ impl Lane {
 /// More addresses than a name has.
 const MOST: usize = 64;
 
-// A worker over a new connection to this address, or what it would have been made of.
+// A worker over a new connection to this address, or what it would have been made of, and the system's
+// reason, if it is one.
 fn link_to<R: Wait + Net>(
     rt: &R,
     registry: &Registry,
@@ -408,20 +439,21 @@ fn link_to<R: Wait + Net>(
     upstream: &Upstream,
     spare: Spare,
     address: SocketAddr,
-) -> Result<Linked, Spare> {
+) -> Result<Linked, (Spare, Option<io::Error>)> {
     let Moment {
         alloc,
         config,
+        timers,
         now,
         ..
     } = moment;
-    let timers = config.timers;
     let lane = spare.drawer.tap.lane();
     let Some(session) = session_of(alloc, upstream, timers.enquire, now) else {
-        return Err(spare);
+        return Err((spare, None));
     };
-    let Some((socket, link)) = connect(rt, alloc, registry, address, lane) else {
-        return Err(spare);
+    let (socket, link) = match connect(rt, alloc, registry, address, lane) {
+        Ok(wired) => wired,
+        Err(reason) => return Err((spare, reason)),
     };
     let Spare { drawer, ends } = spare;
     let history = config.limits.history as usize;
@@ -439,10 +471,11 @@ fn link_to<R: Wait + Net>(
             carrier,
             socket,
             begun: now,
+            turned: now,
             bound: None,
             state: UpstreamState::Binding,
             over: false,
         }),
-        Err((drawer, ends)) => Err(Spare { drawer, ends }),
+        Err((drawer, ends)) => Err((Spare { drawer, ends }, None)),
     }
 }

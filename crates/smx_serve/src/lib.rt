@@ -5,8 +5,10 @@ mod addresses;
 mod course;
 mod desk;
 mod entrance;
+mod guest;
 mod guests;
 mod heard;
+mod herald;
 mod lane;
 mod lingering;
 mod linking;
@@ -16,10 +18,13 @@ mod lookup;
 mod pace;
 mod parties;
 mod queues;
+mod reload;
 mod remote;
+mod room;
 mod seating;
 mod seats;
 mod serve;
+mod status;
 mod stop;
 mod teller;
 mod turning;
@@ -30,6 +35,6 @@ pub use lookup::{Lookups, is_name};
 pub use remote::Remote;
 pub use serve::Server;
 pub use smx_notice::{
-    ClientName, ClientNews, Ended, LinkLoss, MeteredKind, Notice, TurnedAway, UpstreamName,
-    UpstreamNews,
+    AccountChange, ClientName, ClientNews, ClientState, Counts, Ended, LastSent, LinkLoss,
+    LinkState, MeteredKind, Notice, Service, Standing, TurnedAway, UpstreamName, UpstreamNews,
 };

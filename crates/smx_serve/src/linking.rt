@@ -1,35 +1,59 @@
 //! How the loop turns each upstream's worker, and keeps each upstream connected.
 
 use crate::addresses::Addresses;
+use crate::guests::Guests;
 use crate::lane::{Lane, Lost, Unlinked};
 use crate::pace::Moment;
 use crate::queues::Queues;
 use mio::Registry;
 use smx_config::Upstream;
-use smx_notice::{LinkLoss, Notice, UpstreamName, UpstreamNews};
+use smx_notice::{LastSent, LinkLoss, Notice, UpstreamName, UpstreamNews};
 use smx_turns::RunEnd;
+use smx_upstream::LastRequest;
 use std::net::Net;
 use std::sync::Wait;
 
+/// A lane's upstream, as lines name it.
+pub(crate) fn name_of(moment: Moment<'_>, lane: usize) -> Option<UpstreamName<'_>> {
+    let Moment { config, .. } = moment;
+    let upstream = config.upstream.get(lane)?;
+    Some(UpstreamName {
+        lane,
+        system_id: upstream.system_id.as_str(),
+        address: upstream.address.as_str(),
+    })
+}
+
 // Says what becomes of a lane's upstream.
 fn say<'x, R: Wait>(rt: &R, moment: Moment<'x>, lane: usize, news: UpstreamNews<'x>) {
-    let Moment { config, .. } = moment;
-    if let Some(upstream) = config.upstream.get(lane) {
-        let name = UpstreamName {
-            lane,
-            system_id: upstream.system_id.as_str(),
-            address: upstream.address.as_str(),
-        };
+    if let Some(name) = name_of(moment, lane) {
         moment.say(rt, Notice::Upstream(name, news));
     }
 }
 
-// Says that a lane has no link, and when it is tried again.
-fn say_lost<R: Wait>(rt: &R, moment: Moment<'_>, lane: usize, place: &Lane, lost: Lost) {
-    let Lost { loss, failed } = lost;
+// Says that a lane has no link, whose request went out last over it, by the name of that client's
+// account, and when it is tried again.
+fn say_lost<R: Wait>(
+    rt: &R,
+    moment: Moment<'_>,
+    lane: usize,
+    place: &Lane,
+    lost: Lost,
+    system_id: Option<&str>,
+) {
+    let Lost { loss, last, failed } = lost;
     let again = place.rest(moment.now);
+    let last = match last {
+        Some(LastRequest { client, command }) => Some(LastSent {
+            command,
+            client,
+            system_id,
+        }),
+        None => None,
+    };
     let news = UpstreamNews::Lost {
         loss,
+        last,
         failed,
         again,
     };
@@ -43,6 +67,7 @@ pub(crate) fn turn_lane<R: Wait>(
     moment: Moment<'_>,
     queues: &mut Queues,
     addresses: &mut Addresses,
+    guests: &Guests<'_>,
     lane: usize,
     place: &mut Lane,
 ) {
@@ -61,7 +86,10 @@ pub(crate) fn turn_lane<R: Wait>(
             let lost = place.lose(rt, moment, end);
             queues.add_slots();
             match lost {
-                Some(lost) => say_lost(rt, moment, lane, place, lost),
+                Some(lost) => {
+                    let system_id = guests.account_of(&addresses.roll, lost.last);
+                    say_lost(rt, moment, lane, place, lost, system_id);
+                }
                 None => queues.hurry(),
             }
         }
@@ -76,13 +104,13 @@ fn end_late<R: Wait>(
     lane: usize,
     place: &mut Lane,
 ) {
-    let Moment { config, now, .. } = moment;
-    if !place.is_late(now, config.timers.enquire) {
+    let Moment { timers, .. } = moment;
+    if !place.is_late(timers.enquire) {
         return;
     }
     let lost = place.end_late(rt, moment);
     queues.add_slots();
-    say_lost(rt, moment, lane, place, lost);
+    say_lost(rt, moment, lane, place, lost, None);
 }
 
 // Answers what is queued on a lane whose link was lost too long ago.
@@ -93,8 +121,8 @@ fn give_up<R: Wait>(
     lane: usize,
     place: &mut Lane,
 ) {
-    let Moment { config, now, .. } = moment;
-    let failed = place.give_up_queued(rt, now, config.timers.response);
+    let Moment { timers, now, .. } = moment;
+    let failed = place.give_up_queued(rt, now, timers.response);
     if failed > 0 {
         queues.add_slots();
         say(rt, moment, lane, UpstreamNews::GivenUp { failed });
@@ -112,12 +140,13 @@ fn connect<R: Wait + Net>(
 ) {
     match place.connect(rt, registry, moment, upstream, lane) {
         Ok(()) => {}
-        Err(Unlinked::Unreached) => {
+        Err(Unlinked::Unreached(reason)) => {
             let lost = Lost {
-                loss: LinkLoss::Unreached,
+                loss: LinkLoss::Unreached(reason),
+                last: None,
                 failed: 0,
             };
-            say_lost(rt, moment, lane, place, lost);
+            say_lost(rt, moment, lane, place, lost, None);
         }
         Err(Unlinked::Unknown(reason)) => {
             let news = UpstreamNews::Unknown {

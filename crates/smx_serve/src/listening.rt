@@ -5,7 +5,8 @@ use crate::parties::LISTENER;
 use crate::remote::Remote;
 use mio::net::TcpListener;
 use mio::{Events, Interest, Poll, Token};
-use smx_notice::{Ended, Notice};
+use smx_notice::{Ended, Notice, Service};
+use std::io;
 use std::net::{Net, TcpStream};
 use std::sync::Wait;
 use std::time::Duration;
@@ -16,23 +17,17 @@ const PAUSE: u64 = 2_000;
 /// Of so many attempts the first is told of: one a minute.
 const ATTEMPTS: u64 = 30;
 
-// What listens at this address, watched. None where the system doesn't let it.
-fn listen<R>(rt: &R, poll: &Poll, address: &str) -> Option<TcpListener>
+// What listens at this address, watched, or why the system doesn't let it.
+fn listen<R>(rt: &R, poll: &Poll, address: &str) -> io::Result<TcpListener>
 where
     R: Net<Listener = std::net::TcpListener, Stream = TcpStream>,
 {
-    let Ok(listener) = std::net::TcpListener::bind(rt, address) else {
-        return None;
-    };
-    if listener.set_nonblocking(true).is_err() {
-        return None;
-    }
+    let listener = std::net::TcpListener::bind(rt, address)?;
+    listener.set_nonblocking(true)?;
     let mut listener = TcpListener::from_std(listener);
     let registry = poll.registry();
-    match registry.register(&mut listener, Token(LISTENER), Interest::READABLE) {
-        Ok(()) => Some(listener),
-        Err(_) => None,
-    }
+    registry.register(&mut listener, Token(LISTENER), Interest::READABLE)?;
+    Ok(listener)
 }
 
 // Waits for the next attempt, or until the proxy is told to stop, which ends it.
@@ -49,6 +44,7 @@ fn pause<R: Wait>(
     }
     if remote.is_stopping() {
         moment.say(rt, Notice::Stopping);
+        moment.herald.say(rt, Service::Stopping);
         return Err(Ended::Stopped);
     }
     Ok(())
@@ -69,12 +65,18 @@ where
     let Moment { config, .. } = moment;
     let address = config.listen.as_str();
     for attempt in 0..u64::MAX {
-        if let Some(listener) = listen(rt, poll, address) {
-            return Ok(listener);
-        }
+        let error = match listen(rt, poll, address) {
+            Ok(listener) => return Ok(listener),
+            Err(error) => error,
+        };
         if attempt % ATTEMPTS == 0 {
-            moment.say(rt, Notice::NotListening(address));
+            moment.say(rt, Notice::NotListening(address, error));
         }
+        if attempt == 0 {
+            moment.herald.say(rt, Service::Awaiting(address));
+            moment.herald.say(rt, Service::Ready);
+        }
+        moment.herald.say(rt, Service::Alive);
         pause(rt, poll, events, moment, remote)?;
     }
     Err(Ended::NoEvents)

@@ -3,6 +3,7 @@
 use smx_notice::Notice;
 use std::alloc::{AllocError, Global};
 use std::collections::VecDeque;
+use std::fmt;
 use std::io::{self, Write};
 use std::rt::Clock;
 use std::sync::{Condvar, Mutex, Wait};
@@ -118,7 +119,7 @@ impl Log {
     }
 
     /// Says a line.
-    pub fn say<R: Wait>(&self, rt: &R, notice: Notice<'_>) {
+    pub fn say<R: Wait, N: fmt::Display + Drop>(&self, rt: &R, notice: N) {
         let text = format!(in self.alloc; "{notice}\n").ok();
         self.waiting.lock(rt).add(text);
         self.came.notify_one();

@@ -1,9 +1,10 @@
 //! The moments of the loop, and what is due at each.
 
+use crate::herald::Herald;
 use crate::lookup::Lookups;
 use crate::teller::Teller;
 use smx_client::Desk;
-use smx_config::Config;
+use smx_config::{Config, Timers};
 use smx_notice::Notice;
 use smx_slots::is_poll_due;
 use std::alloc::Global;
@@ -19,13 +20,17 @@ pub(crate) const TICK: u64 = 100;
 pub(crate) const GRACE: u64 = 1_000;
 
 /// What holds at a moment: the settings, the milliseconds since the start, and whether the end is
-/// near; and by what lines are said.
+/// near; and by what lines are said, to whom.
 #[derive(Clone, Copy)]
 pub(crate) struct Moment<'d> {
     pub alloc: Global,
+    // What was served by from the start on.
     pub config: &'d Config,
+    // What was read last of these two.
+    pub timers: Timers,
     pub desk: &'d Desk,
     pub teller: &'d Teller,
+    pub herald: &'d Herald,
     pub lookups: &'d Lookups,
     pub now: u64,
     // The nanoseconds behind these milliseconds: a number by chance, below 1,000,000.

@@ -62,7 +62,7 @@ fn turn<R: Wait>(
     let slot = party.saturating_sub(lanes.len());
     match lanes.get_mut(party) {
         Some(lane) => {
-            turn_lane(rt, moment, queues, addresses, party, lane);
+            turn_lane(rt, moment, queues, addresses, guests, party, lane);
             false
         }
         None => guests.turn(rt, moment, queues, addresses, slot),

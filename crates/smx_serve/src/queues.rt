@@ -10,6 +10,9 @@ pub(crate) const TURNS: u64 = 64;
 /// It ends once so many octets went over its link: as many as one read gives.
 const OCTETS: u64 = 4_096;
 
+/// At a tick one of so many parties is ready again, should an event be lost.
+const SHARE: usize = 10;
+
 /// Whether a party's turn is over, where its socket's traffic was that and is this.
 pub(crate) fn is_enough(before: u64, traffic: u64) -> bool {
     traffic.wrapping_sub(before) >= OCTETS
@@ -24,6 +27,8 @@ pub(crate) struct Queues {
     dirty: Line,
     // What is due at a tick is due at once.
     hurried: bool,
+    // The first party that the next tick makes ready again.
+    netted: usize,
     // How many of each there are.
     pub lanes: usize,
     pub slots: usize,
@@ -49,6 +54,7 @@ impl Queues {
             schedule: Schedule::new(alloc, parties)?,
             dirty: Line::new(alloc, parties)?,
             hurried: false,
+            netted: 0,
             lanes,
             slots,
         };
@@ -137,11 +143,15 @@ impl Queues {
         }
     }
 
-    /// Each that is stalled is ready, at a tick, should an event be lost.
+    /// At a tick a tenth of the parties is ready, another one each time, whether they are stalled or not:
+    /// an event may have been lost, or a timer be due. So is each that waits for a return box.
     pub fn unstall(&mut self) {
-        for party in 0..self.lanes.saturating_add(self.slots) {
+        let parties = self.lanes.saturating_add(self.slots);
+        for party in (self.netted..parties).step_by(SHARE) {
             self.schedule.resume(party);
+            self.schedule.add(party);
         }
+        self.netted = self.netted.saturating_add(1) % SHARE;
         self.empty_boxes();
     }
 

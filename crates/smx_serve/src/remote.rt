@@ -1,13 +1,20 @@
-//! How others tell the loop to stop, and learn that it listens.
+//! How others tell the loop what to do, and learn that it listens.
 
 use mio::Waker;
+use smx_config::Config;
 use std::sync::atomic::{AtomicBool, AtomicU64, Ordering};
+use std::sync::{Mutex, Wait};
 
-/// Tells a running proxy to stop, from any thread.
+/// Tells a running proxy what to do, from any thread.
 #[derive(Drop)]
 pub struct Remote {
     waker: Waker,
     stopping: AtomicBool,
+    // How all stands is to be told.
+    tells: AtomicBool,
+    // A configuration was read again, and which.
+    reloads: AtomicBool,
+    read: Mutex<Option<Config>>,
     // The port where clients connect, and 0 before they can.
     port: AtomicU64,
 }
@@ -17,6 +24,9 @@ impl Remote {
         Remote {
             waker,
             stopping: AtomicBool::new(false),
+            tells: AtomicBool::new(false),
+            reloads: AtomicBool::new(false),
+            read: Mutex::new(None),
             port: AtomicU64::new(0),
         }
     }
@@ -25,6 +35,34 @@ impl Remote {
     pub fn stop(&self) {
         self.stopping.store(true, Ordering::SeqCst);
         self.wake();
+    }
+
+    /// Asks it to say how each upstream and client stands.
+    pub fn tell(&self) {
+        self.tells.store(true, Ordering::SeqCst);
+        self.wake();
+    }
+
+    /// Asks it to serve by what may change of this configuration. One that it hasn't come to yet is left
+    /// out for it.
+    pub fn reload<R: Wait>(&self, rt: &R, config: Config) {
+        *self.read.lock(rt) = Some(config);
+        self.reloads.store(true, Ordering::SeqCst);
+        self.wake();
+    }
+
+    // Whether it was asked to say how all stands, since this was asked.
+    pub(crate) fn take_telling(&self) -> bool {
+        self.tells.swap(false, Ordering::SeqCst)
+    }
+
+    // The configuration that was read again since this was asked.
+    pub(crate) fn take_read<R: Wait>(&self, rt: &R) -> Option<Config> {
+        if self.reloads.swap(false, Ordering::SeqCst) {
+            self.read.lock(rt).take()
+        } else {
+            None
+        }
     }
 
     // Ends the loop's wait for events.

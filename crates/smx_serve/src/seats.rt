@@ -8,13 +8,16 @@ ghost use Rattle.smx_session.specs.declared.upstream_state.UpstreamState.{Upstre
 
 use smx_box::{Got, Receiver};
 use smx_client::{ClientWorker, Closed, Desk, run_client};
+use smx_config::Timers;
 use smx_pdu::Pdu;
 use smx_session::{ClientState, UpstreamSession, UpstreamState};
 use smx_shared::{Door, EnterFault, Exchange, Port, Tap};
 use smx_slots::{ClientEnds, LaneEnds};
 use smx_socket::SocketLink;
 use smx_turns::{Directory, Gate, RunEnd};
-use smx_upstream::{Closed as Ended, Parts, UpstreamWorker, give_up_queued, lose, run_upstream};
+use smx_upstream::{
+    Closed as Ended, LastRequest, Parts, UpstreamWorker, give_up_queued, lose, run_upstream,
+};
 use std::alloc::Global;
 use std::sync::{Arc, Wait};
 
@@ -126,8 +129,8 @@ impl Entrant {
 }
 
 impl<'d> Member<'d> {
-    // A worker for a client that has entered. Where there is no memory for it the client leaves, and
-    // the ends come back.
+    // A worker for a client that has entered, by the timers of its silence and its messages. Where there
+    // is no memory for it the client leaves, and the ends come back.
     pub fn new<R: Wait>(
         rt: &R,
         alloc: Global,
@@ -136,6 +139,8 @@ impl<'d> Member<'d> {
         ends: ClientEnds,
         places: u32,
         link: SocketLink,
+        timers: Timers,
+        now: u64,
     ) -> Result<Member<'d>, ClientEnds> {
         if !entrant.fits_ends(&ends, places) {
             entrant.leave(rt);
@@ -143,7 +148,18 @@ impl<'d> Member<'d> {
         }
         let Entrant { at, port } = entrant;
         let ClientEnds { inbox, senders } = ends;
-        match ClientWorker::new(alloc, port, desk, inbox, senders, places, link) {
+        match ClientWorker::new(
+            alloc,
+            port,
+            desk,
+            inbox,
+            senders,
+            places,
+            link,
+            timers.client_silence,
+            timers.message,
+            now,
+        ) {
             Ok(worker) => Ok(Member {
                 at,
                 worker,
@@ -156,23 +172,34 @@ impl<'d> Member<'d> {
         }
     }
 
-    // Turns it for as long as there is something to do, at most so often: how that ended, and where
-    // its session stands.
+    // Turns it at a moment for as long as there is something to do, at most so often: how that ended,
+    // and where its session stands.
     pub fn run<R: Wait, G: Gate, D: Directory>(
         &mut self,
         rt: &R,
         gate: &mut G,
         directory: &mut D,
+        now: u64,
         turns: u64,
     ) -> (RunEnd, ClientState) {
         if self.over {
             return (RunEnd::Left, ClientState::Ended);
         }
-        let end = run_client(&mut self.worker, &self.at, rt, gate, directory, turns);
+        let end = run_client(&mut self.worker, &self.at, rt, gate, directory, now, turns);
         if let RunEnd::Fault(_) = end {
             self.over = true;
         }
         (end, self.worker.state())
+    }
+
+    // Whether no octet came after an enquiry.
+    pub fn is_silent(&self) -> bool {
+        self.worker.is_silent()
+    }
+
+    // How many octets it said that its socket hasn't taken.
+    pub fn unsent(&self) -> usize {
+        self.worker.unsent()
     }
 
     // Lets the client go. The ends come back, and whether a lane has an answer to a message of it.
@@ -264,14 +291,19 @@ impl Carrier {
         (drawer, ends, lost.failed)
     }
 
+    // The request that went out last over its link.
+    pub fn last_request(&self) -> Option<LastRequest> {
+        self.worker.last_request()
+    }
+
     // Ends its session in order. False where it wasn't bound, or there was no memory: then nothing is
     // to be waited for.
     pub fn stop(&mut self) -> bool {
         !self.over && self.worker.stop() == Ok(true)
     }
 
-    // Turns it for as long as there is something to do, at most so often: how that ended, and where
-    // its session stands.
+    // Turns it at a moment for as long as there is something to do, at most so often: how that ended,
+    // and where its session stands.
     pub fn run<R: Wait, G: Gate, D: Directory>(
         &mut self,
         rt: &R,

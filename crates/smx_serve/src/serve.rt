@@ -4,6 +4,7 @@ use crate::addresses::Addresses;
 use crate::desk::desk_of;
 use crate::entrance::Entrance;
 use crate::guests::Guests;
+use crate::herald::Herald;
 use crate::lane::Lane;
 use crate::listening::{await_listener, port_of};
 use crate::log::Log;
@@ -12,13 +13,15 @@ use crate::pace::{Moment, Pace};
 use crate::parties::WAKER;
 use crate::queues::Queues;
 use crate::remote::Remote;
+use crate::room::Room;
 use crate::seats::{Drawer, Gateway};
+use crate::status::Survey;
 use crate::teller::Teller;
 use crate::turning::Loop;
 use crate::upstreams::drawers_of;
 use mio::{Events, Poll, Token, Waker};
 use smx_config::Config;
-use smx_notice::{Ended, Notice};
+use smx_notice::{Ended, Notice, Service};
 use smx_shared::Exchange;
 use smx_slots::{ClientEnds, LaneEnds, Slots, ends_of};
 use std::alloc::{AllocError, Global};
@@ -51,13 +54,13 @@ fn gateway_of<R: Wait>(
     Ok((Gateway { at, door }, drawers))
 }
 
-// The boxes between the slots and the lanes.
+// The boxes between the slots of so many clients and the lanes.
 fn boxes_of<R: Wait>(
     rt: &R,
     alloc: Global,
     config: &Config,
+    clients: usize,
 ) -> Result<(Vec<ClientEnds>, Vec<LaneEnds>), Ended> {
-    let clients = config.clients as usize;
     let places = config.places as usize;
     Ok(ends_of(rt, alloc, clients, config.upstream.len(), places)?)
 }
@@ -87,9 +90,14 @@ struct Wiring<'d> {
     guests: Guests<'d>,
 }
 
-fn wiring_of<'d, R: Wait>(rt: &R, alloc: Global, config: &Config) -> Result<Wiring<'d>, Ended> {
+fn wiring_of<'d, R: Wait>(
+    rt: &R,
+    alloc: Global,
+    config: &Config,
+    clients: usize,
+) -> Result<Wiring<'d>, Ended> {
     let (gateway, drawers) = gateway_of(rt, alloc, config)?;
-    let (ends, lane_ends) = boxes_of(rt, alloc, config)?;
+    let (ends, lane_ends) = boxes_of(rt, alloc, config, clients)?;
     let lanes = lanes_of(rt, alloc, drawers, lane_ends)?;
     let guests = Guests::new(alloc, Slots::new(alloc, ends)?)?;
     Ok(Wiring {
@@ -118,6 +126,15 @@ fn tables_of(alloc: Global, lanes: usize, slots: usize) -> Result<Tables, AllocE
     })
 }
 
+// How many clients are let in at most. Where the system's descriptors leave out some, that is said.
+fn room_for<R: Wait + Net>(rt: &R, moment: Moment<'_>) -> usize {
+    let room = Room::new(rt, moment.alloc, moment.config);
+    if let Some(notice) = room.notice() {
+        moment.say(rt, notice);
+    }
+    room.clients
+}
+
 // The loop, once it listens; it is not connected yet. Its first moment is that one.
 fn loop_of<'d, R>(
     rt: &R,
@@ -129,11 +146,12 @@ where
     R: Clock + Wait + Net<Listener = std::net::TcpListener, Stream = TcpStream>,
 {
     let Moment { alloc, config, .. } = moment;
+    let clients = room_for(rt, moment);
     let Wiring {
         gateway,
         lanes,
         guests,
-    } = wiring_of(rt, alloc, config)?;
+    } = wiring_of(rt, alloc, config, clients)?;
     let Tables {
         mut events,
         queues,
@@ -159,6 +177,7 @@ where
         entrance,
         queues,
         addresses,
+        survey: Survey::new(),
     })
 }
 
@@ -167,6 +186,8 @@ where
 struct Shared {
     remote: Arc<Remote>,
     log: Arc<Log>,
+    // What a service manager is told, where there is one.
+    service: Option<Arc<Log>>,
     lookups: Arc<Lookups>,
 }
 
@@ -178,6 +199,7 @@ impl Shared {
         Ok(Shared {
             remote,
             log,
+            service: None,
             lookups: Arc::new(alloc, lookups)?,
         })
     }
@@ -215,6 +237,24 @@ impl Server {
         }
     }
 
+    /// What a service manager is told from now on, in lines as of sd_notify(3), for a thread that writes
+    /// them. Without this call nothing is said of that. None where there is no memory.
+    pub fn service(&mut self, alloc: Global) -> Option<Arc<Log>> {
+        if self.shared.service.is_none() {
+            let Ok(log) = Log::new(alloc) else {
+                return None;
+            };
+            let Ok(lines) = Arc::new(alloc, log) else {
+                return None;
+            };
+            self.shared.service = Some(lines);
+        }
+        match Arc::try_clone(self.shared.service.as_ref()?) {
+            Ok(lines) => Some(lines),
+            Err(_) => None,
+        }
+    }
+
     /// The look-ups of its upstreams' names, for threads that do them, one for each upstream that has a
     /// name. None where there is no memory.
     pub fn lookups(&self) -> Option<Arc<Lookups>> {
@@ -235,17 +275,21 @@ impl Server {
         let Shared {
             remote,
             log,
+            service,
             lookups,
         } = shared;
         let Ok(desk) = desk_of(alloc, config) else {
             return Ended::NoMemory;
         };
         let teller = Teller::new(log);
+        let herald = Herald::new(service);
         let moment = Moment {
             alloc,
             config,
+            timers: config.timers,
             desk: &desk,
             teller: &teller,
+            herald: &herald,
             lookups: &lookups,
             now: 0,
             chance: 0,
@@ -268,6 +312,7 @@ where
     let mut turning = loop_of(rt, poll, moment, remote)?;
     let Moment { config, .. } = moment;
     moment.say(rt, Notice::Listening(config.listen.as_str()));
+    moment.herald.say(rt, Service::Ready);
     remote.listen(port_of(&turning.entrance.listener));
     Ok(turning.run(rt, remote))
 }

@@ -2,7 +2,7 @@
 
 use crate::parties::{are_idle, are_settled};
 use crate::turning::Loop;
-use smx_notice::{Ended, Notice};
+use smx_notice::{Ended, Notice, Service};
 use std::net::Net;
 use std::rt::Clock;
 use std::sync::Wait;
@@ -54,6 +54,7 @@ impl<'d> Loop<'d> {
         self.pace.moment.stopping = true;
         let moment = self.pace.moment;
         moment.say(rt, Notice::Stopping);
+        moment.herald.say(rt, Service::Stopping);
         self.guests
             .dismiss(rt, moment, &mut self.queues, &mut self.addresses);
         match self.end(rt) {

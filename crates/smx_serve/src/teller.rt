@@ -60,7 +60,7 @@ impl Meter {
 #[derive(Drop)]
 pub(crate) struct Teller {
     log: Arc<Log>,
-    meters: [Meter; 5],
+    meters: [Meter; 6],
 }
 
 impl Teller {
@@ -73,6 +73,7 @@ impl Teller {
                 Meter::new(MeteredKind::Gone),
                 Meter::new(MeteredKind::Refused),
                 Meter::new(MeteredKind::NotAccepted),
+                Meter::new(MeteredKind::BindRefused),
             ],
         }
     }

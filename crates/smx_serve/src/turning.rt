@@ -9,8 +9,9 @@ use crate::pace::{GRACE, Pace, TICK};
 use crate::parties::{are_idle, flush, heed, pass};
 use crate::queues::Queues;
 use crate::remote::Remote;
+use crate::status::Survey;
 use mio::{Events, Poll};
-use smx_notice::Ended;
+use smx_notice::{Counts, Ended};
 use std::net::Net;
 use std::rt::Clock;
 use std::sync::Wait;
@@ -27,6 +28,7 @@ pub(crate) struct Loop<'d> {
     pub entrance: Entrance,
     pub queues: Queues,
     pub addresses: Addresses,
+    pub survey: Survey,
 }
 
 impl<'d> Loop<'d> {
@@ -57,6 +59,15 @@ impl<'d> Loop<'d> {
         }
     }
 
+    // Who is bound.
+    fn counts(&self) -> Counts {
+        Counts {
+            bound: self.lanes.iter().filter(|lane| lane.is_bound()).count(),
+            upstreams: self.lanes.len(),
+            clients: self.guests.bound(),
+        }
+    }
+
     // Connects each lane that has no link, and turns each; and what hangs is tried again.
     fn tick<R: Wait + Net>(&mut self, rt: &R) {
         let moment = self.pace.moment;
@@ -64,6 +75,9 @@ impl<'d> Loop<'d> {
         self.queues.unstall();
         tend_all(rt, registry, moment, &mut self.lanes, &mut self.queues);
         moment.teller.settle(rt, moment.now);
+        if moment.herald.looks(moment.now) {
+            moment.herald.tell(rt, moment.now, self.counts());
+        }
         self.guests
             .let_late_go(rt, moment, &mut self.queues, &mut self.addresses);
         self.guests.settle_all(&mut self.queues, moment.now);
@@ -122,14 +136,26 @@ impl<'d> Loop<'d> {
         }
         self.open();
         self.let_in(rt);
+        self.tell_some(rt);
         if are_idle(&self.lanes, &self.guests, &mut self.queues) {
-            let time = if self.entrance.has_more() { 0 } else { timeout };
+            let hurries = self.entrance.has_more() || self.survey.is_under_way();
+            let time = if hurries { 0 } else { timeout };
             self.pace.waits();
             return self.wait(time);
         }
         self.look()?;
         self.pass(rt);
         Ok(())
+    }
+
+    // Does what it was asked for.
+    fn heed<R: Wait>(&mut self, rt: &R, remote: &Remote) {
+        if remote.take_telling() {
+            self.survey.begin();
+        }
+        if let Some(read) = remote.take_read(rt) {
+            self.reload(rt, &read);
+        }
     }
 
     /// Connects each lane, and goes on until it is told to stop.
@@ -139,6 +165,7 @@ impl<'d> Loop<'d> {
             if remote.is_stopping() {
                 return self.stop(rt);
             }
+            self.heed(rt, remote);
             if let Err(ended) = self.round(rt, TICK) {
                 return ended;
             }

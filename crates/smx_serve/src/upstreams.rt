@@ -12,6 +12,7 @@ use smx_session::UpstreamSession;
 use smx_shared::{Exchange, Tap};
 use smx_socket::{Socket, SocketLink};
 use std::alloc::{AllocError, Global};
+use std::io;
 use std::net::{Net, SocketAddr};
 use std::rc::Rc;
 use std::sync::Arc;
@@ -66,15 +67,16 @@ pub(crate) fn session_of(
 }
 
 // A connection to this address that is begun, which the loop knows by this lane. It waits for nothing.
+// Where there is none, the system's reason, if it is one.
 pub(crate) fn connect<R: Net>(
     rt: &R,
     alloc: Global,
     registry: &Registry,
     address: SocketAddr,
     lane: usize,
-) -> Option<(Rc<Socket>, SocketLink)> {
-    let Ok(stream) = mio::net::TcpStream::connect(rt, address) else {
-        return None;
-    };
-    wire(alloc, registry, stream, lane)
+) -> Result<(Rc<Socket>, SocketLink), Option<io::Error>> {
+    match mio::net::TcpStream::connect(rt, address) {
+        Ok(stream) => wire(alloc, registry, stream, lane).ok_or(None),
+        Err(error) => Err(Some(error)),
+    }
 }

@@ -167,6 +167,35 @@ fn connections_that_are_not_bound(rt: HostRuntime) -> Result<(), Fail> {
     Ok(())
 }
 
+// The proxy's own enquire_link to a client, and its answer (SMPP 3.4, sections 4.11.1 and 4.11.2).
+const OWN_ENQUIRY: &[u8] = b"\x00\x00\x00\x10\x00\x00\x00\x15\x00\x00\x00\x00\x7f\xff\xff\xff";
+
+const ANSWERED: &[u8] = b"\x00\x00\x00\x10\x80\x00\x00\x15\x00\x00\x00\x00\x7f\xff\xff\xff";
+
+// A client that is silent is enquired, and stays as long as it answers (section 7.2).
+#[test]
+fn clients_that_are_silent(rt: HostRuntime) -> Result<(), Fail> {
+    let centre = TcpListener::bind(&rt, "127.0.0.1:0")?;
+    let address = format!(in rt.alloc(); "{}", centre.local_addr()?)?;
+    let mut told = Told::new(rt, "[timers]\nclient_silence = 1000", address)?;
+    let _up = bound(&rt, &centre)?;
+    told.upstream(&rt, "bound")?;
+    let mut client = connected(&rt, rt.alloc(), &told.remote)?;
+    told.client(&rt, "1", &client, "connected")?;
+    assert!(rt; bind_by(&mut client, 9)?);
+    told.client(&rt, "1 alpha", &client, "bound as transceiver")?;
+    for _ in 0..2 {
+        assert!(rt; comes(&mut client, OWN_ENQUIRY));
+        client.write_all(ANSWERED)?;
+    }
+    assert!(rt; comes(&mut client, OWN_ENQUIRY));
+    told.client(&rt, "1 alpha", &client, "answered no enquire_link")?;
+    assert!(rt; ends(&mut client));
+    told.stops(&rt);
+    told.remote.stop();
+    Ok(())
+}
+
 // How many connections the next line tells of: it is of one that was refused, or counts such.
 fn refused_by<R: Abort + AllocGlobal>(rt: &R, told: &mut Told) -> (u64, bool) {
     let line = told.lines.next(rt.alloc());

@@ -75,6 +75,15 @@ impl Lines {
         assert!(rt; next == line, "`{next}` was said, and not `{line}`");
     }
 
+    // The next line has to begin and end so, with a number of milliseconds between.
+    pub(crate) fn says_time<R: Abort + AllocGlobal>(&mut self, rt: &R, begin: &str, end: &str) {
+        let next = self.next(rt.alloc());
+        let next = next.as_deref().unwrap_or("nothing");
+        let rest = next.strip_prefix(begin).unwrap_or("");
+        let time = rest.strip_suffix(end).unwrap_or("").parse::<u64>();
+        assert!(rt; time.is_ok(), "`{next}` was said, and not `{begin}..{end}`");
+    }
+
     // No further line comes: the log is finished.
     pub(crate) fn are_over<R: Abort + AllocGlobal>(mut self, rt: &R) {
         let next = self.next(rt.alloc());

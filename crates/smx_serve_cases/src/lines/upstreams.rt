@@ -177,7 +177,8 @@ fn requests_that_fail(rt: HostRuntime) -> Result<(), Fail> {
     enquires(&rt, rt.alloc(), &mut client, 1);
     assert!(rt; comes(&mut up, SENT));
     drop(up);
-    let words = "ended, it closed the connection; 1 requests failed";
+    let words =
+        "ended, it closed the connection; the last request on it was submit_sm of client 1 alpha; 1 requests failed";
     waits_within(&rt, &mut told, words, PAUSE)?;
     told.upstream(&rt, "has no link for long, 1 queued requests failed")?;
     told.stops(&rt);
@@ -209,7 +210,7 @@ fn an_address_in_use(rt: HostRuntime) -> Result<(), Fail> {
     let other = TcpListener::bind(&rt, "127.0.0.1:0")?;
     let listen = address_of(&rt, &other)?;
     let words = format!(in rt.alloc();
-        "no connections can be awaited at {listen}; it is tried again every 2 seconds"
+        "no connections can be awaited at {listen}: Address already in use (os error 98); it is tried again every 2 seconds"
     )?;
     let mut told = Told::at(rt, listen.as_str(), LONG, address_of(&rt, &centre)?)?;
     told.lines.says(&rt, words.as_str());

@@ -1,11 +1,14 @@
 //! The words of lines, over values.
 use super::told::Lines;
 use smx_serve::{
-    ClientName, ClientNews, Ended, LinkLoss, MeteredKind, Notice, Server, TurnedAway, UpstreamName,
+    AccountChange, ClientName, ClientNews, ClientState, Counts, Ended, LastSent, LinkLoss,
+    LinkState, MeteredKind, Notice, Server, Service, Standing, TurnedAway, UpstreamName,
     UpstreamNews,
 };
+use smx_session::Kind;
 use smx_shared::EnterFault;
 use smx_turns::Fault;
+use std::io::{Error, ErrorKind};
 use std::test::Fail;
 
 // An upstream that is at a centre.
@@ -26,22 +29,39 @@ const CLIENT: ClientName<'static> = ClientName {
 fn lost(loss: LinkLoss, failed: usize, again: u64) -> Notice<'static> {
     let news = UpstreamNews::Lost {
         loss,
+        last: None,
         failed,
         again,
     };
     Notice::Upstream(UPSTREAM, news)
 }
 
+// A link that was lost behind a data_sm (SMPP 3.4, section 5.1.2.1) of a client that is gone.
+const UNREADABLE: UpstreamNews<'static> = UpstreamNews::Lost {
+    loss: LinkLoss::Closed,
+    last: Some(LastSent {
+        command: 0x0000_0103,
+        client: 12,
+        system_id: None,
+    }),
+    failed: 2,
+    again: 1,
+};
+
 // Lines that are hard to bring about, and the figures and names of others.
-fn lines() -> [(Notice<'static>, &'static str); 18] {
+fn lines() -> [(Notice<'static>, &'static str); 20] {
     [
         (
-            Notice::NotListening("10.0.0.1:2775"),
-            "no connections can be awaited at 10.0.0.1:2775; it is tried again every 2 seconds",
+            Notice::FewDescriptors {
+                found: 59,
+                wanted: 260,
+                clients: 55,
+            },
+            "the system gives 59 of 260 descriptors: at most 55 clients are let in; raise the limit of open files",
         ),
         (Notice::Ended(Ended::NoMemory), "no memory"),
         (
-            lost(LinkLoss::Unreached, 0, 29_870),
+            lost(LinkLoss::Unreached(None), 0, 29_870),
             "upstream 2 proxy at smsc.example:2775: can't be reached; 0 requests failed; it is tried again in 29870 ms",
         ),
         (
@@ -103,7 +123,157 @@ fn lines() -> [(Notice<'static>, &'static str); 18] {
             "51 more lines left out: clients gone",
         ),
         (Notice::Unwritten(37), "37 lines left out"),
+        (
+            Notice::Upstream(UPSTREAM, UNREADABLE),
+            "upstream 2 proxy at smsc.example:2775: ended, it closed the connection; the last request on it was data_sm of client 12; 2 requests failed; it is tried again in 1 ms",
+        ),
         (Notice::Stopping, "stopping"),
+        (Notice::Started("0.2.0"), "smx 0.2.0"),
+    ]
+}
+
+// What a service manager reads, as sd_notify(3) has it.
+#[test]
+fn lines_for_a_service_manager(rt: HostRuntime) -> Result<(), Fail> {
+    let counts = Counts {
+        bound: 1,
+        upstreams: 2,
+        clients: 7,
+    };
+    let lines = [
+        (Service::Ready, "READY=1"),
+        (
+            Service::Awaiting("127.0.0.1:2775"),
+            "STATUS=no connections can be awaited at 127.0.0.1:2775; it is tried again every 2 seconds",
+        ),
+        (
+            Service::Counts(counts),
+            "STATUS=1 of 2 upstreams bound, 7 clients",
+        ),
+        (Service::Alive, "WATCHDOG=1"),
+        (Service::Reloading, "RELOADING=1"),
+        (Service::Stopping, "STOPPING=1"),
+    ];
+    for (line, words) in lines {
+        let told = format!(in rt.alloc(); "{line}")?;
+        assert_eq!(rt; told.as_str(), words);
+    }
+    Ok(())
+}
+
+// A client that isn't bound.
+const STRANGER: ClientName<'static> = ClientName {
+    system_id: None,
+    ..CLIENT
+};
+
+// Lines of binds that were refused, and of a configuration that was read again.
+fn refusals() -> [(Notice<'static>, &'static str); 10] {
+    [
+        (
+            Notice::Client(
+                STRANGER,
+                ClientNews::BindRefused {
+                    status: 0x0F,
+                    said: Some(b"no\"body\n\xFF"),
+                },
+            ),
+            "client 7 at 10.0.0.9:44484: bind as \"no\\\"body\\n\\xff\" refused, 0x0F ESME_RINVSYSID: no such account",
+        ),
+        (
+            Notice::Client(
+                CLIENT,
+                ClientNews::BindRefused {
+                    status: 0x0E,
+                    said: None,
+                },
+            ),
+            "client 7 alpha at 10.0.0.9:44484: bind refused, 0x0E ESME_RINVPASWD",
+        ),
+        (
+            Notice::TooMany(51, MeteredKind::BindRefused),
+            "51 more lines left out: binds refused",
+        ),
+        (
+            Notice::Client(CLIENT, ClientNews::Kept(AccountChange::Gone)),
+            "client 7 alpha at 10.0.0.9:44484: its account is gone; it stays until it leaves",
+        ),
+        (
+            Notice::Client(CLIENT, ClientNews::Kept(AccountChange::Password)),
+            "client 7 alpha at 10.0.0.9:44484: its password is another one now; it stays until it leaves",
+        ),
+        (
+            Notice::Client(CLIENT, ClientNews::Kept(AccountChange::Prefixes)),
+            "client 7 alpha at 10.0.0.9:44484: its prefixes are others for its next bind",
+        ),
+        (
+            Notice::Client(STRANGER, ClientNews::Renewed),
+            "client 7 at 10.0.0.9:44484: let go before its bind, as the accounts changed",
+        ),
+        (
+            Notice::Reloaded(3),
+            "the configuration was read again, 3 accounts",
+        ),
+        (
+            Notice::NotReloaded("smx.toml: the text is not TOML"),
+            "nothing is changed: smx.toml: the text is not TOML",
+        ),
+        (
+            Notice::NotTaken("[limits]"),
+            "another [limits] in the file wants a restart",
+        ),
+    ]
+}
+
+// Lines of how all stands.
+fn standings() -> [(Standing<'static>, &'static str); 7] {
+    let bound = LinkState::Bound {
+        time: 5_021,
+        waits: true,
+    };
+    let client = ClientState {
+        kind: Some(Kind::Rx),
+        time: 3_020,
+        octets: 7,
+        waits: true,
+    };
+    let stranger = ClientState {
+        kind: None,
+        octets: 0,
+        waits: false,
+        ..client
+    };
+    let slots = Standing::Slots {
+        taken: 3,
+        all: 8,
+        closing: 1,
+    };
+    [
+        (
+            Standing::Upstream(UPSTREAM, bound),
+            "status: upstream 2 proxy at smsc.example:2775: bound for 5021 ms, octets wait",
+        ),
+        (
+            Standing::Upstream(UPSTREAM, LinkState::Binding { time: 20 }),
+            "status: upstream 2 proxy at smsc.example:2775: connecting for 20 ms",
+        ),
+        (
+            Standing::Upstream(UPSTREAM, LinkState::Down { again: 1_074 }),
+            "status: upstream 2 proxy at smsc.example:2775: no link, it is tried again in 1074 ms",
+        ),
+        (
+            Standing::Upstream(UPSTREAM, LinkState::Down { again: 0 }),
+            "status: upstream 2 proxy at smsc.example:2775: no link, its name is looked up",
+        ),
+        (
+            Standing::Client(CLIENT, client),
+            "status: client 7 alpha at 10.0.0.9:44484: receiver, connected for 3020 ms, 7 octets wait behind those at its socket",
+        ),
+        (
+            Standing::Client(STRANGER, stranger),
+            "status: client 7 at 10.0.0.9:44484: not bound, connected for 3020 ms, 0 octets wait",
+        ),
+        (slots, "status: 3 of 8 slots are taken, 1 of them close"),
     ]
 }
 
@@ -113,6 +283,32 @@ fn lines_have_their_words(rt: HostRuntime) -> Result<(), Fail> {
         let words = format!(in rt.alloc(); "{notice}")?;
         assert_eq!(rt; words.as_str(), line);
     }
+    for (notice, line) in refusals() {
+        let words = format!(in rt.alloc(); "{notice}")?;
+        assert_eq!(rt; words.as_str(), line);
+    }
+    for (standing, line) in standings() {
+        let words = format!(in rt.alloc(); "{}", Notice::Status(standing))?;
+        assert_eq!(rt; words.as_str(), line);
+    }
+    Ok(())
+}
+
+// Where the system says why, its words stand there.
+#[test]
+fn lines_have_the_system_s_reason(rt: HostRuntime) -> Result<(), Fail> {
+    let error = Error::from(ErrorKind::AddrInUse);
+    let words = format!(in rt.alloc(); "{}", Notice::NotListening("10.0.0.1:2775", error))?;
+    let line = format!(in rt.alloc();
+        "no connections can be awaited at 10.0.0.1:2775: {error}; it is tried again every 2 seconds"
+    )?;
+    assert_eq!(rt; words.as_str(), line.as_str());
+    let refused = Error::from(ErrorKind::ConnectionRefused);
+    let words = format!(in rt.alloc(); "{}", lost(LinkLoss::Unreached(Some(refused)), 0, 1))?;
+    let line = format!(in rt.alloc();
+        "upstream 2 proxy at smsc.example:2775: can't be reached: {refused}; 0 requests failed; it is tried again in 1 ms"
+    )?;
+    assert_eq!(rt; words.as_str(), line.as_str());
     Ok(())
 }
 
