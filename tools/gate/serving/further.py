@@ -7,7 +7,6 @@ import pathlib
 import pty
 import shutil
 import signal
-import subprocess
 import tempfile
 import threading
 
@@ -167,15 +166,17 @@ def terminal_that_is_read(program, _):
             os.close(terminal)
 
 
-def hangup_to_the_script(program, _):
-    """SIGHUP to ./smx ends the proxy in order, and leaves nobody on its port."""
-    port = free_port()
+def hangup_at_a_terminal(program, _):
+    """SIGHUP to ./smx at a terminal ends the proxy in order, and leaves nobody on its port."""
+    port, (leader, terminal) = free_port(), pty.openpty()
     with Answering() as centre, script_of(program) as script:
         text = text_of(port, [f"{HOST}:{centre.port}"])
-        with Proxy(program, port, text, [script, "serve"], stdin=subprocess.DEVNULL) as proxy:
+        with Proxy(program, port, text, [script, "serve"], stdin=terminal) as proxy:
             proxy.child.send_signal(signal.SIGHUP)
             assert proxy.child.wait(PATIENCE) == 0, proxy.said()
             assert is_free(port), "the proxy was left on its port"
+    os.close(leader)
+    os.close(terminal)
 
 
 CASES = {
@@ -184,5 +185,5 @@ CASES = {
     "lines are left out": lines_are_left_out,
     "./smx at a terminal, in the background": script_in_the_background,
     "a terminal that is read": terminal_that_is_read,
-    "HUP to a copy of ./smx": hangup_to_the_script,
+    "HUP to ./smx at a terminal": hangup_at_a_terminal,
 }

@@ -143,10 +143,14 @@ class Proxy:
             assert time.monotonic() < end, f"no line says {words!r}: {self.said()}"
             time.sleep(0.02)
 
+    def asks(self, word):
+        """Says a line on its standard input."""
+        self.child.stdin.write(f"{word}\n".encode())
+        self.child.stdin.flush()
+
     def stop(self):
         """Stops it by a line, and gives its status."""
-        self.child.stdin.write(b"stop\n")
-        self.child.stdin.flush()
+        self.asks("stop")
         return self.child.wait(PATIENCE)
 
     def connect(self, source="127.0.0.1"):

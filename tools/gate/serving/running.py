@@ -119,6 +119,71 @@ def ends_at(number, words_of, send=os.kill):
     return case
 
 
+def runs_on_at(words_of, send=os.kill):
+    """A case: SIGHUP and SIGUSR1 to the script that runs the program, or to their group, end nothing."""
+    def case(program, _):
+        port = free_port()
+        with Answering() as centre:
+            text = text_of(port, [f"{HOST}:{centre.port}"])
+            how = {"stdin": subprocess.DEVNULL, "env": {**os.environ, "SMX": str(program)}, "start_new_session": True}
+            with Proxy(program, port, text, words_of(program), **how) as proxy, proxy.client() as link:
+                for number in (signal.SIGHUP, signal.SIGUSR1, signal.SIGHUP):
+                    send(proxy.child.pid, number)
+                    are_answered(link, 4)
+                proxy.child.terminate()
+                assert proxy.child.wait(PATIENCE) == 0, proxy.said()
+                assert "unbound" in proxy.said(), proxy.said()
+    return case
+
+
+# A program that says each line of its input as its state, and one that writes down what systemd is told.
+TELLING = """#!/bin/sh
+[ "$1" = serve ] || exit 0
+case $2 in
+--help) echo "$HELP"; exit 0 ;;
+--notify) echo READY=1; echo WATCHDOG=1 ;;
+esac
+while read -r line; do
+    [ "$2" != --notify ] || echo "STATUS=$line"
+    [ "$line" != stop ] || exit 0
+done
+"""
+NOTING = """#!/bin/sh
+echo "$*" >>"$NOTES"
+"""
+
+
+def what_systemd_is_told(_, __):
+    """Each line that the program says for it, and of a program that says none that it has started."""
+    with tempfile.TemporaryDirectory() as folder:
+        room = pathlib.Path(folder)
+        for name, text in (("smx", TELLING), ("systemd-notify", NOTING)):
+            (room / name).write_text(text)
+            (room / name).chmod(0o755)
+        for words, first in (("--notify", ["READY=1", "WATCHDOG=1"]), ("", ["--ready WATCHDOG_USEC=0"])):
+            notes = room / f"notes{words}"
+            notes.touch()
+            more = {"SMX": str(room / "smx"), "HELP": words, "NOTES": str(notes), "NOTIFY_SOCKET": "none",
+                    "WATCHDOG_USEC": "1", "PATH": f"{folder}:{os.environ['PATH']}"}
+            how = {"env": {**os.environ, **more}, "stdin": subprocess.DEVNULL}
+            with subprocess.Popen([*service(None), "any"], **how) as child:
+                comes(lambda: notes.read_text().splitlines() == first, notes.read_text)
+                for number, line in ((signal.SIGUSR1, "status"), (signal.SIGHUP, "reload")) if words else ():
+                    # (again, since one that comes before the script's own trap stands is lost)
+                    comes(lambda: child.send_signal(number) or f"STATUS={line}" in notes.read_text(), notes.read_text)
+                child.terminate()
+                assert child.wait(PATIENCE) == 0
+            assert not words or notes.read_text().splitlines()[-1] == "STATUS=stop", notes.read_text()
+
+
+def comes(is_so, found):
+    """Waits until this is so."""
+    end = time.monotonic() + PATIENCE
+    while not is_so():
+        assert time.monotonic() < end, found()
+        time.sleep(0.02)
+
+
 def closed_streams(words_of):
     """A case: where the standard streams are closed, no socket and no event of the program takes their place."""
     def case(program, _):
@@ -208,14 +273,16 @@ CASES = {
     "a resolver that is silent": in_a_namespace,
     "nobody reads the lines": nobody_reads_the_lines,
     "at a terminal, in the background": at_a_terminal_in_the_background,
-    "HUP to smx-serve": ends_at(signal.SIGHUP, service),
+    "HUP and USR1 to smx-serve": runs_on_at(service),
+    "HUP and USR1 to the group of smx-serve": runs_on_at(service, os.killpg),
+    "what systemd is told": what_systemd_is_told,
     "TERM to smx-serve": ends_at(signal.SIGTERM, service),
     "QUIT to the group of smx-serve": ends_at(signal.SIGQUIT, service, os.killpg),
     "early signals to smx-serve": early_signals_to_smx_serve,
     "closed streams of smx-serve": closed_streams(service),
     "closed streams of ./smx": closed_streams(script),
     "faults of smx-serve": faults_of_smx_serve,
-    "HUP to ./smx": ends_at(signal.SIGHUP, script),
+    "HUP and USR1 to the group of ./smx": runs_on_at(script, os.killpg),
     "INT to the group of ./smx": ends_at(signal.SIGINT, script, os.killpg),
     "demo beside a proxy of its file": demo_beside_a_proxy,
     "a script that reserves too much": a_script_that_reserves_too_much,

@@ -1,13 +1,17 @@
-"""Times of the configuration: when a lost centre is tried again, and how long a connection may go without a bind."""
+"""Times of the configuration: when a lost centre is tried again, how long a connection may go without a bind, and
+what a program that stood still makes of them."""
 
 import contextlib
+import signal
 import time
 
 from .peers import Centre, one_lane
-from .smpp import ENQUIRE_LINK, OK, PATIENCE, UNBIND, Gone, octets_of, request
+from .smpp import ENQUIRE_LINK, OK, PATIENCE, SUBMIT_SM, UNBIND, Gone, message, octets_of, request, response
 
 # A centre that is back is bound again within these seconds.
 BACK = 3
+# A message_id (section 5.2.23): 200 responses with it are more than a turn reads.
+NAME = b"a name of a message\0"
 
 
 def centre_away_for_a_second(program, _):
@@ -61,8 +65,27 @@ def slots_of_those_that_stay(program, _):
                 pass
 
 
+def program_that_stood_still(program, _):
+    """Answers that came while the program stood still count: no request of them fails and no link is lost, though the
+    enquiry is older than `enquire` and the requests than `response` (and not twice as old)."""
+    keys, limits = "[timers]\nenquire = 4000\nresponse = 8000", "queue = 200\nwindow = 200\nclient = 200"
+    with one_lane(program, keys=keys, limits=limits) as (centre, proxy), centre.bound() as up, proxy.client() as link:
+        link.say(*(message(SUBMIT_SM, it, "49") for it in range(1, 201)))
+        asked = [up.hear() for _ in range(201)]
+        assert [it.command for it in asked] == 200 * [SUBMIT_SM] + [ENQUIRE_LINK], asked[200]
+        proxy.child.send_signal(signal.SIGSTOP)
+        up.say(*(response(it, body=NAME if it.command == SUBMIT_SM else b"") for it in reversed(asked)))
+        time.sleep(5)
+        proxy.child.send_signal(signal.SIGCONT)
+        answers = [link.hear() for _ in range(200)]
+        assert {(it.status, it.body) for it in answers} == {(OK, NAME)}, answers
+        assert sorted(it.number for it in answers) == list(range(1, 201))
+        assert up.is_quiet() and "ended" not in proxy.said(), proxy.said()
+
+
 CASES = {
     "a centre that was away for a second": centre_away_for_a_second,
     "connections without a bind": connections_without_a_bind,
     "slots of those that stay": slots_of_those_that_stay,
+    "a program that stood still": program_that_stood_still,
 }
