@@ -8,6 +8,12 @@ ghost use Rattle.smx_turns.specs.declared.gate.Party.{Party};
 pub enum Point {
     /// Before it reads.
     Reading,
+    /// Before it binds its client by the account with this index.
+    Binding(usize),
+    /// Before it refuses a bind.
+    Refusing,
+    /// Before a request of its client goes on: whether one more may be under way.
+    Admitting,
     /// Before it submits a request to a lane.
     Submitting,
     /// Before it collects responses from the lanes.
