@@ -20,8 +20,8 @@ abbrev pub IsAnswered : Content → ℕ → Pdu → Answered → Content → Typ
 IsAnswered old by p (Queued c) new =
     (q : Place) × (m : Member) × (find (answers_place p) old.window ≡ Some q) × (q.client ≡ c) × (member_with c old.members ≡ Some m)
     × ((h : List Note) → AgreesWith h old → AgreesWith (h ++ note by (event.Answer q.client q.ordinal p) ∷ []) new)
-IsAnswered old by p Late new =
-    (q : Place) × (find (answers_place p) old.window ≡ Some q) × (member_with q.client old.members ≡ None)
+IsAnswered old by p (Late c) new =
+    (q : Place) × (find (answers_place p) old.window ≡ Some q) × (q.client ≡ c) × (member_with c old.members ≡ None)
     × ((h : List Note) → AgreesWith h old → AgreesWith (h ++ note by (event.Late q.client q.ordinal p.number p.command) ∷ []) new)
 IsAnswered old by p (Unknown back) new = (find (answers_place p) old.window ≡ None) × (back ≡ p) × (new ≡ old)
 
@@ -44,8 +44,8 @@ failing by q = note by (event.Fail q.client q.ordinal q.upstream (failure_comman
 abbrev pub IsGivenUp : Content → ℕ → Place → Failed → Content → Type 0
 IsGivenUp old by q (failed.Queued c) new =
     (q.client ≡ c) × IsSome (member_with c old.members) × ((h : List Note) → AgreesWith h old → AgreesWith (h ++ failing by q ∷ []) new)
-IsGivenUp old by q failed.Late new =
-    (member_with q.client old.members ≡ None) × ((h : List Note) → AgreesWith h old → AgreesWith (h ++ failing by q ∷ []) new)
+IsGivenUp old by q (failed.Late c) new =
+    (q.client ≡ c) × (member_with c old.members ≡ None) × ((h : List Note) → AgreesWith h old → AgreesWith (h ++ failing by q ∷ []) new)
 
 -- that of the window's first place (a window stands in any order)
 abbrev pub IsFailed : Content → ℕ → Failed → Content → Type 0

@@ -92,7 +92,7 @@ pub enum Failed {
     /// What tells its client so waits for the client.
     Queued { client: u64 },
     /// Its client has retired.
-    Late,
+    Late { client: u64 },
 }
 
 /// What became of a response.
@@ -101,7 +101,7 @@ pub enum Answered {
     /// It waits for its client.
     Queued { client: u64 },
     /// Its client has retired, and the response is gone.
-    Late,
+    Late { client: u64 },
     /// It answers no place of the window, and is handed back.
     Unknown(Pdu),
 }

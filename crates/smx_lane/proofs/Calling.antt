@@ -66,7 +66,7 @@ take_made old new by now (Err e) told oldest goes same = ([], (told, (refl, same
 
 pub answer_made : (old new : Content) (by : ℕ) (p : Pdu) (r : Answered) → IsAnswered old by p r new → RanOne old (call.Answer by p) (reply.Answered r) new
 answer_made old new by p (answered.Queued c) told = (note by (event.Answer told.0.client told.0.ordinal p) ∷ [], (told.0, told.2, told.3, ap is_some told.4, refl), told.5, hands_event old new by (event.Answer told.0.client told.0.ordinal p) told.5)
-answer_made old new by p answered.Late told = (note by (event.Late told.0.client told.0.ordinal p.number p.command) ∷ [], (told.0, told.1, told.2, refl), told.3, hands_event old new by (event.Late told.0.client told.0.ordinal p.number p.command) told.3)
+answer_made old new by p (answered.Late c) told = (note by (event.Late told.0.client told.0.ordinal p.number p.command) ∷ [], (told.0, told.1, told.2, told.3, refl), told.4, hands_event old new by (event.Late told.0.client told.0.ordinal p.number p.command) told.4)
 answer_made old new by p (answered.Unknown back) told = ([], (told.0, told.1, (refl, told.2)), stays old new told.2, λ h was. hands_nothing old new told.2)
 
 pub collect_made : (old new : Content) (by c : ℕ) (r : Option Pdu) → IsOwn old by c → IsCollected old by c r new → RanOne old (call.Collect by c) (reply.Collected r) new
@@ -96,11 +96,11 @@ failed_event q = event.Fail q.client q.ordinal q.upstream (failure_command q.com
 
 given_up_goes : (old new : Content) (by : ℕ) (q : Place) (f : Failed) → IsGivenUp old by q f new → GoesOn old (failing by q ∷ []) new
 given_up_goes old new by q (failed.Queued c) is = is.2
-given_up_goes old new by q failed.Late is = is.1
+given_up_goes old new by q (failed.Late c) is = is.2
 
 given_up_tells : (old new : Content) (by : ℕ) (q : Place) (f : Failed) → IsGivenUp old by q f new → Tells old q f
 given_up_tells old new by q (failed.Queued c) is = (is.0, is.1)
-given_up_tells old new by q failed.Late is = is.0
+given_up_tells old new by q (failed.Late c) is = (is.0, is.1)
 
 pub fail_made : (old new : Content) (by : ℕ) (r : Result Failed FailRefusal) → MatchResult r (λ _. fail_refusal old ≡ None) (λ e. fail_refusal old ≡ Some e) → IfOk r (λ f. IsFailed old by f new) → OnErr r (new ≡ old) → RanOne old (call.Fail by) (reply.Failed r) new
 fail_made old new by (Ok f) told is same =

@@ -42,7 +42,7 @@ Keeps old _ = Unit {0}
 -- a request that failed waits for its client to collect it, or is gone where the client has retired
 abbrev pub Tells : Content → Place → Failed → Type 0
 Tells old q (failed.Queued c) = (q.client ≡ c) × IsSome (member_with c old.members)
-Tells old q failed.Late = member_with q.client old.members ≡ None
+Tells old q (failed.Late c) = (q.client ≡ c) × (member_with c old.members ≡ None)
 
 -- the reply to a call on a lane with this content, its notes, and what the lane holds then; only a call that keeps to its condition is made
 abbrev pub IsReply : Content → Call → Reply → List Note → Content → Type 0
@@ -53,7 +53,7 @@ IsReply old (call.Accept by r) (reply.Accepted (Err e)) own new = IsNext old by 
 IsReply old (call.Take by now) (reply.Taken (Ok s)) own new = (take_refusal old ≡ None) × (slice_get old.queue 0 ≡ Some s.request) × (own ≡ taking old by now s ∷ [])
 IsReply old (call.Take by now) (reply.Taken (Err e)) own new = (take_refusal old ≡ Some e) × Stays old own new
 IsReply old (call.Answer by p) (reply.Answered (answered.Queued c)) own new = (q : Place) × (find (answers_place p) old.window ≡ Some q) × (q.client ≡ c) × IsSome (member_with c old.members) × (own ≡ note by (event.Answer q.client q.ordinal p) ∷ [])
-IsReply old (call.Answer by p) (reply.Answered answered.Late) own new = (q : Place) × (find (answers_place p) old.window ≡ Some q) × (member_with q.client old.members ≡ None) × (own ≡ note by (event.Late q.client q.ordinal p.number p.command) ∷ [])
+IsReply old (call.Answer by p) (reply.Answered (answered.Late c)) own new = (q : Place) × (find (answers_place p) old.window ≡ Some q) × (q.client ≡ c) × (member_with c old.members ≡ None) × (own ≡ note by (event.Late q.client q.ordinal p.number p.command) ∷ [])
 IsReply old (call.Answer by p) (reply.Answered (answered.Unknown back)) own new = (find (answers_place p) old.window ≡ None) × (back ≡ p) × Stays old own new
 IsReply old (call.Collect by c) (reply.Collected (Some p)) own new = IsOwn old by c × (r : Response) × (oldest_in (member_with c old.members) ≡ Some r) × (r.pdu ≡ p) × (own ≡ note by (event.Collect c r.ordinal) ∷ [])
 IsReply old (call.Collect by c) (reply.Collected None) own new = IsOwn old by c × (oldest_in (member_with c old.members) ≡ None) × Stays old own new

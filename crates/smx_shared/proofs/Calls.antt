@@ -97,8 +97,8 @@ pub answer_made : (by : ℕ) (p : Pdu) (old new : Content) (r : Answered) → ne
     → IsMade by old (call.Answer by p) (reply.Answered r) new
 answer_made by p old new (answered.Queued c) limits m =
     made by old old new _ _ refl (lane.stays old old refl) (λ own t. is_one by (event.Answer t.0.client t.0.ordinal p) own _ t.4 (ap (answer_notes by p) t.1)) limits m
-answer_made by p old new answered.Late limits m =
-    made by old old new _ _ refl (lane.stays old old refl) (λ own t. is_one by (event.Late t.0.client t.0.ordinal p.number p.command) own _ t.3 (ap (late_notes by p) t.1)) limits m
+answer_made by p old new (answered.Late c) limits m =
+    made by old old new _ _ refl (lane.stays old old refl) (λ own t. is_one by (event.Late t.0.client t.0.ordinal p.number p.command) own _ t.4 (ap (late_notes by p) t.1)) limits m
 answer_made by p old new (answered.Unknown back) limits m = made by old old new _ _ refl (lane.stays old old refl) (λ own t. is_none by own t.2.0) limits m
 
 pub collect_made : (by c : ℕ) (old new : Content) (r : Option Pdu) → new.limits ≡ old.limits → lane.RanOne old (call.Collect by c) (reply.Collected r) new

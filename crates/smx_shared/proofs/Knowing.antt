@@ -34,7 +34,7 @@ use Rattle.smx_shared.specs.Roomy.{finds_full, shifts_where}
 use Rattle.smx_shared.specs.Serving.{OneHold, CallServes, Takes, TriesTake, Brings, Turns, TurnServes, StaysServes, GoesDown, Fails, Expires, ComesUp}
 use Rattle.std.specs.Option.{option_map}
 use Rattle.smx_history.specs.declared.entry.Entry.{Entry}
-use Rattle.smx_shared.specs.Taps.{Queued, known_from, known_of, known_by_take, known_by_answer}
+use Rattle.smx_shared.specs.Taps.{CameLate, Queued, known_from, known_of, known_by_take, known_by_answer}
 
 more : (f g : Front Note Limits) (ns : List Note) → g.mine ≡ f.mine ++ ns → known_of g.mine ≡ known_of f.mine ++ known_of ns
 more f g ns mine = ap known_of mine ∙ filter_map-append (λ n. known_from n.event) f.mine ns
@@ -73,7 +73,7 @@ tries_known f g now (Err tries.Busy) h = same f g (ap (λ z. z.mine) h.0)
 pub answers_known : (f g : Front Note Limits) (p : Pdu) (r : Result Answered (Pdu × spent.Spent)) → Brings f g p r
     → known_of g.mine ≡ known_of f.mine ++ known_by_answer p r
 answers_known f g p (Ok (answered.Queued c)) h = called f g _ _ _ h h.told.4 ∙ ap (λ x. known_of f.mine ++ Queued x p ∷ []) h.told.2
-answers_known f g p (Ok answered.Late) h = called f g _ _ _ h h.told.3
+answers_known f g p (Ok (answered.Late c)) h = called f g _ _ _ h h.told.4 ∙ ap (λ x. known_of f.mine ++ CameLate x p.number p.command ∷ []) h.told.2
 answers_known f g p (Ok (answered.Unknown back)) h = called f g _ _ [] h h.told.2.0
 answers_known f g p (Err e) h = spent_same f g h.1
 

@@ -8,16 +8,16 @@ use Rattle.smx_history.specs.declared.reply.Answered.{Answered}
 use Rattle.smx_history.specs.declared.reply.Answered.TheVariants as answered
 use Rattle.smx_lane.specs.declared.sent.Sent.{Sent}
 
--- a note without its ordinal; of a response that came late its client isn't known either
+-- a note without its ordinal
 pub data Known : Type 0 where
   Took : (client upstream : ℕ) → Known
   Queued : (client : ℕ) → (response : Pdu) → Known
-  CameLate : (upstream command : ℕ) → Known
+  CameLate : (client upstream command : ℕ) → Known
 
 abbrev pub known_from : Option Event → Option Known
 known_from (Some (event.Take c n u t)) = Some (Took c u)
 known_from (Some (event.Answer c n p)) = Some (Queued c p)
-known_from (Some (event.Late c n u k)) = Some (CameLate u k)
+known_from (Some (event.Late c n u k)) = Some (CameLate c u k)
 known_from _ = None
 
 -- what is known of these notes, in order
@@ -32,5 +32,5 @@ known_by_take (Err _) = []
 -- what an answer adds to it
 abbrev pub known_by_answer : {E : Type 0} → Pdu → Result Answered E → List Known
 known_by_answer p (Ok (answered.Queued c)) = Queued c p ∷ []
-known_by_answer p (Ok answered.Late) = CameLate p.number p.command ∷ []
+known_by_answer p (Ok (answered.Late c)) = CameLate c p.number p.command ∷ []
 known_by_answer p _ = []

@@ -20,7 +20,7 @@ impl Lane {
         self.entries.push_reserved(entry);
         let client = place.client;
         let Some(row) = self.roster.find(client) else {
-            return Failed::Late;
+            return Failed::Late { client };
         };
         self.roster.put(row, facing(place, response));
         Failed::Queued { client }

@@ -65,7 +65,7 @@ impl Lane {
         let Some(row) = self.roster.find(client) else {
             self.entries
                 .push_reserved(settling(Kind::Late, by, &place, &response));
-            return Answered::Late;
+            return Answered::Late { client };
         };
         self.entries
             .push_reserved(settling(Kind::Answer, by, &place, &response));

@@ -64,6 +64,7 @@ returns-in_default-find-clause-answered c =
     let room = KeepsRoom-settled_late v (entry_by c.args.by (event.Late q.client q.ordinal p.number p.command)) q removed.0 c.self.invariant.room place.within place.is in (
       q,
       ap (λ (x : Content). find (answers_place p) x.window) (sym c.self.view_is) ∙ place.first,
+      refl,
       ap (λ (x : Content). member_with q.client x.members) (sym c.self.view_is) ∙ gone,
       λ h was. rw (removed.2, c.push_reserved.ensures.items, c.settling.ensures)
           (AgreesWith-late h v c.args.by p q removed.0 (rw c.self.view_is was) place.within place.is place.number place.command gone room),

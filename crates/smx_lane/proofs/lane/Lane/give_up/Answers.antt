@@ -71,6 +71,7 @@ returns-in_default-clause-given_up c =
     let is : q ≡ get_or v.window removed.0 q = sym (get_or_from_slice_get v.window removed.0 q q removed.1) in
     let gone : member_with q.client v.members ≡ None = c.in_default.ensures in
     let room = KeepsRoom-settled_late v (failing_entry c.args.by q) q removed.0 c.self.invariant.room within is in (
+      refl,
       ap (λ (x : Content). member_with q.client x.members) (sym c.self.view_is) ∙ gone,
       λ h was. rw (removed.2, c.push_reserved.ensures.items, c.settling-entry.ensures, c.failure-response.ensures)
           (AgreesWith-failed_late h v c.args.by q removed.0 (rw c.self.view_is was) within is gone room),
