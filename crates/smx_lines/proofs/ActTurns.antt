@@ -28,6 +28,10 @@ pub client_binds : (c : ℕ) (p : Pdu) (a : Act) (kind : Kind) (account : ℕ) (
 unfolding client_act
 client_binds c p a kind account answer s state text is agrees e = client_by c p a (act.Bind kind account answer) s state text is (record { text = e; left = agrees })
 
+pub client_refuses : (c : ℕ) (p : Pdu) (a : Act) (answer : Pdu) (s : Relay) (state : State) (text : List ℕ) → a ≡ act.Refuse answer → StandsFor state s → text ≡ pdu_line (to_client c) answer → TurnLeaves (client_act c p a s) state text
+unfolding client_act
+client_refuses c p a answer s state text is agrees e = client_by c p a (act.Refuse answer) s state text is (record { text = e; left = agrees })
+
 pub client_forwards : (c : ℕ) (p : Pdu) (a : Act) (s : Relay) (state : State) (text : List ℕ) → a ≡ act.Forward → TurnLeaves (forward c p s) state text → TurnLeaves (client_act c p a s) state text
 unfolding client_act
 client_forwards c p a s state text is turned = client_by c p a act.Forward s state text is turned
@@ -43,6 +47,10 @@ client_hung_up c p a answer s state text is turned = client_by c p a (act.Hangup
 pub client_answers_message : (c : ℕ) (p : Pdu) (a : Act) (number : ℕ) (s : Relay) (state : State) (text : List ℕ) → a ≡ act.MoAnswer number → TurnLeaves (answer_turn c p s) state text → TurnLeaves (client_act c p a s) state text
 unfolding client_act
 client_answers_message c p a number s state text is turned = client_by c p a (act.MoAnswer number) s state text is turned
+
+pub client_closed : (c : ℕ) (p : Pdu) (a : Act) (s : Relay) (state : State) (text : List ℕ) → a ≡ act.Closed → TurnLeaves (leave_turn c s) state text → TurnLeaves (client_act c p a s) state text
+unfolding client_act
+client_closed c p a s state text is turned = client_by c p a act.Closed s state text is turned
 
 pub client_ignored : (c : ℕ) (p : Pdu) (a : Act) (s : Relay) (state : State) (text : List ℕ) → a ≡ act.Ignore → StandsFor state s → text ≡ [] → TurnLeaves (client_act c p a s) state text
 unfolding client_act

@@ -101,12 +101,18 @@ here_told : (v : Content) (q : Place) (g : List Note) (o : Option Member) → Ag
 here_told v q g None a found some = absurd (let z : false ≡ true = some in cc)
 here_told v q g (Some m) a found some = rw (found_present g v q.client m a found) refl
 
+gone_told : (v : Content) (q : Place) (g : List Note) → AgreesWith g v → member_with q.client v.members ≡ None → Late q.client ≡ failed_to g q
+gone_told v q g a gone = rw (absent g v q.client a gone) refl
+
 fails_of : (moment age : ℕ) (v new : Content) (r : Failed) (x : IsExpired v 0 moment age r new) → FailsOne v new x.0 r
 fails_of moment age v new (Queued c) x = record {
   agrees = x.2.2;
   told = λ g a. ap Queued (sym x.2.0) ∙ here_told v x.0 g (member_with x.0.client v.members) a refl (subst (λ d. is_some (member_with d v.members) ≡ true) (sym x.2.0) x.2.1);
 }
-fails_of moment age v new Late x = record { agrees = x.2.1; told = λ g a. rw (absent g v x.0.client a x.2.0) refl }
+fails_of moment age v new (Late c) x = record {
+  agrees = x.2.2;
+  told = λ g a. ap Late (sym x.2.0) ∙ gone_told v x.0 g a (subst (λ d. member_with d v.members ≡ None) (sym x.2.0) x.2.1);
+}
 
 pub expiring_more : (moment age : ℕ) (old v new : Content) (r : Failed) (text more all : List ℕ) → IsExpired v 0 moment age r new → more ≡ failed_line r → all ≡ text ++ more → Expiring moment age old v text → Expiring moment age old new all
 expiring_more moment age old v new r text more all x line e so_far h a =
@@ -120,7 +126,7 @@ expiring_more moment age old v new r text more all x line e so_far h a =
     let longer = f.agrees g is.agrees in
     let left = window-settled g v (failing 0 q) (failing_entry 0 q) q at.0 is.agrees refl (settles_fail kind.Fail refl) refl refl at.1.within at.1.is in
     let now : moment_at v moment ≡ moment_on moment h = ap (max moment) (is.agrees.after.latest ∙ latest_failing h qs) in
-    let told : r ≡ failed_to h q = f.told g is.agrees ∙ ap (λ b. if b then Queued q.client else Late) (present_failing h qs q.client) in
+    let told : r ≡ failed_to h q = f.told g is.agrees ∙ ap (λ b. if b then Queued q.client else Late q.client) (present_failing h qs q.client) in
     let history : h ++ map (failing 0) (qs ++ q ∷ []) ≡ g ++ failing 0 q ∷ [] =
     ap (λ ns. h ++ ns) (map_push (failing 0) qs q) ∙ sym (append_assoc h (map (failing 0) qs) (failing 0 q ∷ [])) in
     let lines : text ++ failed_line r ≡ flat_map (λ p. failed_line (failed_to h p)) (qs ++ q ∷ []) =

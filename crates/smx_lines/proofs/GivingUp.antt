@@ -50,7 +50,7 @@ record FailsFirst (v new : Content) (q : Place) : Type 0 where
 
 fails_first : (v new : Content) (r : Failed) → IsFailed v 0 r new → (q : Place) × FailsFirst v new q
 fails_first v new (failed.Queued c) x = (x.0, record { first = x.1; agrees = x.2.2 })
-fails_first v new failed.Late x = (x.0, record { first = x.1; agrees = x.2.1 })
+fails_first v new (failed.Late c) x = (x.0, record { first = x.1; agrees = x.2.2 })
 
 front_of : (ps : List Place) (q : Place) → slice_get ps 0 ≡ Some q → ps ≡ q ∷ drop 1 ps
 front_of [] q e = absurd (let x : None ≡ Some q = e in cc)

@@ -11,7 +11,7 @@ use Rattle.smx_history.specs.declared.request.Request.{Request}
 use Rattle.smx_routes.specs.declared.mo_window.Waiting.{Waiting}
 use Rattle.smx_routes.specs.Window.{message_for}
 use Rattle.smx_session.specs.declared.act.Act.{Act}
-use Rattle.smx_session.specs.declared.act.Act.TheVariants.{Answer, Bind, Forward, MoAnswer, Leave, Hangup, Ignore}
+use Rattle.smx_session.specs.declared.act.Act.TheVariants.{Answer, Bind, Refuse, Forward, MoAnswer, Leave, Hangup, Closed, Ignore}
 use Rattle.smx_session.specs.Login.{Login}
 use Rattle.smx_routes.specs.Routing.{Route}
 use Rattle.smx_lines.specs.declared.state.State.{State}
@@ -125,10 +125,12 @@ act_known : (c : ℕ) (p : Pdu) (a : Act) (s : Relay) (d : ℕ) → IsKnown s.cl
 unfolding client_act
 act_known c p (Answer answer) s d known = known
 act_known c p (Bind kind account answer) s d known = known
+act_known c p (Refuse answer) s d known = known
 act_known c p Forward s d known = forward_known s c p d known
 act_known c p (MoAnswer number) s d known = answer_known s c p d known
 act_known c p (Leave answer) s d known = leave_known s c d known
 act_known c p (Hangup answer) s d known = leave_known s c d known
+act_known c p Closed s d known = leave_known s c d known
 act_known c p Ignore s d known = known
 
 pdu_known : (c : ℕ) (p : Pdu) (s : Relay) (d : ℕ) → IsKnown s.clients d → IsKnown (client_pdu c p s).1.clients d

@@ -14,7 +14,7 @@ use Rattle.smx_history.specs.declared.reply.TakeRefusal.TheVariants.{QueueEmpty,
 use Rattle.smx_history.specs.Legal.{IsLegal}
 use Rattle.smx_history.specs.History.{marks_of, entries_of, note}
 use Rattle.smx_history.specs.Contents.{AgreesWith, Content, queue_after, window_after}
-use Rattle.smx_history.specs.Replies.{is_present, moment_at, take_refusal}
+use Rattle.smx_history.specs.Replies.{is_present, member_with, moment_at, take_refusal}
 use Rattle.smx_history.specs.Answering.{IsAnswered}
 use Rattle.smx_history.proofs.Counts.{length-same}
 use Rattle.smx_history.proofs.WindowOrder.{place_same}
@@ -109,13 +109,13 @@ answered_queued h old new p c text a x limits e =
     let here : is_present x.0.client h ≡ true = subst (λ d. is_present d h ≡ true) (sym x.3) (found_present h old c x.1 a x.4) in
     rw (found, here) (record { text = e ∙ ap (λ d. text_line (codes "queued " ++ decimal d)) (sym x.3); agrees = x.5 h a; limits_are = limits })
 
-pub answered_late : (h : List Note) (old new : Content) (p : Pdu) (text : List ℕ) → AgreesWith h old → IsAnswered old 0 p Late new → new.limits ≡ old.limits
+pub answered_late : (h : List Note) (old new : Content) (p : Pdu) (c : ℕ) (text : List ℕ) → AgreesWith h old → IsAnswered old 0 p (Late c) new → new.limits ≡ old.limits
     → text ≡ text_line (codes "late") → TurnsLane (back_on p h) old new text
 unfolding back_on
-answered_late h old new p text a x limits e =
+answered_late h old new p c text a x limits e =
     let found = place_same h old p a ∙ x.1 in
-    let gone : is_present x.0.client h ≡ false = absent h old x.0.client a x.2 in
-    rw (found, gone) (record { text = e; agrees = x.3 h a; limits_are = limits })
+    let gone : is_present x.0.client h ≡ false = absent h old x.0.client a (subst (λ d. member_with d old.members ≡ None) (sym x.2) x.3) in
+    rw (found, gone) (record { text = e; agrees = x.4 h a; limits_are = limits })
 
 pub answered_unknown : (h : List Note) (old new : Content) (p back : Pdu) (text : List ℕ) → AgreesWith h old → IsAnswered old 0 p (Unknown back) new
     → text ≡ text_line (codes "unknown") → TurnsLane (back_on p h) old new text

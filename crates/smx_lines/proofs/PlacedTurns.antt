@@ -137,10 +137,12 @@ placed_act : (c : ℕ) (p : Pdu) (a : Act) (s : Relay) → ArePlacedOn s.lanes �
 unfolding client_act
 placed_act c p (act.Answer answer) s placed = placed
 placed_act c p (act.Bind kind account answer) s placed = placed
+placed_act c p (act.Refuse answer) s placed = placed
 placed_act c p act.Forward s placed = placed_forward s c p placed
 placed_act c p (act.MoAnswer number) s placed = placed_answer s c p placed
 placed_act c p (act.Leave answer) s placed = placed_leave s c placed
 placed_act c p (act.Hangup answer) s placed = placed_leave s c placed
+placed_act c p act.Closed s placed = placed_leave s c placed
 placed_act c p act.Ignore s placed = placed
 
 placed_pdu : (c : ℕ) (p : Pdu) (s : Relay) → ArePlacedOn s.lanes → ArePlacedOn (client_pdu c p s).1.lanes

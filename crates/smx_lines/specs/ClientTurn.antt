@@ -4,7 +4,7 @@ use Rattle.smx_pdu.specs.declared.pdu.Pdu.{Pdu}
 use Rattle.smx_frame.specs.Stream.{Stream}
 use Rattle.smx_session.specs.Login.{Login}
 use Rattle.smx_session.specs.declared.act.Act.{Act}
-use Rattle.smx_session.specs.declared.act.Act.TheVariants.{Answer, Bind, Forward, MoAnswer, Leave, Hangup, Ignore}
+use Rattle.smx_session.specs.declared.act.Act.TheVariants.{Answer, Bind, Refuse, Forward, MoAnswer, Leave, Hangup, Closed, Ignore}
 use Rattle.smx_session.specs.declared.client_state.ClientState.{ClientState}
 use Rattle.smx_session.specs.declared.client_state.ClientState.TheVariants.{Ended}
 use Rattle.smx_pdu.specs.Answers.{nack_of_undecoded}
@@ -44,10 +44,12 @@ hang_up c answer s = followed_by (pdu_line (to_client c) answer ++ closed_line c
 unfoldable pub client_act : ℕ → Pdu → Act → Relay → List ℕ × Relay
 client_act c p (Answer answer) s = answer_client c answer s
 client_act c p (Bind kind account answer) s = answer_client c answer s
+client_act c p (Refuse answer) s = answer_client c answer s
 client_act c p Forward s = forward c p s
 client_act c p (MoAnswer number) s = answer_turn c p s
 client_act c p (Leave answer) s = followed_by (answer_client c answer s) (leave_turn c)
 client_act c p (Hangup answer) s = hang_up c answer s
+client_act c p Closed s = leave_turn c s
 client_act c p Ignore s = ([], s)
 
 -- what a session in a state makes of a PDU

@@ -19,7 +19,7 @@ expired_after moment age h = if is_up (entries_of h) then filter (is_expired (mo
 
 -- whom the failure of a request reaches
 abbrev pub failed_to : List Note → Place → Failed
-failed_to h q = if is_present q.client h then Queued q.client else Late
+failed_to h q = if is_present q.client h then Queued q.client else Late q.client
 
 abbrev pub or_kept : ℕ → List ℕ → List ℕ
 or_kept i [] = kept_line i

@@ -49,6 +49,7 @@ may_receive Opened = false
 may_receive BoundTx = false
 may_receive BoundRx = true
 may_receive BoundTrx = true
+may_receive client.Unbinding = false
 may_receive client.Ended = false
 
 -- a lane is bound before the first line that is no setting; no script has moments

@@ -45,7 +45,7 @@ unbound_line lane = text_line (codes "full " ++ decimal lane)
 -- a request failed: its client is told when it collects, or has left
 abbrev pub failed_line : Failed → List ℕ
 failed_line (failed.Queued c) = text_line (codes "failed " ++ decimal c)
-failed_line failed.Late = text_line (codes "late")
+failed_line (failed.Late c) = text_line (codes "late")
 
 -- no request failed
 abbrev pub kept_line : ℕ → List ℕ

@@ -51,12 +51,14 @@ fn client_act(
             account: _,
             answer,
         } => to_line(alloc, client, answer),
+        Act::Refuse(answer) => to_line(alloc, client, answer),
         Act::Forward => forward(alloc, state, client, pdu),
         Act::Leave(answer) => {
             let mut text = to_line(alloc, client, answer)?;
             text.extend_from_slice(&leave(alloc, state, client)?)?;
             Ok(text)
         }
+        Act::Closed => leave(alloc, state, client),
         Act::Hangup(answer) => hang_up(alloc, state, client, answer),
         Act::MoAnswer { number: _ } => answer(alloc, state, client, pdu),
         Act::Ignore => Ok(Vec::new(alloc)),

@@ -66,7 +66,10 @@ impl ClientLink {
     {
         match self.session.state() {
             ClientState::BoundRx | ClientState::BoundTrx => true,
-            ClientState::Opened | ClientState::BoundTx | ClientState::Ended => false,
+            ClientState::Opened
+            | ClientState::BoundTx
+            | ClientState::Unbinding
+            | ClientState::Ended => false,
         }
     }
 

@@ -60,7 +60,7 @@ pub fn back_on(alloc: Global, lane: &mut Lane, response: Pdu) -> Result<Vec<u8>,
 {
     match lane.answer(CALLER, response) {
         Answered::Queued { client } => queued_line(alloc, client),
-        Answered::Late => Vec::from_slice(alloc, b"late\n"),
+        Answered::Late { .. } => Vec::from_slice(alloc, b"late\n"),
         Answered::Unknown(_response) => Vec::from_slice(alloc, b"unknown\n"),
     }
 }

@@ -164,7 +164,7 @@ pub fn failed_line(alloc: Global, failed: Failed) -> Result<Vec<u8>, AllocError>
 {
     match failed {
         Failed::Queued { client } => word_line(alloc, "failed ", client),
-        Failed::Late => Vec::from_slice(alloc, b"late\n"),
+        Failed::Late { .. } => Vec::from_slice(alloc, b"late\n"),
     }
 }
 

@@ -1,14 +1,14 @@
 -- A client's session and its moments in milliseconds (SMPP 3.4, sections 4.11 and 7.2).
 use Rattle.std.specs.Prelude.{ℕ, ◌-◌, ◌==◌, Option, Some, None, Bool, true, false, not, ◌&&◌, ◌||◌, max, nat_le, if◌then◌else◌}
 use Rattle.smx_pdu.specs.declared.pdu.Pdu.{Pdu}
-use Rattle.smx_pdu.specs.declared.command.TheConstants.{ENQUIRE_LINK}
+use Rattle.smx_pdu.specs.declared.command.TheConstants.{ENQUIRE_LINK, UNBIND}
 use Rattle.smx_pdu.specs.declared.status.TheConstants.{ESME_ROK}
 use Rattle.smx_pdu.specs.Answers.{header_only}
 use Rattle.smx_session.specs.declared.client_state.ClientState.{ClientState}
-use Rattle.smx_session.specs.declared.client_state.ClientState.TheVariants.{Opened, Ended}
+use Rattle.smx_session.specs.declared.client_state.ClientState.TheVariants.{Opened, BoundTx, BoundRx, BoundTrx, Unbinding, Ended}
 use Rattle.smx_session.specs.declared.enquiry.Enquiry.{Enquiry}
 use Rattle.smx_session.specs.declared.enquiry.Enquiry.TheVariants.{NotDue, Due, Unanswered}
-use Rattle.smx_session.specs.ClientTable.{is_enquired, client_enquiry_number}
+use Rattle.smx_session.specs.ClientTable.{is_enquired, client_enquiry_number, client_unbind_number}
 use Rattle.smx_session.specs.Moments.{none_waits, unanswered_for}
 
 -- what a session keeps: its state, the silence before an enquiry (0: none is sent), the last moment
@@ -56,3 +56,21 @@ after_client_moment c now = record c {
   enquired = if is_enquiry_due c now then Some (client_moment c now) else c.enquired;
   silent = is_unanswered c now || c.silent;
 }
+
+-- the proxy's unbind goes to a client that is bound only
+abbrev pub client_farewell : ClientState → Option Pdu
+client_farewell Opened = None
+client_farewell BoundTx = Some (header_only UNBIND ESME_ROK client_unbind_number)
+client_farewell BoundRx = Some (header_only UNBIND ESME_ROK client_unbind_number)
+client_farewell BoundTrx = Some (header_only UNBIND ESME_ROK client_unbind_number)
+client_farewell Unbinding = None
+client_farewell Ended = None
+
+-- and then its answer is waited for
+abbrev pub client_state_after_stop : ClientState → ClientState
+client_state_after_stop Opened = Opened
+client_state_after_stop BoundTx = Unbinding
+client_state_after_stop BoundRx = Unbinding
+client_state_after_stop BoundTrx = Unbinding
+client_state_after_stop Unbinding = Unbinding
+client_state_after_stop Ended = Ended

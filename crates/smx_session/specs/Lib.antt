@@ -4,3 +4,4 @@ pub mod ClientTable
 pub mod UpstreamTable
 pub mod Moments
 pub mod ClientMoments
+pub mod ClientAsks

@@ -15,6 +15,8 @@ pub enum Act {
         account: usize,
         answer: Pdu,
     },
+    /// The bind is refused, and this is sent.
+    Refuse(Pdu),
     /// The request goes to a lane.
     Forward,
     /// The PDU answers a message that bore this number.
@@ -25,5 +27,7 @@ pub enum Act {
     Leave(Pdu),
     /// This is sent to the client, whose connection is then closed.
     Hangup(Pdu),
+    /// The client has answered the proxy's unbind.
+    Closed,
     Ignore,
 }

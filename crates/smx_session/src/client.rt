@@ -1,24 +1,33 @@
 //! A client's session.
-ghost use Rattle.std.specs.Prelude.{◌≡◌, IfOk, OnOk, OnErr};
+ghost use Rattle.std.specs.Prelude.{◌≡◌, List, Some, IfOk, OnOk, OnErr};
+ghost use Rattle.smx_session.specs.Login.{Login};
 ghost use Rattle.smx_pdu.specs.Answers.{nack_of_undecoded};
 ghost use Rattle.smx_session.specs.ClientTable.{bound_state, client_decides, client_cell, client_row, Binds, is_enquired};
-ghost use Rattle.smx_session.specs.ClientMoments.{client_at, after_octets, client_enquiry, after_client_moment, client_moment};
+ghost use Rattle.smx_session.specs.Binds.{check_bind};
+ghost use Rattle.smx_session.specs.ClientAsks.{bind_asks, client_asks, client_bars};
+ghost use Rattle.smx_session.specs.ClientMoments.{client_at, after_octets, client_enquiry, after_client_moment, client_moment, client_farewell, client_state_after_stop};
 
 use crate::account::Account;
 use crate::act::Act;
+use crate::ask::Ask;
 use crate::bind_check::{Checked, bind_answer, check_bind};
 use crate::client_row::{ClientRow, client_row};
-use crate::client_state::ClientState::{self, BoundRx, BoundTrx, BoundTx, Ended, Opened};
+use crate::client_state::ClientState::{
+    self, BoundRx, BoundTrx, BoundTx, Ended, Opened, Unbinding,
+};
 use crate::enquiry::Enquiry;
 use crate::kind::Kind;
 use smx_pdu::Pdu;
-use smx_pdu::command::ENQUIRE_LINK;
-use smx_pdu::status::{ESME_RALYBND, ESME_RINVBNDSTS, ESME_ROK};
+use smx_pdu::command::{ENQUIRE_LINK, UNBIND};
+use smx_pdu::status::{ESME_RALYBND, ESME_RBINDFAIL, ESME_RINVBNDSTS, ESME_RMSGQFUL, ESME_ROK};
 use std::alloc::{AllocError, Global};
 use std::marker::Model;
 
 // The number of the proxy's own enquire_link to a client.
 const ENQUIRY_NUMBER: u32 = 0x7FFF_FFFF;
+
+// That of its own unbind.
+const UNBIND_NUMBER: u32 = 0x7FFF_FFFF;
 
 /// A client's session. Moments are in milliseconds from any origin; one below the last one handed
 /// in counts as the last one. Contracts see it as its state and its moments.
@@ -70,7 +79,17 @@ fn is_enquired(state: ClientState) -> bool
 {
     match state {
         BoundTx | BoundRx | BoundTrx => true,
-        Opened | Ended => false,
+        Opened | Unbinding | Ended => false,
+    }
+}
+
+// What leave a bind with this body asks for.
+fn bind_asks(accounts: &[Account], body: &[u8]) -> Ask
+    ensures { result ≡ bind_asks (check_bind accounts.now body.now) }
+{
+    match check_bind(accounts, body) {
+        Checked::Refused(_) => Ask::RefusedBind,
+        Checked::Granted { account, .. } => Ask::Bind(account),
     }
 }
 
@@ -119,6 +138,32 @@ impl ClientSession {
         self.silent
     }
 
+    /// What leave is asked for before the PDU is decided: a bind's, by its checks, or that of a
+    /// request which goes to a lane. It takes no memory.
+    pub fn asks(&self, pdu: &Pdu, accounts: &[Account]) -> Option<Ask>
+        ensures { result ≡ client_asks accounts.now self.now.state pdu.now }
+    {
+        match (client_row(pdu.command), self.state) {
+            (ClientRow::Bind(_), Opened) => Some(bind_asks(accounts, pdu.body.as_slice())),
+            (ClientRow::Forwarded, BoundTx | BoundTrx) => Some(Ask::Request),
+            _ => None,
+        }
+    }
+
+    /// The answer to a PDU that asked for this leave, where none was given. The session stays as it
+    /// was. It takes no memory.
+    pub fn bars(&self, pdu: &Pdu, ask: Ask) -> Act
+        requires asks { (accounts : List Login)
+            × (client_asks accounts self.now.state pdu.now ≡ Some ask) }
+        ensures { result ≡ client_bars ask pdu.now }
+    {
+        match ask {
+            Ask::Bind(_) => Act::Answer(pdu.header_response(self.alloc, ESME_RBINDFAIL)),
+            Ask::RefusedBind => Act::Ignore,
+            Ask::Request => Act::Answer(pdu.header_response(self.alloc, ESME_RMSGQFUL)),
+        }
+    }
+
     /// Decides a PDU of the client. Only the answer to a bind that succeeds takes memory; where
     /// that is refused, the state stays.
     pub fn on_pdu(&mut self, pdu: &Pdu, accounts: &[Account]) -> Result<Act, AllocError>
@@ -133,22 +178,35 @@ impl ClientSession {
         let alloc = self.alloc;
         let act = match (client_row(pdu.command), self.state) {
             (ClientRow::Bind(kind), Opened) => return self.on_bind(kind, pdu, accounts),
-            (ClientRow::Bind(_), BoundTx | BoundRx | BoundTrx) => {
+            (ClientRow::Bind(_), BoundTx | BoundRx | BoundTrx | Unbinding) => {
                 Act::Answer(pdu.header_response(alloc, ESME_RALYBND))
             }
             (ClientRow::Forwarded, BoundTx | BoundTrx) => Act::Forward,
-            (ClientRow::MessageAnswer, BoundRx | BoundTrx) => Act::MoAnswer { number: pdu.number },
-            (ClientRow::EnquireLink, Opened | BoundTx | BoundRx | BoundTrx) => {
+            (ClientRow::Forwarded, Unbinding) => {
+                Act::Answer(pdu.header_response(alloc, ESME_RMSGQFUL))
+            }
+            (ClientRow::MessageAnswer, BoundRx | BoundTrx | Unbinding) => {
+                Act::MoAnswer { number: pdu.number }
+            }
+            (ClientRow::EnquireLink, Opened | BoundTx | BoundRx | BoundTrx | Unbinding) => {
                 Act::Answer(pdu.header_response(alloc, ESME_ROK))
             }
-            (ClientRow::Unbind, BoundTx | BoundRx | BoundTrx) => {
+            (ClientRow::Unbind, BoundTx | BoundRx | BoundTrx | Unbinding) => {
                 self.state = Ended;
                 Act::Leave(pdu.header_response(alloc, ESME_ROK))
             }
-            (ClientRow::Unknown, _) => Act::Answer(Pdu::unknown(alloc, pdu.number)),
-            (ClientRow::MessageAnswer | ClientRow::OtherResponse | ClientRow::Unanswered, _) => {
-                Act::Ignore
+            (ClientRow::UnbindAnswer, Unbinding) => {
+                self.state = Ended;
+                Act::Closed
             }
+            (ClientRow::Unknown, _) => Act::Answer(Pdu::unknown(alloc, pdu.number)),
+            (
+                ClientRow::MessageAnswer
+                | ClientRow::UnbindAnswer
+                | ClientRow::OtherResponse
+                | ClientRow::Unanswered,
+                _,
+            ) => Act::Ignore,
             // Each other request isn't allowed in its state.
             _ => Act::Answer(pdu.header_response(alloc, ESME_RINVBNDSTS)),
         };
@@ -168,7 +226,7 @@ impl ClientSession {
             accounts.now pdu.now.body) }
     {
         match check_bind(accounts, pdu.body.as_slice()) {
-            Checked::Refused(status) => { Ok(Act::Answer(pdu.header_response(self.alloc, status))) }
+            Checked::Refused(status) => { Ok(Act::Refuse(pdu.header_response(self.alloc, status))) }
             Checked::Granted { account, version } => {
                 let answer = pdu.response(ESME_ROK, bind_answer(self.alloc, version)?);
                 self.state = bound_state(kind);
@@ -234,6 +292,23 @@ impl ClientSession {
                 self.silent = true;
                 Enquiry::Unanswered
             }
+        }
+    }
+
+    /// The proxy's unbind to the client (SMPP 3.4, section 4.2), once, where it is bound. It takes
+    /// no memory.
+    pub fn stop(&mut self) -> Option<Pdu>
+        ensures unbind { result ≡ client_farewell self.old.state }
+        ensures session { self.new ≡ record self.old {
+          state = client_state_after_stop self.old.state;
+        } }
+    {
+        match self.state {
+            BoundTx | BoundRx | BoundTrx => {
+                self.state = Unbinding;
+                Some(Pdu::header_only(self.alloc, UNBIND, ESME_ROK, UNBIND_NUMBER))
+            }
+            Opened | Unbinding | Ended => None,
         }
     }
 }

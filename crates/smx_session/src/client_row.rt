@@ -13,6 +13,8 @@ const DELIVER_SM_RESP: u32 = RESPONSE + DELIVER_SM;
 
 const DATA_SM_RESP: u32 = RESPONSE + DATA_SM;
 
+const UNBIND_RESP: u32 = RESPONSE + UNBIND;
+
 /// Commands of a client that its session treats alike.
 #[derive(Clone, Copy, Debug, PartialEq, Eq)]
 pub enum ClientRow {
@@ -24,6 +26,8 @@ pub enum ClientRow {
     Unbind,
     /// deliver_sm_resp, data_sm_resp and generic_nack.
     MessageAnswer,
+    /// unbind_resp.
+    UnbindAnswer,
     /// Any other command with the top bit.
     OtherResponse,
     /// outbind and alert_notification.
@@ -46,6 +50,7 @@ pub(crate) fn client_row(command: u32) -> ClientRow
         ENQUIRE_LINK => ClientRow::EnquireLink,
         UNBIND => ClientRow::Unbind,
         DELIVER_SM_RESP | DATA_SM_RESP | GENERIC_NACK => ClientRow::MessageAnswer,
+        UNBIND_RESP => ClientRow::UnbindAnswer,
         OUTBIND | ALERT_NOTIFICATION => ClientRow::Unanswered,
         _ if command >= RESPONSE => ClientRow::OtherResponse,
         _ => ClientRow::Unknown,

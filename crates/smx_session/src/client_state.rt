@@ -8,6 +8,8 @@ pub enum ClientState {
     BoundTx,
     BoundRx,
     BoundTrx,
+    /// It was sent unbind.
+    Unbinding,
     /// Unbound, or hung up.
     Ended,
 }

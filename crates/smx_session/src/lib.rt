@@ -6,6 +6,7 @@
 
 mod account;
 mod act;
+mod ask;
 mod bind_check;
 mod client;
 mod client_row;
@@ -19,6 +20,7 @@ mod upstream_state;
 
 pub use account::Account;
 pub use act::Act;
+pub use ask::Ask;
 pub use client::ClientSession;
 pub use client_state::ClientState;
 pub use enquiry::Enquiry;

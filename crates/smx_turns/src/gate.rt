@@ -34,12 +34,15 @@ pub struct Question {
 /// For whom something waits now.
 #[derive(Clone, Copy, Debug, PartialEq, Eq)]
 pub enum Party {
-    /// A response waits on this lane for the client with this number.
+    /// A request of the client with this number was settled on this lane: what tells the client so waits
+    /// there, unless it has retired.
     Client { client: u64, lane: usize },
     /// A message waits in the box of this slot.
     Slot(usize),
-    /// A request waits on this lane, or an answer to a message in its return box.
+    /// A request that was accepted waits on this lane.
     Lane(usize),
+    /// An answer to a message waits in this lane's return box.
+    Answer(usize),
 }
 
 /// What lets a worker go on, and whom a worker tells that something waits.

@@ -1,6 +1,6 @@
 use Rattle.std.proofs.Common.{◌≡◌, ◌++◌, ℕ, List, rules, subst, sym}
 use Rattle.std.proofs.lemmas.Result.{IfOk-weaker}
-use Rattle.smx_lines.proofs.ActTurns.{client_answers, client_binds, client_forwards, client_leaves, client_hung_up, client_answers_message, client_ignored}
+use Rattle.smx_lines.proofs.ActTurns.{client_answers, client_binds, client_refuses, client_closed, client_forwards, client_leaves, client_hung_up, client_answers_message, client_ignored}
 use Rattle.smx_lines.specs.Texts.{pdu_line, to_client}
 use Rattle.smx_lines.specs.Relay.{Relay}
 use Rattle.smx_lines.specs.Messages.{leave_turn}
@@ -14,6 +14,12 @@ returns-in-Answer c = λ s a. IfOk-weaker c.to_line.result _ _ (λ text e. clien
 
 pub returns-in-Bind : goal.returns-in-Bind
 returns-in-Bind c = λ s a. IfOk-weaker c.to_line-in-Bind.result _ _ (λ text e. client_binds c.args.client c.args.pdu c.args.act.now c.in-Bind.kind c.in-Bind.account c.in-Bind.answer s c.args.state.now text.items c.in-Bind.is a e) c.to_line-in-Bind.ensures
+
+pub returns-in-Refuse : goal.returns-in-Refuse
+returns-in-Refuse c = λ s a. IfOk-weaker c.to_line-in-Refuse.result _ _ (λ text e. client_refuses c.args.client c.args.pdu c.args.act.now c.in-Refuse.answer s c.args.state.now text.items c.in-Refuse.is a e) c.to_line-in-Refuse.ensures
+
+pub returns-in-Closed : goal.returns-in-Closed
+returns-in-Closed c = λ s a. IfOk-weaker c.leave-in-Closed.result _ _ (λ text t. client_closed c.args.client c.args.pdu c.args.act.now s c.leave-in-Closed.new.state text.items c.in-Closed.is t) (c.leave-in-Closed.ensures s a)
 
 pub returns-in-Forward : goal.returns-in-Forward
 returns-in-Forward c = λ s a. IfOk-weaker c.forward.result _ _ (λ text t. client_forwards c.args.client c.args.pdu c.args.act.now s c.forward.new.state text.items c.in-Forward.is t) (c.forward.ensures s a)
