@@ -122,6 +122,7 @@ module _ (s : Stand) where
   step t (event.Took r) d b = absurd (bound_no s.session.state (sym (ap (λ x. x.session.state) d.3) ∙ b) d.0)
   step t event.Broke d b = same t event.Broke refl (ap (λ x. x.session.state) d) (ap (λ x. x.owed) d) b
   step t (event.Unbound p) d b = (was_stopped s.session.state (sym (ap (λ x. x.session.state) d.1) ∙ b), λ none. (refl, subst HoldNone (sym (ap (λ x. x.owed) d.1)) none))
+  step t (event.GaveUp given) d b = same t (event.GaveUp given) refl (ap (λ x. x.session.state) d.4) (ap (λ x. x.owed) d.4) b
 
 steps : (s t : Stand) (es : List Event) → Runs Does s es t → t.session.state ≡ Binding → (s.session.state ≡ Binding) × (HoldNone s.owed → passed es ≡ [])
 unfolding Runs passed

@@ -13,7 +13,7 @@ use Rattle.smx_history.specs.declared.reply.Failed.{Failed}
 use Rattle.smx_history.specs.declared.reply.TakeRefusal.TheVariants as taking
 use Rattle.smx_history.specs.declared.reply.FailRefusal.TheVariants as failing
 use Rattle.smx_history.specs.Contents.{Content, AgreesWith}
-use Rattle.smx_history.specs.Entries.{is_accept, is_take, Name, name_of, has_name, accepts, takes, is_accepted, is_taken, is_settled, unanswered_takes}
+use Rattle.smx_history.specs.Entries.{is_accept, is_take, Name, name_of, has_name, accepts, takes, is_accepted, is_taken, is_settled, is_up, unanswered_takes}
 use Rattle.smx_history.specs.History.{entries_of}
 use Rattle.smx_history.specs.Legal.{IsFifo}
 use Rattle.smx_history.specs.Replies.{take_refusal, fail_refusal}
@@ -35,7 +35,7 @@ use Rattle.smx_upstream.specs.Abandoning.{TakesOne, TakesAll, StopsTaking, GoesR
 use Rattle.smx_upstream.specs.Losing.{GivesUp, StopsGivingUp, Loses}
 use Rattle.smx_upstream.specs.Rising.{Rises}
 use Rattle.smx_upstream.specs.declared.losing.Lost.{Lost}
-use Rattle.smx_upstream.proofs.Keeping.{self, longer, served_seen, spent_seen, take_seen, rise_seen}
+use Rattle.smx_upstream.proofs.Seen.{self, longer, served_seen, spent_seen, take_seen, rise_seen}
 
 any_filter : {X : Type 0} (p q : X → Bool) (xs : List X) → list_any (λ x. p x && q x) xs ≡ list_any q (filter p xs)
 any_filter p q [] = refl
@@ -92,6 +92,10 @@ window_at : (b x : Bool) → (if b then Some failing.Up else if x then Some fail
 window_at true x h = cc
 window_at false true h = refl
 window_at false false h = cc
+
+down_at : (b x : Bool) → (if b then Some failing.Up else if x then Some failing.WindowEmpty else None) ≡ Some failing.WindowEmpty → b ≡ false
+down_at true x h = cc
+down_at false x h = refl
 
 queue_none : (v : Content) → take_refusal v ≡ Some taking.QueueEmpty → length v.queue ≡ 0
 queue_none v h = eqb-true (length v.queue) 0 (queue_at (length v.queue == 0) _ _ h)
@@ -162,7 +166,13 @@ round_settles now f g r d e =
     settled_wider d.up.seen t.found g.seen g.seen before
     (lost_settles t.found t.old d.full g r.lost t.hold.agrees t.told.0 (t.own, sym t.hold.serves.seen) e.1 d.loses) (self g.seen g.seen refl)
 
-lost_seen : (f g : Front Note Limits) (lost : Lost) → Loses f g lost → IsPrefix f.seen g.seen
+-- a lane that said that its window is empty is down
+lost_down : (f g : Front Note Limits) (lost : Lost) → lost.end ≡ Some (fails.Refused failing.WindowEmpty) → Loses f g lost → is_up (entries_of g.seen) ≡ false
+lost_down f g lost is (down, falls, (last, given, stops)) =
+    let w = gives_at last g lost.end is stops in
+    sym w.left.after.up ∙ ap (λ (v : Content). v.up) w.told.1.1 ∙ down_at w.old.up (length w.old.window == 0) w.told.0
+
+pub lost_seen : (f g : Front Note Limits) (lost : Lost) → Loses f g lost → IsPrefix f.seen g.seen
 lost_seen f g lost (down, falls, (last, given, stops)) =
     longer f.seen down.seen g.seen (down_seen f down lost.down falls) (longer down.seen last.seen g.seen (given_seen down last lost.given given) (stopped_seen last g lost.end stops))
 
@@ -172,7 +182,7 @@ takes_seen now f g taken s t = longer f.seen t.last.seen g.seen (taken_seen now 
 round_seen : (now : ℕ) (f g : Front Note Limits) (r : Round) (d : GoesRound now f r g) → IsPrefix d.up.seen g.seen
 round_seen now f g r d = longer d.up.seen d.full.seen g.seen (takes_seen now d.up d.full r.taken r.stop d.takes) (lost_seen d.full g r.lost d.loses)
 
-rounds_seen : (now : ℕ) (f g : Front Note Limits) (rs : List Round) → Runs (GoesRound now) f rs g → IsPrefix f.seen g.seen
+pub rounds_seen : (now : ℕ) (f g : Front Note Limits) (rs : List Round) → Runs (GoesRound now) f rs g → IsPrefix f.seen g.seen
 unfolding Runs
 rounds_seen now f g [] r = self f.seen g.seen (ap (λ x. x.seen) r)
 rounds_seen now f g (x ∷ rs) r =
@@ -181,7 +191,7 @@ rounds_seen now f g (x ∷ rs) r =
 -- the first time that the lane came up is no later than the last
 pub leaves_none : (now : ℕ) (f m g : Front Note Limits) (rs : List Round) (r : Round) → Runs (GoesRound now) f rs m → GoesRound now m r g → HasEmptied r → LeavesNone f g
 unfolding Runs
-leaves_none now f m g [] r same d e = record { up = d.up; rise = r.rise; rises = subst (λ (x : Front Note Limits). Rises x d.up r.rise) same d.rises; settled = round_settles now m g r d e }
+leaves_none now f m g [] r same d e = record { up = d.up; rise = r.rise; rises = subst (λ (x : Front Note Limits). Rises x d.up r.rise) same d.rises; settled = round_settles now m g r d e; down = lost_down d.full g r.lost e.1 d.loses }
 leaves_none now f m g (x ∷ rs) r ran d e = record {
   up = ran.1.up;
   rise = x.rise;
@@ -189,4 +199,5 @@ leaves_none now f m g (x ∷ rs) r ran d e = record {
   settled = settled_wider ran.1.up.seen d.up.seen g.seen g.seen
       (longer ran.1.up.seen ran.0.seen d.up.seen (round_seen now f ran.0 x ran.1) (longer ran.0.seen m.seen d.up.seen (rounds_seen now ran.0 m rs ran.2) (rise_seen m d.up r.rise d.rises)))
       (round_settles now m g r d e) (self g.seen g.seen refl);
+  down = lost_down d.full g r.lost e.1 d.loses;
 }

@@ -1,5 +1,5 @@
 -- One event more, and what a worker keeps.
-use Rattle.std.proofs.Common.{arith, max, ◌≡◌, ◌≢◌, ◌<◌, length, is_some, ℕ, List, [], ◌∷◌, ◌++◌, Bool, true, false, ◌||◌, true≢false, Option, IfSome, Some, None, Result, Ok, Err, IfOk, IsOk, if◌then◌else◌, sym, ◌∙◌, ap, refl, subst, append_assoc, ◌⊎◌, ⊎_elim}
+use Rattle.std.proofs.Common.{arith, max, ◌≡◌, ◌<◌, length, ℕ, List, [], ◌∷◌, ◌++◌, Bool, true, false, ◌||◌, true≢false, Option, IfSome, Some, None, Result, if◌then◌else◌, sym, ◌∙◌, ap, refl, subst}
 use Rattle.std.proofs.Math.Bool.{or-false}
 use Rattle.std.specs.List.{flat_map, list_any}
 use Rattle.smx_pdu.specs.declared.pdu.Pdu.{Pdu}

@@ -1,5 +1,5 @@
 -- What a chain of events says of the tokens' own lists.
-use Rattle.std.proofs.Common.{cond, ◌≡◌, ℕ, eqb, List, [], ◌∷◌, ◌++◌, sym, ap, ◌∙◌, append_assoc, Option, Some, None, Result, Ok, Err, ⊎_elim}
+use Rattle.std.proofs.Common.{cond, ◌≡◌, ℕ, eqb, List, [], ◌∷◌, ◌++◌, sym, ap, ◌∙◌, append_assoc, Option, Some, Result, Ok, Err, ⊎_elim}
 use mathlib.Core.List.{IsPrefix}
 use Rattle.std.proofs.lemmas.List.{append-nil, map-append}
 use Rattle.std.proofs.lemmas.Bool.Decides.{eqb_tells}
@@ -8,32 +8,25 @@ use Rattle.std.specs.List.{slice_get}
 use Rattle.std.proofs.Math.ListN.{set}
 use Rattle.smx_shared.proofs.Passing.{got_same, got_other}
 use Rattle.smx_pdu.specs.declared.pdu.Pdu.{Pdu}
-use Rattle.smx_lock.specs.Fronts.{Front, Serves, IsSpent}
+use Rattle.smx_lock.specs.Fronts.{Front}
 use Rattle.smx_history.specs.declared.limits.Limits.{Limits}
 use Rattle.smx_history.specs.declared.note.Note.{Note}
 use Rattle.smx_history.specs.declared.reply.Answered.{Answered}
 use Rattle.smx_history.specs.declared.reply.Answered.TheVariants as answered
-use Rattle.smx_lane.specs.Kept.{writer}
-use Rattle.smx_lane.specs.declared.sent.Sent.{Sent}
 use Rattle.smx_box.specs.Boxes.{Sending}
 use Rattle.smx_session.specs.declared.up_act.UpAct.{UpAct}
 use Rattle.smx_shared.specs.Views.{TapView}
-use Rattle.smx_shared.specs.declared.fault.TakeFault.{TakeFault}
-use Rattle.smx_shared.specs.declared.fault.TakeFault.TheVariants as takes
 use Rattle.std.specs.declared.vec.Vec.{Vec}
 use Rattle.std.specs.declared.alloc.Global.{Global}
 use Rattle.smx_history.specs.declared.entry.Entry.{Entry}
 use Rattle.smx_shared.specs.declared.fault.TurnFault.{TurnFault}
 use Rattle.smx_shared.specs.declared.fault.TurnFault.TheVariants as turns
-use Rattle.smx_shared.specs.declared.fault.UpFault.{UpFault}
-use Rattle.smx_history.specs.declared.reply.UpRefusal.TheVariants as refusal
-use Rattle.smx_shared.specs.declared.fault.UpFault.TheVariants as ups
-use Rattle.smx_shared.specs.Serving.{Takes, Expires, AnswerServes, ComesUp, Turns}
+use Rattle.smx_shared.specs.Serving.{Expires, AnswerServes}
 use Rattle.smx_history.specs.declared.reply.Failed.{Failed}
 use Rattle.smx_shared.specs.declared.fault.ExpiryFault.{ExpiryFault}
 use Rattle.smx_shared.specs.declared.fault.ExpiryFault.TheVariants as expires
 use Rattle.smx_shared.specs.Taps.{known_of}
-use Rattle.smx_shared.proofs.Knowing.{takes_known, answers_known, turn_known, up_known, expiry_known}
+use Rattle.smx_shared.proofs.Knowing.{takes_known, answers_known, turn_known, expiry_known}
 use Rattle.smx_turns.specs.declared.mo_item.MoItem.{MoItem}
 use Rattle.smx_turns.specs.Puts.{AtIndex, Puts, contents, contents_in}
 use Rattle.smx_turns.specs.Runs.{Runs}
@@ -41,24 +34,16 @@ use Rattle.smx_upstream.specs.declared.event.Event.{Event}
 use Rattle.smx_upstream.specs.declared.event.Event.TheVariants as event
 use Rattle.smx_upstream.specs.declared.event.Fate.{Fate}
 use Rattle.smx_upstream.specs.declared.event.Fate.TheVariants as fate
-use Rattle.smx_upstream.specs.declared.event.Rise.{Rise}
-use Rattle.smx_upstream.specs.declared.event.Rise.TheVariants as rise
-use Rattle.smx_upstream.specs.Rising.{Rises}
 use Rattle.smx_upstream.specs.Ages.{time_of}
 use Rattle.smx_upstream.specs.Standing.{Stand, Does, Becomes, Shifts, item_for}
+use Rattle.smx_upstream.proofs.Seen.{nothing, rise_note, self, longer, served_seen, spent_seen, take_seen, shift_seen, rise_seen}
+use Rattle.smx_upstream.proofs.Surrender.{gave_note, gave_seen}
 use Rattle.smx_upstream.specs.Laws.{answer_known, fate_known, known_by, knowns, fate_put, put_by, puts_at, KeepsTokens}
-
-nothing : {A : Type 0} (xs ys : List A) → ys ≡ xs → ys ≡ xs ++ []
-nothing xs ys e = e ∙ sym (append-nil xs)
 
 answer_note : (f g : Front Note Limits) (p : Pdu) (x : Answered) → AnswerServes f g p x → known_of g.mine ≡ known_of f.mine ++ answer_known p x
 answer_note f g p (answered.Queued c) h = answers_known f g p (Ok (answered.Queued c)) h
-answer_note f g p answered.Late h = answers_known f g p (Ok answered.Late) h
+answer_note f g p (answered.Late c) h = answers_known f g p (Ok (answered.Late c)) h
 answer_note f g p (answered.Unknown back) h = answers_known f g p (Ok (answered.Unknown back)) h
-
-pub rise_note : (f g : Front Note Limits) (x : Rise) → Rises f g x → known_of g.mine ≡ known_of f.mine
-rise_note f g (rise.Asked said) h = up_known f g said h.0
-rise_note f g (rise.Renewed es said) h = up_known h.1 g said h.4 ∙ turn_known h.0 h.1 1 es h.3 ∙ up_known f h.0 (Err (ups.Refused refusal.HistoryFull)) h.2
 
 fate_note : (p : Pdu) (a : UpAct) (f : Fate) (t : TapView) (ss : List (Sending MoItem)) (t' : TapView) (ss' : List (Sending MoItem)) → Becomes p a f t ss t' ss'
     → known_of t'.front.mine ≡ known_of t.front.mine ++ fate_known p f
@@ -91,52 +76,15 @@ note_step s t (event.Decided p now a f) d = fate_note p.value a.value f s.tap s.
 note_step s t (event.Took r) d = takes_known s.tap.front t.tap.front s.session.latest r.value d.1
 note_step s t event.Broke d = nothing _ _ (ap (λ x. known_of x.tap.front.mine) d)
 note_step s t (event.Unbound p) d = nothing _ _ (ap (λ x. known_of x.tap.front.mine) d.1)
-
--- the tap's seen
-pub self : {A : Type 0} (xs ys : List A) → ys ≡ xs → IsPrefix xs ys
-self xs ys e = ([], append-nil xs ∙ sym e)
-
-pub longer : {A : Type 0} (xs ys zs : List A) → IsPrefix xs ys → IsPrefix ys zs → IsPrefix xs zs
-longer xs ys zs p q = (p.0 ++ q.0, sym (append_assoc xs p.0 q.0) ∙ ap (λ w. w ++ q.0) p.1 ∙ q.1)
-
-pub served_seen : (f g : Front Note Limits) (found new : List Note) → Serves writer f g found new → IsPrefix f.seen g.seen
-served_seen f g found new h = longer f.seen found g.seen h.begins (new, sym h.seen)
-
-pub spent_seen : (f g : Front Note Limits) → IsSpent f g → IsPrefix f.seen g.seen
-spent_seen f g h = self _ _ (⊎_elim (λ e. ap (λ x. x.seen) e) (λ e. ap (λ x. x.seen) e) h)
+note_step s t (event.GaveUp given) d = gave_note given.now s.tap.front given.between.value.front t.tap.front given.lost.value given.abandoned.value d.1 d.2
 
 answer_seen : (f g : Front Note Limits) (p : Pdu) (x : Answered) → AnswerServes f g p x → IsPrefix f.seen g.seen
 answer_seen f g p x h = served_seen f g h.found h.own h.hold.serves
-
-pub take_seen : (f g : Front Note Limits) (now : ℕ) (r : Result Sent TakeFault) → Takes f g now r → IsPrefix f.seen g.seen
-take_seen f g now (Ok sent) h = served_seen f g h.found h.own h.hold.serves
-take_seen f g now (Err (takes.Refused e)) h = served_seen f g h.found h.own h.hold.serves
-take_seen f g now (Err takes.Spent) h = spent_seen f g h
 
 expiry_seen : (f g : Front Note Limits) (now age : ℕ) (r : Result Failed ExpiryFault) → Expires f g now age r → IsPrefix f.seen g.seen
 expiry_seen f g now age (Ok r) h = served_seen f g h.found h.own h.hold.serves
 expiry_seen f g now age (Err (expires.Refused e)) h = served_seen f g h.found h.own h.hold.serves
 expiry_seen f g now age (Err expires.Spent) h = spent_seen f g h
-
-shift_seen : (f g : Front Note Limits) (least : ℕ) (r : Result (Option (Vec Entry Global)) TurnFault)
-    → Shifts f g least r → IsPrefix f.seen g.seen
-shift_seen f g least (Ok None) h = served_seen f g _ _ h.2.serves
-shift_seen f g least (Ok (Some es)) h = served_seen f g _ _ h.2.serves
-shift_seen f g least (Err turns.Spent) h = spent_seen f g h
-shift_seen f g least (Err turns.NoMemory) h = served_seen f g _ _ h.2.serves
-
-up_seen : (f g : Front Note Limits) (r : Result (Unit {0}) UpFault) → ComesUp f g r → IsPrefix f.seen g.seen
-up_seen f g (Ok done) h = served_seen f g h.found h.own h.hold.serves
-up_seen f g (Err (ups.Refused e)) h = served_seen f g h.found h.own h.hold.serves
-up_seen f g (Err ups.Spent) h = spent_seen f g h
-
-turned_seen : (f g : Front Note Limits) (least : ℕ) (r : Result (Option (Vec Entry Global)) TurnFault) → Turns (λ (es : Vec Entry Global). es.items) f g least r → IsPrefix f.seen g.seen
-turned_seen f g least (Ok o) h = shift_seen f g least (Ok o) h
-turned_seen f g least (Err e) h = shift_seen f g least (Err e) h
-
-pub rise_seen : (f g : Front Note Limits) (x : Rise) → Rises f g x → IsPrefix f.seen g.seen
-rise_seen f g (rise.Asked said) h = up_seen f g said h.0
-rise_seen f g (rise.Renewed es said) h = longer _ _ _ (up_seen f h.0 (Err (ups.Refused refusal.HistoryFull)) h.2) (longer _ _ _ (turned_seen h.0 h.1 1 es h.3) (up_seen h.1 g said h.4))
 
 fate_seen : (p : Pdu) (a : UpAct) (f : Fate) (t : TapView) (ss : List (Sending MoItem)) (t' : TapView) (ss' : List (Sending MoItem)) → Becomes p a f t ss t' ss' → IsPrefix t.front.seen t'.front.seen
 fate_seen p a fate.Own t ss t' ss' b = self _ _ (ap (λ x. x.front.seen) b.1)
@@ -162,6 +110,7 @@ seen_step s t (event.Decided p now a f) d = fate_seen p.value a.value f s.tap s.
 seen_step s t (event.Took r) d = take_seen s.tap.front t.tap.front s.session.latest r.value d.1
 seen_step s t event.Broke d = self _ _ (ap (λ x. x.tap.front.seen) d)
 seen_step s t (event.Unbound p) d = self _ _ (ap (λ x. x.tap.front.seen) d.1)
+seen_step s t (event.GaveUp given) d = gave_seen given.now s.tap.front given.between.value.front t.tap.front given.lost.value given.abandoned.value d.1 d.2
 
 -- the lane
 fate_lane : (p : Pdu) (a : UpAct) (f : Fate) (t : TapView) (ss : List (Sending MoItem)) (t' : TapView) (ss' : List (Sending MoItem)) → Becomes p a f t ss t' ss' → t'.lane ≡ t.lane
@@ -188,6 +137,7 @@ lane_step s t (event.Decided p now a f) d = fate_lane p.value a.value f s.tap s.
 lane_step s t (event.Took r) d = d.2
 lane_step s t event.Broke d = ap (λ x. x.tap.lane) d
 lane_step s t (event.Unbound p) d = ap (λ x. x.tap.lane) d.1
+lane_step s t (event.GaveUp given) d = d.3
 
 -- one sender's list, where another's may have changed
 same_put : (slot at : ℕ) (ss tt : List (Sending MoItem)) → AtIndex at ss tt (λ x y. y.put ≡ x.put) → contents_in (slice_get tt slot) ≡ contents_in (slice_get ss slot)
@@ -232,6 +182,7 @@ put_step slot s t (event.Decided p now a f) d = fate_puts slot p.value a.value f
 put_step slot s t (event.Took r) d = nothing _ _ (ap (λ x. contents_in (slice_get x.senders slot)) d.3)
 put_step slot s t event.Broke d = nothing _ _ (ap (λ x. contents_in (slice_get x.senders slot)) d)
 put_step slot s t (event.Unbound p) d = nothing _ _ (ap (λ x. contents_in (slice_get x.senders slot)) d.1)
+put_step slot s t (event.GaveUp given) d = nothing _ _ (ap (λ x. contents_in (slice_get x.senders slot)) d.4)
 
 -- the whole chain
 pub runs_kept : (s t : Stand) (es : List Event) → Runs Does s es t → KeepsTokens s es t

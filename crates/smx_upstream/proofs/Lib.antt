@@ -1,8 +1,11 @@
 pub mod Eventful
 pub mod Cells
 pub mod Judgements
+pub mod Seen
+pub mod Surrender
 pub mod Keeping
 pub mod Clocking
 pub mod Owed
 pub mod Binding
 pub mod Emptied
+pub mod Telling

@@ -141,6 +141,7 @@ module _ (answer message : ℕ → ℕ → Bool) (suits : Suits answer message) 
   step s t (event.Took r) d = kept s.owed t.owed (ap (λ x. x.owed) d.3)
   step s t event.Broke d = kept s.owed t.owed (ap (λ x. x.owed) d)
   step s t (event.Unbound p) d = kept s.owed t.owed (ap (λ x. x.owed) d.1)
+  step s t (event.GaveUp given) d = kept s.owed t.owed (ap (λ x. x.owed) d.4)
 
   steps : (s t : Stand) (es : List Event) → Runs Does s es t → sent (answers es) + all_owe t.owed ≤ asked (messages es) + all_owe s.owed
   unfolding Runs answers messages

@@ -1,8 +1,8 @@
 -- What becomes of requests that wait on a lane that has no link.
-use Rattle.std.specs.Prelude.{◌≡◌, ℕ, true, false, List, map, Option, Some, None, Ok, Err}
+use Rattle.std.specs.Prelude.{◌≡◌, ◌⊎◌, ◌++◌, ℕ, true, false, List, [], ◌∷◌, length, map, Option, Some, None, Ok, Err}
 use Rattle.std.specs.List.{flat_map}
 use Rattle.smx_lock.specs.Fronts.{Front}
-use Rattle.smx_history.specs.Entries.{is_accepted, is_settled}
+use Rattle.smx_history.specs.Entries.{is_accepted, is_settled, is_up}
 use Rattle.smx_history.specs.History.{entries_of}
 use Rattle.smx_history.specs.declared.limits.Limits.{Limits}
 use Rattle.smx_history.specs.declared.note.Note.{Note}
@@ -51,10 +51,25 @@ pub record GoesRound (now : ℕ) (f : Front Note Limits) (r : Round) (g : Front 
 abbrev pub HasEmptied : Round → Type 0
 HasEmptied r = (r.stop ≡ Some (takes.Refused QueueEmpty)) × (r.lost.end ≡ Some (fails.Refused WindowEmpty))
 
--- behind the last round the lane was asked to come up once more and stayed down, or nothing was done
+-- a call found the lane's tickets spent
+abbrev pub IsSpentIn : Round → Type 0
+IsSpentIn r = (r.stop ≡ Some takes.Spent) ⊎ (r.lost.end ≡ Some fails.Spent)
+
+-- the last of these rounds was such
+abbrev pub IsLast : (Round → Type 0) → List Round → Type 0
+IsLast Such rounds = (before : List Round) × (r : Round) × (rounds ≡ before ++ r ∷ []) × Such r
+
+-- why no more rounds were made
+abbrev pub EndsFor : List Round → AbandonEnd → Type 0
+EndsFor rounds Emptied = IsLast HasEmptied rounds
+EndsFor rounds (StaysDown rise) = stays_down (said_last rise) ≡ true
+EndsFor rounds Spent = IsLast IsSpentIn rounds
+EndsFor rounds Left = length rounds ≡ 65536
+
+-- behind the last round the lane was asked to come up once more, or nothing was done
 abbrev pub EndsRounds : Front Note Limits → Front Note Limits → AbandonEnd → Type 0
 EndsRounds f g Emptied = g ≡ f
-EndsRounds f g (StaysDown rise) = Rises f g rise × (stays_down (said_last rise) ≡ true)
+EndsRounds f g (StaysDown rise) = Rises f g rise
 EndsRounds f g Spent = g ≡ f
 EndsRounds f g Left = g ≡ f
 
@@ -63,17 +78,19 @@ pub record Abandons (now : ℕ) (f g : Front Note Limits) (done : Abandoned) : T
   pub last : Front Note Limits
   pub runs : Runs (GoesRound now) f done.rounds last
   pub ends : EndsRounds last g done.end
+  pub why : EndsFor done.rounds done.end
 
 -- each request that was accepted by the one moment is settled by the other
 abbrev pub AreSettled : List Note → List Note → Type 0
 AreSettled h h' = (c n : ℕ) → is_accepted c n (entries_of h) ≡ true → is_settled c n (entries_of h') ≡ true
 
--- the lane was brought up, and of all that was accepted until then nothing is left
+-- the lane was brought up, of all that was accepted until then nothing is left, and it is down
 pub record LeavesNone (f g : Front Note Limits) : Type 0 where
   pub up : Front Note Limits
   pub rise : Rise
   pub rises : Rises f up rise
   pub settled : AreSettled up.seen g.seen
+  pub down : is_up (entries_of g.seen) ≡ false
 
 -- what a round lets the tap know of its own notes: its takes, and no answer
 abbrev pub round_known : Round → List Known

@@ -1,6 +1,6 @@
 -- What an event is worth: what it decided and sends, whom it tells, what it asks the directory, whether nothing came of it, and what it ends.
 use Rattle.std.specs.Prelude.{ℕ, Bool, true, false, ◌||◌, List, [], ◌∷◌, ◌++◌, Option, Some, None, Result, Ok, Err, if◌then◌else◌}
-use Rattle.std.specs.List.{list_any}
+use Rattle.std.specs.List.{flat_map, list_any}
 use Rattle.std.specs.Result.{is_err}
 use Rattle.std.specs.declared.vec.Vec.{Vec}
 use Rattle.std.specs.declared.alloc.Global.{Global}
@@ -34,7 +34,9 @@ use Rattle.smx_turns.specs.declared.directory.Place.{Place}
 use Rattle.smx_turns.specs.Puts.{finds_nothing}
 use Rattle.smx_turns.specs.Worth.{Worth, no_worth, spent_worth, says}
 use Rattle.smx_upstream.specs.declared.event.Event.{Event}
-use Rattle.smx_upstream.specs.declared.event.Event.TheVariants.{Began, Opened, Looked, Judged, Expired, Shifted, Sought, Decided, Took, Broke, Unbound}
+use Rattle.smx_upstream.specs.declared.event.Event.TheVariants.{Began, Opened, Looked, Judged, Expired, Shifted, Sought, Decided, Took, Broke, Unbound, GaveUp}
+use Rattle.smx_upstream.specs.declared.abandoning.Round.{Round}
+use Rattle.smx_upstream.specs.declared.losing.Lost.{Lost}
 use Rattle.smx_upstream.specs.declared.event.Fate.{Fate}
 use Rattle.smx_upstream.specs.declared.event.Fate.TheVariants as fate
 use Rattle.smx_upstream.specs.Rising.{said_last, stays_down}
@@ -63,10 +65,18 @@ got_out (Ok (got.Shut k)) under = []
 got_out (Ok got.Empty) under = []
 got_out (Err e) under = []
 
--- who is to hear that its request was given up
+-- who is to hear that its request was given up, also where it has retired
 abbrev pub failed_tells : ℕ → Failed → List Party
 failed_tells lane (failed.Queued c) = Client c lane ∷ []
-failed_tells lane failed.Late = []
+failed_tells lane (failed.Late c) = Client c lane ∷ []
+
+-- of each that was given up as its lane was lost
+abbrev pub lost_tells : ℕ → Lost → List Party
+lost_tells lane lost = flat_map (failed_tells lane) lost.given
+
+-- of each of these rounds
+abbrev pub rounds_tells : ℕ → List Round → List Party
+rounds_tells lane rounds = flat_map (λ r. lost_tells lane r.lost) rounds
 
 abbrev pub expiry_tells : ℕ → Result Failed ExpiryFault → List Party
 expiry_tells lane (Ok f) = failed_tells lane f
@@ -113,10 +123,10 @@ read_of (Err e) = []
 abbrev pub finding : Pdu → Option Place → List Query
 finding p found = Found (read_of (destination_at p.body)) found ∷ []
 
--- whom an answer of the lane is for
+-- whose request an answer of the lane settled, also where the client has retired
 abbrev pub answer_tells : ℕ → Answered → List Party
 answer_tells lane (answered.Queued c) = Client c lane ∷ []
-answer_tells lane answered.Late = []
+answer_tells lane (answered.Late c) = Client c lane ∷ []
 answer_tells lane (answered.Unknown back) = []
 
 -- a message that no client gets is answered with this status
@@ -167,6 +177,7 @@ worth (Decided p now a f) = decided_worth p.value a.value f
 worth (Took r) = record (says (request_up r.value)) { spent = is_spent_take r.value }
 worth Broke = record (says (Some nack_of_undecoded)) { ends = true; breaks = true }
 worth (Unbound p) = says p.value
+worth (GaveUp given) = record no_worth { tells = lost_tells given.lane given.lost.value ++ rounds_tells given.lane given.abandoned.value.rounds; quiet = false }
 
 abbrev pub is_quiet_event : Event → Bool
 is_quiet_event e = (worth e).quiet

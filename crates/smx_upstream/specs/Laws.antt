@@ -12,12 +12,13 @@ use Rattle.smx_upstream.specs.declared.event.Event.{Event}
 use Rattle.smx_upstream.specs.declared.event.Event.TheVariants as event
 use Rattle.smx_upstream.specs.declared.event.Fate.{Fate}
 use Rattle.smx_upstream.specs.declared.event.Fate.TheVariants as fate
+use Rattle.smx_upstream.specs.Abandoning.{rounds_known}
 use Rattle.smx_upstream.specs.Standing.{Stand, item_for}
 
 -- what an answer of the lane lets the worker know of the tap's notes
 abbrev pub answer_known : Pdu → Answered → List Known
 answer_known p (answered.Queued c) = Queued c p ∷ []
-answer_known p answered.Late = CameLate p.number p.command ∷ []
+answer_known p (answered.Late c) = CameLate c p.number p.command ∷ []
 answer_known p (answered.Unknown back) = []
 
 abbrev pub fate_known : Pdu → Fate → List Known
@@ -45,6 +46,7 @@ known_by (event.Decided p now a f) = fate_known p.value f
 known_by (event.Took r) = known_by_take r.value
 known_by event.Broke = []
 known_by (event.Unbound p) = []
+known_by (event.GaveUp given) = rounds_known given.abandoned.value.rounds
 
 unfoldable pub knowns : List Event → List Known
 knowns es = flat_map known_by es
@@ -74,6 +76,7 @@ put_by slot lane (event.Decided p now a f) = fate_put slot lane p.value f
 put_by slot lane (event.Took r) = []
 put_by slot lane event.Broke = []
 put_by slot lane (event.Unbound p) = []
+put_by slot lane (event.GaveUp given) = []
 
 unfoldable pub puts_at : ℕ → ℕ → List Event → List (Option MoItem)
 puts_at slot lane es = flat_map (put_by slot lane) es

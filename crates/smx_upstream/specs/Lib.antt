@@ -13,3 +13,4 @@ pub mod Losing
 pub mod Owing
 pub mod Last
 pub mod Abandoning
+pub mod GivingUp

@@ -29,12 +29,14 @@ use Rattle.smx_shared.specs.Serving.{Takes, Expires, AnswerServes, TurnServes, I
 use Rattle.std.specs.Option.{option_map}
 use Rattle.smx_upstream.specs.declared.age.Age.{Age}
 use Rattle.smx_upstream.specs.Ages.{next_turn, least_shift, time_of}
+use Rattle.smx_upstream.specs.Abandoning.{Abandons}
+use Rattle.smx_upstream.specs.Losing.{Loses}
 use Rattle.smx_upstream.specs.Rising.{Rises}
 use Rattle.smx_turns.specs.declared.directory.Place.{Place}
 use Rattle.smx_turns.specs.declared.mo_item.MoItem.{MoItem}
 use Rattle.smx_turns.specs.Puts.{AtIndex, Puts, FindsFull, FindsSpent, Gets}
 use Rattle.smx_upstream.specs.declared.event.Event.{Event}
-use Rattle.smx_upstream.specs.declared.event.Event.TheVariants.{Began, Opened, Looked, Judged, Expired, Shifted, Sought, Decided, Took, Broke, Unbound}
+use Rattle.smx_upstream.specs.declared.event.Event.TheVariants.{Began, Opened, Looked, Judged, Expired, Shifted, Sought, Decided, Took, Broke, Unbound, GaveUp}
 use Rattle.smx_upstream.specs.declared.event.Fate.{Fate}
 use Rattle.smx_upstream.specs.declared.event.Fate.TheVariants as fate
 
@@ -142,3 +144,5 @@ Does s (Took r) t = (is_bound s.session.state ≡ true) × Takes s.tap.front t.t
 Does s Broke t = t ≡ s
 Does s (Unbound p) t = (p.value ≡ farewell s.session.state)
     × (t ≡ record s { session = record s.session { state = state_after_stop s.session.state } })
+Does s (GaveUp given) t = (given.lane ≡ s.tap.lane) × Loses s.tap.front given.between.value.front given.lost.value
+    × Abandons given.now given.between.value.front t.tap.front given.abandoned.value × (t.tap.lane ≡ s.tap.lane) × (t ≡ record s { tap = t.tap })

@@ -77,7 +77,7 @@ pub(crate) fn to_lane<R: Wait, G: Gate>(
     let lane = tap.lane();
     match tap.answer(at, rt, pdu) {
         Ok(answered) => {
-            if let Answered::Queued { client } = &answered {
+            if let Answered::Queued { client } | Answered::Late { client } = &answered {
                 gate.ready(Party::Client {
                     client: *client,
                     lane,

@@ -1,12 +1,14 @@
 //! What a worker did.
 ghost use Rattle.smx_upstream.specs.Events.{is_quiet_event};
 
+use crate::abandoning::Abandoned;
+use crate::losing::Lost;
 use smx_box::{Got, Spent};
 use smx_history::{Answered, Entry, Failed};
 use smx_lane::Sent;
 use smx_pdu::Pdu;
 use smx_session::UpAct;
-use smx_shared::{ExpiryFault, TakeFault, TurnFault, UpFault};
+use smx_shared::{ExpiryFault, TakeFault, Tap, TurnFault, UpFault};
 use smx_turns::{Deed, Place};
 use std::snapshot::Snapshot;
 
@@ -53,6 +55,21 @@ pub enum Span {
     Twice,
 }
 
+/// What came of it that all that a lane held was given up.
+#[derive(Drop)]
+pub struct GivenUp {
+    /// The lane's number.
+    pub lane: usize,
+    /// The moment of the takes.
+    pub now: u64,
+    /// Of what was taken and not answered.
+    pub lost: Snapshot<Lost>,
+    /// The lane's tap before the rest was given up.
+    pub between: Snapshot<Tap>,
+    /// Of what was queued.
+    pub abandoned: Snapshot<Abandoned>,
+}
+
 /// What a worker did once, whole.
 #[derive(Drop)]
 pub enum Event {
@@ -80,6 +97,8 @@ pub enum Event {
     Broke,
     /// The session was to end in order: its unbind, where it was bound.
     Unbound(Snapshot<Option<Pdu>>),
+    /// All that the lane held was given up.
+    GaveUp(GivenUp),
 }
 
 impl Deed for Event {

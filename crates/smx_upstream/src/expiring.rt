@@ -5,26 +5,24 @@ ghost use Rattle.smx_upstream.specs.Phases.{phase_of, Phase, Before, LeadsTo, Sw
 ghost use Rattle.smx_upstream.specs.Working.{scene_of, LeadsOn};
 
 use crate::event::{Event, Span};
+use crate::losing::tell_of;
 use crate::mark::Mark;
 use crate::spent::{is_spent_expiry, unless_spent};
 use crate::worker::{UpstreamWorker, jot};
 use smx_history::Failed;
 use smx_link::Link;
 use smx_shared::{Exchange, ExpiryFault};
-use smx_turns::{Fault, Gate, Log, Party};
+use smx_turns::{Fault, Gate, Log};
 use std::snapshot::Snapshot;
 use std::sync::Wait;
 
-// Tells the gate of the client that is to hear of it.
+// Tells the gate of the client whose request it was.
 fn tell<G: Gate>(gate: &mut G, lane: usize, failed: &Result<Failed, ExpiryFault>)
     ensures asked { G.asked gate.new ≡ G.asked gate.old }
     ensures told { G.told gate.new ≡ G.told gate.old ++ expiry_tells lane failed.now }
 {
-    if let Ok(Failed::Queued { client }) = failed {
-        gate.ready(Party::Client {
-            client: *client,
-            lane,
-        });
+    if let Ok(failed) = failed {
+        tell_of(gate, lane, failed);
     }
 }
 

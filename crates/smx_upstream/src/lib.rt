@@ -7,6 +7,7 @@ mod age;
 mod carry;
 mod event;
 mod expiring;
+mod giving_up;
 mod judging;
 mod last;
 mod laws;
@@ -21,7 +22,7 @@ mod wiring;
 mod worker;
 
 pub use abandoning::{AbandonEnd, Abandoned, Round, give_up_queued};
-pub use event::{Event, Fate, Rise, Span};
+pub use event::{Event, Fate, GivenUp, Rise, Span};
 pub use last::LastRequest;
 pub use laws::law;
 pub use losing::{Lost, lose};

@@ -12,6 +12,7 @@ ghost use Rattle.smx_upstream.specs.Standing.{Does};
 ghost use Rattle.smx_upstream.specs.Timing.{TurnsAt, timing};
 ghost use Rattle.smx_upstream.specs.Working.{before_turn, scene_of, Changes};
 ghost use Rattle.smx_upstream.specs.Judging.{AreJudged};
+ghost use Rattle.smx_upstream.specs.Events.{lost_tells};
 ghost use Rattle.smx_upstream.specs.Losing.{Loses};
 ghost use Rattle.smx_upstream.specs.Phases.{phase_of, is_all_decided, link_faults, Before, Waits, IsTurn, IsOver};
 
@@ -92,8 +93,9 @@ impl<L: Link + Drop> UpstreamWorker<L> {
     }
 
     /// Ends the worker, and hands back what it was given. Its lane goes down, and each request that
-    /// was taken and not answered fails, so that its client is told: nothing taken is sent again.
-    pub fn close<R: Wait>(self, at: &Exchange, rt: &R) -> Closed<L>
+    /// was taken and not answered fails, so that its client is told: nothing taken is sent again. Of each
+    /// the gate is told.
+    pub fn close<R: Wait, G: Gate>(self, at: &Exchange, rt: &R, gate: &mut G) -> Closed<L>
         requires lock { slice_get at.now self.stand.tap.lane ≡ Some self.stand.tap.front.lock }
         ensures link { result.link ≡ self.wire.link }
         ensures lock { (result.tap.lane ≡ self.stand.tap.lane)
@@ -105,6 +107,9 @@ impl<L: Link + Drop> UpstreamWorker<L> {
         ensures answers { result.answers ≡ self.stand.answers }
         ensures senders { result.senders.items ≡ self.stand.senders }
         ensures owed { result.owed.items ≡ self.stand.owed }
+        ensures told { G.told gate.new
+            ≡ G.told gate.old ++ lost_tells self.stand.tap.lane result.lost }
+        ensures asked { G.asked gate.new ≡ G.asked gate.old }
     {
         let UpstreamWorker {
             wire,
@@ -114,7 +119,7 @@ impl<L: Link + Drop> UpstreamWorker<L> {
             owed,
             ..
         } = self;
-        let lost = lose(&mut tap, at, rt);
+        let lost = lose(&mut tap, at, rt, gate);
         Closed {
             link: wire.into_link(),
             tap,

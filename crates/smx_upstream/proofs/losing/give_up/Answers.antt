@@ -3,7 +3,9 @@ use Rattle.std.proofs.lemmas.List.{length-append}
 use Rattle.smx_history.specs.declared.reply.Failed.{Failed}
 use Rattle.smx_turns.specs.Runs.{Runs}
 use Rattle.smx_turns.proofs.Chains.{runs_none, runs_push}
+use Rattle.smx_upstream.specs.Events.{failed_tells}
 use Rattle.smx_upstream.specs.Losing.{GivesUp}
+use Rattle.smx_upstream.proofs.Telling.{told_none, told_push}
 use Rattle.smx_upstream.proofs.losing.give_up.Goals as goal
 
 pub loop-failed-init : goal.loop-failed-init
@@ -13,6 +15,8 @@ loop-failed-init g c = record {
   runs = subst (λ (x : List Failed). Runs GivesUp c.args.tap.now.front x c.args.tap.now.front) (sym c.new-given.ensures) (runs_none GivesUp c.args.tap.now.front);
   count = ap {B = ℕ} (λ (x : List Failed). length x) c.new-given.ensures;
   known = refl;
+  told = told_none (failed_tells c.args.tap.now.lane) _ _ c.new-given.ensures;
+  asked = refl;
 }
 
 one_more : (xs ys : List Failed) (x : Failed) (n : ℕ) → ys ≡ xs ++ x ∷ [] → length xs ≡ n → length ys ≡ n + 1
@@ -25,4 +29,7 @@ loop-failed-preserved g c = record {
   runs = runs_push GivesUp _ _ _ _ _ c.in-Ok.one c.and-given.ensures c.in-Ok.ensures.served c.loop-failed.invariant.runs;
   count = one_more _ _ c.in-Ok.one _ c.and-given.ensures c.loop-failed.invariant.count;
   known = c.fail.ensures.known ∙ c.loop-failed.invariant.known;
+  told = told_push (failed_tells c.args.tap.now.lane) _ _ _ _ _ c.in-Ok.one c.and-given.ensures
+      (c.tell_of.ensures.told ∙ ap (λ n. g.G.Gate.told c.loop-failed.gate ++ failed_tells n c.in-Ok.one) c.lane-lane.ensures) c.loop-failed.invariant.told;
+  asked = c.tell_of.ensures.asked ∙ c.loop-failed.invariant.asked;
 }
