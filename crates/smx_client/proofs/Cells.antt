@@ -10,13 +10,14 @@ use Rattle.smx_box.specs.declared.receiver.Got.{Got}
 use Rattle.smx_session.specs.declared.kind.Kind.{Kind}
 use Rattle.smx_session.specs.declared.kind.Kind.TheVariants as kind
 use Rattle.smx_session.specs.declared.act.Act.{Act}
-use Rattle.smx_session.specs.declared.act.Act.TheVariants as act
+use Rattle.smx_session.specs.declared.ask.Ask.{Ask}
+use Rattle.smx_session.specs.declared.ask.Ask.TheVariants as leave
 use Rattle.smx_session.specs.declared.enquiry.Enquiry.{Enquiry}
 use Rattle.smx_shared.specs.declared.offer.Offer.{Offer}
 use Rattle.smx_shared.specs.declared.fault.SubmitFault.{SubmitFault}
 use Rattle.smx_link.specs.declared.link.Polled.{Polled}
 use Rattle.smx_link.specs.declared.link.LinkFault.{LinkFault}
-use Rattle.smx_turns.specs.declared.gate.Point.TheVariants.{Reading, Submitting, Collecting}
+use Rattle.smx_turns.specs.declared.gate.Point.TheVariants.{Reading, Binding, Refusing, Admitting, Submitting, Collecting}
 use Rattle.smx_turns.specs.declared.end.Fault.{Fault}
 use Rattle.smx_turns.specs.declared.end.Fault.TheVariants as fault
 use Rattle.smx_turns.specs.declared.end.TurnEnd.{TurnEnd}
@@ -28,9 +29,8 @@ use Rattle.smx_client.specs.declared.mark.Stage.TheVariants.{Open, Drained, Clos
 use Rattle.smx_client.specs.declared.mark.Mark.TheVariants.{Offered, WriteFailed, Waited, NoRoom, Part, Entered, Full as Clogs}
 use Rattle.smx_client.specs.declared.reply.Reply.{Reply}
 use Rattle.smx_client.specs.declared.event.Event.TheVariants.{Decided, Broke, Collected, PutAgain, Heard, Expired, Looked, Got as Fetched}
-use Rattle.smx_client.specs.declared.event.Fate.TheVariants.{Own, Submitted, Settled as Settles}
+use Rattle.smx_client.specs.declared.event.Fate.TheVariants.{Submitted, Barred, Settled as Settles}
 use Rattle.smx_client.specs.declared.event.Delivery.{Delivery}
-use Rattle.smx_client.specs.declared.event.Verdict.{Verdict}
 use Rattle.smx_client.specs.declared.event.Progress.{Progress}
 use Rattle.smx_client.specs.declared.event.Progress.TheVariants as progress
 use Rattle.smx_client.specs.declared.reply.Parked.{Parked as Answer}
@@ -38,8 +38,7 @@ use Rattle.smx_frame.specs.Stream.{HasNone}
 use Rattle.smx_shared.specs.Views.{PortView}
 use Rattle.smx_turns.specs.Rounds.{last_end}
 use Rattle.smx_turns.proofs.Logged.{phase_push}
-use Rattle.smx_client.specs.Sayings.{IsVerdict}
-use Rattle.smx_client.specs.Table.{Before, Phase, Opening, Written, MayCollect, Clear, Draining, MayRead, Hearing, Ageing, Looking, Gone, Deciding, MaySubmit, Unentered, Settled, Stopped, Clogged, Closing, Ending, Over, Failed, Wrong, step_of, phase_of, go, from_opening, when_offered, when_written, halts, from_written, from_boxing, from_collecting, from_draining, from_clear, from_may_read, from_hearing, from_ageing, from_looking, from_deciding, from_may_submit, from_entering, from_closing, after_reply, after_got, after_collect, after_read, after_expired, is_given_at, after_look, after_act, after_bind, after_verdict, Faulted, EndsIn, Stands, IsAt}
+use Rattle.smx_client.specs.Table.{Before, Phase, Opening, Written, MayCollect, Clear, Draining, MayRead, Hearing, Ageing, Looking, Gone, Deciding, MayBind, MayRefuse, Admitted, Barring, MaySubmit, Unentered, Settled, Stopped, Clogged, Closing, Ending, Over, Failed, Wrong, step_of, phase_of, go, from_opening, when_offered, when_written, halts, from_written, from_boxing, from_collecting, from_draining, from_clear, from_may_read, from_hearing, from_ageing, from_looking, from_deciding, from_admitted, from_barring, from_may_submit, from_entering, from_closing, is_same_leave, after_reply, after_got, after_collect, after_read, after_expired, is_given_at, after_look, after_bind, Faulted, EndsIn, Stands, IsAt}
 
 -- one step more
 pub phase_more : (t : Before) (ss ss' : List step_of) (s : step_of) (p : Phase) → ss' ≡ ss ++ s ∷ [] → phase_of t ss ≡ p → phase_of t ss' ≡ go t p s
@@ -150,13 +149,46 @@ module _ (t : Before) where
   unfolding go from_deciding
   clogs_decide ended = refl
 
-  pub yes_submit : (ended : Bool) → go t (Deciding ended) (Asked Submitting true) ≡ MaySubmit ended
+  pub yes_bind : (ended : Bool) (i : ℕ) → go t (Deciding ended) (Asked (Binding i) true) ≡ MayBind ended i
   unfolding go from_deciding
+  yes_bind ended i = refl
+
+  pub no_bind : (ended : Bool) (i : ℕ) → go t (Deciding ended) (Asked (Binding i) false) ≡ Barring ended (leave.Bind i)
+  unfolding go from_deciding
+  no_bind ended i = refl
+
+  pub yes_refuse : (ended : Bool) → go t (Deciding ended) (Asked Refusing true) ≡ MayRefuse ended
+  unfolding go from_deciding
+  yes_refuse ended = refl
+
+  pub no_refuse : (ended : Bool) → go t (Deciding ended) (Asked Refusing false) ≡ Stopped
+  unfolding go from_deciding
+  no_refuse ended = refl
+
+  pub yes_admit : (ended : Bool) → go t (Deciding ended) (Asked Admitting true) ≡ Admitted ended
+  unfolding go from_deciding
+  yes_admit ended = refl
+
+  pub no_admit : (ended : Bool) → go t (Deciding ended) (Asked Admitting false) ≡ Barring ended leave.Request
+  unfolding go from_deciding
+  no_admit ended = refl
+
+  pub yes_submit : (ended : Bool) → go t (Admitted ended) (Asked Submitting true) ≡ MaySubmit ended
+  unfolding go from_admitted
   yes_submit ended = refl
 
-  pub no_submit : (ended : Bool) → go t (Deciding ended) (Asked Submitting false) ≡ Stopped
-  unfolding go from_deciding
+  pub no_submit : (ended : Bool) → go t (Admitted ended) (Asked Submitting false) ≡ Stopped
+  unfolding go from_admitted
   no_submit ended = refl
+
+  same_leave : (l : Ask) → is_same_leave l l ≡ true
+  same_leave (leave.Bind i) = eq-eqb i i refl
+  same_leave leave.RefusedBind = refl
+  same_leave leave.Request = refl
+
+  pub barred : (ended : Bool) (l : Ask) (p : Snapshot Pdu) (a : Snapshot Act) → go t (Barring ended l) (Did (Decided p a (Barred l))) ≡ Deciding ended
+  unfolding go from_barring
+  barred ended l p a = ap (λ b. if b then Deciding ended else Wrong) (same_leave l)
 
   pub broke : (ended : Bool) (a : Snapshot Act) → go t (Deciding ended) (Did (Broke a)) ≡ Closing
   unfolding go from_deciding
@@ -169,20 +201,6 @@ module _ (t : Before) where
   pub settles : (ended : Bool) (p : Snapshot Pdu) (a : Snapshot Act) (found : Option (ℕ × ℕ)) (reply : Reply) → go t (Deciding ended) (Did (Decided p a (Settles found reply))) ≡ after_reply (Deciding ended) reply
   unfolding go from_deciding
   settles ended p a found reply = refl
-
-  acts : (ended : Bool) (a : Act) (v : Verdict) → IsVerdict a v → a ≢ act.Forward → ((n : ℕ) → a ≢ act.MoAnswer n) → after_act ended a ≡ after_verdict ended v
-  acts ended act.Forward v is f m = absurd (f refl)
-  acts ended (act.MoAnswer n) v is f m = absurd (m n refl)
-  acts ended (act.Bind k i p) v is f m = sym (ap (after_verdict ended) is)
-  acts ended (act.Leave p) v is f m = sym (ap (after_verdict ended) is)
-  acts ended (act.Hangup p) v is f m = sym (ap (after_verdict ended) is)
-  acts ended (act.Answer p) v is f m = sym (ap (after_verdict ended) is)
-  acts ended act.Ignore v is f m = sym (ap (after_verdict ended) is)
-
-  pub owned : (ended : Bool) (p : Snapshot Pdu) (b : Snapshot Act) (a : Act) (v : Verdict) → b.value ≡ a → IsVerdict a v → a ≢ act.Forward → ((n : ℕ) → a ≢ act.MoAnswer n)
-      → go t (Deciding ended) (Did (Decided p b Own)) ≡ after_verdict ended v
-  unfolding go from_deciding
-  owned ended p b a v same is f m = ap (after_act ended) same ∙ acts ended a v is f m
 
   pub submits : (ended : Bool) (p : Snapshot Pdu) (a : Snapshot Act) (o : Snapshot Offer) (r : Snapshot (Result ℕ (Offer × SubmitFault))) → go t (MaySubmit ended) (Did (Decided p a (Submitted o r))) ≡ Deciding ended
   unfolding go from_may_submit

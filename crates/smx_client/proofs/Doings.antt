@@ -5,9 +5,10 @@ use Rattle.std.specs.declared.snapshot.Snapshot.{Snapshot}
 use Rattle.smx_pdu.specs.declared.pdu.Pdu.{Pdu}
 use Rattle.smx_pdu.specs.Answers.{nack_of_undecoded}
 use Rattle.smx_session.specs.ClientTable.{client_decides}
-use Rattle.smx_session.specs.ClientMoments.{Client, after_octets, client_enquiry, after_client_moment}
+use Rattle.smx_session.specs.ClientMoments.{Client, after_octets, client_enquiry, after_client_moment, client_farewell, client_state_after_stop}
 use Rattle.smx_session.specs.declared.act.Act.{Act}
 use Rattle.smx_session.specs.declared.act.Act.TheVariants as act
+use Rattle.smx_session.specs.declared.ask.Ask.{Ask}
 use Rattle.smx_session.specs.declared.enquiry.Enquiry.{Enquiry}
 use Rattle.smx_session.specs.declared.client_state.ClientState.TheVariants.{Ended}
 use Rattle.smx_lock.specs.declared.faults.Spent.{Spent}
@@ -21,15 +22,16 @@ use Rattle.smx_box.specs.declared.receiver.Got.{Got}
 use Rattle.smx_box.specs.Boxes.{Sending, Receiving}
 use Rattle.smx_routes.specs.Window.{Window}
 use Rattle.smx_turns.specs.declared.mo_item.MoItem.{MoItem}
+use Rattle.smx_turns.specs.Worth.{those}
 use Rattle.smx_client.specs.declared.desk.Desk.{Desk}
 use Rattle.smx_client.specs.declared.reply.Parked.{Parked}
 use Rattle.smx_client.specs.declared.reply.Reply.{Reply}
-use Rattle.smx_client.specs.declared.event.Event.TheVariants.{Decided, Broke, Collected, PutAgain, Heard, Expired, Looked, Got as Fetched}
-use Rattle.smx_client.specs.declared.event.Fate.TheVariants.{Own, Submitted, Settled}
+use Rattle.smx_client.specs.declared.event.Event.TheVariants.{Decided, Broke, Collected, PutAgain, Heard, Expired, Looked, Unbound, Got as Fetched}
+use Rattle.smx_client.specs.declared.event.Fate.TheVariants.{Own, Submitted, Barred, Settled}
 use Rattle.smx_client.specs.declared.event.Delivery.{Delivery}
 use Rattle.smx_client.specs.Replies.{PutSo, SettlesSo, ExpiresSo, Parks, put_in, parked_on, on_lane}
 use Rattle.smx_client.specs.Events.{act_out, refusal_out, response_out, enquiry_out, got_out, got_answers, settled_out, expired_answers}
-use Rattle.smx_client.specs.Parts.{parts, Does, Suits, collect_step, submit_step, settle_step, expire_step, got_step, Gets, delivery_senders, delivery_parks, IsOfferOf}
+use Rattle.smx_client.specs.Parts.{parts, Does, Suits, fate_session, collect_step, submit_step, settle_step, expire_step, got_step, Gets, delivery_senders, delivery_parks, IsOfferOf}
 
 -- nothing is put, and nothing is to be answered
 still : (l : List (Option Pdu)) → l ≡ l ++ []
@@ -134,6 +136,39 @@ module _ (d : Desk) (said said' : List Pdu) (s : Client) (w : Window) (i : Recei
     port = refl;
     lists = λ all has. no_accept p all has;
     session = (session.0, session.1, kept);
+    window = refl;
+    inbox = refl;
+    senders = refl;
+    answers = λ k within. same_put x h k;
+    parked = refl;
+    desk = refl;
+    lanes = refl;
+  }
+
+  -- the gate gave no leave
+  pub barred : (p : PortView) (q : Snapshot Pdu) (a : Snapshot Act) (l : Ask) → said' ≡ said ++ (act_out a.value ++ []) → fate_session d.accounts.items s q.value a.value (Barred l) s → Does (parts d said p s w i x h) (Decided q a (Barred l)) (parts d said' p s w i x h)
+  barred p q a l says session = record {
+    says = says;
+    port = refl;
+    lists = λ all has. no_accept p all has;
+    session = session;
+    window = refl;
+    inbox = refl;
+    senders = refl;
+    answers = λ k within. same_put x h k;
+    parked = refl;
+    desk = refl;
+    lanes = refl;
+  }
+
+  -- its client is sent unbind, where it was bound
+  pub unbound : (p : PortView) (s' : Client) (o0 : Option Pdu) (o : Snapshot (Option Pdu)) → o.value ≡ o0 → o0 ≡ client_farewell s.state → s' ≡ record s { state = client_state_after_stop s.state } → said' ≡ said ++ those o0
+      → Does (parts d said p s w i x h) (Unbound o) (parts d said' p s' w i x h)
+  unbound p s' o0 o seen is session says = record {
+    says = says ∙ ap (λ y. said ++ those y) (sym seen);
+    port = refl;
+    lists = λ all has. no_accept p all has;
+    session = (seen ∙ is, session);
     window = refl;
     inbox = refl;
     senders = refl;

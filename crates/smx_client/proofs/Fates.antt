@@ -4,8 +4,11 @@ use Rattle.std.proofs.lemmas.List.{append-nil}
 use Rattle.smx_pdu.specs.declared.pdu.Pdu.{Pdu}
 use Rattle.smx_session.specs.Login.{Login}
 use Rattle.smx_session.specs.ClientMoments.{Client}
+use Rattle.smx_session.specs.ClientAsks.{bind_asks, cell_asks, client_asks, client_bars}
+use Rattle.smx_session.specs.declared.ask.Ask.{Ask}
+use Rattle.smx_session.specs.declared.ask.Ask.TheVariants.{Request}
 use Rattle.smx_session.specs.ClientTable.{client_decides, client_decision, client_cell, client_row, bind_decision, ClientCell}
-use Rattle.smx_session.specs.ClientTable.ClientCell.{checks, answer, nack, forward, message_answer, leave, ignore}
+use Rattle.smx_session.specs.ClientTable.ClientCell.{checks, answer, nack, forward, message_answer, leave, closed, ignore}
 use Rattle.smx_session.specs.Binds.{check_bind}
 use Rattle.smx_session.specs.declared.kind.Kind.{Kind}
 use Rattle.smx_session.specs.declared.bind_check.Checked.{Checked}
@@ -23,12 +26,13 @@ use Rattle.smx_shared.specs.declared.fault.SubmitFault.{SubmitFault}
 use Rattle.smx_routes.specs.declared.mo_window.Waiting.{Waiting}
 use Rattle.smx_routes.specs.Window.{Window, message_for, without}
 use Rattle.smx_client.specs.declared.event.Fate.{Fate}
-use Rattle.smx_client.specs.declared.event.Fate.TheVariants.{Own}
+use Rattle.smx_client.specs.declared.event.Fate.TheVariants.{Own, Barred}
 use Rattle.smx_client.specs.Events.{act_out, refusal_out}
-use Rattle.smx_client.specs.Parts.{submit_step, settle_step, IsOfferOf, Suits}
+use Rattle.smx_client.specs.Parts.{submit_step, settle_step, fate_session, IsOfferOf, Suits}
 use Rattle.smx_client.specs.declared.event.Verdict.{Verdict}
 use Rattle.smx_client.specs.declared.event.Verdict.TheVariants as verdict
 use Rattle.smx_client.specs.Sayings.{asked_of, IsVerdict}
+use Rattle.smx_client.specs.Serving.{asks_in}
 
 refusal_same : (p : Pdu) (r : Result ℕ (Offer × SubmitFault)) → refusal_out (asked_of p.command p.number) r ≡ refusal_out p r
 refusal_same p (Ok lane) = refl
@@ -103,6 +107,7 @@ says_cell nack accounts s p a e f m = tt
 says_cell forward accounts s p a e f m = f e
 says_cell message_answer accounts s p a e f m = m p.number e
 says_cell leave accounts s p a e f m = tt
+says_cell closed accounts s p a e f m = tt
 says_cell ignore accounts s p a e f m = tt
 
 -- the session alone decides
@@ -122,12 +127,90 @@ over_cell : (c : ClientCell) (accounts : List Login) (s : ClientState) (p : Pdu)
 over_cell (checks k) accounts s p a v is says over = absurd (over_bind k (check_bind accounts p.body) s p a v is says over)
 over_cell (answer status) accounts s p a v is says over = let next : v ≡ verdict.Next = subst (λ x. IsVerdict x v) is says in absurd (cc)
 over_cell nack accounts s p a v is says over = let next : v ≡ verdict.Next = subst (λ x. IsVerdict x v) is says in absurd (cc)
-over_cell forward accounts s p a v is says over = let next : v ≡ verdict.Forward = subst (λ x. IsVerdict x v) is says in absurd (cc)
+over_cell forward accounts s p a v is says over = absurd (subst (λ x. IsVerdict x v) is says)
 over_cell message_answer accounts s p a v is says over = let next : v ≡ verdict.Settle = subst (λ x. IsVerdict x v) is says in absurd (cc)
 over_cell leave accounts s p a v is says over = refl
+over_cell closed accounts s p a v is says over = refl
 over_cell ignore accounts s p a v is says over = let next : v ≡ verdict.Next = subst (λ x. IsVerdict x v) is says in absurd (cc)
 
 -- once nothing more is decided, the session has ended
 pub ends_session : (accounts : List Login) (s t : ClientState) (p : Pdu) (a : Act) (v : Verdict) → a ≡ (client_decides accounts s p).0 → t ≡ (client_decides accounts s p).1
     → IsVerdict a v → v ≡ verdict.Over → t ≡ Ended
 ends_session accounts s t p a v act state says over = state ∙ over_cell (client_cell (client_row p.command) s) accounts s p a v act says over
+
+asks_bind : (k : Kind) (x : Checked) (s : ClientState) (p : Pdu) → (bind_decision k x s p).0 ≢ act.Forward
+asks_bind k (Refused status) s p = λ e. absurd (cc)
+asks_bind k (Granted i version) s p = λ e. absurd (cc)
+
+forward_cell : (c : ClientCell) (accounts : List Login) (s : ClientState) (p : Pdu) → (client_decision c accounts s p).0 ≡ act.Forward → cell_asks c accounts p.body ≡ Some Request
+forward_cell (checks k) accounts s p e = absurd (asks_bind k (check_bind accounts p.body) s p e)
+forward_cell (answer status) accounts s p e = absurd (cc)
+forward_cell nack accounts s p e = absurd (cc)
+forward_cell forward accounts s p e = refl
+forward_cell message_answer accounts s p e = absurd (cc)
+forward_cell leave accounts s p e = absurd (cc)
+forward_cell closed accounts s p e = absurd (cc)
+forward_cell ignore accounts s p e = absurd (cc)
+
+-- what asks for no request's leave isn't forwarded
+pub not_forward : (accounts : List Login) (s : ClientState) (h : Option Pdu) (p : Pdu) (a : Act) → Some p ≡ h → asks_in accounts s h ≢ Some Request → a ≡ (client_decides accounts s p).0 → a ≢ act.Forward
+not_forward accounts s h p a had own is e = own (ap (asks_in accounts s) (sym had) ∙ forward_cell (client_cell (client_row p.command) s) accounts s p (sym is ∙ e))
+
+bind_is_none : (k : Kind) (x : Checked) (s : ClientState) (p : Pdu) (n : ℕ) → (bind_decision k x s p).0 ≢ act.MoAnswer n
+bind_is_none k (Refused status) s p n = λ e. absurd (cc)
+bind_is_none k (Granted i version) s p n = λ e. absurd (cc)
+
+message_cell : (c : ClientCell) (accounts : List Login) (s : ClientState) (p : Pdu) (n : ℕ) → (client_decision c accounts s p).0 ≡ act.MoAnswer n → cell_asks c accounts p.body ≡ None
+message_cell (checks k) accounts s p n e = absurd (bind_is_none k (check_bind accounts p.body) s p n e)
+message_cell (answer status) accounts s p n e = refl
+message_cell nack accounts s p n e = refl
+message_cell forward accounts s p n e = absurd (cc)
+message_cell message_answer accounts s p n e = refl
+message_cell leave accounts s p n e = refl
+message_cell closed accounts s p n e = refl
+message_cell ignore accounts s p n e = refl
+
+-- an answer to a message asks for no leave
+pub message_asks : (accounts : List Login) (s : ClientState) (h : Option Pdu) (p : Pdu) (a : Act) (n : ℕ) → Some p ≡ h → a ≡ (client_decides accounts s p).0 → a ≡ act.MoAnswer n → asks_in accounts s h ≡ None
+message_asks accounts s h p a n had is e = ap (asks_in accounts s) (sym had) ∙ message_cell (client_cell (client_row p.command) s) accounts s p n (sym is ∙ e)
+
+message_is : (c : ClientCell) (accounts : List Login) (s : ClientState) (p : Pdu) (n : ℕ) → (client_decision c accounts s p).0 ≡ act.MoAnswer n → client_decision c accounts s p ≡ (act.MoAnswer p.number, s)
+message_is (checks k) accounts s p n e = absurd (bind_is_none k (check_bind accounts p.body) s p n e)
+message_is (answer status) accounts s p n e = absurd (cc)
+message_is nack accounts s p n e = absurd (cc)
+message_is forward accounts s p n e = absurd (cc)
+message_is message_answer accounts s p n e = refl
+message_is leave accounts s p n e = absurd (cc)
+message_is closed accounts s p n e = absurd (cc)
+message_is ignore accounts s p n e = absurd (cc)
+
+-- and leaves the session as it was
+pub message_decides : (accounts : List Login) (s t : ClientState) (p : Pdu) (a : Act) (n : ℕ) → a ≡ (client_decides accounts s p).0 → t ≡ (client_decides accounts s p).1 → a ≡ act.MoAnswer n
+    → client_decides accounts t p ≡ (act.MoAnswer p.number, t)
+message_decides accounts s t p a n is state e =
+    let here = message_is (client_cell (client_row p.command) s) accounts s p n (sym is ∙ e) in
+    subst (λ x. client_decides accounts x p ≡ (act.MoAnswer p.number, x)) (sym (state ∙ ap (λ x. x.1) here)) here
+
+request_bind : (x : Checked) → Some (bind_asks x) ≢ Some Request
+request_bind (Refused status) = λ e. absurd (cc)
+request_bind (Granted i version) = λ e. absurd (cc)
+
+request_cell : (c : ClientCell) (accounts : List Login) (s : ClientState) (p : Pdu) → cell_asks c accounts p.body ≡ Some Request → client_decision c accounts s p ≡ (act.Forward, s)
+request_cell (checks k) accounts s p e = absurd (request_bind (check_bind accounts p.body) e)
+request_cell (answer status) accounts s p e = absurd (cc)
+request_cell nack accounts s p e = absurd (cc)
+request_cell forward accounts s p e = refl
+request_cell message_answer accounts s p e = absurd (cc)
+request_cell leave accounts s p e = absurd (cc)
+request_cell closed accounts s p e = absurd (cc)
+request_cell ignore accounts s p e = absurd (cc)
+
+-- a request that waits is to be forwarded
+pub request_decides : (accounts : List Login) (s : ClientState) (h : Option Pdu) → asks_in accounts s h ≡ Some Request → IfSome h (λ p. client_decides accounts s p ≡ (act.Forward, s))
+request_decides accounts s None e = tt
+request_decides accounts s (Some p) e = request_cell (client_cell (client_row p.command) s) accounts s p e
+
+-- what was barred asked for this leave
+pub bars_session : (accounts : List Login) (s : Client) (h : Option Pdu) (p q : Pdu) (a b : Act) (l : Ask) → Some p ≡ h → asks_in accounts s.state h ≡ Some l → q ≡ p → b ≡ a → a ≡ client_bars l p → fate_session accounts s q b (Barred l) s
+bars_session accounts s h p q a b l had asks same chosen is =
+    (ap (client_asks accounts s.state) same ∙ ap (asks_in accounts s.state) had ∙ asks, chosen ∙ is ∙ ap (client_bars l) (sym same), refl)

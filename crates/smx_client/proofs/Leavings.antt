@@ -1,9 +1,7 @@
 -- One step of a client's leaving more.
-use Rattle.std.proofs.Common.{◌≡◌, ◌+◌, List, [], ◌∷◌, ◌++◌, sym, ◌∙◌, ap, subst, arith, Result, Ok, Err, IfOk, IsOk, true≢false, false, Bool, ◌||◌, Option, None}
+use Rattle.std.proofs.Common.{◌≡◌, ◌+◌, List, [], ◌∷◌, ◌++◌, sym, ◌∙◌, ap, subst, arith, false, Bool, ◌||◌, Option, None}
 use Rattle.std.proofs.Math.Bool.{or-false, or_assoc}
-use Rattle.smx_box.specs.declared.fault.Spent.{Spent}
-use Rattle.smx_box.specs.declared.receiver.Got.{Got}
-use Rattle.smx_box.specs.Boxes.{Receiving, Sending, GetServes, Hands}
+use Rattle.smx_box.specs.Boxes.{Receiving, Sending}
 use Rattle.smx_routes.specs.Window.{Window}
 use Rattle.smx_pdu.specs.declared.pdu.Pdu.{Pdu}
 use Rattle.smx_client.specs.declared.reply.Parked.{Parked}

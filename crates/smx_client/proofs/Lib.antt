@@ -5,6 +5,7 @@ pub mod Laws
 pub mod Looking
 pub mod Scenes
 pub mod Cells
+pub mod Leave
 pub mod Filters
 pub mod Settling
 pub mod Replying

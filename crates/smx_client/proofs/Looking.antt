@@ -1,5 +1,5 @@
 -- A look, said of plain values.
-use Rattle.std.proofs.Common.{◌≡◌, ◌≢◌, ℕ, List, Option, Some, None, IfSome, IfNone, OnSome, Bool, true, false, ap, sym, ◌∙◌, subst, refl, Result, Ok, Err}
+use Rattle.std.proofs.Common.{◌≡◌, ◌≢◌, ℕ, List, Option, Some, None, IfSome, IfNone, OnSome, Bool, true, false, ap, sym, ◌∙◌, subst, refl, Result}
 use Rattle.std.specs.Prelude.{if◌then◌else◌}
 use Rattle.smx_pdu.specs.declared.pdu.Pdu.{Pdu}
 use Rattle.smx_session.specs.ClientMoments.{Client, client_enquiry, after_client_moment, is_enquiry_due, is_unanswered as is_late}

@@ -1,6 +1,6 @@
 -- What a step changes, and nothing else.
-use Rattle.std.proofs.Common.{◌≡◌, ℕ, ◌+◌, Bool, List, [], ◌∷◌, ◌++◌, length, not, true, false, arith, refl, sym, ◌∙◌, ap, subst, Result, IsTrue}
-use Rattle.std.specs.Prelude.{◌==◌, ◌↔◌}
+use Rattle.std.proofs.Common.{◌≡◌, ℕ, ◌+◌, Bool, List, [], ◌∷◌, ◌++◌, length, not, arith, refl, sym, ap, subst, Result}
+use Rattle.std.specs.Prelude.{◌==◌}
 use Rattle.smx_link.specs.declared.link.Polled.{Polled}
 use Rattle.smx_link.specs.declared.link.LinkFault.{LinkFault}
 use Rattle.smx_link.specs.Links.{fault_count}

@@ -1,9 +1,10 @@
 -- What a worker keeps by one event more.
-use Rattle.std.proofs.Common.{◌≡◌, ◌≢◌, ◌<◌, List, [], ◌∷◌, ◌++◌, length, Bool, true, false, true≢false, Option, Some, None, Result, sym, ◌∙◌, ap, subst, append_assoc}
+use Rattle.std.proofs.Common.{◌≡◌, ◌≢◌, ◌<◌, List, [], ◌∷◌, ◌++◌, length, Bool, true, false, true≢false, Option, Some, None, Result, sym, ◌∙◌, ap, subst}
 use Rattle.smx_pdu.specs.declared.pdu.Pdu.{Pdu}
 use Rattle.smx_frame.specs.Stream.{HasNone}
 use Rattle.smx_link.specs.declared.link.Polled.{Polled}
 use Rattle.smx_link.specs.declared.link.LinkFault.{LinkFault}
+use Rattle.smx_session.specs.ClientMoments.{client_state_after_stop}
 use Rattle.smx_session.specs.declared.client_state.ClientState.{ClientState}
 use Rattle.smx_session.specs.declared.client_state.ClientState.TheVariants.{Ended}
 use Rattle.smx_turns.specs.Wires.{has_ended}
@@ -35,6 +36,11 @@ module _ {L : Type 0} (polls : L → List (Result Polled LinkFault)) where
   pub as_closed : (l l' : L) (s : Stage) (c : ClientState) (b : Bool) → l' ≡ l → (s ≡ Closed → c ≢ Ended → (b ≡ true) × (has_ended (polls l) ≡ true))
       → s ≡ Closed → c ≢ Ended → (b ≡ true) × (has_ended (polls l') ≡ true)
   as_closed l l' s c b link was at going = let h = was at going in (h.0, ap (λ x. has_ended (polls x)) link ∙ h.1)
+
+  -- a session that has not ended at its stop had not before
+  pub stops_closed : (l l' : L) (s : Stage) (c c' : ClientState) (b : Bool) → l' ≡ l → c' ≡ client_state_after_stop c → (s ≡ Closed → c ≢ Ended → (b ≡ true) × (has_ended (polls l) ≡ true))
+      → s ≡ Closed → c' ≢ Ended → (b ≡ true) × (has_ended (polls l') ≡ true)
+  stops_closed l l' s c c' b link stopped was at going = as_closed l l' s c b link was at (λ e. going (stopped ∙ ap client_state_after_stop e))
 
   -- it did one thing more, which reads nothing
   pub did : (v w : Serving L) (e : Event) → IsServing polls v → w.wire.link ≡ v.wire.link → w.wire.start ≡ v.wire.start → w.stage ≡ v.stage → first_of w ≡ first_of v → w.events ≡ v.events ++ e ∷ []

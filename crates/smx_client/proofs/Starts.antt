@@ -12,7 +12,7 @@ use Rattle.smx_turns.specs.Runs.{Runs}
 use Rattle.smx_client.specs.declared.desk.Desk.{Desk}
 use Rattle.smx_client.specs.declared.event.Event.{Event}
 use Rattle.smx_client.specs.Events.{worth}
-use Rattle.smx_client.specs.Parts.{parts, Does, Chain}
+use Rattle.smx_client.specs.Parts.{parts, Chain}
 
 pub started : (d : Desk) (said : List Pdu) (p p' : PortView) (s s' : Client) (w w' : Window) (i i' : Receiving MoItem) (x x' : List (Sending Pdu)) (es : List Event)
     → es ≡ [] → said ≡ [] → p' ≡ p → s' ≡ s → w' ≡ w → i' ≡ i → x' ≡ x → Chain (parts d [] p' s' w' i' x' None) es (parts d said p s w i x None)

@@ -21,13 +21,13 @@ use Rattle.smx_box.specs.declared.receiver.Got.{Got}
 use Rattle.smx_box.specs.declared.receiver.Got.TheVariants.{Item, Shut, Empty}
 use Rattle.smx_turns.specs.declared.mo_item.MoItem.{MoItem}
 use Rattle.smx_turns.specs.declared.gate.Party.{Party}
-use Rattle.smx_turns.specs.declared.gate.Party.TheVariants.{Lane}
+use Rattle.smx_turns.specs.declared.gate.Party.TheVariants as party
 use Rattle.smx_turns.specs.Puts.{finds_nothing}
 use Rattle.smx_turns.specs.Worth.{Worth, no_worth, says}
 use Rattle.smx_client.specs.declared.event.Event.{Event}
-use Rattle.smx_client.specs.declared.event.Event.TheVariants.{Decided, Broke, Collected, PutAgain, Heard, Expired, Looked, Got as Fetched}
+use Rattle.smx_client.specs.declared.event.Event.TheVariants.{Decided, Broke, Collected, PutAgain, Heard, Expired, Looked, Unbound, Got as Fetched}
 use Rattle.smx_client.specs.declared.event.Fate.{Fate}
-use Rattle.smx_client.specs.declared.event.Fate.TheVariants.{Own, Submitted, Settled}
+use Rattle.smx_client.specs.declared.event.Fate.TheVariants.{Own, Submitted, Barred, Settled}
 use Rattle.smx_client.specs.declared.event.Delivery.{Delivery}
 use Rattle.smx_client.specs.declared.event.Delivery.TheVariants.{Given, Refused, Dropped}
 use Rattle.smx_client.specs.declared.reply.Reply.{Reply}
@@ -44,10 +44,12 @@ why_unaccepted submit.AllFull = AllFull
 abbrev pub act_worth : Act → Worth
 act_worth (act.Answer p) = says (Some p)
 act_worth (act.Bind k i p) = says (Some p)
+act_worth (act.Refuse p) = says (Some p)
 act_worth act.Forward = no_worth
 act_worth (act.MoAnswer n) = no_worth
 act_worth (act.Leave p) = record (says (Some p)) { ends = true }
 act_worth (act.Hangup p) = record (says (Some p)) { ends = true }
+act_worth act.Closed = record no_worth { ends = true }
 act_worth act.Ignore = no_worth
 
 abbrev pub act_out : Act → List Pdu
@@ -95,6 +97,7 @@ got_out (Err e) d = []
 abbrev pub fate_accepts : Fate → List Accepted
 fate_accepts Own = []
 fate_accepts (Submitted o r) = accepted_by o.value r.value
+fate_accepts (Barred leave) = []
 fate_accepts (Settled found reply) = []
 
 abbrev pub event_accepts : Event → List Accepted
@@ -106,6 +109,7 @@ event_accepts (PutAgain lane reply) = []
 event_accepts (Heard now) = []
 event_accepts (Expired until found reply) = []
 event_accepts (Looked now e) = []
+event_accepts (Unbound p) = []
 
 abbrev pub settled_out : ℕ → Pdu → Option (ℕ × ℕ) → List (Option Pdu)
 settled_out k p None = []
@@ -114,6 +118,7 @@ settled_out k p (Some found) = on_lane k found.0 (answer_up p found.1 ∷ [])
 abbrev pub fate_answers : ℕ → Pdu → Fate → List (Option Pdu)
 fate_answers k p Own = []
 fate_answers k p (Submitted o r) = []
+fate_answers k p (Barred leave) = []
 fate_answers k p (Settled found reply) = settled_out k p found
 
 abbrev pub item_answers : ℕ → Got MoItem → Delivery → List (Option Pdu)
@@ -139,17 +144,18 @@ event_answers k (PutAgain lane reply) = []
 event_answers k (Heard now) = []
 event_answers k (Expired until found reply) = expired_answers k found
 event_answers k (Looked now e) = []
+event_answers k (Unbound p) = []
 
 -- the lane, where its return box took an answer
 abbrev pub lane_told : ℕ → Reply → List Party
-lane_told lane reply.Taken = Lane lane ∷ []
+lane_told lane reply.Taken = party.Answer lane ∷ []
 lane_told lane reply.Full = []
 lane_told lane reply.Spent = []
 lane_told lane reply.Nobody = []
 
 -- the lane that accepted a request
 abbrev pub submit_told : Result ℕ (Offer × SubmitFault) → List Party
-submit_told (Ok lane) = Lane lane ∷ []
+submit_told (Ok lane) = party.Lane lane ∷ []
 submit_told (Err e) = []
 
 abbrev pub settled_told : Option (ℕ × ℕ) → Reply → List Party
@@ -206,6 +212,7 @@ is_spent_submit (Err e) = is_spent_fault e.1
 abbrev pub fate_worth : Pdu → Fate → Worth
 fate_worth p Own = no_worth
 fate_worth p (Submitted o r) = record no_worth { said = refusal_out p r.value; tells = submit_told r.value; spent = is_spent_submit r.value }
+fate_worth p (Barred leave) = no_worth
 fate_worth p (Settled found reply) = record no_worth { tells = settled_told found reply; spent = is_spent_reply reply }
 
 -- what a PDU that the session decided so is worth, of which this came
@@ -229,6 +236,7 @@ worth (PutAgain lane reply) = record no_worth { tells = lane_told lane reply; qu
 worth (Heard now) = record no_worth { quiet = false }
 worth (Expired until found reply) = record no_worth { tells = expired_told found reply; quiet = is_none found; spent = is_spent_reply reply }
 worth (Looked now e) = record no_worth { said = enquiry_out e.value; quiet = is_not_due e.value; ends = is_unanswered e.value }
+worth (Unbound p) = says p.value
 
 -- whether nothing came of it
 abbrev pub is_quiet_event : Event → Bool

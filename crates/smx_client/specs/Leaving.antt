@@ -1,9 +1,7 @@
 -- What becomes of a client's messages when it leaves, step by step.
-use Rattle.std.specs.Prelude.{◌≡◌, ◌+◌, ◌++◌, ◌⊎◌, ℕ, Bool, true, false, ◌||◌, List, [], ◌∷◌, Option, Some, None, Result, Ok, Err}
+use Rattle.std.specs.Prelude.{◌≡◌, ◌+◌, ◌++◌, ◌⊎◌, ℕ, Bool, true, false, ◌||◌, List, [], ◌∷◌, Option, Some, None}
 use Rattle.smx_pdu.specs.declared.pdu.Pdu.{Pdu}
 use Rattle.smx_pdu.specs.Command.{response_of}
-use Rattle.smx_box.specs.declared.fault.Spent.{Spent}
-use Rattle.smx_box.specs.declared.receiver.Got.{Got}
 use Rattle.smx_routes.specs.declared.mo_window.Waiting.{Waiting}
 use Rattle.smx_box.specs.Boxes.{Sending, Receiving}
 use Rattle.smx_routes.specs.Window.{Window, IsFirst, without}

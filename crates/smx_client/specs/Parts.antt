@@ -4,7 +4,8 @@ use Rattle.smx_pdu.specs.declared.pdu.Pdu.{Pdu}
 use Rattle.smx_session.specs.Login.{Login}
 use Rattle.smx_pdu.specs.Answers.{nack_of_undecoded}
 use Rattle.smx_session.specs.ClientTable.{client_decides}
-use Rattle.smx_session.specs.ClientMoments.{Client, after_octets, client_enquiry, after_client_moment}
+use Rattle.smx_session.specs.ClientAsks.{client_asks, client_bars}
+use Rattle.smx_session.specs.ClientMoments.{Client, after_octets, client_enquiry, after_client_moment, client_farewell, client_state_after_stop}
 use Rattle.smx_session.specs.declared.act.Act.{Act}
 use Rattle.smx_session.specs.declared.act.Act.TheVariants as act
 use Rattle.smx_session.specs.declared.client_state.ClientState.TheVariants.{Ended}
@@ -27,9 +28,9 @@ use Rattle.smx_turns.specs.declared.mo_item.MoItem.{MoItem}
 use Rattle.smx_client.specs.declared.desk.Desk.{Desk}
 use Rattle.smx_client.specs.declared.reply.Parked.{Parked}
 use Rattle.smx_client.specs.declared.event.Event.{Event}
-use Rattle.smx_client.specs.declared.event.Event.TheVariants.{Decided, Broke, Collected, PutAgain, Heard, Expired, Looked, Got as Fetched}
+use Rattle.smx_client.specs.declared.event.Event.TheVariants.{Decided, Broke, Collected, PutAgain, Heard, Expired, Looked, Unbound, Got as Fetched}
 use Rattle.smx_client.specs.declared.event.Fate.{Fate}
-use Rattle.smx_client.specs.declared.event.Fate.TheVariants.{Own, Submitted, Settled}
+use Rattle.smx_client.specs.declared.event.Fate.TheVariants.{Own, Submitted, Barred, Settled}
 use Rattle.smx_client.specs.declared.event.Delivery.{Delivery}
 use Rattle.smx_client.specs.declared.event.Delivery.TheVariants.{Given, Refused, Dropped}
 use Rattle.smx_client.specs.Replies.{PutSo, ItemAnswersSo, SettlesSo, ExpiresSo, Parks, put_in, parked_on}
@@ -53,6 +54,7 @@ collect_step k r v w = OnLane k v.fronts w.fronts (λ f g. Waited (CollectServes
 abbrev pub fate_port : Pdu → Fate → PortView → PortView → Type 0
 fate_port p Own v w = w ≡ v
 fate_port p (Submitted o r) v w = IsOfferOf p o.value × submit_step o.value r.value v w
+fate_port p (Barred leave) v w = w ≡ v
 fate_port p (Settled found reply) v w = w ≡ v
 
 abbrev pub port_step : PortView → Event → PortView → Type 0
@@ -64,6 +66,7 @@ port_step v (PutAgain lane reply) w = w ≡ v
 port_step v (Heard now) w = w ≡ v
 port_step v (Expired until found reply) w = w ≡ v
 port_step v (Looked now e) w = w ≡ v
+port_step v (Unbound p) w = w ≡ v
 
 -- what may become of a PDU under that act
 abbrev pub Suits : Act → Fate → Type 0
@@ -71,17 +74,25 @@ Suits act.Forward (Submitted o r) = Unit {0}
 Suits (act.MoAnswer n) (Settled found reply) = Unit {0}
 Suits (act.Answer p) Own = Unit {0}
 Suits (act.Bind k i p) Own = Unit {0}
+Suits (act.Refuse p) Own = Unit {0}
 Suits (act.Leave p) Own = Unit {0}
+Suits act.Closed Own = Unit {0}
 Suits act.Ignore Own = Unit {0}
 Suits _ _ = ⊥
 
+-- what the session did with a PDU: what its table says, or nothing where the gate gave no leave
+abbrev pub fate_session : List Login → Client → Pdu → Act → Fate → Client → Type 0
+fate_session accounts s p a (Barred leave) t = (client_asks accounts s.state p ≡ Some leave) × (a ≡ client_bars leave p) × (t ≡ s)
+fate_session accounts s p a f t = ((a, t.state) ≡ client_decides accounts s.state p) × Suits a f × (t ≡ record s { state = t.state })
+
 -- the session's table, and its moments
 abbrev pub session_step : List Login → Client → Event → Client → Type 0
-session_step accounts s (Decided p a f) t = ((a.value, t.state) ≡ client_decides accounts s.state p.value) × Suits a.value f × (t ≡ record s { state = t.state })
+session_step accounts s (Decided p a f) t = fate_session accounts s p.value a.value f t
 session_step accounts s (Broke a) t = (a.value ≡ act.Hangup nack_of_undecoded) × (t ≡ record s { state = Ended })
 session_step accounts s (Heard now) t = t ≡ after_octets s now
 session_step accounts s (Expired until found reply) t = t ≡ s
 session_step accounts s (Looked now e) t = (e.value ≡ client_enquiry s now) × (t ≡ after_client_moment s now)
+session_step accounts s (Unbound p) t = (p.value ≡ client_farewell s.state) × (t ≡ record s { state = client_state_after_stop s.state })
 session_step accounts s (Collected k r) t = t ≡ s
 session_step accounts s (Fetched g d) t = t ≡ s
 session_step accounts s (PutAgain lane reply) t = t ≡ s
@@ -95,6 +106,7 @@ settle_step p (Some found) w u = (row : Waiting) × (message_for p.number p.comm
 abbrev pub fate_window : Pdu → Fate → Window → Window → Type 0
 fate_window p Own w u = u ≡ w
 fate_window p (Submitted o r) w u = u ≡ w
+fate_window p (Barred leave) w u = u ≡ w
 fate_window p (Settled found reply) w u = settle_step p found w u
 
 -- an item waits under the number that it is given
@@ -125,6 +137,7 @@ window_step w (PutAgain lane reply) u = u ≡ w
 window_step w (Heard now) u = u ≡ w
 window_step w (Expired until found reply) u = expire_step until found w u
 window_step w (Looked now e) u = u ≡ w
+window_step w (Unbound p) u = u ≡ w
 
 -- which delivery an item gets: dropped where its lane has no sender, refused where it is for another client
 abbrev pub IsDelivered : ℕ → ℕ → Got MoItem → Delivery → Type 0
@@ -149,10 +162,12 @@ inbox_step client lanes a (PutAgain lane reply) b = b ≡ a
 inbox_step client lanes a (Heard now) b = b ≡ a
 inbox_step client lanes a (Expired until found reply) b = b ≡ a
 inbox_step client lanes a (Looked now e) b = b ≡ a
+inbox_step client lanes a (Unbound p) b = b ≡ a
 
 abbrev pub fate_senders : Pdu → Fate → List (Sending Pdu) → List (Sending Pdu) → Type 0
 fate_senders p Own ss tt = tt ≡ ss
 fate_senders p (Submitted o r) ss tt = tt ≡ ss
+fate_senders p (Barred leave) ss tt = tt ≡ ss
 fate_senders p (Settled found reply) ss tt = SettlesSo p found reply ss tt
 
 abbrev pub delivery_senders : Result (Got MoItem) BoxSpent → Delivery → List (Sending Pdu) → List (Sending Pdu) → Type 0
@@ -170,10 +185,12 @@ senders_step h ss (PutAgain lane reply) tt = (a : Parked) × (h ≡ Some a) × P
 senders_step h ss (Heard now) tt = tt ≡ ss
 senders_step h ss (Expired until found reply) tt = ExpiresSo found reply ss tt
 senders_step h ss (Looked now e) tt = tt ≡ ss
+senders_step h ss (Unbound p) tt = tt ≡ ss
 
 abbrev pub fate_parks : Fate → Option Parked → Option Parked → Type 0
 fate_parks Own h i = i ≡ h
 fate_parks (Submitted o r) h i = i ≡ h
+fate_parks (Barred leave) h i = i ≡ h
 fate_parks (Settled found reply) h i = (h ≡ None) × Parks reply i
 
 abbrev pub delivery_parks : Delivery → Option Parked → Option Parked → Type 0
@@ -191,6 +208,7 @@ parked_step h (PutAgain lane reply) i = (a : Parked) × (h ≡ Some a) × (lane 
 parked_step h (Heard now) i = i ≡ h
 parked_step h (Expired until found reply) i = (h ≡ None) × Parks reply i
 parked_step h (Looked now e) i = i ≡ h
+parked_step h (Unbound p) i = i ≡ h
 
 pub record Parts : Type 0 where
   -- who may bind, and what was said to the client

@@ -5,7 +5,7 @@ use Rattle.smx_link.specs.Wiring.{Wiring, spellings}
 use Rattle.smx_session.specs.declared.act.Act.{Act}
 use Rattle.smx_session.specs.declared.act.Act.TheVariants as act
 use Rattle.smx_client.specs.declared.event.Verdict.{Verdict}
-use Rattle.smx_client.specs.declared.event.Verdict.TheVariants.{Next, Forward, Settle, Bound, Over}
+use Rattle.smx_client.specs.declared.event.Verdict.TheVariants.{Next, Settle, Bound, Over}
 
 -- these PDUs were said, and nothing else happened but that the room shrank
 pub record Spoke {L : Type 0} (old new : Wiring L) (ps : List Pdu) : Type 0 where
@@ -17,11 +17,14 @@ pub record Spoke {L : Type 0} (old new : Wiring L) (ps : List Pdu) : Type 0 wher
 abbrev pub asked_of : ℕ → ℕ → Pdu
 asked_of command number = record { command = command; status = 0; number = number; body = [] }
 
+-- a request was never decided by the session alone
 abbrev pub IsVerdict : Act → Verdict → Type 0
-IsVerdict act.Forward v = v ≡ Forward
+IsVerdict act.Forward v = ⊥
 IsVerdict (act.MoAnswer n) v = v ≡ Settle
 IsVerdict (act.Bind k i p) v = v ≡ Bound k i
+IsVerdict (act.Refuse p) v = v ≡ Next
 IsVerdict (act.Leave p) v = v ≡ Over
 IsVerdict (act.Hangup p) v = v ≡ Over
+IsVerdict act.Closed v = v ≡ Over
 IsVerdict (act.Answer p) v = v ≡ Next
 IsVerdict act.Ignore v = v ≡ Next

@@ -1,5 +1,5 @@
 -- What contracts see of a client's worker.
-use Rattle.std.specs.Prelude.{◌≡◌, ◌≢◌, ℕ, Bool, true, List, [], ◌++◌, Option, None, Result}
+use Rattle.std.specs.Prelude.{◌≡◌, ◌≢◌, ℕ, Bool, true, List, [], ◌++◌, Option, Some, None, Result}
 use Rattle.smx_pdu.specs.declared.pdu.Pdu.{Pdu}
 use Rattle.smx_frame.specs.Stream.{HasNone}
 use Rattle.smx_link.specs.Wiring.{Wiring}
@@ -7,7 +7,11 @@ use Rattle.smx_link.specs.declared.link.Polled.{Polled}
 use Rattle.smx_link.specs.declared.link.LinkFault.{LinkFault}
 use Rattle.smx_box.specs.Boxes.{Sending, Receiving}
 use Rattle.smx_routes.specs.Window.{Window}
+use Rattle.smx_session.specs.ClientAsks.{client_asks}
 use Rattle.smx_session.specs.ClientMoments.{Client}
+use Rattle.smx_session.specs.Login.{Login}
+use Rattle.smx_session.specs.declared.ask.Ask.{Ask}
+use Rattle.smx_session.specs.declared.client_state.ClientState.{ClientState}
 use Rattle.smx_session.specs.declared.client_state.ClientState.TheVariants.{Ended}
 use Rattle.smx_shared.specs.Views.{PortView}
 use Rattle.smx_turns.specs.declared.mo_item.MoItem.{MoItem}
@@ -61,6 +65,14 @@ parts_of w = parts w.desk w.wire.said w.port w.session w.window w.inbox w.sender
 
 abbrev pub first_of : {L : Type 0} → Serving L → Parts
 first_of w = parts w.desk [] w.origin.port.value w.origin.session.value w.origin.window.value w.origin.inbox.value w.origin.senders.value.items None
+
+-- what leave a PDU asks for, where one waits
+abbrev pub asks_in : List Login → ClientState → Option Pdu → Option Ask
+asks_in accounts state None = None
+asks_in accounts state (Some p) = client_asks accounts state p
+
+abbrev pub held_asks : {L : Type 0} → Serving L → Option Ask
+held_asks w = asks_in w.desk.accounts.items w.session.state w.held
 
 -- what a worker keeps at every call
 pub record IsServing {L : Type 0} (polls : L → List (Result Polled LinkFault)) (w : Serving L) : Type 0 where

@@ -1,5 +1,5 @@
 -- The order of a client's turn.
-use Rattle.std.specs.Prelude.{◌≡◌, ◌≢◌, ◌==◌, ◌≤◌, ℕ, ◌+◌, ◌*◌, Bool, true, false, not, ◌&&◌, nat_le, List, [], ◌∷◌, length, Option, Some, None, IsSome, Result, Ok, Err, if◌then◌else◌}
+use Rattle.std.specs.Prelude.{◌≡◌, ◌≢◌, ◌==◌, ◌≤◌, ℕ, ◌+◌, ◌*◌, Bool, true, false, not, ◌&&◌, nat_le, List, [], length, Option, Some, None, IsSome, Result, Ok, Err, if◌then◌else◌}
 use Rattle.smx_pdu.specs.declared.pdu.Pdu.{Pdu}
 use Rattle.smx_frame.specs.Stream.{HasNone}
 use Rattle.smx_lock.specs.declared.faults.Spent.{Spent}
@@ -9,11 +9,13 @@ use Rattle.smx_session.specs.declared.kind.Kind.{Kind}
 use Rattle.smx_session.specs.declared.kind.Kind.TheVariants as kind
 use Rattle.smx_session.specs.declared.act.Act.{Act}
 use Rattle.smx_session.specs.declared.act.Act.TheVariants as act
+use Rattle.smx_session.specs.declared.ask.Ask.{Ask}
+use Rattle.smx_session.specs.declared.ask.Ask.TheVariants as leave
 use Rattle.smx_session.specs.declared.enquiry.Enquiry.{Enquiry}
 use Rattle.smx_link.specs.declared.link.Polled.{Polled}
 use Rattle.smx_link.specs.declared.link.Polled.TheVariants.{Octets, Nothing, End}
 use Rattle.smx_link.specs.declared.link.LinkFault.{LinkFault}
-use Rattle.smx_turns.specs.declared.gate.Point.TheVariants.{Reading, Submitting, Collecting}
+use Rattle.smx_turns.specs.declared.gate.Point.TheVariants.{Reading, Binding, Refusing, Admitting, Submitting, Collecting}
 use Rattle.smx_turns.specs.declared.end.Fault.{Fault}
 use Rattle.smx_turns.specs.declared.end.Fault.TheVariants as fault
 use Rattle.smx_turns.specs.declared.end.TurnEnd.{TurnEnd}
@@ -31,7 +33,7 @@ use Rattle.smx_client.specs.declared.reply.Reply.TheVariants as reply
 use Rattle.smx_client.specs.declared.event.Event.{Event}
 use Rattle.smx_client.specs.declared.event.Event.TheVariants.{Decided, Broke, Collected, PutAgain, Heard, Expired, Looked, Got as Fetched}
 use Rattle.smx_client.specs.declared.event.Fate.{Fate}
-use Rattle.smx_client.specs.declared.event.Fate.TheVariants.{Own, Submitted, Settled as Settles}
+use Rattle.smx_client.specs.declared.event.Fate.TheVariants.{Own, Submitted, Barred, Settled as Settles}
 use Rattle.smx_client.specs.declared.event.Delivery.{Delivery}
 use Rattle.smx_client.specs.declared.event.Delivery.TheVariants.{Given, Refused, Dropped}
 use Rattle.smx_client.specs.declared.event.Verdict.{Verdict}
@@ -64,6 +66,14 @@ pub data Phase : Type 0 where
   Looking : Phase
   -- PDUs are decided; whether the link has ended
   Deciding : Bool → Phase
+  -- the gate said yes to a bind by this account
+  MayBind : Bool → ℕ → Phase
+  -- the gate said yes to the refusal of a bind
+  MayRefuse : Bool → Phase
+  -- the gate said yes to a request more
+  Admitted : Bool → Phase
+  -- the gate gave no such leave
+  Barring : Bool → Ask → Phase
   -- the gate said yes to a submit
   MaySubmit : Bool → Phase
   -- the client has bound with this account, and is to be sent messages
@@ -250,8 +260,10 @@ after_bind ended kind.Tx account = Deciding ended
 after_bind ended kind.Rx account = Entering ended account
 after_bind ended kind.Trx account = Entering ended account
 
+-- what wants no leave
 abbrev pub after_act : Bool → Act → Phase
-after_act ended (act.Bind k account p) = after_bind ended k account
+after_act ended (act.Bind k account p) = Wrong
+after_act ended (act.Refuse p) = Wrong
 after_act ended act.Forward = Wrong
 after_act ended (act.MoAnswer n) = Wrong
 after_act ended a = if (act_worth a).ends then Closing else Deciding ended
@@ -259,16 +271,54 @@ after_act ended a = if (act_worth a).ends then Closing else Deciding ended
 abbrev pub after_fate : Bool → Act → Fate → Phase
 after_fate ended a Own = after_act ended a
 after_fate ended a (Submitted o r) = Wrong
+after_fate ended a (Barred l) = Wrong
 after_fate ended a (Settles found reply) = after_reply (Deciding ended) reply
 
 unfoldable pub from_deciding : Bool → step_of → Phase
 from_deciding ended (Marked Clogs) = Clogged
-from_deciding ended (Asked Submitting true) = MaySubmit ended
-from_deciding ended (Asked Submitting false) = Stopped
+from_deciding ended (Asked (Binding i) true) = MayBind ended i
+from_deciding ended (Asked (Binding i) false) = Barring ended (leave.Bind i)
+from_deciding ended (Asked Refusing true) = MayRefuse ended
+from_deciding ended (Asked Refusing false) = Stopped
+from_deciding ended (Asked Admitting true) = Admitted ended
+from_deciding ended (Asked Admitting false) = Barring ended leave.Request
 from_deciding ended (Did (Decided p a f)) = after_fate ended a.value f
 from_deciding ended (Did (Broke a)) = Closing
 from_deciding ended (Marked Part) = if ended then Closing else Settled
 from_deciding ended _ = Wrong
+
+-- a client is bound by the account for which the gate said yes
+abbrev pub when_bound : Bool → ℕ → Act → Phase
+when_bound ended i (act.Bind k account p) = if account == i then after_bind ended k account else Wrong
+when_bound ended i _ = Wrong
+
+unfoldable pub from_may_bind : Bool → ℕ → step_of → Phase
+from_may_bind ended i (Did (Decided p a Own)) = when_bound ended i a.value
+from_may_bind ended i _ = Wrong
+
+abbrev pub when_refused : Bool → Act → Phase
+when_refused ended (act.Refuse p) = Deciding ended
+when_refused ended _ = Wrong
+
+unfoldable pub from_may_refuse : Bool → step_of → Phase
+from_may_refuse ended (Did (Decided p a Own)) = when_refused ended a.value
+from_may_refuse ended _ = Wrong
+
+-- a request that may be one more is submitted only after one more yes
+unfoldable pub from_admitted : Bool → step_of → Phase
+from_admitted ended (Asked Submitting true) = MaySubmit ended
+from_admitted ended (Asked Submitting false) = Stopped
+from_admitted ended _ = Wrong
+
+abbrev pub is_same_leave : Ask → Ask → Bool
+is_same_leave (leave.Bind i) (leave.Bind j) = i == j
+is_same_leave leave.RefusedBind leave.RefusedBind = true
+is_same_leave leave.Request leave.Request = true
+is_same_leave _ _ = false
+
+unfoldable pub from_barring : Bool → Ask → step_of → Phase
+from_barring ended l (Did (Decided p a (Barred m))) = if is_same_leave m l then Deciding ended else Wrong
+from_barring ended l _ = Wrong
 
 unfoldable pub from_may_submit : Bool → step_of → Phase
 from_may_submit ended (Did (Decided p a (Submitted o r))) = Deciding ended
@@ -296,6 +346,10 @@ go t Hearing s = from_hearing t.now s
 go t Ageing s = from_ageing t s
 go t Looking s = from_looking t.now s
 go t (Deciding ended) s = from_deciding ended s
+go t (MayBind ended i) s = from_may_bind ended i s
+go t (MayRefuse ended) s = from_may_refuse ended s
+go t (Admitted ended) s = from_admitted ended s
+go t (Barring ended l) s = from_barring ended l s
 go t (MaySubmit ended) s = from_may_submit ended s
 go t (Entering ended account) s = from_entering ended account s
 go t Closing s = from_closing s
@@ -390,10 +444,16 @@ abbrev pub ComesTo : Result Progress Fault → Phase → Type 0
 ComesTo (Ok at) p = IsAt at p
 ComesTo (Err e) p = Faulted e p
 
--- what the session's decision leads to; a request and an answer to a message are still to be dealt with
+-- where a turn stands that has this leave, or where none is wanted
+abbrev pub with_leave : Bool → Option Ask → Phase
+with_leave ended None = Deciding ended
+with_leave ended (Some (leave.Bind i)) = MayBind ended i
+with_leave ended (Some leave.RefusedBind) = MayRefuse ended
+with_leave ended (Some leave.Request) = Admitted ended
+
+-- what the session's decision leads to; an answer to a message is still to be dealt with
 abbrev pub after_verdict : Bool → Verdict → Phase
 after_verdict ended verdict.Next = Deciding ended
-after_verdict ended verdict.Forward = Deciding ended
 after_verdict ended verdict.Settle = Deciding ended
 after_verdict ended (verdict.Bound k account) = after_bind ended k account
 after_verdict ended verdict.Over = Closing

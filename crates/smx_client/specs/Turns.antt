@@ -1,5 +1,5 @@
 -- What the steps of a turn change.
-use Rattle.std.specs.Prelude.{◌≡◌, ◌==◌, ◌≤◌, ◌<◌, ℕ, ◌+◌, Bool, true, false, not, List, [], ◌∷◌, ◌++◌, length, Result}
+use Rattle.std.specs.Prelude.{◌≡◌, ◌==◌, ◌≤◌, ◌<◌, ℕ, ◌+◌, Bool, not, List, [], ◌∷◌, ◌++◌, length, Result}
 use Rattle.smx_link.specs.declared.link.Polled.{Polled}
 use Rattle.smx_link.specs.declared.link.LinkFault.{LinkFault}
 use Rattle.smx_link.specs.Links.{fault_count}
@@ -14,7 +14,7 @@ use Rattle.smx_turns.specs.Wires.{some_wait}
 use Rattle.smx_client.specs.declared.mark.Mark.{Mark}
 use Rattle.smx_client.specs.declared.mark.Mark.TheVariants.{Offered, WriteFailed, Waited, NoRoom, Part, Entered, Full as Clogs}
 use Rattle.smx_client.specs.declared.event.Event.{Event}
-use Rattle.smx_client.specs.declared.event.Event.TheVariants.{Decided, Broke, Collected, PutAgain, Heard, Expired, Looked, Got as Fetched}
+use Rattle.smx_client.specs.declared.event.Event.TheVariants.{Decided, Broke, Collected, PutAgain, Heard, Expired, Looked, Unbound, Got as Fetched}
 use Rattle.smx_client.specs.Events.{worth}
 use Rattle.smx_client.specs.Parts.{Parts, Does}
 use Rattle.smx_client.specs.Prefixes.{Adds, account_prefixes}
@@ -74,6 +74,7 @@ Fits unsent (PutAgain lane reply) = Unit {0}
 Fits unsent (Heard now) = Unit {0}
 Fits unsent (Expired until found reply) = Unit {0}
 Fits unsent (Looked now e) = length unsent < 65536
+Fits unsent (Unbound p) = Unit {0}
 
 -- an event is a step of the parts, tells the gate, and what it says waits to be written
 pub record Happens (a : Scene) (e : Event) (b : Scene) : Type 0 where

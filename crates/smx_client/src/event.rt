@@ -5,7 +5,7 @@ use crate::reply::Reply;
 use smx_box::{Got, Spent as BoxSpent};
 use smx_lock::Spent;
 use smx_pdu::Pdu;
-use smx_session::{Act, Enquiry, Kind};
+use smx_session::{Act, Ask, Enquiry, Kind};
 use smx_shared::{Offer, SubmitFault};
 use smx_turns::{Deed, MoItem};
 use std::snapshot::Snapshot;
@@ -17,6 +17,8 @@ pub enum Fate {
     Own,
     /// It was offered so to the lanes, and this is what the port answered.
     Submitted(Snapshot<Offer>, Snapshot<Result<usize, (Offer, SubmitFault)>>),
+    /// The gate gave no leave.
+    Barred(Ask),
     /// The message that it answers, its lane and the centre's number, and what became of the answer.
     Settled(Option<(usize, u32)>, Reply),
 }
@@ -53,6 +55,8 @@ pub enum Event {
     /// A read answered that nothing more is there, and the moment was handed in: what it asks of
     /// the session.
     Looked(u64, Snapshot<Enquiry>),
+    /// Between two turns its client was sent this unbind, where it was bound.
+    Unbound(Snapshot<Option<Pdu>>),
 }
 
 impl Deed for Event {
@@ -72,8 +76,6 @@ pub(crate) enum Front {
 pub(crate) enum Verdict {
     // Nothing.
     Next,
-    // It waits to be submitted.
-    Forward,
     // It waits to settle a message.
     Settle,
     // The client is bound so, with this account.

@@ -66,7 +66,7 @@ impl Reply {
         ensures asked { G.asked gate.new ≡ G.asked gate.old }
     {
         if self == Reply::Taken {
-            gate.ready(Party::Lane(lane));
+            gate.ready(Party::Answer(lane));
         }
     }
 }

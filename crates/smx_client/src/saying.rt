@@ -1,9 +1,11 @@
 //! What is said to a client.
-ghost use Rattle.std.specs.Prelude.{◌≡◌, ◌++◌, ◌≤◌, [], ◌∷◌, true, length};
+ghost use Rattle.std.specs.Prelude.{◌≡◌, ◌≢◌, ◌++◌, ◌≤◌, [], ◌∷◌, true, length};
 ghost use Rattle.smx_pdu.specs.Command.{is_forwarded};
+ghost use Rattle.smx_session.specs.declared.act.Act.{Act};
 ghost use Rattle.smx_client.specs.Events.{act_out, refusal_out, response_out, why_unaccepted, is_none_found, enquiry_out, is_not_due, is_unanswered};
 ghost use Rattle.smx_client.specs.Events.{submit_told};
 ghost use Rattle.smx_client.specs.Parts.{IsOfferOf};
+ghost use Rattle.smx_turns.specs.Worth.{those};
 ghost use Rattle.smx_client.specs.Sayings.{Spoke, IsVerdict, asked_of};
 
 use crate::event::Verdict;
@@ -31,6 +33,17 @@ pub(crate) fn say_none<L: Link + Drop>(wire: &mut Wire<L>)
     let _ = wire;
 }
 
+// Says a PDU, where there is one.
+pub(crate) fn say_some<L: Link + Drop>(wire: &mut Wire<L>, said: &Option<Pdu>)
+    requires room { 65536 ≤ wire.old.room }
+    ensures { Spoke wire.old wire.new (those said.now) }
+{
+    match said {
+        Some(pdu) => say_one(wire, pdu),
+        None => say_none(wire),
+    }
+}
+
 // Says the response that was found, where there is one. True where there is none.
 pub(crate) fn say_found<L: Link + Drop>(
     wire: &mut Wire<L>,
@@ -56,9 +69,10 @@ pub(crate) fn say_act<L: Link + Drop>(wire: &mut Wire<L>, act: &Act)
     match act {
         Act::Answer(answer) => say_one(wire, answer),
         Act::Bind { answer, .. } => say_one(wire, answer),
+        Act::Refuse(answer) => say_one(wire, answer),
         Act::Leave(answer) => say_one(wire, answer),
         Act::Hangup(answer) => say_one(wire, answer),
-        Act::Forward | Act::MoAnswer { .. } | Act::Ignore => say_none(wire),
+        Act::Forward | Act::MoAnswer { .. } | Act::Closed | Act::Ignore => say_none(wire),
     }
 }
 
@@ -146,13 +160,14 @@ pub(crate) fn offer_of(pdu: Pdu) -> Offer
 
 // What is still to be done after the act.
 pub(crate) fn verdict_of(act: &Act) -> Verdict
+    requires { act.now ≢ Act.Forward }
     ensures { IsVerdict act.now result }
 {
     match act {
-        Act::Forward => Verdict::Forward,
+        Act::Forward => unreachable!(),
         Act::MoAnswer { .. } => Verdict::Settle,
         Act::Bind { kind, account, .. } => Verdict::Bound(*kind, *account),
-        Act::Leave(_) | Act::Hangup(_) => Verdict::Over,
-        Act::Answer(_) | Act::Ignore => Verdict::Next,
+        Act::Leave(_) | Act::Hangup(_) | Act::Closed => Verdict::Over,
+        Act::Answer(_) | Act::Refuse(_) | Act::Ignore => Verdict::Next,
     }
 }

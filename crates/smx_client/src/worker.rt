@@ -31,12 +31,14 @@ use std::alloc::Global;
 use std::marker::Model;
 use std::snapshot::Snapshot;
 
+mod admitting;
 mod boxing;
 mod closing;
 mod collecting;
 mod deciding;
 mod heeding;
 mod running;
+mod stopping;
 mod turning;
 
 pub use running::run_client;

@@ -14,7 +14,7 @@ use smx_memory_link::{MemoryLink, Script};
 use smx_pdu::Pdu;
 use smx_session::{Account, ClientState};
 use smx_shared::{Door, Exchange, Port, Tap};
-use smx_turns::{Directory, Gate, MoItem, Party, RunEnd};
+use smx_turns::{Directory, Gate, MoItem, Party, Point, RunEnd};
 use std::alloc::Global;
 use std::process::Abort;
 use std::sync::Wait;
@@ -37,6 +37,10 @@ enum Step<'s> {
     Runs(u64, RunEnd),
     // How client 1 is bound, and how many octets wait for its link.
     Stands(ClientState, usize),
+    // The gate says no at this point from now on.
+    Shuts(Option<Point>),
+    // The client is to be sent unbind: whether it was bound.
+    Stops(bool),
     // Whom the gate was told of last.
     Told(Option<Party>),
     // How many prefixes were entered, and clients removed.
@@ -132,6 +136,14 @@ impl Stand<'_, '_> {
             },
             Step::Stands(state, unsent) => match &self.seat {
                 Some(seat) => seat.stands(state, unsent),
+                None => false,
+            },
+            Step::Shuts(point) => {
+                self.world.gate.shut = point;
+                true
+            }
+            Step::Stops(want) => match &mut self.seat {
+                Some(seat) => seat.worker.stop() == Ok(want),
                 None => false,
             },
             Step::Told(want) => self.world.gate.last == want,

@@ -152,7 +152,7 @@ pub enum Brought {
 fn outcome_of(answer: Result<Answered, (Pdu, Spent)>) -> Brought {
     match answer {
         Ok(Answered::Queued { client }) => Brought::To(client),
-        Ok(Answered::Late) => Brought::Late,
+        Ok(Answered::Late { .. }) => Brought::Late,
         Ok(Answered::Unknown(pdu)) => Brought::Unknown(pdu.number),
         Err(_) => Brought::Spent,
     }

@@ -115,6 +115,6 @@ fn centre_and_client_exchange_a_message(rt: HostRuntime) {
     let closed = worker.close(at, &rt, &mut World::new().book);
     assert!(rt; took(&closed.link, &[CLIENT_BOUND, DELIVERED]));
     let upstream::Seat { at, worker, .. } = lane;
-    let closed = worker.close(at, &rt);
+    let closed = worker.close(at, &rt, &mut World::new().gate);
     assert!(rt; took(&closed.link, &[CENTRE_BIND, ANSWERED]));
 }

@@ -11,11 +11,13 @@ use std::cmp::Ord;
 use std::process::Abort;
 use std::sync::Wait;
 
-/// A gate that always says yes, and keeps how often it was asked and told, and of whom last.
+/// A gate that says yes but at the point where it is shut, and keeps how often it was asked and
+/// told, and of whom last.
 #[derive(Drop)]
 pub struct OpenGate {
     asked: Trace<Question>,
     told: Trace<Party>,
+    pub shut: Option<Point>,
     pub questions: u64,
     pub tidings: u64,
     pub last: Option<Party>,
@@ -27,14 +29,15 @@ impl Gate for OpenGate {
     ghost told = { λ g. g.told };
 
     fn at(&mut self, point: Point, turn: u64) -> bool {
+        let answer = self.shut != Some(point);
         let question = Question {
             point,
             turn,
-            answer: true,
+            answer,
         };
         self.asked = self.asked.and(&question);
         self.questions = self.questions.saturating_add(1);
-        true
+        answer
     }
 
     fn ready(&mut self, party: Party) {
@@ -100,6 +103,7 @@ impl World {
             gate: OpenGate {
                 asked: Trace::new(),
                 told: Trace::new(),
+                shut: None,
                 questions: 0,
                 tidings: 0,
                 last: None,

@@ -105,6 +105,8 @@ enum Step<'s> {
     // How often the gate was asked, and told.
     Asked(u64),
     Told(u64),
+    // At this moment all is given up: so many requests.
+    GivesUp(u64, usize),
     // The worker is closed. Its link took just this, one part after another.
     Closes(&'s [&'s [u8]]),
     // The same, and so many requests failed. Another worker goes on over a link with these pieces.
@@ -157,6 +159,10 @@ impl<'a, L: Link + Drop> Seat<'a, L> {
         name_want(rt, end);
         end
     }
+
+    fn gives_up<R: Wait>(&mut self, rt: &R, world: &mut World, now: u64) -> usize {
+        self.worker.give_up(self.at, rt, &mut world.gate, now)
+    }
 }
 
 /// The session of `proxy` with the password `pw` at the moment 0. It enquires after a second.
@@ -207,6 +213,10 @@ impl<'a> Stand<'a> {
                 Some(seat) => seat.worker.stop().expect(rt, "out of memory") == want,
                 None => false,
             },
+            Step::GivesUp(now, want) => match &mut self.seat {
+                Some(seat) => seat.gives_up(rt, &mut self.world, now) == want,
+                None => false,
+            },
             Step::Stands(want) => match &self.seat {
                 Some(seat) => seat.worker.state() == want,
                 None => false,
@@ -233,7 +243,7 @@ impl<'a> Stand<'a> {
         ensures { IfSome result (λ p. slice_get p.0.now p.1.tap.lane ≡ Some p.1.tap.front.lock) }
     {
         let Seat { at, worker, .. } = self.seat.take()?;
-        let closed = worker.close(at, rt);
+        let closed = worker.close(at, rt, &mut self.world.gate);
         if took(&closed.link, taken) {
             Some((at, closed))
         } else {

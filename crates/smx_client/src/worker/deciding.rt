@@ -1,13 +1,15 @@
 //! The PDUs that came, each decided once and in order.
-ghost use Rattle.std.specs.Prelude.{◌≡◌, ◌≢◌, ◌⊎◌, ◌≤◌, ◌<◌, ℕ, Bool, List, [], length, Some, None, Ok, Err, OnOk, OnErr, IfSome, IsSome, true, false, if◌then◌else◌};
+ghost use Rattle.std.specs.Prelude.{◌≡◌, ◌≢◌, ◌≤◌, ◌<◌, ℕ, Bool, List, [], length, Some, None, Ok, Err, OnOk, OnErr, IfSome, IsSome, true, false, if◌then◌else◌};
 ghost use Rattle.smx_frame.specs.Stream.{HasNone};
 ghost use Rattle.smx_session.specs.ClientTable.{client_decides};
 ghost use Rattle.smx_session.specs.declared.act.Act.{Act};
+ghost use Rattle.smx_session.specs.declared.ask.Ask.{Ask};
 ghost use Rattle.smx_shared.specs.Views.{locks_of};
 ghost use Rattle.smx_turns.specs.declared.directory.Query.{Query};
 ghost use Rattle.smx_turns.specs.Wires.{IsBad};
 ghost use Rattle.smx_client.specs.Scenes.{scene_of, Moves};
-ghost use Rattle.smx_client.specs.Table.{Before, Phase, phase_of, Deciding, MaySubmit, Closing, Settled, after_reply, IsAt, IsDecided, IsPart, weight};
+ghost use Rattle.smx_client.specs.Serving.{held_asks};
+ghost use Rattle.smx_client.specs.Table.{Before, Phase, phase_of, Deciding, MaySubmit, Barring, Closing, Settled, after_reply, with_leave, IsAt, IsDecided, IsPart, weight};
 ghost use Rattle.smx_client.specs.Turns.{Leads};
 
 use super::ClientWorker;
@@ -17,7 +19,7 @@ use crate::mark::{Mark, Stage};
 use crate::reply::answer_settled;
 use crate::saying::{offer_of, say_act, say_refusal, tell_accepted, verdict_of};
 use smx_link::Link;
-use smx_session::{Act, ClientState};
+use smx_session::{Act, Ask, ClientState};
 use smx_shared::Exchange;
 use smx_turns::{Fault, Gate, Log, is_memory};
 use std::snapshot::Snapshot;
@@ -155,28 +157,66 @@ impl<'d, L: Link + Drop> ClientWorker<'d, L> {
         }
     }
 
-    // Decides the PDU that waits, as far as the session alone does.
+    // What leave the PDU that waits asks for.
+    pub(super) fn asks(&self) -> Option<Ask>
+        ensures { result ≡ held_asks self.now }
+    {
+        match &self.held {
+            Some(pdu) => self.session.asks(pdu, self.desk.accounts.as_slice()),
+            None => None,
+        }
+    }
+
+    // Answers the PDU that waits, which asked for this leave: the gate gave none.
+    pub(super) fn bar(&mut self, leave: Ask, log: &mut Log<Mark, Event>)
+        requires room { 65536 ≤ self.old.wire.room }
+        requires below { length self.old.wire.unsent < 65536 }
+        requires asks { held_asks self.old ≡ Some leave }
+        requires some { IsSome self.old.held }
+        requires undecided { self.old.settled ≡ false }
+        ensures moves { Moves L.offered L.polls L.failures self.old log.old self.new log.new }
+        ensures phase { (t : Before) (ended : Bool) → phase_of t log.old ≡ Barring ended leave
+            → phase_of t log.new ≡ Deciding ended }
+        ensures held { self.new.held ≡ None }
+        ensures same { self.new ≡ record self.old {
+          wire = record self.old.wire {
+            said = self.new.wire.said;
+            unsent = self.new.wire.unsent;
+            room = self.new.wire.room;
+          };
+          held = self.new.held;
+          events = self.new.events;
+        } }
+    {
+        let Some(pdu) = self.held.take() else {
+            unreachable!()
+        };
+        let act = self.session.bars(&pdu, leave);
+        say_act(&mut self.wire, &act);
+        let event = Event::Decided(Snapshot::of(&pdu), Snapshot::of(&act), Fate::Barred(leave));
+        note(&mut self.events, log, event, false);
+    }
+
+    // Decides the PDU that waits, as far as the session alone does. Its leave was given, where it
+    // asks for one.
     pub(super) fn decide(&mut self, log: &mut Log<Mark, Event>) -> Result<Verdict, Fault>
         requires room { 65536 ≤ self.old.wire.room }
+        requires own { held_asks self.old ≢ Some Ask.Request }
         requires below { length self.old.wire.unsent < 65536 }
         requires some { IsSome self.old.held }
         requires undecided { self.old.settled ≡ false }
         requires going { self.old.stage ≢ Stage.Closed }
         ensures moves { Moves L.offered L.polls L.failures self.old log.old self.new log.new }
-        ensures phase { (t : Before) (ended : Bool) → phase_of t log.old ≡ Deciding ended
+        ensures phase { (t : Before) (ended : Bool)
+            → phase_of t log.old ≡ with_leave ended (held_asks self.old)
             → IsDecided ended result (phase_of t log.new) }
-        ensures held { OnOk result
-            ((result ≢ Ok Verdict.Forward) → (result ≢ Ok Verdict.Settle) → self.new.held ≡ None) }
+        ensures held { OnOk result (result ≢ Ok Verdict.Settle → self.new.held ≡ None) }
         ensures over { result ≡ Ok Verdict.Over → self.new.session.state ≡ ClientState.Ended }
-        ensures forward { result ≡ Ok Verdict.Forward
-            → IfSome self.new.held (λ p.
-            client_decides self.new.desk.accounts.items self.new.session.state p
-            ≡ (Act.Forward, self.new.session.state)) }
         ensures settle { result ≡ Ok Verdict.Settle
             → IfSome self.new.held (λ p.
             client_decides self.new.desk.accounts.items self.new.session.state p
             ≡ (Act.MoAnswer p.number, self.new.session.state)) }
-        ensures waits { (result ≡ Ok Verdict.Forward) ⊎ (result ≡ Ok Verdict.Settle)
+        ensures waits { result ≡ Ok Verdict.Settle
             → IsSome self.new.held × (self.new.wire ≡ self.old.wire) }
         ensures same { self.new ≡ record self.old {
           session = self.new.session;
@@ -197,10 +237,6 @@ impl<'d, L: Link + Drop> ClientWorker<'d, L> {
             return Err(Fault::NoMemory);
         };
         match act {
-            Act::Forward => {
-                self.held = Some(pdu);
-                Ok(Verdict::Forward)
-            }
             Act::MoAnswer { .. } => {
                 self.held = Some(pdu);
                 Ok(Verdict::Settle)
@@ -226,9 +262,7 @@ impl<'d, L: Link + Drop> ClientWorker<'d, L> {
         requires locks { locks_of self.old.port.fronts ≡ at.now }
         requires room { 65536 ≤ self.old.wire.room }
         requires below { length self.old.wire.unsent < 65536 }
-        requires held { IfSome self.old.held (λ p.
-            client_decides self.old.desk.accounts.items self.old.session.state p
-            ≡ (Act.Forward, self.old.session.state)) }
+        requires asks { held_asks self.old ≡ Some Ask.Request }
         requires some { IsSome self.old.held }
         requires undecided { self.old.settled ≡ false }
         ensures leads { (n : ℕ) (queries : List Query) → Leads n

@@ -6,31 +6,19 @@ ghost use Rattle.smx_turns.specs.declared.gate.Question.{Question};
 ghost use Rattle.smx_turns.specs.declared.gate.Party.{Party};
 ghost use Rattle.smx_turns.specs.declared.directory.Query.{Query};
 ghost use Rattle.smx_client.specs.Scenes.{scene_of, before};
-ghost use Rattle.smx_client.specs.Table.{Before, Phase, phase_of, Written, Clear, Deciding, Unentered, when_drained, IsRead, IsFront, IsPart, ComesTo, after_bind, when_written};
+ghost use Rattle.smx_client.specs.Table.{Before, Phase, phase_of, Written, Clear, Deciding, when_drained, IsRead, IsFront, IsPart, ComesTo, when_written};
 ghost use Rattle.smx_client.specs.Turns.{Leads};
 
 use super::ClientWorker;
 use super::boxing::is_waiting;
-use crate::event::{Event, Progress, Verdict};
+use crate::event::{Event, Progress};
 use crate::ledger::{ask, mark, reading};
 use crate::mark::{Mark, Stage};
-use crate::prefixes::{add_all, prefixes_at};
 use smx_link::{Link, Polled};
-use smx_session::{ClientState, Kind};
+use smx_session::ClientState;
 use smx_shared::Exchange;
 use smx_turns::{Directory, Fault, Gate, Log, Point, is_end};
 use std::sync::Wait;
-
-// Whether a client that is bound so is sent messages.
-fn is_sent(kind: Kind) -> bool
-    ensures other { result ≡ true → kind ≢ Kind.Tx }
-    ensures tx { result ≡ false → kind ≡ Kind.Tx }
-{
-    match kind {
-        Kind::Tx => false,
-        Kind::Rx | Kind::Trx => true,
-    }
-}
 
 // The stage after a read that answered so.
 fn stage_after(ended: bool) -> Stage
@@ -40,19 +28,6 @@ fn stage_after(ended: bool) -> Stage
     ensures goes_on { result ≢ Stage.Closed }
 {
     if ended { Stage::Drained } else { Stage::Open }
-}
-
-// How far a turn comes once prefixes were entered: whether there was memory for all.
-fn part_entered(whole: bool) -> Result<Option<Progress>, Fault>
-    ensures phase { (ended : Bool)
-        → IsPart (Deciding ended) result (if whole then Deciding ended else Unentered) }
-    ensures none { OnOk result (result ≡ Ok None) }
-{
-    if whole {
-        Ok(None)
-    } else {
-        Err(Fault::NoMemory)
-    }
 }
 
 impl<'d, L: Link + Drop> ClientWorker<'d, L> {
@@ -170,100 +145,6 @@ impl<'d, L: Link + Drop> ClientWorker<'d, L> {
         match self.read_part(gate, turn, log)? {
             Err(progress) => Ok(Err(progress)),
             Ok(found) => self.heed(rt, gate, found, now, log),
-        }
-    }
-
-    // Enters the client that has bound into the directory, where it is to be sent messages.
-    fn enter<R: Wait, D: Directory>(
-        &mut self,
-        rt: &R,
-        directory: &mut D,
-        kind: Kind,
-        account: usize,
-        log: &mut Log<Mark, Event>,
-    ) -> Result<Option<Progress>, Fault>
-        ensures leads { (n : ℕ) (asked : List Question) (told : List Party) → Leads n
-            (scene_of L.offered L.polls L.failures asked told (D.queries directory.old) self.old)
-            log.old
-            (scene_of L.offered L.polls L.failures asked told (D.queries directory.new) self.new)
-            log.new }
-        ensures phase { (t : Before) (ended : Bool)
-            → phase_of t log.old ≡ after_bind ended kind account
-            → IsPart (Deciding ended) result (phase_of t log.new) }
-        ensures none { OnOk result (result ≡ Ok None) }
-        ensures same { self.new ≡ self.old }
-    {
-        if !is_sent(kind) {
-            return Ok(None);
-        }
-        let prefixes = prefixes_at(self.desk, account);
-        let whole = add_all(rt, directory, prefixes, self.port.client());
-        mark(log, Mark::Entered(account, whole), true);
-        part_entered(whole)
-    }
-
-    // Decides the PDU that waits. `None` where the next one may be decided.
-    fn decide_one<R: Wait, G: Gate, D: Directory>(
-        &mut self,
-        at: &Exchange,
-        rt: &R,
-        gate: &mut G,
-        directory: &mut D,
-        turn: u64,
-        ended: bool,
-        log: &mut Log<Mark, Event>,
-    ) -> Result<Option<Progress>, Fault>
-        requires locks { locks_of self.old.port.fronts ≡ at.now }
-        requires none { self.old.parked ≡ None }
-        requires below { length self.old.wire.unsent < 65536 }
-        requires some { IsSome self.old.held }
-        requires undecided { self.old.settled ≡ false }
-        requires going { self.old.stage ≢ Stage.Closed }
-        ensures leads { Leads turn
-            (scene_of L.offered L.polls L.failures (G.asked gate.old) (G.told gate.old) (D.queries
-            directory.old) self.old)
-            log.old
-            (scene_of L.offered L.polls L.failures (G.asked gate.new) (G.told gate.new) (D.queries
-            directory.new) self.new)
-            log.new }
-        ensures phase { (t : Before) → phase_of t log.old ≡ Deciding ended
-            → IsPart (Deciding ended) result (phase_of t log.new) }
-        ensures next { result ≡ Ok None → (self.new.held ≡ None) × (self.new.parked ≡ None) }
-        ensures which { (result ≢ Ok (Some Progress.Settled))
-            × (result ≢ Ok (Some Progress.Clogged))
-            × (result ≢ Ok (Some Progress.Gone)) }
-        ensures over { result ≡ Ok (Some Progress.Closed)
-            → self.new.session.state ≡ ClientState.Ended }
-        ensures waits { result ≡ Ok (Some Progress.Parked) → IsSome self.new.parked }
-        ensures locks { locks_of self.new.port.fronts ≡ locks_of self.old.port.fronts }
-        ensures same { self.new ≡ record self.old {
-          port = self.new.port;
-          session = self.new.session;
-          senders = self.new.senders;
-          window = self.new.window;
-          wire = record self.old.wire {
-            said = self.new.wire.said;
-            unsent = self.new.wire.unsent;
-            room = self.new.wire.room;
-          };
-          held = self.new.held;
-          parked = self.new.parked;
-          events = self.new.events;
-        } }
-    {
-        self.make_room()?;
-        match self.decide(log)? {
-            Verdict::Next => Ok(None),
-            Verdict::Over => Ok(Some(Progress::Closed)),
-            Verdict::Bound(kind, account) => self.enter(rt, directory, kind, account, log),
-            Verdict::Forward => {
-                if !ask(log, gate, Point::Submitting, turn) {
-                    return Ok(Some(Progress::Stopped));
-                }
-                self.forward(at, rt, gate, log);
-                Ok(None)
-            }
-            Verdict::Settle => self.settle(rt, gate, log),
         }
     }
 

@@ -1,5 +1,5 @@
 //! What passes between a client and its lanes.
-use super::Step::{At, Closes, Gets, Responds, Routes, Runs, Sends, Stands, Told};
+use super::Step::{At, Closes, Gets, Responds, Routes, Runs, Sends, Shuts, Stands, Stops, Told};
 use super::*;
 use smx_turns::Fault;
 use std::cmp::Ord;
@@ -67,7 +67,7 @@ const ANSWERS_STEPS: [Step; 11] = [
     Sends(3),
     Sends(4),
     Runs(100, RunEnd::Idle),
-    Told(Some(Party::Lane(0))),
+    Told(Some(Party::Answer(0))),
     Sends(5),
     Closes(&[&BOUND, SENT], true),
     Gets(Some((0x8000_0005, 0, 3))),
@@ -261,4 +261,92 @@ fn messages_have_their_time(rt: HostRuntime) {
     let mut setting = Setting::new(0, script(rt.alloc(), 4_096, &OVERDUE_PIECES));
     setting.message_time = 5_000;
     lanes_after(&rt, rt.alloc(), setting, &OVERDUE_STEPS);
+}
+
+// A request that may not be one more is answered with the status 0x14, and no lane is told of it. The
+// next one is accepted.
+const FULL: &[u8] = b"\0\0\0\x10\x80\0\0\x04\0\0\0\x14\0\0\0\x07";
+
+const FULL_PIECES: [Piece; 3] = [(0, BIND), (25, SUBMIT), (41, SUBMIT)];
+
+const FULL_STEPS: [Step; 8] = [
+    Shuts(Some(Point::Admitting)),
+    Runs(2, RunEnd::Turns),
+    Told(None),
+    Stands(ClientState::BoundTrx, 16),
+    Shuts(None),
+    Runs(100, RunEnd::Idle),
+    Told(Some(Party::Lane(0))),
+    Closes(&[&BOUND, FULL], false),
+];
+
+#[test]
+fn gate_admits_no_request(rt: HostRuntime) {
+    let setting = Setting::new(0, script(rt.alloc(), 4_096, &FULL_PIECES));
+    lanes_after(&rt, rt.alloc(), setting, &FULL_STEPS);
+}
+
+// A bind by an account that has no more of them is answered with the status 0x0D, and the client
+// stays open.
+const NOT_BOUND: &[u8] = b"\0\0\0\x10\x80\0\0\x09\0\0\0\x0d\0\0\0\x01";
+
+const NOT_BOUND_STEPS: [Step; 5] = [
+    Shuts(Some(Point::Binding(0))),
+    Runs(100, RunEnd::Idle),
+    Stands(ClientState::Opened, 0),
+    Closes(&[NOT_BOUND], false),
+    Routes(0, 1),
+];
+
+#[test]
+fn gate_lets_no_more_bind(rt: HostRuntime) {
+    let setting = Setting::new(0, script(rt.alloc(), 4_096, &[(0, BIND)]));
+    lanes_after(&rt, rt.alloc(), setting, &NOT_BOUND_STEPS);
+}
+
+// A bind with a wrong password waits until the gate lets it be refused.
+const WRONG: &[u8] = b"\0\0\0\x19\0\0\0\x09\0\0\0\0\0\0\0\x01a\0q\0\0\x34\0\0\0";
+
+const REFUSED: &[u8] = b"\0\0\0\x10\x80\0\0\x09\0\0\0\x0e\0\0\0\x01";
+
+const REFUSED_STEPS: [Step; 6] = [
+    Shuts(Some(Point::Refusing)),
+    Runs(100, RunEnd::Idle),
+    Stands(ClientState::Opened, 0),
+    Shuts(None),
+    Runs(100, RunEnd::Idle),
+    Closes(&[REFUSED], false),
+];
+
+#[test]
+fn gate_paces_refusals(rt: HostRuntime) {
+    let setting = Setting::new(0, script(rt.alloc(), 4_096, &[(0, WRONG)]));
+    lanes_after(&rt, rt.alloc(), setting, &REFUSED_STEPS);
+}
+
+// Once it is bound the client is sent unbind, number 7fffffff, once. Its request then is answered
+// with the status 0x14, and its unbind_resp ends it.
+const UNBIND: &[u8] = b"\0\0\0\x10\0\0\0\x06\0\0\0\0\x7f\xff\xff\xff";
+
+const UNBOUND: &[u8] = b"\0\0\0\x10\x80\0\0\x06\0\0\0\0\x7f\xff\xff\xff";
+
+const STOPPED_PIECES: [Piece; 3] = [(0, BIND), (41, SUBMIT), (57, UNBOUND)];
+
+const STOPPED_STEPS: [Step; 10] = [
+    Stops(false),
+    Runs(100, RunEnd::Idle),
+    Stops(true),
+    Stands(ClientState::Unbinding, 16),
+    Stops(false),
+    Stands(ClientState::Unbinding, 16),
+    Runs(100, RunEnd::Left),
+    Told(None),
+    Stands(ClientState::Ended, 0),
+    Closes(&[&BOUND, UNBIND, FULL], false),
+];
+
+#[test]
+fn stop_waits_for_the_clients_answer(rt: HostRuntime) {
+    let setting = Setting::new(0, script(rt.alloc(), 4_096, &STOPPED_PIECES));
+    lanes_after(&rt, rt.alloc(), setting, &STOPPED_STEPS);
 }

@@ -3,6 +3,7 @@ use super::*;
 use crate::hall::is_of;
 use smx_history::{Kind, Limits};
 use smx_shared::Starts;
+use smx_turns::Party;
 use smx_upstream::{AbandonEnd, give_up_queued, lose};
 use std::test::*;
 
@@ -71,9 +72,11 @@ fn queued_requests_are_given_up(rt: HostRuntime) {
     let mut tap = last_tap(&exchange, &mut taps).expect(&rt, "there is one lane");
     let mut client = enter(&rt, &exchange, &mut door).expect(&rt, "no client");
     submits_five(&rt, rt.alloc(), &mut client);
-    assert!(rt; lose(&mut tap, &exchange, &rt).failed == 0);
-    let given = give_up_queued(&mut tap, &exchange, &rt, 60_000);
+    let mut gate = World::new().gate;
+    assert!(rt; lose(&mut tap, &exchange, &rt, &mut gate).failed == 0);
+    let given = give_up_queued(&mut tap, &exchange, &rt, &mut gate, 60_000);
     assert!(rt; given.failed == 5 && matches!(given.end, AbandonEnd::Emptied));
+    assert!(rt; gate.tidings == 5 && gate.last == Some(Party::Client { client: 1, lane: 0 }));
     collects_five_failures(&rt, &mut client);
     assert!(rt; submit(&rt, rt.alloc(), &mut client) == Err(SubmitFault::AllFull));
     assert!(rt; client.leave(&rt));

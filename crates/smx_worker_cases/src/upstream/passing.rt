@@ -1,6 +1,7 @@
 //! What passes between a client's tokens and the centre.
 use super::Step::{
-    Answers, Asked, Closes, Collects, Gets, GoesOn, Last, Runs, Stands, Stops, Submits, Told,
+    Answers, Asked, Closes, Collects, Gets, GivesUp, GoesOn, Last, Runs, Stands, Stops, Submits,
+    Told,
 };
 use super::*;
 use crate::hall::is_of;
@@ -196,4 +197,40 @@ fn stopped_in_order(rt: HostRuntime) {
         let setting = Setting::new(most, script(rt.alloc(), most, &STOPPED_PIECES));
         lanes_after(&rt, rt.alloc(), setting, &STOPPED_STEPS);
     }
+}
+
+// One request is taken and one queued when all is given up: the client is told of both, and nothing more
+// is accepted. Over the link the answer to a message still goes out, the response that comes then reaches
+// nobody, and the session unbinds.
+const GIVEN_UP_PIECES: [Piece; 4] = [
+    (30, &BOUND),
+    (30, &MESSAGE),
+    (81, &RESPONSE),
+    (97, &UNBOUND),
+];
+
+const GIVEN_UP_STEPS: [Step; 17] = [
+    Submits(Ok(0)),
+    Runs(0, 1_000, RunEnd::Idle),
+    Gets(Some((1, &TEXT))),
+    Submits(Ok(0)),
+    Told(1),
+    GivesUp(1, 2),
+    Told(3),
+    Collects(FAILED),
+    Collects(FAILED),
+    Submits(Err(SubmitFault::AllFull)),
+    Answers(1, 0, 1),
+    Runs(1, 1_000, RunEnd::Idle),
+    Collects(None),
+    Told(3),
+    Stops(true),
+    Runs(1, 1_000, RunEnd::Left),
+    Closes(&[&BIND, &SUBMIT, &ANSWER, &UNBIND]),
+];
+
+#[test]
+fn all_is_given_up(rt: HostRuntime) {
+    let setting = Setting::new(0, script(rt.alloc(), 65_536, &GIVEN_UP_PIECES));
+    lanes_after(&rt, rt.alloc(), setting, &GIVEN_UP_STEPS);
 }

@@ -1,10 +1,9 @@
-use Rattle.std.proofs.Common.{◌++◌, refl, sym, ap, ◌∙◌, subst}
+use Rattle.std.proofs.Common.{◌++◌, refl, sym, ap, ◌∙◌}
 use Rattle.std.proofs.lemmas.List.{append-nil}
 use Rattle.smx_link.specs.Wiring.{Wiring, spellings}
 use Rattle.smx_client.specs.declared.event.Event.TheVariants.{Looked}
 use Rattle.smx_client.specs.Events.{enquiry_out}
 use Rattle.smx_client.specs.Serving.{Serving}
-use Rattle.smx_client.specs.Table.{IsFront}
 use Rattle.smx_client.proofs.Cells as cell
 use Rattle.smx_client.proofs.Doings as doing
 use Rattle.smx_client.proofs.Scenes.{happens}

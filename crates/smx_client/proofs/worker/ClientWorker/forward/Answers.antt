@@ -1,14 +1,14 @@
-use Rattle.std.proofs.Common.{◌≡◌, ◌++◌, refl, sym, ap, ◌∙◌, subst, IfSome}
+use Rattle.std.proofs.Common.{◌≡◌, ◌++◌, refl, sym, ap, ◌∙◌, subst, Some}
 use Rattle.smx_link.specs.Wiring.{Wiring, spellings}
-use Rattle.smx_session.specs.ClientTable.{client_decides}
 use Rattle.smx_session.specs.declared.act.Act.TheVariants as act
+use Rattle.smx_session.specs.declared.ask.Ask.TheVariants.{Request}
 use Rattle.smx_client.specs.declared.event.Event.TheVariants.{Decided}
 use Rattle.smx_client.specs.declared.event.Fate.TheVariants.{Submitted}
 use Rattle.smx_client.specs.Events.{submit_told}
-use Rattle.smx_client.specs.Serving.{Serving}
+use Rattle.smx_client.specs.Serving.{Serving, held_asks}
 use Rattle.smx_client.proofs.Cells as cell
 use Rattle.smx_client.proofs.Doings as doing
-use Rattle.smx_client.proofs.Fates.{forward_out, forward_port, forward_lists, stays}
+use Rattle.smx_client.proofs.Fates.{forward_out, forward_port, forward_lists, stays, request_decides}
 use Rattle.smx_client.proofs.Scenes.{happens}
 use Rattle.smx_turns.proofs.Breaking.{stays_bad}
 use Rattle.smx_client.proofs.Serving.{did, as_below, decides, undecided, as_closed}
@@ -26,7 +26,7 @@ invariant_of-self g c =
     c.offer_of-offer.ensures c.submit-landed.ensures.ok c.submit-landed.ensures.err)
     (λ all has. forward_lists c.offer_of-offer.result _ c.submit-landed.result _ _ all c.of-offered.ensures c.of.ensures (c.submit-landed.ensures.listed all has))
     (stays _ _ s.held c.in-Some.pdu _ act.Forward _ (Submitted c.of-offered.result c.of.result) c.in-Some.ensures.value c.of-read.ensures c.of-2.ensures tt
-    (subst (λ (w : Serving g.row.L.Denot). IfSome w.held (λ p. client_decides w.desk.accounts.items w.session.state p ≡ (act.Forward, w.session.state))) (sym c.self.view_is) c.requires.held)))
+    (request_decides _ _ s.held (subst (λ (w : Serving g.row.L.Denot). held_asks w ≡ Some Request) (sym c.self.view_is) c.requires.asks))))
     (undecided _ (ap (λ (w : Serving g.row.L.Denot). w.settled) c.self.view_is ∙ c.requires.undecided))
     (stays_bad refl (ap (λ (w : Wiring g.row.L.Denot). w.failed) e) (ap (λ (w : Wiring g.row.L.Denot). w.rest) e))
     (as_closed g.L.Link.polls _ _ _ _ _ (ap (λ w. w.link) e) c.self.invariant.closed)
@@ -41,7 +41,7 @@ returns-clause-leads g c = rw (← c.self.view_is) (λ n queries base was.
     c.offer_of-offer.ensures c.submit-landed.ensures.ok c.submit-landed.ensures.err)
     (λ all has. forward_lists c.offer_of-offer.result _ c.submit-landed.result _ _ all c.of-offered.ensures c.of.ensures (c.submit-landed.ensures.listed all has))
     (stays _ _ s.held c.in-Some.pdu _ act.Forward _ (Submitted c.of-offered.result c.of.result) c.in-Some.ensures.value c.of-read.ensures c.of-2.ensures tt
-    (subst (λ (w : Serving g.row.L.Denot). IfSome w.held (λ p. client_decides w.desk.accounts.items w.session.state p ≡ (act.Forward, w.session.state))) (sym c.self.view_is) c.requires.held)))
+    (request_decides _ _ s.held (subst (λ (w : Serving g.row.L.Denot). held_asks w ≡ Some Request) (sym c.self.view_is) c.requires.asks))))
     c.tell_accepted.ensures.asked (c.tell_accepted.ensures.told ∙ ap (λ r. g.G.Gate.told c.args.gate.now ++ submit_told r) (sym c.of.ensures)) c.note.ensures.events
     (c.say_refusal.ensures.unsent ∙ ap (λ l. s.wire.unsent ++ spellings l) (forward_out c.in-Some.pdu _ _ c.submit-landed.result _ c.of-2.ensures c.of-read.ensures c.of.ensures))
     (ap (λ w. w.link) c.say_refusal.ensures.same)) base was)
