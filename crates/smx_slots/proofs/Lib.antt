@@ -1,2 +1,5 @@
+pub mod Counting
 pub mod Joining
+pub mod Moving
+pub mod Pairs
 pub mod Turning

@@ -1,3 +1,6 @@
+pub mod Bells
+pub mod Ledger
 pub mod Lines
+pub mod Rolls
 pub mod Schedules
 pub mod Private

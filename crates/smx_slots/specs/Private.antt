@@ -1,2 +1,5 @@
 -- What models and invariants cite: no public contract does.
+pub mod Entries
+pub mod LedgerFields
 pub mod LineFields
+pub mod Sorted

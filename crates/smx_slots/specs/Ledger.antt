@@ -1,0 +1,151 @@
+-- What a ledger was told, and how many requests are under way by it.
+use Rattle.std.specs.Prelude.{ℕ, Bool, true, false, List, [], ◌∷◌, ◌==◌, ◌&&◌, ◌+◌, ◌-◌, nat_lt, not, Option, Some, None, slice_get, slice_set, length, ◌++◌, if◌then◌else◌}
+use Rattle.std.specs.Option.{option_map_or}
+use Rattle.smx_slots.specs.declared.note.Note.{Note}
+use Rattle.smx_slots.specs.declared.note.Note.TheVariants.{Bound, Accepted, Settled, Left}
+use Rattle.smx_slots.specs.declared.limits.Limits.{Limits}
+
+-- the notes, the latest first; by index the key of each account, which it keeps while indexes change; by key the limits; and whether nothing more is admitted
+pub record Book : Type 0 where
+  pub notes : List Note
+  pub keys : List ℕ
+  pub limits : List Limits
+  pub draining : Bool
+
+-- the account by which the client was bound last
+abbrev pub account_of : ℕ → List Note → Option ℕ
+account_of client [] = None
+account_of client (Bound c key ∷ notes) = if c == client then Some key else account_of client notes
+account_of client (Accepted c ∷ notes) = account_of client notes
+account_of client (Settled c ∷ notes) = account_of client notes
+account_of client (Left c ∷ notes) = account_of client notes
+
+abbrev pub is_at : ℕ → Option ℕ → Bool
+is_at key None = false
+is_at key (Some k) = k == key
+
+-- whether the client is bound
+abbrev pub is_bound : ℕ → List Note → Bool
+is_bound client [] = false
+is_bound client (Bound c key ∷ notes) = if c == client then true else is_bound client notes
+is_bound client (Accepted c ∷ notes) = is_bound client notes
+is_bound client (Settled c ∷ notes) = is_bound client notes
+is_bound client (Left c ∷ notes) = if c == client then false else is_bound client notes
+
+-- how many requests of the client are under way: those accepted less those settled
+abbrev pub requests_of : ℕ → List Note → ℕ
+requests_of client [] = 0
+requests_of client (Bound c key ∷ notes) = requests_of client notes
+requests_of client (Accepted c ∷ notes) = if c == client then requests_of client notes + 1 else requests_of client notes
+requests_of client (Settled c ∷ notes) = if c == client then requests_of client notes - 1 else requests_of client notes
+requests_of client (Left c ∷ notes) = requests_of client notes
+
+-- how many requests of the account's clients are: those accepted less those settled, of clients that are gone too
+abbrev pub count_of : ℕ → List Note → ℕ
+count_of key [] = 0
+count_of key (Bound c k ∷ notes) = count_of key notes
+count_of key (Accepted c ∷ notes) = if is_at key (account_of c notes) then count_of key notes + 1 else count_of key notes
+count_of key (Settled c ∷ notes) = if is_at key (account_of c notes) then count_of key notes - 1 else count_of key notes
+count_of key (Left c ∷ notes) = count_of key notes
+
+-- how many of all are
+abbrev pub total_of : List Note → ℕ
+total_of [] = 0
+total_of (Bound c key ∷ notes) = total_of notes
+total_of (Accepted c ∷ notes) = total_of notes + 1
+total_of (Settled c ∷ notes) = total_of notes - 1
+total_of (Left c ∷ notes) = total_of notes
+
+-- how many clients are bound by the account
+abbrev pub bound_of : ℕ → List Note → ℕ
+bound_of key [] = 0
+bound_of key (Bound c k ∷ notes) = if k == key then bound_of key notes + 1 else bound_of key notes
+bound_of key (Accepted c ∷ notes) = bound_of key notes
+bound_of key (Settled c ∷ notes) = bound_of key notes
+bound_of key (Left c ∷ notes) = if is_at key (account_of c notes) then bound_of key notes - 1 else bound_of key notes
+
+-- one note more
+abbrev pub noted : Note → Book → Book
+noted note book = record book { notes = note ∷ book.notes }
+
+-- the client is bound by the account with this key
+abbrev pub with_client : ℕ → Option ℕ → Book → Book
+with_client client None book = book
+with_client client (Some key) book = noted (Bound client key) book
+
+-- the greatest number of requests or clients that is counted
+abbrev pub greatest_count : ℕ
+greatest_count = 0xFFFF_FFFF_FFFF_FFFF
+
+-- one more is within the limit, where there is one
+abbrev pub is_below : Option ℕ → ℕ → Bool
+is_below None count = nat_lt count greatest_count
+is_below (Some limit) count = nat_lt count limit
+
+abbrev pub binds_limit : ℕ → Book → Option ℕ
+binds_limit key book = option_map_or (λ limits. limits.binds) (slice_get book.limits key) None
+
+abbrev pub requests_limit : ℕ → Book → Option ℕ
+requests_limit key book = option_map_or (λ limits. limits.requests) (slice_get book.limits key) None
+
+-- whether the client may be bound by the account with this key
+abbrev pub may_bind : ℕ → Option ℕ → Book → Bool
+may_bind client None book = false
+may_bind client (Some key) book = not book.draining && not (is_bound client book.notes) && is_below (binds_limit key book) (bound_of key book.notes)
+
+-- whether one more request of the client may be under way
+abbrev pub may_request : ℕ → Option ℕ → Book → Bool
+may_request client None book = false
+may_request client (Some key) book = not book.draining && is_bound client book.notes && is_below (requests_limit key book) (count_of key book.notes)
+
+-- whether one more of the client can be counted
+abbrev pub is_countable : ℕ → Option ℕ → List Note → Bool
+is_countable client None notes = false
+is_countable client (Some key) notes = is_bound client notes && nat_lt (requests_of client notes) greatest_count && nat_lt (count_of key notes) greatest_count && nat_lt (total_of notes) greatest_count
+
+-- the client is gone, where it was bound
+abbrev pub without_client : ℕ → Book → Book
+without_client client book = if is_bound client book.notes then noted (Left client) book else book
+
+-- a request of the client was accepted, where it can be counted
+abbrev pub with_accepted : ℕ → Book → Book
+with_accepted client book = if is_countable client (account_of client book.notes) book.notes then noted (Accepted client) book else book
+
+-- a request of the client was answered or failed, where one is under way
+abbrev pub with_settled : ℕ → Book → Book
+with_settled client book = if nat_lt 0 (requests_of client book.notes) then noted (Settled client) book else book
+
+-- by index the keys of accounts, and by key their limits
+pub record Accounts : Type 0 where
+  pub keys : List ℕ
+  pub limits : List Limits
+
+abbrev pub accounts : List ℕ → List Limits → Accounts
+accounts keys limits = record { keys = keys; limits = limits }
+
+-- whether an account moved to this index
+abbrev pub moves_to : ℕ → Option ℕ → Bool
+moves_to index None = false
+moves_to index (Some new) = new == index
+
+-- of accounts that moved so, the key of the first that moved to this index
+abbrev pub key_moved : List (Option ℕ) → List ℕ → ℕ → Option ℕ
+key_moved [] keys index = None
+key_moved (move ∷ moves) [] index = None
+key_moved (move ∷ moves) (key ∷ keys) index = if moves_to index move then Some key else key_moved moves keys index
+
+-- one account more: one that has a key keeps it and has these limits now, and any other has a key of its own
+abbrev pub with_account : Option ℕ → Limits → Accounts → Accounts
+with_account (Some key) limits a = accounts (a.keys ++ key ∷ []) (slice_set a.limits key limits)
+with_account None limits a = accounts (a.keys ++ length a.limits ∷ []) (a.limits ++ limits ∷ [])
+
+-- the accounts with these limits, from an index on, where this is the key of one that moved to an index
+abbrev pub with_accounts : (ℕ → Option ℕ) → ℕ → List Limits → Accounts → Accounts
+with_accounts key_of index [] a = a
+with_accounts key_of index (limits ∷ more) a = with_accounts key_of (index + 1) more (with_account (key_of index) limits a)
+
+-- other accounts: who moved keeps its key, and with it its clients and their requests; the limits of one that is gone stay too
+abbrev pub renewed : List (Option ℕ) → List Limits → Book → Book
+renewed moves limits book =
+    let a = with_accounts (key_moved moves book.keys) 0 limits (accounts [] book.limits) in
+    record book { keys = a.keys; limits = a.limits }

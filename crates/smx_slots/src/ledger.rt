@@ -1,0 +1,282 @@
+//! Which requests are under way, and whose they are.
+ghost use Rattle.std.specs.Prelude.{◌≡◌, [], ◌++◌, ◌≤◌, ◌<◌, length, false, true, slice_get, replicate, All, IfOk, OnOk, OnErr};
+ghost use Rattle.std.specs.List.{range_with_len};
+ghost use Rattle.std.specs.Option.{option_map_or};
+ghost use Rattle.smx_slots.specs.Ledger.{with_client, without_client, with_accepted, with_settled, may_bind, may_request, account_of, requests_of, count_of, bound_of, total_of, renewed};
+
+use crate::accounts::{accounts_of, with_zeros};
+use crate::entries::{Entries, Entry};
+use crate::limits::{Limits, is_below};
+use crate::note::Note;
+use smx_trace::Trace;
+use std::alloc::{AllocError, Global};
+use std::marker::Model;
+
+/// The limits of each account, which clients are bound by it, and which of their requests were accepted and
+/// are neither answered nor failed. A client that is gone is known until the last of its own is settled.
+/// Contracts see what the ledger was told.
+#[derive(Drop)]
+pub struct Ledger {
+    alloc: Global,
+    clients: Entries,
+    // By index: the account's key, under which its limits and counts are.
+    keys: Vec<usize>,
+    limits: Vec<Limits>,
+    bound: Vec<u64>,
+    requests: Vec<u64>,
+    total: u64,
+    draining: bool,
+    notes: Trace<Note>,
+}
+
+impl Model for Ledger {
+    ghost use Rattle.smx_slots.specs.Ledger.{Book};
+    ghost use Rattle.smx_slots.specs.Private.LedgerFields.{book_of, IsKept};
+
+    ghost Value = { Book };
+
+    ghost view = { book_of };
+
+    ghost invariant = { IsKept };
+}
+
+// So many keys, from 0 on.
+fn first_keys(alloc: Global, count: usize) -> Result<Vec<usize>, AllocError>
+    ensures { IfOk result (λ keys. keys.items ≡ range_with_len 0 count) }
+{
+    let mut keys = Vec::with_capacity(alloc, count)?;
+    for key in 0..count {
+        keys.push(key)?;
+    }
+    Ok(keys)
+}
+
+// The key of the account with this index.
+fn key_at(keys: &[usize], account: usize) -> Option<usize>
+    ensures { result ≡ slice_get keys.now account }
+{
+    keys.get(account).copied()
+}
+
+impl Ledger {
+    /// Accounts with these limits, each with its index as its key. Nobody is bound.
+    pub fn new(alloc: Global, limits: &[Limits]) -> Result<Ledger, AllocError>
+        ensures { IfOk result (λ ledger. ledger ≡ record {
+          notes = [];
+          keys = range_with_len 0 (length limits.now);
+          limits = limits.now;
+          draining = false;
+        }) }
+    {
+        let count = limits.len();
+        Ok(Ledger {
+            alloc,
+            clients: Entries::new(alloc),
+            keys: first_keys(alloc, count)?,
+            limits: limits.iter().copied().collect(alloc)?,
+            bound: vec![in alloc; 0; count]?,
+            requests: vec![in alloc; 0; count]?,
+            total: 0,
+            draining: false,
+            notes: Trace::new(),
+        })
+    }
+
+    /// The client is bound by the account with this index. False where as many are as may be, where nothing
+    /// is admitted any more, where the ledger knows the client or no such account, and where there is no
+    /// memory: nothing changes then.
+    pub fn bind(&mut self, client: u64, account: usize) -> bool
+        ensures may { result ≡ true
+            → may_bind client (slice_get self.old.keys account) self.old ≡ true }
+        ensures bound { result ≡ true
+            → self.new ≡ with_client client (slice_get self.old.keys account) self.old }
+        ensures same { result ≡ false → self.new ≡ self.old }
+    {
+        let Some(key) = key_at(self.keys.as_slice(), account) else {
+            return false;
+        };
+        if self.draining || self.clients.get(client).is_some() {
+            return false;
+        }
+        if !is_below(self.limits[key].binds, self.bound[key]) {
+            return false;
+        }
+        let entry = Entry {
+            key,
+            here: true,
+            requests: 0,
+        };
+        if self.clients.enter(client, entry).is_err() {
+            return false;
+        }
+        self.bound[key] += 1;
+        self.notes = self.notes.and(&Note::Bound(client, key));
+        true
+    }
+
+    /// The client is gone. Its requests that are under way still count for its account. It takes no
+    /// memory.
+    pub fn leave(&mut self, client: u64)
+        ensures { self.new ≡ without_client client self.old }
+    {
+        let Some(entry) = self.clients.get(client) else {
+            return;
+        };
+        if !entry.here {
+            return;
+        }
+        if entry.requests == 0 {
+            self.clients.remove(client);
+        } else {
+            let gone = Entry {
+                here: false,
+                ..entry
+            };
+            self.clients.change(client, gone);
+        }
+        self.bound[entry.key] = self.bound[entry.key].saturating_sub(1);
+        self.notes = self.notes.and(&Note::Left(client));
+    }
+
+    /// Whether one more request of the client may be under way.
+    pub fn admits(&self, client: u64) -> bool
+        ensures { result
+            ≡ may_request client (account_of client self.now.notes) self.now }
+    {
+        let Some(entry) = self.clients.get(client) else {
+            return false;
+        };
+        !self.draining
+            && entry.here
+            && is_below(self.limits[entry.key].requests, self.requests[entry.key])
+    }
+
+    /// A lane accepted a request of the client. Nothing changes where it isn't bound, or a count is as great
+    /// as one can be. It takes no memory.
+    pub fn accepted(&mut self, client: u64)
+        ensures { self.new ≡ with_accepted client self.old }
+    {
+        let Some(entry) = self.clients.get(client) else {
+            return;
+        };
+        let requests = self.requests[entry.key];
+        if !entry.here
+            || !is_below(None, entry.requests)
+            || !is_below(None, requests)
+            || !is_below(None, self.total)
+        {
+            return;
+        }
+        let more = Entry {
+            requests: entry.requests + 1,
+            ..entry
+        };
+        self.clients.change(client, more);
+        self.requests[entry.key] = requests + 1;
+        self.total += 1;
+        self.notes = self.notes.and(&Note::Accepted(client));
+    }
+
+    /// A request of the client was answered or failed. Nothing changes where none of it is under way. It
+    /// takes no memory.
+    pub fn settled(&mut self, client: u64)
+        ensures { self.new ≡ with_settled client self.old }
+    {
+        let Some(entry) = self.clients.get(client) else {
+            return;
+        };
+        if entry.requests == 0 {
+            return;
+        }
+        let fewer = Entry {
+            requests: entry.requests - 1,
+            ..entry
+        };
+        if fewer.here || fewer.requests > 0 {
+            self.clients.change(client, fewer);
+        } else {
+            self.clients.remove(client);
+        }
+        self.requests[entry.key] = self.requests[entry.key].saturating_sub(1);
+        self.total = self.total.saturating_sub(1);
+        self.notes = self.notes.and(&Note::Settled(client));
+    }
+
+    /// How many requests are under way.
+    pub fn under_way(&self) -> u64
+        ensures { result ≡ total_of self.now.notes }
+    {
+        self.total
+    }
+
+    /// How many requests of the account's clients are under way, of those that are gone too. 0 where there is
+    /// no such account.
+    pub fn of_account(&self, account: usize) -> u64
+        ensures { result ≡ option_map_or (λ key. count_of key self.now.notes)
+            (slice_get self.now.keys account) 0 }
+    {
+        match key_at(self.keys.as_slice(), account) {
+            Some(key) => self.requests[key],
+            None => 0,
+        }
+    }
+
+    /// How many clients are bound by the account. 0 where there is no such account.
+    pub fn bound_by(&self, account: usize) -> u64
+        ensures { result ≡ option_map_or (λ key. bound_of key self.now.notes)
+            (slice_get self.now.keys account) 0 }
+    {
+        match key_at(self.keys.as_slice(), account) {
+            Some(key) => self.bound[key],
+            None => 0,
+        }
+    }
+
+    /// How many requests of the client are under way, also where it is gone.
+    pub fn of_client(&self, client: u64) -> u64
+        ensures { result ≡ requests_of client self.now.notes }
+    {
+        match self.clients.get(client) {
+            Some(entry) => entry.requests,
+            None => 0,
+        }
+    }
+
+    /// From now on nothing is admitted, and nobody may bind.
+    pub fn drain(&mut self)
+        ensures { self.new ≡ record self.old { draining = true } }
+    {
+        self.draining = true;
+    }
+
+    /// Whether nothing is admitted any more.
+    pub fn is_draining(&self) -> bool
+        ensures { result ≡ self.now.draining }
+    {
+        self.draining
+    }
+
+    /// Other accounts, with these limits: by old index the new one that the account moved to, where it did.
+    /// Clients keep their account, and one that is gone keeps its limits. Want of memory is answered, and
+    /// nothing changes then.
+    pub fn renew(&mut self, moves: &[Option<usize>], limits: &[Limits]) -> Result<(), AllocError>
+        ensures ok { OnOk result (self.new ≡ renewed moves.now limits.now self.old) }
+        ensures err { OnErr result (self.new ≡ self.old) }
+    {
+        let (keys, table) = accounts_of(
+            self.alloc,
+            moves,
+            self.keys.as_slice(),
+            self.limits.as_slice(),
+            limits,
+        )?;
+        let more = table.len() - self.limits.len();
+        let bound = with_zeros(self.alloc, self.bound.as_slice(), more)?;
+        let requests = with_zeros(self.alloc, self.requests.as_slice(), more)?;
+        self.keys = keys;
+        self.limits = table;
+        self.bound = bound;
+        self.requests = requests;
+        Ok(())
+    }
+}
