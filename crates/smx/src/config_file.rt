@@ -1,7 +1,8 @@
 //! The check of a configuration's file.
 use crate::watched::{Because, Watched};
 use smx_config::{
-    Config, ConfigFault, FileFault, advice, check, key_table, read, read_text, reject, unread,
+    Config, ConfigFault, FileFault, SHARING_ADVICE, advice, check, key_table, may_take_all, read,
+    read_text, reject, unread,
 };
 use std::process::ExitCode;
 use std::rt::Files;
@@ -38,6 +39,15 @@ fn advise<R: Eprint + AllocGlobal>(rt: &R, path: &str, text: &str) {
         Ok(words) => eprintln!(rt; "{path}: {words}"),
         Err(_) => eprintln!(rt; "{path}: {fault}"),
     };
+}
+
+// Says on standard error that one account of a text can take all lanes, where it can.
+fn advise_on_sharing<R: Eprint + AllocGlobal>(rt: &R, path: &str, text: &str) {
+    if let Ok(config) = read(rt.alloc(), text) {
+        if may_take_all(&config) {
+            let _ = eprintln!(rt; "{path}: {SHARING_ADVICE}");
+        }
+    }
 }
 
 // Says on standard error which keys of a text nobody reads.
@@ -140,6 +150,7 @@ pub(crate) fn run<R: Files + Print + Eprint + AllocGlobal>(rt: &R, path: &str) -
         Ok(text) => {
             let status = check_text(rt, path, &text);
             name_unread(rt, path, &text);
+            advise_on_sharing(rt, path, &text);
             status
         }
         Err(fault) => {

@@ -1,20 +1,22 @@
 -- The settings that a TOML text states, or its first fault.
-use Rattle.std.specs.Prelude.{ℕ, ◌+◌, ℤ, pos, negsuc, List, [], ◌∷◌, ◌++◌, length, Option, Some, None, option_and_then, Result, Ok, Err, ok_or, Bool, true, ◌&&◌, nat_le, is_some, if◌then◌else◌, codes}
+use Rattle.std.specs.Prelude.{ℕ, ◌+◌, ℤ, pos, negsuc, List, [], ◌∷◌, ◌++◌, length, Option, Some, None, option_and_then, option_map, Result, Ok, Err, ok_or, Bool, true, ◌&&◌, nat_le, is_some, if◌then◌else◌, codes}
 use Rattle.std.specs.List.{list_any}
 use Rattle.std.specs.Str.{bytes_eq}
 use Rattle.std.specs.Option.{option_map_or}
 use Rattle.std.specs.Result.{result_ok}
-use Rattle.toml.specs.Data.{Data, Items, no_items, item, Members, no_members, get, get_member, as_array, as_integer, as_str, as_table}
+use Rattle.toml.specs.Data.{Data, Items, no_items, item, Members, no_members, get, get_member, as_array, as_bool, as_integer, as_str, as_table}
 use Rattle.toml.specs.Parse.{parse_document}
 use Rattle.smx_history.specs.declared.limits.Limits.{Limits}
 use Rattle.smx_config.specs.declared.number.Number.{Number}
 use Rattle.smx_config.specs.declared.number.Number.TheVariants as number
+use Rattle.smx_config.specs.declared.flag.Flag.{Flag}
+use Rattle.smx_config.specs.declared.flag.Flag.TheVariants as flag
 use Rattle.smx_config.specs.declared.text.Text.{Text}
 use Rattle.smx_config.specs.declared.text.Text.TheVariants as text
 use Rattle.smx_config.specs.declared.timers.Timers.{Timers}
 use Rattle.smx_config.specs.declared.fault.ConfigFault.{ConfigFault}
 use Rattle.smx_config.specs.declared.fault.ConfigFault.TheVariants as fault
-use Rattle.smx_config.specs.Keys.{number_row, is_number, text_row, is_text}
+use Rattle.smx_config.specs.Keys.{number_row, is_number, flag_row, text_row, is_text}
 use Rattle.smx_config.specs.Settings.{UpstreamSettings, AccountSettings, Settings}
 
 -- an integer as a number that may stand at the key
@@ -28,7 +30,15 @@ number_of key d = option_and_then (number_within key) (as_integer d)
 
 -- the number at a key, or its default where the key is absent
 abbrev pub number_or_default : Number → Members → Option ℕ
-number_or_default key ms = option_map_or (number_of key) (get_member (number_row key).key ms) (Some (number_row key).default)
+number_or_default key ms = option_map_or (number_of key) (get_member (number_row key).key ms) (number_row key).default
+
+-- the limit at a key of a value; where the key is absent, there is none
+abbrev pub limit_in : Number → Data → Option (Option ℕ)
+limit_in key d = option_map_or (λ n. option_map Some (number_of key n)) (get (number_row key).key d) (Some None)
+
+-- whether it is true at a key, or its default where the key is absent
+abbrev pub flag_or_default : Flag → Members → Option Bool
+flag_or_default key ms = option_map_or as_bool (get_member (flag_row key).key ms) (Some (flag_row key).default)
 
 -- the text, where it may stand at the key
 abbrev pub text_within : Text → List ℕ → Option (List ℕ)
@@ -78,7 +88,8 @@ stated_timers whole silence ms =
     given (number_or_default number.Bind ms) (λ bind.
     given (number_or_default number.ClientSilence ms) (λ client_silence.
     given (number_or_default number.Message ms) (λ message.
-    Some (record { response = response; reconnect = reconnect; reconnect_most = reconnect_most; enquire = enquire; bind = bind; client_silence = client_silence; message = message }))))))))
+    given (number_or_default number.Stop ms) (λ stop.
+    Some (record { response = response; reconnect = reconnect; reconnect_most = reconnect_most; enquire = enquire; bind = bind; client_silence = client_silence; message = message; stop = stop })))))))))
 
 -- the timers that a file of this silence states; where the table is absent, each is the default
 abbrev pub timers_at : ℕ → Members → Option Timers
@@ -129,18 +140,18 @@ prefixes_of ds = if nat_le (item_count ds) 16 then result_ok (stated_after prefi
 abbrev pub prefixes_in : Data → Option (List (List ℕ))
 prefixes_in d = option_map_or (λ p. option_and_then prefixes_of (as_array p)) (get (text_row text.Prefix).key d) (Some [])
 
-abbrev pub account_from : Option (List ℕ) → Option (List ℕ) → Option (List (List ℕ)) → Option AccountSettings
-account_from None password prefixes = None
-account_from (Some system_id) None prefixes = None
-account_from (Some system_id) (Some password) None = None
-account_from (Some system_id) (Some password) (Some prefixes) = Some (record { system_id = system_id; password = password; prefixes = prefixes })
-
 -- an account whose system_id no earlier one has
 abbrev pub new_account : List AccountSettings → AccountSettings → Option AccountSettings
 new_account before a = if list_any (λ b. bytes_eq a.system_id b.system_id) before then None else Some a
 
 abbrev pub account_in : List AccountSettings → Data → Option AccountSettings
-account_in before d = option_and_then (new_account before) (account_from (text_in text.SystemId d) (text_in text.Password d) (prefixes_in d))
+account_in before d =
+    given (text_in text.SystemId d) (λ system_id.
+    given (text_in text.Password d) (λ password.
+    given (prefixes_in d) (λ prefixes.
+    given (limit_in number.Binds d) (λ binds.
+    given (limit_in number.Requests d) (λ requests.
+    new_account before (record { system_id = system_id; password = password; prefixes = prefixes; binds = binds; requests = requests }))))))
 
 -- goes on with what is stated, or stops at the fault
 abbrev pub on : {A B E : Type 0} → Result A E → (A → Result B E) → Result B E
@@ -165,13 +176,14 @@ config_of ms =
     on (ok_or (number_or_default number.Clients ms) fault.Numbers) (λ clients.
     on (ok_or (number_or_default number.Places ms) fault.Numbers) (λ places.
     on (ok_or (number_or_default number.Silence ms) fault.Numbers) (λ silence.
+    on (ok_or (flag_or_default flag.ProxyProtocol ms) fault.ProxyProtocol) (λ proxy_protocol.
     on (ok_or (limits_at ms) fault.Limits) (λ limits.
     on (ok_or (timers_at silence ms) fault.Timers) (λ timers.
     on (ok_or (tables_at (codes "upstream") 16 ms) fault.Upstreams) (λ upstreams.
     on (upstreams_of upstreams) (λ upstream.
     on (ok_or (tables_at (codes "account") 256 ms) fault.Accounts) (λ accounts.
     on (accounts_of accounts) (λ account.
-    Ok (record { listen = listen; clients = clients; places = places; limits = limits; timers = timers; upstream = upstream; account = account })))))))))))
+    Ok (record { listen = listen; proxy_protocol = proxy_protocol; clients = clients; places = places; limits = limits; timers = timers; upstream = upstream; account = account }))))))))))))
 
 -- the settings that a text states, or its first fault
 abbrev pub settings_of : List ℕ → Result Settings ConfigFault

@@ -1,5 +1,6 @@
 -- What a configuration says, and the limits that its type keeps.
-use Rattle.std.specs.Prelude.{◌≢◌, ◌≤◌, ℕ, List, length, All, AllPairs, IsTrue}
+use Rattle.std.specs.Prelude.{◌≢◌, ◌≤◌, ℕ, Bool, ◌&&◌, List, length, nat_lt, Option, is_none, IfSome, All, AllPairs, IsTrue}
+use Rattle.std.specs.List.{list_all}
 use Rattle.smx_history.specs.declared.limits.Limits.{Limits}
 use Rattle.smx_history.specs.Room.{AreLimits}
 use Rattle.smx_config.specs.declared.number.Number.TheVariants as number
@@ -16,9 +17,12 @@ pub record AccountSettings : Type 0 where
   pub system_id : List ℕ
   pub password : List ℕ
   pub prefixes : List (List ℕ)
+  pub binds : Option ℕ
+  pub requests : Option ℕ
 
 pub record Settings : Type 0 where
   pub listen : List ℕ
+  pub proxy_protocol : Bool
   pub clients : ℕ
   pub places : ℕ
   pub limits : Limits
@@ -42,6 +46,8 @@ pub record IsAccount (a : AccountSettings) : Type 0 where
   pub system_id : IsTrue (is_text text.SystemId a.system_id)
   pub password : IsTrue (is_text text.Password a.password)
   pub prefixes : ArePrefixes a.prefixes
+  pub binds : IfSome a.binds (λ n. IsTrue (is_number number.Binds n))
+  pub requests : IfSome a.requests (λ n. IsTrue (is_number number.Requests n))
 
 -- what the timers of every `Config` keep
 pub record AreTimers (t : Timers) : Type 0 where
@@ -52,6 +58,7 @@ pub record AreTimers (t : Timers) : Type 0 where
   pub bind : IsTrue (is_number number.Bind t.bind)
   pub client_silence : IsTrue (is_number number.ClientSilence t.client_silence)
   pub message : IsTrue (is_number number.Message t.message)
+  pub stop : IsTrue (is_number number.Stop t.stop)
 
 -- what every `Config` keeps
 pub record IsConfig (s : Settings) : Type 0 where
@@ -63,3 +70,7 @@ pub record IsConfig (s : Settings) : Type 0 where
   pub upstream : (1 ≤ length s.upstream) × (length s.upstream ≤ 16)
   pub account : (1 ≤ length s.account) × (length s.account ≤ 256)
   pub distinct : AllPairs (λ a b. a.system_id ≢ b.system_id) s.account
+
+-- nothing keeps one of several accounts from all that the lanes hold
+abbrev pub may_take_all : Settings → Bool
+may_take_all s = nat_lt 1 (length s.account) && list_all (λ a. is_none a.requests) s.account

@@ -9,6 +9,7 @@ ghost use Rattle.smx_config.specs.Settings.{ArePrefixes};
 ghost use Rattle.smx_config.specs.Reading.{prefix_in, prefixes_of, prefixes_in, account_in, accounts_of};
 
 use crate::fault::ConfigFault;
+use crate::number::Number;
 use crate::text::Text;
 use std::alloc::{AllocError, Global};
 use std::fmt;
@@ -29,6 +30,11 @@ pub struct Account {
     /// The fronts of the addresses whose messages it gets: at most 16, no two equal, each of at most
     /// 64 octets.
     pub prefixes: Vec<String>,
+    /// The most clients that are bound by it at a time: 1 to 65,535. None: no limit.
+    pub binds: Option<u32>,
+    /// The most requests of its clients, gone ones too, that are accepted and not yet answered or failed:
+    /// 1 to 65,535. None: no limit.
+    pub requests: Option<u32>,
 }
 
 impl Model for Account {
@@ -41,6 +47,8 @@ impl Model for Account {
       system_id = string_bytes a.system_id;
       password = string_bytes a.password;
       prefixes = map string_bytes a.prefixes.items;
+      binds = a.binds;
+      requests = a.requests;
     } };
 
     ghost invariant = { λ a. IsAccount
@@ -48,6 +56,8 @@ impl Model for Account {
           system_id = string_bytes a.system_id;
           password = string_bytes a.password;
           prefixes = map string_bytes a.prefixes.items;
+          binds = a.binds;
+          requests = a.requests;
         }) };
 }
 
@@ -149,6 +159,12 @@ fn read_account(
     let Some(prefixes) = prefixes_within(alloc, value)? else {
         return Ok(None);
     };
+    let Some(binds) = Number::Binds.limit_within(value) else {
+        return Ok(None);
+    };
+    let Some(requests) = Number::Requests.limit_within(value) else {
+        return Ok(None);
+    };
     if is_known(before, system_id) {
         return Ok(None);
     }
@@ -158,6 +174,8 @@ fn read_account(
         system_id,
         password,
         prefixes,
+        binds,
+        requests,
     }))
 }
 

@@ -4,6 +4,7 @@ ghost use Rattle.smx_config.specs.Lines.{fault_place};
 
 use crate::account::MAX_PREFIXES;
 use crate::fault::ConfigFault;
+use crate::flag::Flag;
 use crate::listing::{on_prefixes, on_table_list};
 use crate::number::{Number, NumberRule};
 use crate::reading::{MAX_ACCOUNTS, MAX_UPSTREAMS};
@@ -97,8 +98,27 @@ fn on_number(alloc: Global, key: Number, table: &Table) -> Result<Option<String>
             }
         }
     };
+    let words = match default {
+        Some(default) => format!(in alloc;
+            "{name} {what}: write {name} = {default}, or another number from {least} to {most}"
+        )?,
+        None => format!(in alloc;
+            "{name} {what}: write a number from {least} to {most}, or leave {name} out"
+        )?,
+    };
+    Ok(Some(words))
+}
+
+// Words on what stands at a key that is true or false, unless it is as it may be.
+fn on_flag(alloc: Global, key: Flag, table: &Table) -> Result<Option<String>, AllocError> {
+    if key.at(table).is_some() {
+        return Ok(None);
+    }
+    let rule = key.rule();
+    let (name, default) = (rule.key, rule.default);
     let words = format!(in alloc;
-        "{name} {what}: write {name} = {default}, or another number from {least} to {most}"
+        "{name} is neither true nor false: write {name} = {default}, or {name} = {}",
+        !default
     )?;
     Ok(Some(words))
 }
@@ -220,6 +240,12 @@ fn on_account(alloc: Global, table: &Table, index: usize) -> Result<Option<Strin
     if words.is_some() {
         return Ok(words);
     }
+    if let Some(account) = value.as_table() {
+        let words = on_numbers(alloc, Section::Account, account)?;
+        if words.is_some() {
+            return Ok(words);
+        }
+    }
     Ok(Some(on_twin(alloc, table, index, value)?))
 }
 
@@ -232,6 +258,7 @@ fn on_fault(
     match fault {
         ConfigFault::Listen => on_text(alloc, Text::Listen, find(table, Text::Listen.rule().key)),
         ConfigFault::Numbers => on_numbers(alloc, Section::Top, table),
+        ConfigFault::ProxyProtocol => on_flag(alloc, Flag::ProxyProtocol, table),
         ConfigFault::Limits => on_number_table(alloc, "limits", Section::Limits, table),
         ConfigFault::Timers => on_timers(alloc, table),
         ConfigFault::Upstreams => on_table_list(alloc, "upstream", MAX_UPSTREAMS, table),

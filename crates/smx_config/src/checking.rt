@@ -38,6 +38,7 @@ fn fault_line(alloc: Global, fault: ConfigFault) -> Result<String, AllocError>
         ConfigFault::NotToml => String::from_str(alloc, "fault NotToml\n"),
         ConfigFault::Listen => String::from_str(alloc, "fault Listen\n"),
         ConfigFault::Numbers => String::from_str(alloc, "fault Numbers\n"),
+        ConfigFault::ProxyProtocol => String::from_str(alloc, "fault ProxyProtocol\n"),
         ConfigFault::Limits => String::from_str(alloc, "fault Limits\n"),
         ConfigFault::Timers => String::from_str(alloc, "fault Timers\n"),
         ConfigFault::Upstreams => String::from_str(alloc, "fault Upstreams\n"),

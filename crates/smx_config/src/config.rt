@@ -10,6 +10,8 @@ use std::marker::Model;
 pub struct Config {
     /// Where clients connect: 1 to 255 octets, as `127.0.0.1:2775`.
     pub listen: String,
+    /// Whether each connection of a client begins with a header of the PROXY protocol, version 2.
+    pub proxy_protocol: bool,
     /// The most clients at a time: 1 to 256.
     pub clients: u32,
     /// The places of each client's message box, of its window of messages, and of each lane's return
@@ -33,6 +35,7 @@ impl Model for Config {
 
     ghost view = { λ c. record {
       listen = string_bytes c.listen;
+      proxy_protocol = c.proxy_protocol;
       clients = c.clients;
       places = c.places;
       limits = c.limits;
@@ -44,6 +47,7 @@ impl Model for Config {
     ghost invariant = { λ c. IsConfig
         (record {
           listen = string_bytes c.listen;
+          proxy_protocol = c.proxy_protocol;
           clients = c.clients;
           places = c.places;
           limits = c.limits;

@@ -14,6 +14,9 @@ pub enum ConfigFault {
     /// `clients`, `box` or `silence` is no number in its range.
     #[error("clients, box or silence is out of range")]
     Numbers,
+    /// `proxy_protocol` is neither true nor false.
+    #[error("proxy_protocol is neither true nor false")]
+    ProxyProtocol,
     /// `limits` is no table, or one of its keys is no number in its range.
     #[error("limits are out of range")]
     Limits,

@@ -1,6 +1,7 @@
 //! The table of keys, in words for a person.
 
 use crate::account::MAX_PREFIXES;
+use crate::flag::Flag;
 use crate::number::Number;
 use crate::reading::{MAX_ACCOUNTS, MAX_UPSTREAMS};
 use crate::section::Section;
@@ -45,7 +46,10 @@ fn number_line(alloc: Global, number: Number) -> Result<String, AllocError> {
     let least = grouped(alloc, rule.least)?;
     let most = grouped(alloc, rule.most)?;
     let may_be = format!(in alloc; "{least} to {most}")?;
-    let default = format!(in alloc; "{}", rule.default)?;
+    let default = match rule.default {
+        Some(default) => format!(in alloc; "{default}")?,
+        None => String::from_str(alloc, "no limit")?,
+    };
     line(
         alloc,
         [
@@ -54,6 +58,16 @@ fn number_line(alloc: Global, number: Number) -> Result<String, AllocError> {
             may_be.as_str(),
             default.as_str(),
         ],
+    )
+}
+
+fn flag_line(alloc: Global, flag: Flag) -> Result<String, AllocError> {
+    let rule = flag.rule();
+    let key = format!(in alloc; "`{}`", rule.key)?;
+    let default = format!(in alloc; "{}", rule.default)?;
+    line(
+        alloc,
+        [key.as_str(), flag.means(), "true, false", default.as_str()],
     )
 }
 
@@ -128,6 +142,11 @@ pub fn key_table(alloc: Global) -> Result<String, AllocError> {
         for number in Number::all() {
             if section.is(number.rule().section) {
                 table.push_str(number_line(alloc, *number)?.as_str())?;
+            }
+        }
+        for flag in Flag::all() {
+            if section.is(flag.rule().section) {
+                table.push_str(flag_line(alloc, *flag)?.as_str())?;
             }
         }
     }

@@ -1,8 +1,8 @@
 //! The numbers of a configuration.
-ghost use Rattle.std.specs.Prelude.{◌≡◌, IfSome, IsTrue};
+ghost use Rattle.std.specs.Prelude.{◌≡◌, Some, None, IfSome, IsTrue};
 ghost use Rattle.toml.specs.View.{table_view, view};
 ghost use Rattle.smx_config.specs.Keys.{number_row, all_numbers, is_number, is_read};
-ghost use Rattle.smx_config.specs.Reading.{number_of, number_or_default};
+ghost use Rattle.smx_config.specs.Reading.{number_of, number_or_default, limit_in};
 
 use crate::section::Section;
 use crate::table::find;
@@ -25,6 +25,9 @@ pub(crate) enum Number {
     Bind,
     ClientSilence,
     Message,
+    Stop,
+    Binds,
+    Requests,
 }
 
 /// The range of a key with a number, and where it stands.
@@ -36,8 +39,8 @@ pub(crate) struct NumberRule {
     pub(crate) key: &'static str,
     pub(crate) least: u32,
     pub(crate) most: u32,
-    /// The number where the key is absent.
-    pub(crate) default: u32,
+    /// The number where the key is absent. None where nothing is limited then.
+    pub(crate) default: Option<u32>,
 }
 
 fn row(section: Section, key: &'static str, least: u32, most: u32, default: u32) -> NumberRule
@@ -45,14 +48,30 @@ fn row(section: Section, key: &'static str, least: u32, most: u32, default: u32)
     ensures key { result.key.now ≡ key.now }
     ensures least { result.least ≡ least }
     ensures most { result.most ≡ most }
-    ensures default { result.default ≡ default }
+    ensures default { result.default ≡ Some default }
 {
     NumberRule {
         section,
         key,
         least,
         most,
-        default,
+        default: Some(default),
+    }
+}
+
+fn limit_row(section: Section, key: &'static str, least: u32, most: u32) -> NumberRule
+    ensures section { result.section ≡ section }
+    ensures key { result.key.now ≡ key.now }
+    ensures least { result.least ≡ least }
+    ensures most { result.most ≡ most }
+    ensures default { result.default ≡ None }
+{
+    NumberRule {
+        section,
+        key,
+        least,
+        most,
+        default: None,
     }
 }
 
@@ -62,8 +81,8 @@ impl Number {
         ensures { result.now ≡ all_numbers }
     {
         use Number::{
-            Bind, Client, ClientSilence, Clients, Enquire, History, Message, Places, Queue,
-            Reconnect, ReconnectMost, Response, Silence, Window,
+            Bind, Binds, Client, ClientSilence, Clients, Enquire, History, Message, Places, Queue,
+            Reconnect, ReconnectMost, Requests, Response, Silence, Stop, Window,
         };
         &[
             Clients,
@@ -80,6 +99,9 @@ impl Number {
             Bind,
             ClientSilence,
             Message,
+            Stop,
+            Binds,
+            Requests,
         ]
     }
 
@@ -92,7 +114,7 @@ impl Number {
         ensures default { result.default ≡ (number_row self).default }
         ensures read { IsTrue (is_read (number_row self).section (number_row self).key) }
     {
-        use Section::{Limits, Timers, Top};
+        use Section::{Account, Limits, Timers, Top};
         match self {
             Number::Clients => row(Top, "clients", 1, 256, 8),
             Number::Places => row(Top, "box", 1, 256, 16),
@@ -108,6 +130,9 @@ impl Number {
             Number::Bind => row(Timers, "bind", 1_000, 3_600_000, 10_000),
             Number::ClientSilence => row(Timers, "client_silence", 0, 3_600_000, 60_000),
             Number::Message => row(Timers, "message", 0, 3_600_000, 60_000),
+            Number::Stop => row(Timers, "stop", 0, 600_000, 5_000),
+            Number::Binds => limit_row(Account, "binds", 1, 65_535),
+            Number::Requests => limit_row(Account, "requests", 1, 65_535),
         }
     }
 
@@ -145,6 +170,11 @@ impl Number {
             }
             Number::Message => {
                 "how long a message that a client was sent may be unanswered; 0: for ever"
+            }
+            Number::Stop => "how long a stop waits for requests that are under way",
+            Number::Binds => "clients bound by the account at a time",
+            Number::Requests => {
+                "requests of the account's clients, gone ones too, accepted and not yet answered or failed"
             }
         }
     }
@@ -184,7 +214,22 @@ impl Number {
         let rule = self.rule();
         match find(table, rule.key) {
             Some(value) => self.of(value),
-            None => Some(rule.default),
+            None => rule.default,
+        }
+    }
+
+    /// The limit at this key of a value that is a table: `Some(None)` where the key is absent.
+    pub(crate) fn limit_within(self, value: &Value) -> Option<Option<u32>>
+        ensures value { result ≡ limit_in self (view value.now) }
+        ensures kept { IfSome result (λ limit. IfSome limit
+            (λ n. IsTrue (is_number self n))) }
+    {
+        match value.get(self.rule().key) {
+            Some(value) => match self.of(value) {
+                Some(number) => Some(Some(number)),
+                None => None,
+            },
+            None => Some(None),
         }
     }
 }

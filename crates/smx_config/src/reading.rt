@@ -9,6 +9,7 @@ ghost use Rattle.smx_config.specs.Reading.{number_or_default, stated_limits, lim
 use crate::account::read_accounts;
 use crate::config::Config;
 use crate::fault::ConfigFault;
+use crate::flag::Flag;
 use crate::number::Number;
 use crate::table::{find, tables_at};
 use crate::text::Text;
@@ -76,6 +77,9 @@ fn read_table(alloc: Global, table: &Table) -> Result<Config, ConfigFault>
     let clients = number_at(table, Number::Clients)?;
     let places = number_at(table, Number::Places)?;
     let silence = number_at(table, Number::Silence)?;
+    let Some(proxy_protocol) = Flag::ProxyProtocol.at(table) else {
+        return Err(ConfigFault::ProxyProtocol);
+    };
     let Some(limits) = limits(alloc, table) else {
         return Err(ConfigFault::Limits);
     };
@@ -93,6 +97,7 @@ fn read_table(alloc: Global, table: &Table) -> Result<Config, ConfigFault>
     match String::from_str(alloc, listen) {
         Ok(listen) => Ok(Config {
             listen,
+            proxy_protocol,
             clients,
             places,
             limits,

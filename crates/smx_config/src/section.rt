@@ -1,7 +1,8 @@
 //! The tables of a configuration in which keys stand.
 ghost use Rattle.std.specs.Prelude.{◌≡◌};
-ghost use Rattle.smx_config.specs.Keys.{is_same, is_number_key, is_text_key, is_table_key, is_read};
+ghost use Rattle.smx_config.specs.Keys.{is_same, is_number_key, is_flag_key, is_text_key, is_table_key, is_read};
 
+use crate::flag::Flag;
 use crate::number::Number;
 use crate::text::Text;
 use std::alloc::{AllocError, Global};
@@ -42,6 +43,15 @@ impl Section {
         })
     }
 
+    fn has_flag(self, key: &str) -> bool
+        ensures { result ≡ is_flag_key self key.now }
+    {
+        Flag::all().iter().any(|flag| {
+            let rule = flag.rule();
+            self.is(rule.section) && key == rule.key
+        })
+    }
+
     fn has_text(self, key: &str) -> bool
         ensures { result ≡ is_text_key self key.now }
     {
@@ -65,7 +75,7 @@ impl Section {
     pub(crate) fn reads(self, key: &str) -> bool
         ensures { result ≡ is_read self key.now }
     {
-        self.has_number(key) || self.has_text(key) || self.has_table(key)
+        self.has_number(key) || self.has_flag(key) || self.has_text(key) || self.has_table(key)
     }
 
     /// The keys that are read in this table.
@@ -78,6 +88,12 @@ impl Section {
         }
         for number in Number::all() {
             let rule = number.rule();
+            if self.is(rule.section) {
+                keys.push(rule.key)?;
+            }
+        }
+        for flag in Flag::all() {
+            let rule = flag.rule();
             if self.is(rule.section) {
                 keys.push(rule.key)?;
             }

@@ -10,7 +10,7 @@ use crate::table::find;
 use std::alloc::Global;
 use toml::Table;
 
-/// How long what may last, in milliseconds, each up to 3,600,000.
+/// How long what may last, in milliseconds, each but the last up to 3,600,000.
 #[derive(Clone, Copy, Debug, PartialEq, Eq)]
 pub struct Timers {
     /// A request at the centre without an answer (SMPP 3.4, section 7.2), and one that is queued on a
@@ -30,6 +30,8 @@ pub struct Timers {
     pub client_silence: u64,
     /// A message that a client was sent and hasn't answered: from 0 on, which is never.
     pub message: u64,
+    /// What is under way at a stop: from 0 to 600,000.
+    pub stop: u64,
 }
 
 // The number at `enquire` of the timers, in a whole file of this silence.
@@ -61,6 +63,7 @@ fn timers_in(whole: &Table, silence: u32, table: &Table) -> Option<Timers>
     let bind = Number::Bind.at(table)?;
     let client_silence = Number::ClientSilence.at(table)?;
     let message = Number::Message.at(table)?;
+    let stop = Number::Stop.at(table)?;
     Some(Timers {
         response: u64::from(response),
         reconnect: u64::from(reconnect),
@@ -69,6 +72,7 @@ fn timers_in(whole: &Table, silence: u32, table: &Table) -> Option<Timers>
         bind: u64::from(bind),
         client_silence: u64::from(client_silence),
         message: u64::from(message),
+        stop: u64::from(stop),
     })
 }
 

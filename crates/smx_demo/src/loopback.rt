@@ -55,8 +55,8 @@ fn upstreams_at(
     }
 }
 
-/// The same configuration, but that its clients connect at a free port of 127.0.0.1, and that the
-/// centres are its upstreams.
+/// The same configuration, but that its clients connect at a free port of 127.0.0.1, with no header of
+/// the PROXY protocol, and that the centres are its upstreams.
 pub(crate) fn moved(alloc: Global, config: Config, centres: &Centres) -> Result<Config, NotShown> {
     let Config {
         clients,
@@ -71,6 +71,7 @@ pub(crate) fn moved(alloc: Global, config: Config, centres: &Centres) -> Result<
     let listen = String::from_str(alloc, ANY_PORT)?;
     Ok(Config {
         listen,
+        proxy_protocol: false,
         clients,
         places,
         limits,

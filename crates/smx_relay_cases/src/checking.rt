@@ -4,7 +4,7 @@
 //! line that takes the place of the one that begins with the same word, or, behind a `-`, a word whose
 //! line is left out.
 
-use smx_config::{Account, Config, Upstream, advice, check, key_table, read, unread};
+use smx_config::{Account, Config, Upstream, advice, check, key_table, may_take_all, read, unread};
 use std::alloc::{AllocError, Global};
 use std::io;
 use std::io::{ErrorKind, Write};
@@ -126,13 +126,17 @@ fn tell_numbers(config: &Config, out: &mut Vec<u8>) -> io::Result<()> {
     let limits = config.limits;
     writeln!(out, "listen {}", config.listen)?;
     writeln!(out, "clients {} box {}", config.clients, config.places)?;
+    writeln!(out, "proxy_protocol {}", config.proxy_protocol)?;
     let timers = config.timers;
     let (response, enquire, bind) = (timers.response, timers.enquire, timers.bind);
     let (reconnect, most) = (timers.reconnect, timers.reconnect_most);
     writeln!(out, "response {response} enquire {enquire} bind {bind}")?;
     writeln!(out, "reconnect {reconnect} to {most}")?;
-    let (silence, message) = (timers.client_silence, timers.message);
-    writeln!(out, "client_silence {silence} message {message}")?;
+    let (silence, message, stop) = (timers.client_silence, timers.message, timers.stop);
+    writeln!(
+        out,
+        "client_silence {silence} message {message} stop {stop}"
+    )?;
     writeln!(out, "queue {} window {}", limits.queue, limits.window)?;
     writeln!(out, "client {} history {}", limits.client, limits.history)
 }
@@ -145,6 +149,12 @@ fn tell_account(account: &Account, out: &mut Vec<u8>) -> io::Result<()> {
     write!(out, "account {}", account.system_id)?;
     for prefix in account.prefixes.iter() {
         write!(out, " {prefix}")?;
+    }
+    if let Some(binds) = account.binds {
+        write!(out, " binds {binds}")?;
+    }
+    if let Some(requests) = account.requests {
+        write!(out, " requests {requests}")?;
     }
     writeln!(out)
 }
@@ -161,6 +171,9 @@ pub fn tell_values(alloc: Global, text: &str, out: &mut Vec<u8>) -> io::Result<(
     }
     for account in config.account.iter() {
         tell_account(account, out)?;
+    }
+    if may_take_all(&config) {
+        writeln!(out, "one account may take all")?;
     }
     Ok(())
 }

@@ -12,11 +12,12 @@ use std::io;
 use std::io::Write;
 use std::str::SplitWhitespace;
 
-const CLIENT_STATES: [ClientState; 5] = [
+const CLIENT_STATES: [ClientState; 6] = [
     ClientState::Opened,
     ClientState::BoundTx,
     ClientState::BoundRx,
     ClientState::BoundTrx,
+    ClientState::Unbinding,
     ClientState::Ended,
 ];
 
@@ -41,10 +42,12 @@ fn client_act_text(alloc: Global, act: &Act) -> Result<String, AllocError> {
     match act {
         Act::Answer(answer) => sent_text(alloc, "answer", answer),
         Act::Bind { answer, .. } => sent_text(alloc, "bind", answer),
+        Act::Refuse(answer) => sent_text(alloc, "refuse", answer),
         Act::Forward => String::from_str(alloc, "forward"),
         Act::MoAnswer { number } => format!(in alloc; "message/{number:x}"),
         Act::Leave(answer) => sent_text(alloc, "leave", answer),
         Act::Hangup(answer) => sent_text(alloc, "hangup", answer),
+        Act::Closed => String::from_str(alloc, "closed"),
         Act::Ignore => String::from_str(alloc, "ignore"),
     }
 }
@@ -56,6 +59,11 @@ fn client_in(alloc: Global, state: ClientState) -> ClientSession {
         ClientState::BoundTx => ClientSession::bound(alloc, Kind::Tx, 0, 0),
         ClientState::BoundRx => ClientSession::bound(alloc, Kind::Rx, 0, 0),
         ClientState::BoundTrx => ClientSession::bound(alloc, Kind::Trx, 0, 0),
+        ClientState::Unbinding => {
+            let mut session = ClientSession::bound(alloc, Kind::Trx, 0, 0);
+            let _ = session.stop();
+            session
+        }
         ClientState::Ended => {
             let mut session = ClientSession::new(alloc, 0, 0);
             let _ = session.on_fault();
