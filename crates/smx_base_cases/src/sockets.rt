@@ -1,6 +1,8 @@
-//! What stands between a link and the system: connections over memory, and what waits to be written.
+//! What stands between a link and the system: connections over memory, what waits to be
+//! written, and headers that tell where a client came from.
 
 mod connections;
+mod headers;
 mod memory;
 
 use smx_socket::{MOST, Outgoing};

@@ -227,6 +227,13 @@ impl<T: Transport + Drop> Connection<T> {
         !self.waiting.is_empty()
     }
 
+    /// How many octets wait to be flushed.
+    pub fn waiting(&self) -> usize
+        ensures { result ≡ length self.now.unsent }
+    {
+        self.waiting.waiting().len()
+    }
+
     /// The system said that a read may find something.
     pub fn note_readable(&mut self)
         ensures { self.new ≡ record self.old { marks = record self.old.marks { readable = true } } }

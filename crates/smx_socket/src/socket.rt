@@ -120,6 +120,14 @@ impl Socket {
         }
     }
 
+    /// How many octets wait to be flushed.
+    pub fn waiting(&self) -> usize {
+        match self.connection.try_borrow() {
+            Ok(connection) => connection.waiting(),
+            Err(_) => 0,
+        }
+    }
+
     /// Reads where the last event or read left something to read; else it costs no call of the system.
     pub fn poll_read(&self, buffer: &mut [u8], answers: &mut Answers) -> Result<Polled, LinkFault>
         ensures given { answers.new.given ≡ answers.old.given ++ octets_read result buffer.new }

@@ -78,7 +78,7 @@ fn taken(reply: &Result<Sent, TakeRefusal>) -> Said {
 fn answered(reply: &Answered) -> Said {
     match reply {
         Answered::Queued { client } => word_of("queued", *client),
-        Answered::Late => word("late"),
+        Answered::Late { .. } => word("late"),
         Answered::Unknown(pdu) => {
             let number = u64::from(pdu.number);
             ("unknown", [number, mark_in(&pdu.body), 0, 0, 0, 0])
@@ -97,7 +97,7 @@ fn collected(pdu: &Pdu) -> Said {
 fn failed(failed: Failed) -> Said {
     match failed {
         Failed::Queued { client } => word_of("failed", client),
-        Failed::Late => word("late"),
+        Failed::Late { .. } => word("late"),
     }
 }
 

@@ -1,7 +1,7 @@
 use crate::pdus::spelling::{copy, is_spelled, pdu_of};
 use crate::rows::check;
 use smx_pdu::Pdu;
-use smx_session::{Account, Act, ClientSession, ClientState, Enquiry, Kind};
+use smx_session::{Account, Act, Ask, ClientSession, ClientState, Enquiry, Kind};
 use std::alloc::Global;
 use std::process::Abort;
 use std::test::*;
@@ -28,7 +28,7 @@ fn sends(
             account,
             answer,
         } => bound == Some((*kind, *account)) && is_spelled(rt, alloc, answer, octets),
-        Act::Answer(answer) | Act::Hangup(answer) => {
+        Act::Answer(answer) | Act::Refuse(answer) | Act::Hangup(answer) => {
             bound.is_none() && is_spelled(rt, alloc, answer, octets)
         }
         _ => false,
@@ -159,6 +159,64 @@ fn refused_memory(rt: HostRuntime) {
     let mut session = ClientSession::new(rt.alloc(), 0, 0);
     assert!(rt; binds_at_last(&mut session, &accounts, &pdu));
     assert!(rt; session.state() == ClientState::BoundTrx);
+}
+
+// A bind, a request of a client that is bound, and what leave each asks for.
+const NOT_GIVEN: [u8; 16] = [0, 0, 0, 0x10, 0x80, 0, 0, 9, 0, 0, 0, 0x0D, 0, 0, 0, 7];
+
+const FULL: [u8; 16] = [0, 0, 0, 0x10, 0x80, 0, 0, 4, 0, 0, 0, 0x14, 0, 0, 0, 7];
+
+#[test]
+fn leave_is_asked(rt: HostRuntime) {
+    let alloc = rt.alloc();
+    let accounts = [account(&rt, alloc, *b"bq"), account(&rt, alloc, *b"ap")];
+    let session = ClientSession::new(alloc, 0, 0);
+    let pdu = pdu_of(&rt, alloc, 9, 7, BIND);
+    assert!(rt; session.asks(&pdu, &accounts) == Some(Ask::Bind(1)));
+    assert!(rt;
+        sends(
+            &rt,
+            alloc,
+            &session.bars(&pdu, Ask::Bind(1)),
+            None,
+            &NOT_GIVEN
+        )
+    );
+    let other = pdu_of(&rt, alloc, 9, 7, b"a\0q\0\0\x34\0\0\0");
+    assert!(rt; session.asks(&other, &accounts) == Some(Ask::RefusedBind));
+    let request = pdu_of(&rt, alloc, 4, 7, b"");
+    assert!(rt; session.asks(&request, &accounts).is_none());
+    let session = ClientSession::bound(alloc, Kind::Tx, 0, 0);
+    assert!(rt; session.asks(&request, &accounts) == Some(Ask::Request));
+    assert!(rt;
+        sends(
+            &rt,
+            alloc,
+            &session.bars(&request, Ask::Request),
+            None,
+            &FULL
+        )
+    );
+}
+
+// The proxy's unbind, number 7fffffff, goes to a client that is bound, once. The client's answer
+// ends the session.
+const UNBIND: [u8; 16] = [
+    0, 0, 0, 0x10, 0, 0, 0, 6, 0, 0, 0, 0, 0x7F, 0xFF, 0xFF, 0xFF,
+];
+
+#[test]
+fn client_is_unbound(rt: HostRuntime) {
+    let alloc = rt.alloc();
+    assert!(rt; ClientSession::new(alloc, 0, 0).stop().is_none());
+    let mut session = ClientSession::bound(alloc, Kind::Rx, 0, 0);
+    let unbind = session.stop().expect(&rt, "it was bound");
+    assert!(rt; is_spelled(&rt, alloc, &unbind, &UNBIND));
+    assert!(rt; session.stop().is_none());
+    let answer = Pdu::header_only(alloc, 0x8000_0006, 0, 0x7FFF_FFFF);
+    let act = session.on_pdu(&answer, &[]).expect(&rt, "out of memory");
+    assert!(rt; matches!(act, Act::Closed));
+    assert!(rt; session.state() == ClientState::Ended);
 }
 
 // At a length that no PDU has.
