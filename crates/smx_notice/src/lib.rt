@@ -9,7 +9,7 @@ mod service;
 pub use ended::Ended;
 pub use last_sent::LastSent;
 pub use notice::{
-    AccountChange, ClientName, ClientNews, ClientState, LinkLoss, LinkState, MeteredKind, Notice,
-    Standing, TurnedAway, UpstreamName, UpstreamNews,
+    AccountChange, ClientName, ClientNews, ClientStanding, LinkLoss, LinkState, MeteredKind,
+    Notice, Standing, TurnedAway, UpstreamName, UpstreamNews,
 };
 pub use service::{Counts, Service};

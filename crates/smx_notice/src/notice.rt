@@ -89,18 +89,30 @@ pub enum ClientNews<'a> {
     /// Its bind was refused with this status. Where no account has it, this is the system_id that the
     /// bind said.
     BindRefused { status: u32, said: Option<&'a [u8]> },
-    /// It stays as it is bound.
-    Kept(AccountChange),
+    /// Its account is another one now.
+    Changed(AccountChange),
+    /// There is no memory for all prefixes that its account has now.
+    Unrouted,
     /// It wasn't bound, and who may bind has changed.
     Renewed,
-    /// It unbound, or the proxy ends.
+    /// It unbound.
     Left,
+    /// It answered the proxy's unbind.
+    Unbound,
+    /// It didn't answer the proxy's unbind.
+    NotUnbound,
+    /// So many of its binds were refused that its connection is closed.
+    TurnedOut,
+    /// Its connection began with no header of the PROXY protocol.
+    NoHeader,
     /// It closed its connection without an unbind.
     Closed,
     /// It said a PDU whose length is none.
     BadLength,
     /// It was enquired, and no octet came.
     Silent,
+    /// Octets wait for it, and it takes none.
+    Stuck,
     /// It wasn't bound in time.
     Late,
     /// It wasn't bound, and another one connected.
@@ -143,11 +155,13 @@ pub enum LinkState {
 
 /// How a client stands.
 #[derive(Clone, Copy)]
-pub struct ClientState {
+pub struct ClientStanding {
     /// As what it is bound, where it is.
     pub kind: Option<Kind>,
     /// How long it is connected, in milliseconds.
     pub time: u64,
+    /// How many of its requests are accepted and neither answered nor failed.
+    pub requests: u64,
     /// How many octets wait behind those at its socket.
     pub octets: usize,
     /// Octets wait at its socket.
@@ -158,13 +172,15 @@ pub struct ClientState {
 #[derive(Clone, Copy)]
 pub enum Standing<'a> {
     Upstream(UpstreamName<'a>, LinkState),
-    Client(ClientName<'a>, ClientState),
+    Client(ClientName<'a>, ClientStanding),
     /// So many of all slots are taken, and so many of these by connections that close.
     Slots {
         taken: usize,
         all: usize,
         closing: usize,
     },
+    /// So many requests of all clients, gone ones included, are accepted and neither answered nor failed.
+    Requests(u64),
 }
 
 /// One line for whoever runs the proxy. No password is in it.
@@ -201,6 +217,13 @@ pub enum Notice<'a> {
     /// So many lines weren't written, since nobody read those before them.
     Unwritten(u64),
     Stopping,
+    /// No further request is taken, and so many are under way.
+    Draining(u64),
+    /// None is under way any more: of those so many were answered, and so many failed.
+    Drained {
+        answered: u64,
+        failed: u64,
+    },
     /// How the run ended, where nobody stopped it.
     Ended(Ended),
 }
@@ -213,7 +236,7 @@ impl Notice<'_> {
                 ClientNews::Connected => MeteredKind::Connected,
                 ClientNews::Bound(_) => MeteredKind::Bound,
                 ClientNews::BindRefused { .. } => MeteredKind::BindRefused,
-                ClientNews::Kept(_) | ClientNews::Renewed => return None,
+                ClientNews::Changed(_) | ClientNews::Unrouted | ClientNews::Renewed => return None,
                 _ => MeteredKind::Gone,
             }),
             Notice::Refused(_, _) => Some(MeteredKind::Refused),
@@ -312,9 +335,9 @@ impl fmt::Display for Quoted<'_> {
 impl fmt::Display for AccountChange {
     fn fmt<W: fmt::Write>(&self, f: &mut fmt::Formatter<W>) -> fmt::Result {
         f.write_str(match self {
-            AccountChange::Gone => "its account is gone; it stays until it leaves",
-            AccountChange::Password => "its password is another one now; it stays until it leaves",
-            AccountChange::Prefixes => "its prefixes are others for its next bind",
+            AccountChange::Gone => "its account is gone; it is unbound",
+            AccountChange::Password => "its password is another one now; it is unbound",
+            AccountChange::Prefixes => "its prefixes are others now",
         })
     }
 }
@@ -336,12 +359,18 @@ impl fmt::Display for ClientNews<'_> {
             ClientNews::BindRefused { status, said: None } => {
                 write!(f, "bind refused, {}", Status(status))
             }
-            ClientNews::Kept(change) => write!(f, "{change}"),
+            ClientNews::Changed(change) => write!(f, "{change}"),
+            ClientNews::Unrouted => f.write_str("no memory for its prefixes"),
             ClientNews::Renewed => f.write_str("let go before its bind, as the accounts changed"),
             ClientNews::Left => f.write_str("left"),
+            ClientNews::Unbound => f.write_str("unbound"),
+            ClientNews::NotUnbound => f.write_str("answered no unbind"),
+            ClientNews::TurnedOut => f.write_str("hung up, three refused binds"),
+            ClientNews::NoHeader => f.write_str("began with no header of the PROXY protocol"),
             ClientNews::Closed => f.write_str("closed its connection"),
             ClientNews::BadLength => f.write_str("hung up, a bad length"),
             ClientNews::Silent => f.write_str("answered no enquire_link"),
+            ClientNews::Stuck => f.write_str("takes no octets"),
             ClientNews::Late => f.write_str("not bound in time"),
             ClientNews::Displaced => f.write_str("gave its place to another"),
             ClientNews::Fault(fault) => write!(f, "ended, {fault}"),
@@ -386,11 +415,12 @@ impl fmt::Display for LinkState {
     }
 }
 
-impl fmt::Display for ClientState {
+impl fmt::Display for ClientStanding {
     fn fmt<W: fmt::Write>(&self, f: &mut fmt::Formatter<W>) -> fmt::Result {
-        let ClientState {
+        let ClientStanding {
             kind,
             time,
+            requests,
             octets,
             waits,
         } = *self;
@@ -400,7 +430,8 @@ impl fmt::Display for ClientState {
             Some(Kind::Trx) => "transceiver",
             None => "not bound",
         })?;
-        write!(f, ", connected for {time} ms, {octets} octets wait")?;
+        write!(f, ", connected for {time} ms, ")?;
+        write!(f, "{requests} requests under way, {octets} octets wait")?;
         f.write_str(if waits {
             " behind those at its socket"
         } else {
@@ -422,6 +453,7 @@ impl fmt::Display for Standing<'_> {
                 f,
                 "{taken} of {all} slots are taken, {closing} of them close"
             ),
+            Standing::Requests(requests) => write!(f, "{requests} requests under way"),
         }
     }
 }
@@ -459,6 +491,13 @@ impl fmt::Display for Notice<'_> {
             Notice::TooMany(count, kind) => write!(f, "{count} more lines left out: {kind}"),
             Notice::Unwritten(count) => write!(f, "{count} lines left out"),
             Notice::Stopping => f.write_str("stopping"),
+            Notice::Draining(requests) => write!(f, "draining, {requests} requests under way"),
+            Notice::Drained { answered, failed } => {
+                write!(
+                    f,
+                    "drained: {answered} answered, {failed} with 0x45 ESME_RSUBMITFAIL"
+                )
+            }
             Notice::Ended(ended) => write!(f, "{ended}"),
         }
     }

@@ -4,6 +4,7 @@ use smx_client::Desk;
 use smx_config::Config;
 use smx_notice::AccountChange;
 use smx_session::Account;
+use smx_slots::Limits;
 use std::alloc::{AllocError, Global};
 
 // The octets of texts.
@@ -68,6 +69,37 @@ fn change_at(desk: &Desk, place: usize, other: &Desk) -> Option<AccountChange> {
     } else {
         Some(AccountChange::Prefixes)
     }
+}
+
+/// The prefixes of the account with this system_id.
+pub(crate) fn prefixes_of<'d>(desk: &'d Desk, system_id: Option<&str>) -> Option<&'d [Vec<u8>]> {
+    let place = place_of(desk, system_id?.as_bytes())?;
+    Some(desk.prefixes.as_slice().get(place)?.as_slice())
+}
+
+/// Where each account of a desk stands in another one.
+pub(crate) fn moves_of(
+    alloc: Global,
+    desk: &Desk,
+    other: &Desk,
+) -> Result<Vec<Option<usize>>, AllocError> {
+    let mut moves = Vec::with_capacity(alloc, desk.accounts.len())?;
+    for account in desk.accounts.as_slice() {
+        moves.push(place_of(other, account.system_id.as_slice()))?;
+    }
+    Ok(moves)
+}
+
+/// What each account may have, by the configuration.
+pub(crate) fn limits_of(alloc: Global, config: &Config) -> Result<Vec<Limits>, AllocError> {
+    let mut limits = Vec::with_capacity(alloc, config.account.len())?;
+    for account in config.account.as_slice() {
+        limits.push(Limits {
+            binds: account.binds,
+            requests: account.requests,
+        })?;
+    }
+    Ok(limits)
 }
 
 /// What became of the account with this system_id in another desk, where it isn't the same there.

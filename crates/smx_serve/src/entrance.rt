@@ -4,8 +4,11 @@ use crate::addresses::Addresses;
 use crate::guest::Guest;
 use crate::guests::Guests;
 use crate::pace::Moment;
+use crate::preface::Preface;
 use crate::queues::Queues;
+use crate::refusals::Refusals;
 use crate::seats::{Gateway, Member};
+use crate::stillness::Stillness;
 use mio::net::{TcpListener, TcpStream};
 use mio::{Registry, Token};
 use smx_notice::{ClientName, ClientNews, Notice, TurnedAway};
@@ -20,7 +23,8 @@ use std::sync::Wait;
 /// The acceptor.
 #[derive(Drop)]
 pub(crate) struct Entrance {
-    pub listener: TcpListener,
+    // None once nobody is let in any more.
+    pub listener: Option<TcpListener>,
     pub gateway: Gateway,
     // The system had no descriptor for a connection that waits.
     pub short: bool,
@@ -153,7 +157,10 @@ fn say_connected<R: Wait>(rt: &R, moment: Moment<'_>, client: u64, address: &str
 impl Entrance {
     // The next connection, or none for now. A want of descriptors is said once.
     fn accept<R: Wait>(&mut self, rt: &R, moment: Moment<'_>) -> Option<(TcpStream, SocketAddr)> {
-        let next = next_of(&self.listener);
+        let next = match &self.listener {
+            Some(listener) => next_of(listener),
+            None => Next::Nobody,
+        };
         let was_short = self.short;
         self.short = matches!(next, Next::Short);
         if self.short && !was_short {
@@ -178,6 +185,7 @@ impl Entrance {
         stream: TcpStream,
         address: String,
     ) {
+        let Moment { config, .. } = moment;
         guests.make_place(rt, moment, queues, addresses);
         let Some((slot, ends)) = guests.slots.pick() else {
             moment.say(rt, Notice::Refused(address.as_str(), TurnedAway::NoSlot));
@@ -189,7 +197,9 @@ impl Entrance {
             .admit(rt, registry, moment, stream, party, ends)
         {
             Ok(entered) => {
-                say_connected(rt, moment, entered.client, address.as_str());
+                if !config.proxy_protocol {
+                    say_connected(rt, moment, entered.client, address.as_str());
+                }
                 let _ = addresses.roll.add(entered.client, slot);
                 queues.begin_anew(slot);
                 guests.seat(slot, guest_of(entered, address, moment));
@@ -201,9 +211,18 @@ impl Entrance {
         }
     }
 
+    // Nobody is let in any more: a connection is refused by the system.
+    pub fn close(&mut self, registry: &Registry) {
+        if let Some(listener) = &mut self.listener {
+            let _ = registry.deregister(listener);
+        }
+        self.listener = None;
+        self.more = false;
+    }
+
     // Whether connections may wait that are let in.
     pub fn has_more(&self) -> bool {
-        self.is_open && self.more
+        self.is_open && self.more && self.listener.is_some()
     }
 
     // Connections may wait, where none could be accepted before.
@@ -211,8 +230,8 @@ impl Entrance {
         self.more |= self.short;
     }
 
-    // Lets those in who wait, at most eight of them; but near the end nobody. Nothing is said of one for
-    // the words of whose address there is no memory: it is closed.
+    // Lets those in who wait, at most eight of them. Nothing is said of one for the words of whose address
+    // there is no memory: it is closed.
     pub fn let_in<'d, R: Wait>(
         &mut self,
         rt: &R,
@@ -222,9 +241,6 @@ impl Entrance {
         queues: &mut Queues,
         addresses: &mut Addresses,
     ) {
-        if moment.stopping {
-            self.more = false;
-        }
         if !self.has_more() {
             return;
         }
@@ -244,6 +260,7 @@ impl Entrance {
 
 // A client that isn't bound yet.
 fn guest_of<'d>(entered: Entered<'d>, address: String, moment: Moment<'d>) -> Guest<'d> {
+    let Moment { alloc, config, .. } = moment;
     let Entered {
         client,
         member,
@@ -260,5 +277,9 @@ fn guest_of<'d>(entered: Entered<'d>, address: String, moment: Moment<'d>) -> Gu
         heard: 0,
         since: moment.now,
         is_late: false,
+        preface: config.proxy_protocol.then(|| Preface::new(alloc)),
+        refusals: Refusals::new(),
+        stillness: Stillness::new(),
+        parting: None,
     }
 }

@@ -1,17 +1,21 @@
 //! One client that is served.
 
 use crate::addresses::Addresses;
-use crate::desk::change_of;
-use crate::heard::{Heard, Refusal, bound_name, heard_at};
+use crate::desk::{change_of, prefixes_of};
+use crate::heard::{Heard, Refusal, heard_at};
 use crate::pace::Moment;
+use crate::preface::{Preface, Prefaced};
 use crate::queues::{Progress, Queues, TURNS, is_enough};
+use crate::refusals::Refusals;
 use crate::seats::Member;
+use crate::stillness::Stillness;
 use smx_client::Desk;
-use smx_notice::{ClientName, ClientNews, ClientState as Standing, Notice};
+use smx_notice::{AccountChange, ClientName, ClientNews, ClientStanding, Notice};
 use smx_session::{ClientState, Kind};
-use smx_slots::{Bell, ClientEnds, Guide};
+use smx_slots::{Bell, ClientEnds, Door, Guide};
 use smx_socket::Socket;
-use smx_turns::RunEnd;
+use smx_turns::{Directory, RunEnd};
+use std::alloc::Global;
 use std::rc::Rc;
 use std::sync::Wait;
 
@@ -32,7 +36,17 @@ pub(crate) struct Guest<'d> {
     // late.
     pub since: u64,
     pub is_late: bool,
+    // The header that stands before its PDUs, where that isn't read yet.
+    pub preface: Option<Preface>,
+    pub refusals: Refusals,
+    // What the last tick saw of its socket.
+    pub stillness: Stillness,
+    // Up to which moment its answer to the proxy's unbind is awaited, where it was sent one.
+    pub parting: Option<u64>,
 }
+
+/// How long the answer to an unbind is awaited, in milliseconds.
+const PARTING: u64 = 1_000;
 
 /// How many of the first octets that come from a client are kept.
 const KEPT: usize = 256;
@@ -46,11 +60,11 @@ fn kind_of(state: ClientState) -> Option<Kind> {
         ClientState::BoundTx => Some(Kind::Tx),
         ClientState::BoundRx => Some(Kind::Rx),
         ClientState::BoundTrx => Some(Kind::Trx),
-        ClientState::Opened | ClientState::Ended => None,
+        ClientState::Opened | ClientState::Unbinding | ClientState::Ended => None,
     }
 }
 
-impl Guest<'_> {
+impl<'d> Guest<'d> {
     // Runs the worker turn by turn, until it is idle or the party's turn is over: how that ended, and
     // where its session stands.
     fn run<R: Wait>(
@@ -71,8 +85,28 @@ impl Guest<'_> {
         ran
     }
 
-    // Makes a turn of the client; who is told of something is ready then.
-    pub fn turn<R: Wait>(
+    // For whom a turn of its worker rings, and what that may do.
+    fn door(&self, now: u64) -> Door {
+        Door::Client {
+            client: self.client,
+            may_read: !self.refusals.is_over(),
+            may_refuse: self.refusals.may_refuse(now),
+        }
+    }
+
+    // Takes in what a turn at this moment asked of the bell: whether it refused a bind, and the account by
+    // which it bound.
+    fn heed(&mut self, has_refused: bool, account: Option<usize>, now: u64) {
+        if has_refused {
+            self.refusals.add(now);
+        }
+        if let Some(account) = account {
+            self.name = Some(name_at(self.desk, account));
+        }
+    }
+
+    // Makes a turn of the client's worker; who is told of something is ready then.
+    fn turn_worker<R: Wait>(
         &mut self,
         rt: &R,
         queues: &mut Queues,
@@ -81,7 +115,13 @@ impl Guest<'_> {
         now: u64,
     ) -> (RunEnd, ClientState) {
         let before = self.socket.traffic();
-        let mut bell = Bell::new(queues.lanes, &mut queues.schedule, &addresses.roll);
+        let mut bell = Bell::new(
+            queues.lanes,
+            &mut queues.schedule,
+            &addresses.roll,
+            &mut addresses.ledger,
+            self.door(now),
+        );
         let mut guide = Guide::new(&mut addresses.routes, &addresses.roll);
         let (end, state) = self.run(rt, &mut bell, &mut guide, now);
         let progress = Progress {
@@ -90,11 +130,83 @@ impl Guest<'_> {
             rang: bell.has_rung(),
             writable: self.socket.is_writable(),
         };
+        self.heed(bell.has_refused(), bell.account(), now);
         if kind_of(state).is_some() {
             queues.bind(slot);
         }
         queues.was_turned(queues.party(slot), progress);
         (end, state)
+    }
+
+    // Reads what stands before its PDUs: whether that is over. None where it is no such header.
+    fn is_introduced(&mut self, alloc: Global) -> Option<bool> {
+        let Some(preface) = &mut self.preface else {
+            return Some(true);
+        };
+        let source = match preface.read(&self.socket) {
+            Prefaced::Waits => return Some(false),
+            Prefaced::Wrong => return None,
+            Prefaced::Whole(source) => source,
+        };
+        self.heard = preface.length();
+        self.preface = None;
+        if let Some(source) = source {
+            self.address = format!(in alloc; "{source}").ok()?;
+        }
+        Some(true)
+    }
+
+    // Makes a turn of the client; who is told of something is ready then. None where it doesn't begin with
+    // the header that is wanted.
+    pub fn turn<R: Wait>(
+        &mut self,
+        rt: &R,
+        moment: Moment<'_>,
+        queues: &mut Queues,
+        addresses: &mut Addresses,
+        slot: usize,
+    ) -> Option<(RunEnd, ClientState)> {
+        if self.preface.is_some() {
+            if !self.is_introduced(moment.alloc)? {
+                return Some((RunEnd::Idle, ClientState::Opened));
+            }
+            self.say(rt, moment, ClientNews::Connected);
+        }
+        Some(self.turn_worker(rt, queues, addresses, slot, moment.now))
+    }
+
+    // Sends its client unbind: no message goes to it from now on, and its answer is awaited for a second.
+    // False where it isn't bound, or there was no memory. One that was sent it isn't sent it again.
+    pub fn unbind<R: Wait>(&mut self, rt: &R, addresses: &mut Addresses, now: u64) -> bool {
+        if self.parting.is_some() {
+            return true;
+        }
+        if !self.member.stop() {
+            return false;
+        }
+        let mut guide = Guide::new(&mut addresses.routes, &addresses.roll);
+        guide.remove(rt, self.client);
+        self.parting = Some(now.saturating_add(PARTING));
+        true
+    }
+
+    // Whether its answer to the proxy's unbind is awaited no more.
+    pub fn has_parted(&self, now: u64) -> bool {
+        match self.parting {
+            Some(until) => now >= until,
+            None => false,
+        }
+    }
+
+    // Whether octets wait for it of which it took none for so long, in milliseconds (0: never).
+    pub fn is_stuck(&mut self, now: u64, most: u64) -> bool {
+        let (waiting, traffic) = (self.socket.waiting(), self.socket.traffic());
+        most > 0 && self.stillness.look(waiting, traffic, now, most)
+    }
+
+    // Whether so many binds of it were refused that it is closed, and the last answer is written.
+    pub fn is_refused(&self) -> bool {
+        self.refusals.is_over() && self.member.unsent() == 0
     }
 
     // Closes the worker; the lanes may have answers to its messages. Its socket and its ends are
@@ -114,6 +226,7 @@ impl Guest<'_> {
         let mut guide = Guide::new(&mut addresses.routes, &addresses.roll);
         let (ends, answered) = member.close(rt, &mut guide);
         addresses.roll.remove(client);
+        addresses.ledger.leave(client);
         if answered {
             queues.add_lanes();
         }
@@ -137,11 +250,12 @@ impl Guest<'_> {
         }
     }
 
-    // How its client stands.
-    pub fn standing(&self, now: u64) -> Standing {
-        Standing {
+    // How its client stands, of which so many requests are under way.
+    pub fn standing(&self, requests: u64, now: u64) -> ClientStanding {
+        ClientStanding {
             kind: self.kind,
             time: now.saturating_sub(self.since),
+            requests,
             octets: self.member.unsent(),
             waits: self.socket.has_octets(),
         }
@@ -158,21 +272,37 @@ impl Guest<'_> {
             RunEnd::Fault(fault) => ClientNews::Fault(fault),
             _ if self.socket.has_ended() => ClientNews::Closed,
             _ if self.member.is_silent() => ClientNews::Silent,
+            _ if self.parting.is_some() => ClientNews::Unbound,
             RunEnd::Left if self.socket.tail() == NACK => ClientNews::BadLength,
             _ => ClientNews::Left,
         }
     }
 
-    // Says what became of its client's account, where it is bound and the account changed. Whether it is
-    // bound.
-    pub fn say_change<R: Wait>(&self, rt: &R, moment: Moment<'_>) -> bool {
-        let Some(name) = self.name else {
-            return false;
-        };
-        if let Some(change) = change_of(self.desk, name.as_bytes(), moment.desk) {
-            self.say(rt, moment, ClientNews::Kept(change));
+    // What became of its client's account, where it is bound and the account changed; that is said.
+    pub fn change<R: Wait>(&self, rt: &R, moment: Moment<'_>) -> Option<AccountChange> {
+        let change = change_of(self.desk, self.name?.as_bytes(), moment.desk)?;
+        self.say(rt, moment, ClientNews::Changed(change));
+        Some(change)
+    }
+
+    // Messages go to its client by the prefixes that its account has now. Where there is no memory for all
+    // of them, that is said.
+    pub fn reroute<R: Wait>(&mut self, rt: &R, moment: Moment<'d>, addresses: &mut Addresses) {
+        self.desk = moment.desk;
+        if !matches!(self.kind, Some(Kind::Rx | Kind::Trx)) {
+            return;
         }
-        true
+        let mut guide = Guide::new(&mut addresses.routes, &addresses.roll);
+        guide.remove(rt, self.client);
+        let Some(prefixes) = prefixes_of(moment.desk, self.name) else {
+            return;
+        };
+        for prefix in prefixes {
+            if guide.add(rt, prefix.as_slice(), self.client).is_err() {
+                self.say(rt, moment, ClientNews::Unrouted);
+                return;
+            }
+        }
     }
 
     // Says that a bind of its client was refused.
@@ -219,20 +349,20 @@ impl Guest<'_> {
         let Some(kind) = kind_of(state) else {
             return;
         };
-        if self.name.is_some() {
-            return;
+        if self.kind.is_none() {
+            self.kind = Some(kind);
+            self.say(rt, moment, ClientNews::Bound(kind));
         }
-        self.kind = Some(kind);
-        let name = match self.socket.head(moment.alloc) {
-            Some(octets) => {
-                bound_name(octets.as_slice(), self.desk.accounts.as_slice()).unwrap_or(UNNAMED)
-            }
-            None => UNNAMED,
-        };
-        self.name = Some(name);
-        self.say(rt, moment, ClientNews::Bound(kind));
     }
 }
 
-/// The name of a client whose bind came behind so much else that it isn't kept.
+// The system_id of an account of the desk.
+fn name_at(desk: &Desk, account: usize) -> &str {
+    match desk.accounts.as_slice().get(account) {
+        Some(account) => str::from_utf8(account.system_id.as_slice()).unwrap_or(UNNAMED),
+        None => UNNAMED,
+    }
+}
+
+/// The name of an account whose system_id is no text: none is so.
 const UNNAMED: &str = "?";

@@ -7,7 +7,7 @@ use crate::pace::Moment;
 use crate::queues::Queues;
 use crate::seating::Seating;
 use smx_client::Desk;
-use smx_notice::ClientNews;
+use smx_notice::{AccountChange, ClientNews};
 use smx_slots::{Roll, Slots};
 use smx_socket::Socket;
 use smx_turns::RunEnd;
@@ -58,22 +58,27 @@ impl<'d> Guests<'d> {
         }
     }
 
-    // Turns the worker of the slot's client: how that ended. Idle where there is no client.
-    fn turn_worker<R: Wait>(
+    // Turns the slot's client: how that ended, or why it is let go. Idle where there is no client.
+    fn turn_guest<R: Wait>(
         &mut self,
         rt: &R,
         moment: Moment<'_>,
         queues: &mut Queues,
         addresses: &mut Addresses,
         slot: usize,
-    ) -> RunEnd {
+    ) -> Result<RunEnd, ClientNews<'static>> {
         let Some(guest) = self.guests.get_mut(self.seating.place(slot)) else {
-            return RunEnd::Idle;
+            return Ok(RunEnd::Idle);
         };
-        let (end, state) = guest.turn(rt, queues, addresses, slot, moment.now);
+        let Some((end, state)) = guest.turn(rt, moment, queues, addresses, slot) else {
+            return Err(ClientNews::NoHeader);
+        };
         guest.say_refusals(rt, moment);
         guest.say_bound(rt, moment, state);
-        end
+        if guest.is_refused() {
+            return Err(ClientNews::TurnedOut);
+        }
+        Ok(end)
     }
 
     // The same, and lets the client go whose worker has ended. True where it has.
@@ -85,14 +90,36 @@ impl<'d> Guests<'d> {
         addresses: &mut Addresses,
         slot: usize,
     ) -> bool {
-        let end = self.turn_worker(rt, moment, queues, addresses, slot);
-        let is_gone = matches!(end, RunEnd::Left | RunEnd::Fault(_));
-        if is_gone {
-            self.let_go(rt, moment, queues, addresses, slot, end);
-        } else {
-            self.settle(queues, slot, moment.now);
+        match self.turn_guest(rt, moment, queues, addresses, slot) {
+            Ok(end @ (RunEnd::Left | RunEnd::Fault(_))) => {
+                self.let_go(rt, moment, queues, addresses, slot, end);
+                true
+            }
+            Ok(RunEnd::Idle | RunEnd::Turns) => {
+                self.settle(queues, slot, moment.now);
+                false
+            }
+            Err(news) => {
+                self.dismiss_one(rt, moment, queues, addresses, slot, news);
+                true
+            }
         }
-        is_gone
+    }
+
+    // Lets the slot's client go, and says this of it.
+    fn dismiss_one<R: Wait>(
+        &mut self,
+        rt: &R,
+        moment: Moment<'_>,
+        queues: &mut Queues,
+        addresses: &mut Addresses,
+        slot: usize,
+        news: ClientNews<'_>,
+    ) {
+        if let Some(guest) = self.take(slot) {
+            guest.say(rt, moment, news);
+            self.part(rt, queues, addresses, slot, guest, moment.now);
+        }
     }
 
     // Lets the slot's client go, whose worker's last run ended so.
@@ -112,30 +139,33 @@ impl<'d> Guests<'d> {
         self.part(rt, queues, addresses, slot, guest, moment.now);
     }
 
-    // Lets the slot's client go, where its bind is late.
-    fn let_go_late<R: Wait>(
+    // What a tick finds of the slot's client: why it is let go now, if it is. One whose next refusal may be
+    // due is turned.
+    fn found_at(
         &mut self,
-        rt: &R,
         moment: Moment<'_>,
         queues: &mut Queues,
-        addresses: &mut Addresses,
         slot: usize,
-    ) {
+    ) -> Option<ClientNews<'static>> {
         let Moment { timers, now, .. } = moment;
-        let Some(guest) = self.guests.get_mut(self.seating.place(slot)) else {
-            return;
-        };
-        if !guest.stays_late(now, timers.bind) {
-            return;
+        let guest = self.guests.get_mut(self.seating.place(slot))?;
+        if guest.refusals.is_paced(now) {
+            let party = queues.party(slot);
+            queues.schedule.add(party);
         }
-        let Some(guest) = self.take(slot) else {
-            return;
-        };
-        guest.say(rt, moment, ClientNews::Late);
-        self.part(rt, queues, addresses, slot, guest, now);
+        if guest.has_parted(now) {
+            return Some(ClientNews::NotUnbound);
+        }
+        if guest.is_stuck(now, timers.client_silence.saturating_mul(2)) {
+            return Some(ClientNews::Stuck);
+        }
+        guest
+            .stays_late(now, timers.bind)
+            .then_some(ClientNews::Late)
     }
 
-    /// Lets each client go that wasn't bound in time. A tick finds it.
+    /// Lets each client go that wasn't bound in time, takes no octet, or didn't answer the proxy's unbind. A
+    /// tick finds it.
     pub fn let_late_go<R: Wait>(
         &mut self,
         rt: &R,
@@ -144,11 +174,72 @@ impl<'d> Guests<'d> {
         addresses: &mut Addresses,
     ) {
         for slot in 0..queues.slots {
-            self.let_go_late(rt, moment, queues, addresses, slot);
+            if let Some(news) = self.found_at(moment, queues, slot) {
+                self.dismiss_one(rt, moment, queues, addresses, slot, news);
+            }
         }
     }
 
-    // Lets each client go.
+    // Sends the slot's client unbind. False where there is none that is bound.
+    fn unbind_at<R: Wait>(
+        &mut self,
+        rt: &R,
+        queues: &mut Queues,
+        addresses: &mut Addresses,
+        slot: usize,
+        now: u64,
+    ) -> bool {
+        let Some(guest) = self.guests.get_mut(self.seating.place(slot)) else {
+            return false;
+        };
+        let was_sent = guest.unbind(rt, addresses, now);
+        if was_sent {
+            let party = queues.party(slot);
+            queues.schedule.add(party);
+        }
+        was_sent
+    }
+
+    /// Lets each client go that isn't bound.
+    pub fn dismiss_strangers<R: Wait>(
+        &mut self,
+        rt: &R,
+        moment: Moment<'_>,
+        queues: &mut Queues,
+        addresses: &mut Addresses,
+    ) {
+        for slot in 0..queues.slots {
+            let is_stranger = match self.at(slot) {
+                Some(guest) => guest.name.is_none(),
+                None => false,
+            };
+            if is_stranger {
+                self.let_go(rt, moment, queues, addresses, slot, RunEnd::Left);
+            }
+        }
+    }
+
+    /// Sends each client that is bound unbind, and lets the others go.
+    pub fn unbind_all<R: Wait>(
+        &mut self,
+        rt: &R,
+        moment: Moment<'_>,
+        queues: &mut Queues,
+        addresses: &mut Addresses,
+    ) {
+        for slot in 0..queues.slots {
+            if !self.unbind_at(rt, queues, addresses, slot, moment.now) {
+                self.let_go(rt, moment, queues, addresses, slot, RunEnd::Left);
+            }
+        }
+    }
+
+    /// Whether no client is served.
+    pub fn are_gone(&self) -> bool {
+        self.guests.is_empty()
+    }
+
+    // Lets each client go, though it may not have answered the proxy's unbind.
     pub fn dismiss<R: Wait>(
         &mut self,
         rt: &R,
@@ -157,7 +248,7 @@ impl<'d> Guests<'d> {
         addresses: &mut Addresses,
     ) {
         for slot in 0..queues.slots {
-            self.let_go(rt, moment, queues, addresses, slot, RunEnd::Left);
+            self.dismiss_one(rt, moment, queues, addresses, slot, ClientNews::NotUnbound);
         }
     }
 
@@ -183,26 +274,43 @@ impl<'d> Guests<'d> {
         (self.guests.len(), closing)
     }
 
-    // The accounts have changed: lets each client go that isn't bound yet, and says of each that is bound
-    // what became of its account.
+    // What became of the account of the slot's client: its prefixes are others, which go for it from now on,
+    // or it is to be unbound.
+    fn renew_at<R: Wait>(
+        &mut self,
+        rt: &R,
+        moment: Moment<'d>,
+        queues: &mut Queues,
+        addresses: &mut Addresses,
+        slot: usize,
+    ) {
+        let Some(guest) = self.guests.get_mut(self.seating.place(slot)) else {
+            return;
+        };
+        match guest.change(rt, moment) {
+            None => return,
+            Some(AccountChange::Prefixes) => guest.reroute(rt, moment, addresses),
+            Some(AccountChange::Gone | AccountChange::Password) => {
+                self.unbind_at(rt, queues, addresses, slot, moment.now);
+            }
+        }
+    }
+
+    // The accounts have changed: lets each client go that isn't bound yet, and does for each that is bound
+    // what follows for it.
     pub fn renew<R: Wait>(
         &mut self,
         rt: &R,
-        moment: Moment<'_>,
+        moment: Moment<'d>,
         queues: &mut Queues,
         addresses: &mut Addresses,
     ) {
         for slot in 0..queues.slots {
-            let is_bound = match self.at(slot) {
-                Some(guest) => guest.say_change(rt, moment),
-                None => true,
-            };
-            if is_bound {
-                continue;
-            }
-            if let Some(guest) = self.take(slot) {
-                guest.say(rt, moment, ClientNews::Renewed);
-                self.part(rt, queues, addresses, slot, guest, moment.now);
+            match self.at(slot) {
+                Some(guest) if guest.name.is_none() => {
+                    self.dismiss_one(rt, moment, queues, addresses, slot, ClientNews::Renewed);
+                }
+                _ => self.renew_at(rt, moment, queues, addresses, slot),
             }
         }
     }

@@ -14,7 +14,7 @@ use smx_config::Upstream;
 use smx_notice::{LinkLoss, LinkState};
 use smx_pdu::status::ESME_ROK;
 use smx_session::UpstreamState;
-use smx_slots::{Bell, Guide, LaneEnds};
+use smx_slots::{Bell, Door, Guide, LaneEnds};
 use smx_socket::Socket;
 use smx_turns::{Fault, RunEnd};
 use smx_upstream::LastRequest;
@@ -84,6 +84,17 @@ pub(crate) enum Unlinked {
 
 /// How long a link has to be bound for the next pause to be the first again, in milliseconds.
 const HELD: u64 = 60_000;
+
+// What rings in a lane's turn.
+fn lane_bell<'a>(queues: &'a mut Queues, addresses: &'a mut Addresses) -> Bell<'a> {
+    Bell::new(
+        queues.lanes,
+        &mut queues.schedule,
+        &addresses.roll,
+        &mut addresses.ledger,
+        Door::Lane,
+    )
+}
 
 impl Linked {
     // Whether an octet came from the centre.
@@ -168,7 +179,13 @@ impl Linked {
         now: u64,
     ) -> Turned {
         let before = self.socket.traffic();
-        let mut bell = Bell::new(queues.lanes, &mut queues.schedule, &addresses.roll);
+        let mut bell = Bell::new(
+            queues.lanes,
+            &mut queues.schedule,
+            &addresses.roll,
+            &mut addresses.ledger,
+            Door::Lane,
+        );
         let mut guide = Guide::new(&mut addresses.routes, &addresses.roll);
         let end = self.run(rt, &mut bell, &mut guide, now);
         self.over = matches!(end, RunEnd::Left | RunEnd::Fault(_));
@@ -285,7 +302,13 @@ impl Lane {
 
     // Parts from its link at this moment: what was said last is written, and what was taken and not
     // answered fails. How many requests failed. It is tried again at once.
-    fn part<R: Wait>(&mut self, rt: &R, now: u64) -> usize {
+    fn part<R: Wait>(
+        &mut self,
+        rt: &R,
+        queues: &mut Queues,
+        addresses: &mut Addresses,
+        now: u64,
+    ) -> usize {
         let Some(linked) = self.link.take() else {
             return 0;
         };
@@ -296,7 +319,9 @@ impl Lane {
             ..
         } = linked;
         socket.flush();
-        let (drawer, ends, failed) = carrier.close(rt);
+        let mut bell = lane_bell(queues, addresses);
+        let (drawer, ends, failed) = carrier.close(rt, &mut bell);
+        queues.fail(failed);
         self.spare = Some(Spare { drawer, ends });
         if bound.is_some() {
             self.lost = Some(now);
@@ -305,8 +330,14 @@ impl Lane {
     }
 
     // Parts from its link, whose bind isn't answered.
-    pub fn end_late<R: Wait>(&mut self, rt: &R, moment: Moment<'_>) -> Lost {
-        let failed = self.part(rt, moment.now);
+    pub fn end_late<R: Wait>(
+        &mut self,
+        rt: &R,
+        moment: Moment<'_>,
+        queues: &mut Queues,
+        addresses: &mut Addresses,
+    ) -> Lost {
+        let failed = self.part(rt, queues, addresses, moment.now);
         if !self.course.has_more() {
             self.course.delay(moment);
         }
@@ -319,7 +350,14 @@ impl Lane {
 
     // Parts from its link, whose worker has ended so. Nothing is to be said of it where another
     // address of its name is tried at once.
-    pub fn lose<R: Wait>(&mut self, rt: &R, moment: Moment<'_>, end: RunEnd) -> Option<Lost> {
+    pub fn lose<R: Wait>(
+        &mut self,
+        rt: &R,
+        moment: Moment<'_>,
+        queues: &mut Queues,
+        addresses: &mut Addresses,
+        end: RunEnd,
+    ) -> Option<Lost> {
         let Moment { alloc, now, .. } = moment;
         let (loss, has_held, last) = match &self.link {
             Some(linked) => {
@@ -328,7 +366,7 @@ impl Lane {
             }
             None => return None,
         };
-        let failed = self.part(rt, now);
+        let failed = self.part(rt, queues, addresses, now);
         if matches!(loss, LinkLoss::Unreached(_)) && self.course.has_more() {
             return None;
         }
@@ -346,17 +384,40 @@ impl Lane {
 
     // Where its link was lost so long ago that no request waits longer, what is queued here fails: how
     // many requests. A link that isn't bound by then is begun anew.
-    pub fn give_up_queued<R: Wait>(&mut self, rt: &R, now: u64, response: u64) -> usize {
+    pub fn give_up_queued<R: Wait>(
+        &mut self,
+        rt: &R,
+        queues: &mut Queues,
+        addresses: &mut Addresses,
+        now: u64,
+        response: u64,
+    ) -> usize {
         match self.lost {
             Some(lost) if now >= lost.saturating_add(response) => {}
             _ => return 0,
         }
-        self.part(rt, now);
+        self.part(rt, queues, addresses, now);
         self.lost = None;
-        match &mut self.spare {
-            Some(spare) => spare.drawer.give_up_queued(rt, now),
-            None => 0,
-        }
+        self.give_up(rt, queues, addresses, now)
+    }
+
+    // What was taken and not answered fails, and what is queued: how many requests. A link that it has
+    // stays, and no request is taken over it from then on.
+    pub fn give_up<R: Wait>(
+        &mut self,
+        rt: &R,
+        queues: &mut Queues,
+        addresses: &mut Addresses,
+        now: u64,
+    ) -> usize {
+        let mut bell = lane_bell(queues, addresses);
+        let failed = match (&mut self.link, &mut self.spare) {
+            (Some(linked), _) => linked.carrier.give_up(rt, &mut bell, now),
+            (None, Some(spare)) => spare.drawer.give_up_queued(rt, &mut bell, now),
+            (None, None) => 0,
+        };
+        queues.fail(failed);
+        failed
     }
 
     // Lets go what was noted of its lane, where that is so much. A worker does it of its own.

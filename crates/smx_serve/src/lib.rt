@@ -17,7 +17,9 @@ mod log;
 mod lookup;
 mod pace;
 mod parties;
+mod preface;
 mod queues;
+mod refusals;
 mod reload;
 mod remote;
 mod room;
@@ -25,6 +27,7 @@ mod seating;
 mod seats;
 mod serve;
 mod status;
+mod stillness;
 mod stop;
 mod teller;
 mod turning;
@@ -35,6 +38,6 @@ pub use lookup::{Lookups, is_name};
 pub use remote::Remote;
 pub use serve::Server;
 pub use smx_notice::{
-    AccountChange, ClientName, ClientNews, ClientState, Counts, Ended, LastSent, LinkLoss,
+    AccountChange, ClientName, ClientNews, ClientStanding, Counts, Ended, LastSent, LinkLoss,
     LinkState, MeteredKind, Notice, Service, Standing, TurnedAway, UpstreamName, UpstreamNews,
 };

@@ -83,7 +83,7 @@ pub(crate) fn turn_lane<R: Wait>(
             say(rt, moment, lane, UpstreamNews::Unbound);
         }
         end @ (RunEnd::Left | RunEnd::Fault(_)) => {
-            let lost = place.lose(rt, moment, end);
+            let lost = place.lose(rt, moment, queues, addresses, end);
             queues.add_slots();
             match lost {
                 Some(lost) => {
@@ -101,6 +101,7 @@ fn end_late<R: Wait>(
     rt: &R,
     moment: Moment<'_>,
     queues: &mut Queues,
+    addresses: &mut Addresses,
     lane: usize,
     place: &mut Lane,
 ) {
@@ -108,7 +109,7 @@ fn end_late<R: Wait>(
     if !place.is_late(timers.enquire) {
         return;
     }
-    let lost = place.end_late(rt, moment);
+    let lost = place.end_late(rt, moment, queues, addresses);
     queues.add_slots();
     say_lost(rt, moment, lane, place, lost, None);
 }
@@ -118,11 +119,12 @@ fn give_up<R: Wait>(
     rt: &R,
     moment: Moment<'_>,
     queues: &mut Queues,
+    addresses: &mut Addresses,
     lane: usize,
     place: &mut Lane,
 ) {
     let Moment { timers, now, .. } = moment;
-    let failed = place.give_up_queued(rt, now, timers.response);
+    let failed = place.give_up_queued(rt, queues, addresses, now, timers.response);
     if failed > 0 {
         queues.add_slots();
         say(rt, moment, lane, UpstreamNews::GivenUp { failed });
@@ -164,12 +166,13 @@ fn tend<R: Wait + Net>(
     registry: &Registry,
     moment: Moment<'_>,
     queues: &mut Queues,
+    addresses: &mut Addresses,
     lane: usize,
     place: &mut Lane,
 ) {
     let config = moment.config;
-    end_late(rt, moment, queues, lane, place);
-    give_up(rt, moment, queues, lane, place);
+    end_late(rt, moment, queues, addresses, lane, place);
+    give_up(rt, moment, queues, addresses, lane, place);
     place.turn_over(rt, config.limits.history as usize / 8);
     if let Some(upstream) = config.upstream.get(lane) {
         connect(rt, registry, moment, upstream, lane, place);
@@ -183,11 +186,12 @@ pub(crate) fn tend_all<R: Wait + Net>(
     moment: Moment<'_>,
     lanes: &mut [Lane],
     queues: &mut Queues,
+    addresses: &mut Addresses,
 ) {
     for lane in 0..lanes.len() {
         if let Some(place) = lanes.get_mut(lane) {
             if !moment.stopping {
-                tend(rt, registry, moment, queues, lane, place);
+                tend(rt, registry, moment, queues, addresses, lane, place);
             }
         }
         queues.schedule.add(lane);

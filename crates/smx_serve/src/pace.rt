@@ -72,13 +72,16 @@ impl<'d> Pace<'d> {
         }
     }
 
-    /// Reads the clock: whether a tick is due.
+    /// Reads the clock: whether a tick is due. A wait that took longer than it may was interrupted, as where
+    /// the program stood still: then events are asked for anew.
     pub fn look<R: Clock>(&mut self, rt: &R) -> bool {
+        let before = self.moment.now;
         if let Ok(passed) = self.start.elapsed(rt) {
             self.moment.now = u64::try_from(passed.as_millis()).unwrap_or(u64::MAX);
             self.moment.chance = u64::from(passed.subsec_nanos() % 1_000_000);
         }
-        if std::mem::take(&mut self.has_waited) {
+        let is_soon = self.moment.now < before.saturating_add(2 * TICK);
+        if std::mem::take(&mut self.has_waited) && is_soon {
             self.polled = self.moment.now;
         }
         if self.moment.now < self.ticked.saturating_add(TICK) {
@@ -99,7 +102,7 @@ impl<'d> Pace<'d> {
         self.passes = 0;
     }
 
-    /// Events are waited for: they come at the moment that is read next.
+    /// Events are waited for: they come at the moment that is read next, where that is soon.
     pub fn waits(&mut self) {
         self.has_waited = true;
     }

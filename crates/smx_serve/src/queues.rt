@@ -29,6 +29,8 @@ pub(crate) struct Queues {
     hurried: bool,
     // The first party that the next tick makes ready again.
     netted: usize,
+    // How many requests failed since the start, as their link was lost or they were given up.
+    pub failed: u64,
     // How many of each there are.
     pub lanes: usize,
     pub slots: usize,
@@ -55,6 +57,7 @@ impl Queues {
             dirty: Line::new(alloc, parties)?,
             hurried: false,
             netted: 0,
+            failed: 0,
             lanes,
             slots,
         };
@@ -94,6 +97,11 @@ impl Queues {
         for slot in 0..self.slots {
             self.schedule.add(self.lanes.saturating_add(slot));
         }
+    }
+
+    /// So many requests failed.
+    pub fn fail(&mut self, failed: usize) {
+        self.failed = self.failed.saturating_add(failed as u64);
     }
 
     /// The slot has another client, or none: it is unbound, and ready.

@@ -1,6 +1,6 @@
 //! A configuration that was read again while the loop goes on.
 
-use crate::desk::{desk_of, is_same};
+use crate::desk::{desk_of, is_same, limits_of, moves_of};
 use crate::pace::Moment;
 use crate::turning::Loop;
 use smx_client::Desk;
@@ -10,7 +10,14 @@ use std::alloc::{AllocError, Global};
 use std::sync::Wait;
 
 /// The keys and tables of a file that are taken at the start alone.
-const NAMES: [&str; 5] = ["listen", "clients", "box", "[limits]", "[[upstream]]"];
+const NAMES: [&str; 6] = [
+    "listen",
+    "proxy_protocol",
+    "clients",
+    "box",
+    "[limits]",
+    "[[upstream]]",
+];
 
 // Whether two upstreams are the same.
 fn is_same_upstream(one: &Upstream, other: &Upstream) -> bool {
@@ -34,9 +41,10 @@ fn are_same_upstreams(one: &[Upstream], other: &[Upstream]) -> bool {
 }
 
 // Of each of those names whether it is the same in both.
-fn are_same(one: &Config, other: &Config) -> [bool; 5] {
+fn are_same(one: &Config, other: &Config) -> [bool; 6] {
     [
         one.listen == other.listen,
+        one.proxy_protocol == other.proxy_protocol,
         one.clients == other.clients,
         one.places == other.places,
         one.limits == other.limits,
@@ -69,8 +77,18 @@ fn other_desk<'d>(
 }
 
 impl<'d> Loop<'d> {
-    // From now on clients bind by these accounts. Those that aren't bound yet are let go; those that are
-    // stay.
+    // What each account may have is what this configuration says, whose accounts are those of that desk.
+    fn renew_limits(&mut self, read: &Config, desk: &Desk) -> Result<(), AllocError> {
+        let alloc = self.pace.moment.alloc;
+        let moves = moves_of(alloc, self.pace.moment.desk, desk)?;
+        let limits = limits_of(alloc, read)?;
+        self.addresses
+            .ledger
+            .renew(moves.as_slice(), limits.as_slice())
+    }
+
+    // From now on clients bind by these accounts. Those that aren't bound yet are let go; those whose
+    // account is gone or has another password are unbound.
     fn replace_desk<R: Wait>(&mut self, rt: &R, desk: &'d Desk) {
         self.pace.moment.desk = desk;
         let moment = self.pace.moment;
@@ -85,6 +103,13 @@ impl<'d> Loop<'d> {
             moment.say(rt, Notice::NotReloaded("no memory"));
             return;
         };
+        if self
+            .renew_limits(read, desk.unwrap_or(moment.desk))
+            .is_err()
+        {
+            moment.say(rt, Notice::NotReloaded("no memory"));
+            return;
+        }
         self.pace.moment.timers = read.timers;
         moment.say(rt, Notice::Reloaded(read.account.len()));
         say_not_taken(rt, moment, read);

@@ -9,7 +9,8 @@ use std::sync::{Mutex, Wait};
 #[derive(Drop)]
 pub struct Remote {
     waker: Waker,
-    stopping: AtomicBool,
+    // How often it was asked to stop.
+    stops: AtomicU64,
     // How all stands is to be told.
     tells: AtomicBool,
     // A configuration was read again, and which.
@@ -23,7 +24,7 @@ impl Remote {
     pub(crate) fn new(waker: Waker) -> Remote {
         Remote {
             waker,
-            stopping: AtomicBool::new(false),
+            stops: AtomicU64::new(0),
             tells: AtomicBool::new(false),
             reloads: AtomicBool::new(false),
             read: Mutex::new(None),
@@ -31,9 +32,10 @@ impl Remote {
         }
     }
 
-    /// Asks it to stop: it unbinds, writes what waits and ends.
+    /// Asks it to stop: nobody is let in, no more requests are taken, those under way are awaited, it
+    /// unbinds, writes what waits and ends. Asked once more it awaits nothing more.
     pub fn stop(&self) {
-        self.stopping.store(true, Ordering::SeqCst);
+        let _ = self.stops.fetch_add(1, Ordering::SeqCst);
         self.wake();
     }
 
@@ -72,7 +74,12 @@ impl Remote {
 
     /// Whether it was asked to.
     pub fn is_stopping(&self) -> bool {
-        self.stopping.load(Ordering::SeqCst)
+        self.stops.load(Ordering::SeqCst) > 0
+    }
+
+    // Whether it was asked to more than once.
+    pub(crate) fn is_hurried(&self) -> bool {
+        self.stops.load(Ordering::SeqCst) > 1
     }
 
     pub(crate) fn listen(&self, port: u16) {

@@ -16,7 +16,7 @@ use smx_slots::{ClientEnds, LaneEnds};
 use smx_socket::SocketLink;
 use smx_turns::{Directory, Gate, RunEnd};
 use smx_upstream::{
-    Closed as Ended, LastRequest, Parts, UpstreamWorker, give_up_queued, lose, run_upstream,
+    Closed as Ended, LastRequest, Parts, UpstreamWorker, give_up_queued, run_upstream,
 };
 use std::alloc::Global;
 use std::sync::{Arc, Wait};
@@ -71,12 +71,12 @@ pub(crate) struct Carrier {
 impl Drawer {
     // The lane takes no requests until a worker brings it up.
     pub fn lower<R: Wait>(&mut self, rt: &R) {
-        let _ = lose(&mut self.tap, &self.at, rt);
+        let _ = self.tap.down(&self.at, rt);
     }
 
-    // What is queued on the lane fails. How many requests that were.
-    pub fn give_up_queued<R: Wait>(&mut self, rt: &R, now: u64) -> usize {
-        give_up_queued(&mut self.tap, &self.at, rt, now).failed
+    // What is queued on the lane fails, of which the gate is told. How many requests that were.
+    pub fn give_up_queued<R: Wait, G: Gate>(&mut self, rt: &R, gate: &mut G, now: u64) -> usize {
+        give_up_queued(&mut self.tap, &self.at, rt, gate, now).failed
     }
 
     // The lane lets go what was noted there, where that is so much.
@@ -202,6 +202,11 @@ impl<'d> Member<'d> {
         self.worker.unsent()
     }
 
+    // Sends its client unbind. False where it isn't bound, or there was no memory.
+    pub fn stop(&mut self) -> bool {
+        !self.over && self.worker.stop() == Ok(true)
+    }
+
     // Lets the client go. The ends come back, and whether a lane has an answer to a message of it.
     pub fn close<R: Wait, D: Directory>(self, rt: &R, directory: &mut D) -> (ClientEnds, bool) {
         let Member { at, worker, .. } = self;
@@ -269,9 +274,10 @@ impl Carrier {
         }
     }
 
-    // Ends it: its lane goes down, what was taken and not answered fails, and no answer that waits for
-    // this link goes out. The tap and the ends come back, and how many requests failed.
-    pub fn close<R: Wait>(self, rt: &R) -> (Drawer, LaneEnds, usize) {
+    // Ends it: its lane goes down, what was taken and not answered fails, of which the gate is told, and no
+    // answer that waits for this link goes out. The tap and the ends come back, and how many requests
+    // failed.
+    pub fn close<R: Wait, G: Gate>(self, rt: &R, gate: &mut G) -> (Drawer, LaneEnds, usize) {
         let Carrier { at, worker, .. } = self;
         let Ended {
             tap,
@@ -280,7 +286,7 @@ impl Carrier {
             owed,
             lost,
             ..
-        } = worker.close(&at, rt);
+        } = worker.close(&at, rt, gate);
         empty(rt, &mut answers);
         let drawer = Drawer { at, tap };
         let ends = LaneEnds {
@@ -294,6 +300,12 @@ impl Carrier {
     // The request that went out last over its link.
     pub fn last_request(&self) -> Option<LastRequest> {
         self.worker.last_request()
+    }
+
+    // Fails each request that was taken and not answered, and each that is queued, of which the gate is
+    // told; the link stays. How many requests that were.
+    pub fn give_up<R: Wait, G: Gate>(&mut self, rt: &R, gate: &mut G, now: u64) -> usize {
+        self.worker.give_up(&self.at, rt, gate, now)
     }
 
     // Ends its session in order. False where it wasn't bound, or there was no memory: then nothing is

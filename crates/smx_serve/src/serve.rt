@@ -1,7 +1,7 @@
 //! A proxy from its configuration on.
 
 use crate::addresses::Addresses;
-use crate::desk::desk_of;
+use crate::desk::{desk_of, limits_of};
 use crate::entrance::Entrance;
 use crate::guests::Guests;
 use crate::herald::Herald;
@@ -115,10 +115,16 @@ struct Tables {
     addresses: Addresses,
 }
 
-fn tables_of(alloc: Global, lanes: usize, slots: usize) -> Result<Tables, AllocError> {
+fn tables_of(
+    alloc: Global,
+    config: &Config,
+    lanes: usize,
+    slots: usize,
+) -> Result<Tables, AllocError> {
     let events = Events::with_capacity(alloc, 512)?;
     let queues = Queues::new(alloc, lanes, slots)?;
-    let addresses = Addresses::new(alloc, slots)?;
+    let limits = limits_of(alloc, config)?;
+    let addresses = Addresses::new(alloc, slots, limits.as_slice())?;
     Ok(Tables {
         events,
         queues,
@@ -156,13 +162,14 @@ where
         mut events,
         queues,
         addresses,
-    } = tables_of(alloc, lanes.len(), guests.slots.count())?;
+    } = tables_of(alloc, config, lanes.len(), guests.slots.count())?;
     let listener = await_listener(rt, &mut poll, &mut events, moment, remote)?;
     let Ok(start) = Instant::now(rt) else {
         return Err(Ended::NoEvents);
     };
+    remote.listen(port_of(&listener));
     let entrance = Entrance {
-        listener,
+        listener: Some(listener),
         gateway,
         short: false,
         more: false,
@@ -313,6 +320,5 @@ where
     let Moment { config, .. } = moment;
     moment.say(rt, Notice::Listening(config.listen.as_str()));
     moment.herald.say(rt, Service::Ready);
-    remote.listen(port_of(&turning.entrance.listener));
     Ok(turning.run(rt, remote))
 }

@@ -6,6 +6,7 @@ use crate::linking::name_of;
 use crate::pace::Moment;
 use crate::turning::Loop;
 use smx_notice::{Notice, Standing};
+use smx_slots::Ledger;
 use std::sync::Wait;
 
 /// Of how many lanes and slots is told before the next pass.
@@ -50,9 +51,10 @@ fn tell_lane<R: Wait>(rt: &R, moment: Moment<'_>, lane: usize, place: &Lane) {
 }
 
 // Tells how the slot's client stands, where it has one.
-fn tell_slot<R: Wait>(rt: &R, moment: Moment<'_>, guests: &Guests, slot: usize) {
+fn tell_slot<R: Wait>(rt: &R, moment: Moment<'_>, guests: &Guests, ledger: &Ledger, slot: usize) {
     if let Some(guest) = guests.at(slot) {
-        let standing = Standing::Client(guest.named(), guest.standing(moment.now));
+        let requests = ledger.of_client(guest.client);
+        let standing = Standing::Client(guest.named(), guest.standing(requests, moment.now));
         moment.say(rt, Notice::Status(standing));
     }
 }
@@ -67,13 +69,14 @@ impl Loop<'_> {
                 rt,
                 moment,
                 &self.guests,
+                &self.addresses.ledger,
                 party.saturating_sub(self.lanes.len()),
             ),
         }
     }
 
     /// Goes on with a telling, where one is under way: of some lanes and slots, and behind the last of how
-    /// many slots are taken.
+    /// many slots are taken and how many requests are under way.
     pub fn tell_some<R: Wait>(&mut self, rt: &R) {
         let all = self.lanes.len().saturating_add(self.guests.slots.count());
         let Some((begin, end)) = self.survey.step(all) else {
@@ -90,6 +93,8 @@ impl Loop<'_> {
                 closing,
             };
             self.pace.moment.say(rt, Notice::Status(standing));
+            let requests = Standing::Requests(self.addresses.ledger.under_way());
+            self.pace.moment.say(rt, Notice::Status(requests));
         }
     }
 }

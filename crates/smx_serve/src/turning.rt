@@ -73,7 +73,14 @@ impl<'d> Loop<'d> {
         let moment = self.pace.moment;
         let registry = self.poll.registry();
         self.queues.unstall();
-        tend_all(rt, registry, moment, &mut self.lanes, &mut self.queues);
+        tend_all(
+            rt,
+            registry,
+            moment,
+            &mut self.lanes,
+            &mut self.queues,
+            &mut self.addresses,
+        );
         moment.teller.settle(rt, moment.now);
         if moment.herald.looks(moment.now) {
             moment.herald.tell(rt, moment.now, self.counts());
@@ -163,7 +170,7 @@ impl<'d> Loop<'d> {
         self.tick(rt);
         for _ in rt.forever() {
             if remote.is_stopping() {
-                return self.stop(rt);
+                return self.stop(rt, remote);
             }
             self.heed(rt, remote);
             if let Err(ended) = self.round(rt, TICK) {

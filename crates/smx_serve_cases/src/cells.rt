@@ -135,13 +135,19 @@ fn is_bound(stream: &mut TcpStream, command: u8) -> bool {
     stream.write_all(&bind).is_ok() && comes(stream, &bound)
 }
 
-// Whether each kind of PDU is answered as the table's column says.
+const BIND_TRANSCEIVER: u32 = 0x0000_0009;
+
+// Whether each kind of PDU is answered as the table's column says. A connection without a bind is sent two of
+// the three kinds of bind, since it is closed behind a third refusal.
 fn are_answered(alloc: Global, stream: &mut TcpStream, up: &mut TcpStream, state: usize) -> bool {
     for at in 0..CLIENT.len() {
         let (command, replies) = CLIENT[at];
         let Some(reply) = replies.get(state) else {
             return false;
         };
+        if state == 0 && command == BIND_TRANSCEIVER {
+            continue;
+        }
         if !is_answered(alloc, stream, up, command, *reply) {
             return false;
         }

@@ -1,7 +1,7 @@
 //! The proxy's tables.
 
 use smx_routes::{RouteFault, Routes};
-use smx_slots::{Bell, ClientEnds, Guide, Roll, Schedule, Slots, ends_of};
+use smx_slots::{Bell, ClientEnds, Door, Guide, Ledger, Limits, Roll, Schedule, Slots, ends_of};
 use smx_turns::{Directory, Gate, Party, Place, Point};
 use std::sync::Wait;
 use std::test::Fail;
@@ -57,24 +57,153 @@ fn a_client_has_its_slot(rt: HostRuntime) -> Result<(), Fail> {
     Ok(())
 }
 
-// With three lanes slot 0 is party 3. Who is gone is told nothing.
+// Two accounts: of the first one client may be bound, with two requests under way.
+const TWO: [Limits; 2] = [
+    Limits {
+        binds: Some(1),
+        requests: Some(2),
+    },
+    Limits {
+        binds: None,
+        requests: None,
+    },
+];
+
+// With three lanes slot 0 is party 3. Who is gone is told nothing. A lane's turn asks nobody, and a request
+// that it settles is counted.
 #[test]
 fn a_bell_names_parties(rt: HostRuntime) -> Result<(), Fail> {
     let mut schedule = Schedule::new(rt.alloc(), 8)?;
     let mut roll = Roll::new(rt.alloc(), 4)?;
+    let mut ledger = Ledger::new(rt.alloc(), TWO.as_slice())?;
+    assert!(rt; ledger.bind(7, 0));
+    ledger.accepted(7);
     roll.add(7, 2);
-    let mut bell = Bell::new(3, &mut schedule, &roll);
+    let mut bell = Bell::new(3, &mut schedule, &roll, &mut ledger, Door::Lane);
     assert!(rt; bell.at(Point::Reading, 1));
     assert!(rt; bell.at(Point::Taking, 1));
+    assert!(rt; !bell.has_rung());
     bell.ready(Party::Lane(1));
     bell.ready(Party::Client { client: 7, lane: 0 });
     bell.ready(Party::Slot(0));
     bell.ready(Party::Client { client: 8, lane: 0 });
+    bell.ready(Party::Answer(2));
     assert!(rt; bell.has_rung());
-    for party in [1usize, 5, 3] {
+    for party in [1usize, 5, 3, 2] {
         assert_eq!(rt; schedule.begin_unbound(), Some(party));
     }
     assert!(rt; schedule.is_empty());
+    assert_eq!(rt; ledger.under_way(), 0);
+    Ok(())
+}
+
+// The first account is full with one client, which may have two requests: the third waits until one is
+// settled. An answer to a message is no request.
+#[test]
+fn a_bell_asks_the_ledger(rt: HostRuntime) -> Result<(), Fail> {
+    let mut schedule = Schedule::new(rt.alloc(), 8)?;
+    let roll = Roll::new(rt.alloc(), 4)?;
+    let mut ledger = Ledger::new(rt.alloc(), TWO.as_slice())?;
+    let door = Door::Client {
+        client: 7,
+        may_read: false,
+        may_refuse: true,
+    };
+    let mut bell = Bell::new(3, &mut schedule, &roll, &mut ledger, door);
+    assert!(rt; !bell.at(Point::Reading, 1));
+    assert!(rt; bell.at(Point::Refusing, 1));
+    assert!(rt; !bell.at(Point::Refusing, 2));
+    assert!(rt; !bell.at(Point::Binding(2), 2));
+    assert_eq!(rt; bell.account(), None);
+    assert!(rt; bell.at(Point::Binding(0), 2));
+    assert_eq!(rt; bell.account(), Some(0));
+    for _ in 0..2 {
+        assert!(rt; bell.at(Point::Admitting, 2));
+        assert!(rt; bell.at(Point::Submitting, 2));
+        bell.ready(Party::Lane(0));
+        bell.ready(Party::Answer(0));
+    }
+    assert!(rt; !bell.at(Point::Admitting, 2));
+    bell.ready(Party::Client { client: 7, lane: 0 });
+    assert!(rt; bell.at(Point::Admitting, 2));
+    assert!(rt; bell.has_refused());
+    assert_eq!(rt; ledger.of_client(7), 1);
+    assert!(rt; !ledger.bind(8, 0));
+    Ok(())
+}
+
+// Who is gone leaves its place to another, but not that of its requests under way.
+#[test]
+fn a_ledger_counts(rt: HostRuntime) -> Result<(), Fail> {
+    let mut ledger = Ledger::new(rt.alloc(), TWO.as_slice())?;
+    assert!(rt; ledger.bind(1, 0));
+    assert!(rt; !ledger.bind(2, 0));
+    assert!(rt; !ledger.bind(1, 1));
+    assert!(rt; ledger.bind(2, 1));
+    for client in [1u64, 2, 1, 9] {
+        ledger.accepted(client);
+    }
+    ledger.leave(1);
+    assert!(rt; !ledger.admits(1));
+    assert!(rt; ledger.bind(3, 0));
+    assert!(rt; !ledger.admits(3));
+    ledger.settled(1);
+    assert!(rt; ledger.admits(3));
+    let counts = [
+        ledger.of_account(0),
+        ledger.of_account(1),
+        ledger.of_account(2),
+    ];
+    assert_eq!(rt; counts, [1, 1, 0]);
+    let bound = [ledger.bound_by(0), ledger.bound_by(1), ledger.bound_by(2)];
+    assert_eq!(rt; bound, [1, 1, 0]);
+    ledger.settled(1);
+    ledger.settled(1);
+    assert_eq!(rt; [ledger.of_account(0), ledger.under_way()], [0, 1]);
+    ledger.drain();
+    assert!(rt; ledger.is_draining());
+    assert!(rt; !ledger.admits(2));
+    assert!(rt; !ledger.bind(4, 1));
+    ledger.settled(2);
+    assert_eq!(rt; ledger.under_way(), 0);
+    Ok(())
+}
+
+// The first account becomes the second, with one request at most; the second is gone, and its client keeps
+// what it had. The new first one takes nobody.
+#[test]
+fn accounts_move(rt: HostRuntime) -> Result<(), Fail> {
+    let mut ledger = Ledger::new(rt.alloc(), TWO.as_slice())?;
+    assert!(rt; ledger.bind(1, 0));
+    assert!(rt; ledger.bind(2, 1));
+    for client in [1u64, 2, 2] {
+        ledger.accepted(client);
+    }
+    let limits = [
+        Limits {
+            binds: Some(0),
+            requests: None,
+        },
+        Limits {
+            binds: Some(2),
+            requests: Some(1),
+        },
+    ];
+    let moves: [Option<usize>; 2] = [Some(1), None];
+    ledger.renew(moves.as_slice(), limits.as_slice())?;
+    let counts = [
+        ledger.of_account(0),
+        ledger.of_account(1),
+        ledger.under_way(),
+    ];
+    assert_eq!(rt; counts, [0, 1, 3]);
+    assert!(rt; !ledger.bind(3, 0));
+    assert!(rt; !ledger.admits(1));
+    assert!(rt; ledger.admits(2));
+    assert!(rt; ledger.bind(3, 1));
+    assert!(rt; !ledger.bind(4, 1));
+    ledger.settled(1);
+    assert!(rt; ledger.admits(3));
     Ok(())
 }
 

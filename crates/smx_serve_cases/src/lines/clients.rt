@@ -75,8 +75,8 @@ where
     told.client(rt, "3 alpha", &third, "hung up, a bad length")
 }
 
-// A client that enquires before it binds, until its bind isn't kept, and whose connection is reset
-// then, which the system does where octets that came weren't read.
+// A client that enquires before it binds, until its first octets are kept no more, and whose connection is
+// reset then, which the system does where octets that came weren't read.
 fn reset<R>(rt: &R, told: &mut Told) -> Result<(), Fail>
 where
     R: Net<Stream = TcpStream> + Abort + AllocGlobal,
@@ -86,12 +86,12 @@ where
     told.client(rt, "4", &client, "connected")?;
     enquires(rt, rt.alloc(), &mut client, MANY);
     assert!(rt; bind_by(&mut client, 9)?);
-    told.client(rt, "4 ?", &client, "bound as transceiver")?;
+    told.client(rt, "4 alpha", &client, "bound as transceiver")?;
     client.write_all(ENQUIRY)?;
     let mut octet = [0u8; 1];
     assert_eq!(rt; client.peek(&mut octet)?, 1);
     drop(client);
-    let line = format!(in rt.alloc(); "client 4 ? at {address}: ended, the link failed")?;
+    let line = format!(in rt.alloc(); "client 4 alpha at {address}: ended, the link failed")?;
     told.lines.says(rt, line.as_str());
     Ok(())
 }
@@ -162,7 +162,7 @@ fn connections_that_are_not_bound(rt: HostRuntime) -> Result<(), Fail> {
     told.lines.says(&rt, line.as_str());
     enquires(&rt, rt.alloc(), &mut first, 1);
     told.stops(&rt);
-    told.client(&rt, "1 alpha", &first, "left")?;
+    told.client(&rt, "1 alpha", &first, "answered no unbind")?;
     told.remote.stop();
     Ok(())
 }

@@ -1,5 +1,4 @@
 //! Lines of what a running proxy is asked for, and of binds that are refused.
-use super::clients::enquires;
 use super::told::Told;
 use super::upstreams::LONG;
 use crate::loopback::{BIND, BOUND};
@@ -13,6 +12,8 @@ use std::test::Fail;
 
 // Commands (SMPP 3.4, section 5.1.2.1) and statuses (section 5.1.3).
 const BIND_TRANSCEIVER: u32 = 0x0000_0009;
+
+const UNBIND: u32 = 0x0000_0006;
 
 const ESME_RINVCMDLEN: u32 = 0x02;
 
@@ -47,11 +48,24 @@ fn is_refused(alloc: Global, stream: &mut TcpStream, status: u32) -> bool {
     answer.is_heard(alloc, stream)
 }
 
+// The proxy's unbind comes, which is answered (section 4.2), under a number that no message bears.
+fn is_unbound(rt: &impl Abort, alloc: Global, stream: &mut TcpStream) -> Result<(), Fail> {
+    let unbind = Header {
+        command: UNBIND,
+        status: 0,
+        number: 0x7FFF_FFFF,
+    };
+    assert!(rt; unbind.is_heard(alloc, stream));
+    stream.write_all(b"\x00\x00\x00\x10\x80\x00\x00\x06\x00\x00\x00\x00\x7f\xff\xff\xff")?;
+    Ok(())
+}
+
 fn address_of(rt: &HostRuntime, listener: &TcpListener) -> Result<String, Fail> {
     Ok(format!(in rt.alloc(); "{}", listener.local_addr()?)?)
 }
 
-// Each way in which a bind is refused, and then one that isn't, over one connection.
+// Each way in which a bind is refused, two and then one that isn't over one connection, and three over another,
+// which is closed behind them.
 #[test]
 fn binds_that_are_refused(rt: HostRuntime) -> Result<(), Fail> {
     let centre = TcpListener::bind(&rt, "127.0.0.1:0")?;
@@ -67,14 +81,21 @@ fn binds_that_are_refused(rt: HostRuntime) -> Result<(), Fail> {
     bind_with(&mut client, WRONG)?;
     assert!(rt; is_refused(rt.alloc(), &mut client, ESME_RINVPASWD));
     told.client(&rt, "1 alpha", &client, "bind refused, 0x0E ESME_RINVPASWD")?;
-    bind_with(&mut client, SHORT)?;
-    assert!(rt; is_refused(rt.alloc(), &mut client, ESME_RINVCMDLEN));
-    told.client(&rt, "1", &client, "bind refused, 0x02 ESME_RINVCMDLEN")?;
     client.write_all(BIND)?;
     assert!(rt; comes(&mut client, BOUND));
     told.client(&rt, "1 alpha", &client, "bound as transceiver")?;
+    let mut other = connected(&rt, rt.alloc(), &told.remote)?;
+    told.client(&rt, "2", &other, "connected")?;
+    let address = other.local_addr()?;
+    for _ in 0..3 {
+        bind_with(&mut other, SHORT)?;
+        assert!(rt; is_refused(rt.alloc(), &mut other, ESME_RINVCMDLEN));
+        told.client(&rt, "2", &other, "bind refused, 0x02 ESME_RINVCMDLEN")?;
+    }
+    let line = format!(in rt.alloc(); "client 2 at {address}: hung up, three refused binds")?;
+    told.lines.says(&rt, line.as_str());
     told.stops(&rt);
-    told.client(&rt, "1 alpha", &client, "left")?;
+    told.client(&rt, "1 alpha", &client, "answered no unbind")?;
     told.is_over(&rt);
     Ok(())
 }
@@ -105,11 +126,15 @@ fn how_all_stands(rt: HostRuntime) -> Result<(), Fail> {
         let line = format!(in rt.alloc();
             "status: client {name} at {address}: {kind}, connected for "
         )?;
-        told.lines
-            .says_time(&rt, line.as_str(), " ms, 0 octets wait");
+        told.lines.says_time(
+            &rt,
+            line.as_str(),
+            " ms, 0 requests under way, 0 octets wait",
+        );
     }
     told.lines
         .says(&rt, "status: 2 of 8 slots are taken, 0 of them close");
+    told.lines.says(&rt, "status: 0 requests under way");
     told.remote.stop();
     Ok(())
 }
@@ -123,8 +148,8 @@ fn other_config(alloc: Global, centre: &str) -> Result<Config, Fail> {
     Ok(read(alloc, text.as_str())?)
 }
 
-// A password that is another one when the file is read again: who is bound stays, who isn't bound yet is let
-// go, and from then on the old one is refused.
+// A password that is another one when the file is read again: who is bound is unbound, who isn't bound yet is
+// let go, and from then on the old one is refused.
 #[test]
 fn a_configuration_that_is_read_again(rt: HostRuntime) -> Result<(), Fail> {
     let centre = TcpListener::bind(&rt, "127.0.0.1:0")?;
@@ -145,11 +170,12 @@ fn a_configuration_that_is_read_again(rt: HostRuntime) -> Result<(), Fail> {
         .says(&rt, "the configuration was read again, 1 accounts");
     told.lines
         .says(&rt, "another clients in the file wants a restart");
-    let words = "its password is another one now; it stays until it leaves";
+    let words = "its password is another one now; it is unbound";
     told.client(&rt, "1 alpha", &first, words)?;
     let words = "let go before its bind, as the accounts changed";
     told.client(&rt, "2", &second, words)?;
-    enquires(&rt, rt.alloc(), &mut first, 1);
+    is_unbound(&rt, rt.alloc(), &mut first)?;
+    told.client(&rt, "1 alpha", &first, "unbound")?;
     let mut third = connected(&rt, rt.alloc(), &told.remote)?;
     told.client(&rt, "3", &third, "connected")?;
     third.write_all(BIND)?;

@@ -210,10 +210,13 @@ impl Told {
         Ok(())
     }
 
-    // The proxy is told to stop, which it says.
+    // The proxy is told to stop, which it says, with nothing under way.
     pub(crate) fn stops<R: Abort + AllocGlobal>(&mut self, rt: &R) {
         self.remote.stop();
         self.lines.says(rt, "stopping");
+        self.lines.says(rt, "draining, 0 requests under way");
+        self.lines
+            .says(rt, "drained: 0 answered, 0 with 0x45 ESME_RSUBMITFAIL");
     }
 
     // The proxy has ended, and said no more.

@@ -182,7 +182,7 @@ fn requests_that_fail(rt: HostRuntime) -> Result<(), Fail> {
     waits_within(&rt, &mut told, words, PAUSE)?;
     told.upstream(&rt, "has no link for long, 1 queued requests failed")?;
     told.stops(&rt);
-    told.client(&rt, "1 alpha", &client, "left")?;
+    told.client(&rt, "1 alpha", &client, "answered no unbind")?;
     told.is_over(&rt);
     Ok(())
 }
@@ -214,7 +214,8 @@ fn an_address_in_use(rt: HostRuntime) -> Result<(), Fail> {
     )?;
     let mut told = Told::at(rt, listen.as_str(), LONG, address_of(&rt, &centre)?)?;
     told.lines.says(&rt, words.as_str());
-    told.stops(&rt);
+    told.remote.stop();
+    told.lines.says(&rt, "stopping");
     told.is_over(&rt);
     let mut told = Told::at(rt, listen.as_str(), LONG, address_of(&rt, &centre)?)?;
     told.lines.says(&rt, words.as_str());

@@ -1,7 +1,7 @@
 //! The words of lines, over values.
 use super::told::Lines;
 use smx_serve::{
-    AccountChange, ClientName, ClientNews, ClientState, Counts, Ended, LastSent, LinkLoss,
+    AccountChange, ClientName, ClientNews, ClientStanding, Counts, Ended, LastSent, LinkLoss,
     LinkState, MeteredKind, Notice, Server, Service, Standing, TurnedAway, UpstreamName,
     UpstreamNews,
 };
@@ -9,6 +9,7 @@ use smx_session::Kind;
 use smx_shared::EnterFault;
 use smx_turns::Fault;
 use std::io::{Error, ErrorKind};
+use std::process::Abort;
 use std::test::Fail;
 
 // An upstream that is at a centre.
@@ -48,18 +49,9 @@ const UNREADABLE: UpstreamNews<'static> = UpstreamNews::Lost {
     again: 1,
 };
 
-// Lines that are hard to bring about, and the figures and names of others.
-fn lines() -> [(Notice<'static>, &'static str); 20] {
+// Lines of links to a centre that are hard to bring about, and the figures and names of others.
+fn links() -> [(Notice<'static>, &'static str); 6] {
     [
-        (
-            Notice::FewDescriptors {
-                found: 59,
-                wanted: 260,
-                clients: 55,
-            },
-            "the system gives 59 of 260 descriptors: at most 55 clients are let in; raise the limit of open files",
-        ),
-        (Notice::Ended(Ended::NoMemory), "no memory"),
         (
             lost(LinkLoss::Unreached(None), 0, 29_870),
             "upstream 2 proxy at smsc.example:2775: can't be reached; 0 requests failed; it is tried again in 29870 ms",
@@ -87,6 +79,25 @@ fn lines() -> [(Notice<'static>, &'static str); 20] {
             "upstream 2 proxy at smsc.example:2775: has no link for long, 3 queued requests failed",
         ),
         (
+            Notice::Upstream(UPSTREAM, UNREADABLE),
+            "upstream 2 proxy at smsc.example:2775: ended, it closed the connection; the last request on it was data_sm of client 12; 2 requests failed; it is tried again in 1 ms",
+        ),
+    ]
+}
+
+// Lines that are hard to bring about, of connections and of the whole.
+fn few() -> [(Notice<'static>, &'static str); 8] {
+    [
+        (
+            Notice::FewDescriptors {
+                found: 59,
+                wanted: 260,
+                clients: 55,
+            },
+            "the system gives 59 of 260 descriptors: at most 55 clients are let in; raise the limit of open files",
+        ),
+        (Notice::Ended(Ended::NoMemory), "no memory"),
+        (
             Notice::Client(CLIENT, ClientNews::Fault(Fault::NoMemory)),
             "client 7 alpha at 10.0.0.9:44484: ended, no memory",
         ),
@@ -102,6 +113,14 @@ fn lines() -> [(Notice<'static>, &'static str); 20] {
             "10.0.0.9:44484: refused, it can't be watched",
         ),
         (Notice::NoDescriptor, "no connection can be accepted now"),
+        (Notice::Stopping, "stopping"),
+        (Notice::Started("0.2.0"), "smx 0.2.0"),
+    ]
+}
+
+// Lines that tell of others.
+fn counted() -> [(Notice<'static>, &'static str); 6] {
+    [
         (
             Notice::TooMany(51, MeteredKind::Refused),
             "51 more lines left out: connections refused",
@@ -123,12 +142,40 @@ fn lines() -> [(Notice<'static>, &'static str); 20] {
             "51 more lines left out: clients gone",
         ),
         (Notice::Unwritten(37), "37 lines left out"),
+    ]
+}
+
+// How the proxy and its clients end.
+fn ends() -> [(Notice<'static>, &'static str); 7] {
+    [
+        (Notice::Draining(80), "draining, 80 requests under way"),
         (
-            Notice::Upstream(UPSTREAM, UNREADABLE),
-            "upstream 2 proxy at smsc.example:2775: ended, it closed the connection; the last request on it was data_sm of client 12; 2 requests failed; it is tried again in 1 ms",
+            Notice::Drained {
+                answered: 78,
+                failed: 2,
+            },
+            "drained: 78 answered, 2 with 0x45 ESME_RSUBMITFAIL",
         ),
-        (Notice::Stopping, "stopping"),
-        (Notice::Started("0.2.0"), "smx 0.2.0"),
+        (
+            Notice::Client(CLIENT, ClientNews::Unbound),
+            "client 7 alpha at 10.0.0.9:44484: unbound",
+        ),
+        (
+            Notice::Client(CLIENT, ClientNews::Stuck),
+            "client 7 alpha at 10.0.0.9:44484: takes no octets",
+        ),
+        (
+            Notice::Client(CLIENT, ClientNews::Unrouted),
+            "client 7 alpha at 10.0.0.9:44484: no memory for its prefixes",
+        ),
+        (
+            Notice::Client(STRANGER, ClientNews::TurnedOut),
+            "client 7 at 10.0.0.9:44484: hung up, three refused binds",
+        ),
+        (
+            Notice::Client(STRANGER, ClientNews::NoHeader),
+            "client 7 at 10.0.0.9:44484: began with no header of the PROXY protocol",
+        ),
     ]
 }
 
@@ -167,8 +214,8 @@ const STRANGER: ClientName<'static> = ClientName {
     ..CLIENT
 };
 
-// Lines of binds that were refused, and of a configuration that was read again.
-fn refusals() -> [(Notice<'static>, &'static str); 10] {
+// Lines of binds that were refused.
+fn refusals() -> [(Notice<'static>, &'static str); 3] {
     [
         (
             Notice::Client(
@@ -194,17 +241,23 @@ fn refusals() -> [(Notice<'static>, &'static str); 10] {
             Notice::TooMany(51, MeteredKind::BindRefused),
             "51 more lines left out: binds refused",
         ),
+    ]
+}
+
+// Lines of a configuration that was read again.
+fn renewals() -> [(Notice<'static>, &'static str); 7] {
+    [
         (
-            Notice::Client(CLIENT, ClientNews::Kept(AccountChange::Gone)),
-            "client 7 alpha at 10.0.0.9:44484: its account is gone; it stays until it leaves",
+            Notice::Client(CLIENT, ClientNews::Changed(AccountChange::Gone)),
+            "client 7 alpha at 10.0.0.9:44484: its account is gone; it is unbound",
         ),
         (
-            Notice::Client(CLIENT, ClientNews::Kept(AccountChange::Password)),
-            "client 7 alpha at 10.0.0.9:44484: its password is another one now; it stays until it leaves",
+            Notice::Client(CLIENT, ClientNews::Changed(AccountChange::Password)),
+            "client 7 alpha at 10.0.0.9:44484: its password is another one now; it is unbound",
         ),
         (
-            Notice::Client(CLIENT, ClientNews::Kept(AccountChange::Prefixes)),
-            "client 7 alpha at 10.0.0.9:44484: its prefixes are others for its next bind",
+            Notice::Client(CLIENT, ClientNews::Changed(AccountChange::Prefixes)),
+            "client 7 alpha at 10.0.0.9:44484: its prefixes are others now",
         ),
         (
             Notice::Client(STRANGER, ClientNews::Renewed),
@@ -226,19 +279,21 @@ fn refusals() -> [(Notice<'static>, &'static str); 10] {
 }
 
 // Lines of how all stands.
-fn standings() -> [(Standing<'static>, &'static str); 7] {
+fn standings() -> [(Standing<'static>, &'static str); 8] {
     let bound = LinkState::Bound {
         time: 5_021,
         waits: true,
     };
-    let client = ClientState {
+    let client = ClientStanding {
         kind: Some(Kind::Rx),
         time: 3_020,
+        requests: 5,
         octets: 7,
         waits: true,
     };
-    let stranger = ClientState {
+    let stranger = ClientStanding {
         kind: None,
+        requests: 0,
         octets: 0,
         waits: false,
         ..client
@@ -267,26 +322,37 @@ fn standings() -> [(Standing<'static>, &'static str); 7] {
         ),
         (
             Standing::Client(CLIENT, client),
-            "status: client 7 alpha at 10.0.0.9:44484: receiver, connected for 3020 ms, 7 octets wait behind those at its socket",
+            "status: client 7 alpha at 10.0.0.9:44484: receiver, connected for 3020 ms, 5 requests under way, 7 octets wait behind those at its socket",
         ),
         (
             Standing::Client(STRANGER, stranger),
-            "status: client 7 at 10.0.0.9:44484: not bound, connected for 3020 ms, 0 octets wait",
+            "status: client 7 at 10.0.0.9:44484: not bound, connected for 3020 ms, 0 requests under way, 0 octets wait",
         ),
         (slots, "status: 3 of 8 slots are taken, 1 of them close"),
+        (Standing::Requests(12), "status: 12 requests under way"),
     ]
+}
+
+// Each of these notices has its words.
+fn have_words<R: Abort + AllocGlobal>(
+    rt: &R,
+    lines: &[(Notice<'static>, &'static str)],
+) -> Result<(), Fail> {
+    for (notice, line) in lines {
+        let words = format!(in rt.alloc(); "{notice}")?;
+        assert_eq!(rt; words.as_str(), *line);
+    }
+    Ok(())
 }
 
 #[test]
 fn lines_have_their_words(rt: HostRuntime) -> Result<(), Fail> {
-    for (notice, line) in lines() {
-        let words = format!(in rt.alloc(); "{notice}")?;
-        assert_eq!(rt; words.as_str(), line);
-    }
-    for (notice, line) in refusals() {
-        let words = format!(in rt.alloc(); "{notice}")?;
-        assert_eq!(rt; words.as_str(), line);
-    }
+    have_words(&rt, &links())?;
+    have_words(&rt, &few())?;
+    have_words(&rt, &counted())?;
+    have_words(&rt, &ends())?;
+    have_words(&rt, &refusals())?;
+    have_words(&rt, &renewals())?;
     for (standing, line) in standings() {
         let words = format!(in rt.alloc(); "{}", Notice::Status(standing))?;
         assert_eq!(rt; words.as_str(), line);
