@@ -6,7 +6,7 @@ import signal
 
 from .peers import HOST, Answering, Centre, Proxy, account, free_port, text_of
 from .running import service
-from .smpp import ENQUIRE_LINK, OK, PATIENCE, bind_of, request
+from .smpp import ENQUIRE_LINK, OK, PATIENCE, UNBIND, bind_of, request, response
 
 # ESME_RINVPASWD and ESME_RINVSYSID (section 5.1.3).
 BAD_PASSWORD, BAD_NAME = 0x0E, 0x0F
@@ -72,8 +72,11 @@ def another_file(words_of, ask):
                     assert it.ask(request(ENQUIRE_LINK, 2)).status == OK
                 other = text.replace('"secret"', '"other"') + account("beta", "50")
                 read_again(proxy, other + "\n[timers]\nbind = 1000\n", lambda: ask(proxy))
-                proxy.waits_for("its password is another one now; it stays until it leaves")
-                assert first.ask(request(ENQUIRE_LINK, 2)).status == OK
+                proxy.waits_for("its password is another one now; it is unbound")
+                unbind = first.hear()
+                assert unbind.command == UNBIND, unbind
+                first.say(response(unbind))
+                assert first.rest() == []
                 with proxy.connect() as it:
                     assert it.ask(bind_of("alpha", "secret")).status == BAD_PASSWORD
                     assert it.ask(bind_of("alpha", "other")).status == OK
@@ -81,9 +84,14 @@ def another_file(words_of, ask):
                     pass
                 with proxy.connect():
                     proxy.waits_for("not bound in time")
-                read_again(proxy, text.replace("alpha", "gamma").replace("[limits]", "clients = 9\n[limits]"), lambda: ask(proxy))
+                last = proxy.connect()
+                assert last.ask(bind_of("alpha", "other")).status == OK
+                other = text.replace("alpha", "gamma").replace("[limits]", "clients = 9\n[limits]")
+                read_again(proxy, other, lambda: ask(proxy))
                 proxy.waits_for("another clients in the file wants a restart")
-                proxy.waits_for("its account is gone")
+                proxy.waits_for("its account is gone; it is unbound")
+                assert last.hear().command == UNBIND
+                last.stream.close()
                 with proxy.connect() as it:
                     assert it.ask(bind_of("beta", "secret")).status == BAD_NAME
                     proxy.waits_for('bind as "beta" refused, 0x0F ESME_RINVSYSID: no such account')

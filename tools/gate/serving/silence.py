@@ -1,7 +1,12 @@
 """Clients that are silent, and messages that they leave unanswered."""
 
+import contextlib
+import socket
+import time
+
 from .peers import one_lane
-from .smpp import DELIVER_SM, ENQUIRE_LINK, OK, RESPONSE, SUBMIT_SM, TEMPORARY_ERROR, message, request, response
+from .smpp import (DELIVER_SM, ENQUIRE_LINK, OK, RESPONSE, SUBMIT_SM, TEMPORARY_ERROR, message, octets_of, request,
+                   response)
 
 # The number of the proxy's own enquiry, which no message bears.
 OWN = 0x7FFFFFFF
@@ -46,8 +51,23 @@ def last_request(program, _):
             proxy.waits_for("; the last request on it was submit_sm of client 2 alpha; 1 requests failed; ")
 
 
+def takes_no_octets(program, _):
+    """A client that sends and never reads gives its slot back after twice `client_silence`, one that reads stays."""
+    with one_lane(program, keys="[timers]\nclient_silence = 1000") as (centre, proxy):
+        with centre.bound(), proxy.client() as reads, proxy.client() as deaf:
+            deaf.stream.settimeout(0.2)
+            began = time.monotonic()
+            while "takes no octets" not in proxy.said():
+                assert time.monotonic() < began + 20, proxy.said()
+                with contextlib.suppress(socket.timeout):
+                    deaf.stream.sendall(octets_of(request(ENQUIRE_LINK, 1)) * 4_096)
+                assert reads.ask(request(ENQUIRE_LINK, 90)).status == OK
+            assert proxy.said().count("takes no octets") == 1, proxy.said()
+
+
 CASES = {
     "clients that are silent": silent_clients,
     "messages that are left unanswered": messages_in_time,
     "the last request on a link": last_request,
+    "a client that takes no octets": takes_no_octets,
 }

@@ -83,9 +83,26 @@ def program_that_stood_still(program, _):
         assert up.is_quiet() and "ended" not in proxy.said(), proxy.said()
 
 
+def stood_still_for_longer_than_it_waits(program, _):
+    """The same where it waits for events as it is stopped, for longer than `response`, which interrupts that wait."""
+    with one_lane(program, keys="[timers]\nresponse = 4000", limits="window = 50") as (centre, proxy):
+        with centre.bound() as up, proxy.client() as link:
+            for _ in range(3):
+                link.say(*(message(SUBMIT_SM, it, "49") for it in range(1, 21)))
+                asked = [up.hear_but_enquiries() for _ in range(20)]
+                time.sleep(0.3)
+                proxy.child.send_signal(signal.SIGSTOP)
+                up.say(*(response(it, body=NAME) for it in asked))
+                time.sleep(5)
+                proxy.child.send_signal(signal.SIGCONT)
+                answers = [link.hear() for _ in range(20)]
+                assert {it.status for it in answers} == {OK}, answers
+
+
 CASES = {
     "a centre that was away for a second": centre_away_for_a_second,
     "connections without a bind": connections_without_a_bind,
     "slots of those that stay": slots_of_those_that_stay,
     "a program that stood still": program_that_stood_still,
+    "a program that stood still while it waited": stood_still_for_longer_than_it_waits,
 }
