@@ -1,5 +1,6 @@
 """What a running proxy is asked for: how all stands, another file; and binds that are refused, few descriptors."""
 
+import contextlib
 import os
 import resource
 import signal
@@ -59,59 +60,62 @@ def read_again(proxy, text, ask):
     proxy.waits_for_more(words, count)
 
 
+@contextlib.contextmanager
+def by_words(program, words):
+    """A proxy that these words start, in a session of its own, beside a centre, and its configuration."""
+    port = free_port()
+    with Answering() as centre:
+        text = text_of(port, [f"{HOST}:{centre.port}"])
+        how = {"env": {**os.environ, "SMX": str(program)}, "start_new_session": True}
+        with Proxy(program, port, text, words, **how) as proxy:
+            yield proxy, text
+
+
 def another_file(words_of, ask):
     """A case: a file that is read again. One at fault changes nothing."""
     def case(program, _):
-        port = free_port()
-        with Answering() as centre:
-            text = text_of(port, [f"{HOST}:{centre.port}"])
-            how = {"env": {**os.environ, "SMX": str(program)}, "start_new_session": True}
-            with Proxy(program, port, text, words_of(program), **how) as proxy, proxy.client() as first:
-                read_again(proxy, text.replace("[limits]", "[limits"), lambda: ask(proxy))
-                with proxy.client() as it:
-                    assert it.ask(request(ENQUIRE_LINK, 2)).status == OK
-                other = text.replace('"secret"', '"other"') + account("beta", "50")
-                read_again(proxy, other + "\n[timers]\nbind = 1000\n", lambda: ask(proxy))
-                proxy.waits_for("its password is another one now; it is unbound")
-                unbind = first.hear()
-                assert unbind.command == UNBIND, unbind
-                first.say(response(unbind))
-                assert first.rest() == []
-                with proxy.connect() as it:
-                    assert it.ask(bind_of("alpha", "secret")).status == BAD_PASSWORD
-                    assert it.ask(bind_of("alpha", "other")).status == OK
-                with proxy.client("beta"):
-                    pass
-                with proxy.connect():
-                    proxy.waits_for("not bound in time")
-                last = proxy.connect()
-                assert last.ask(bind_of("alpha", "other")).status == OK
-                other = text.replace("alpha", "gamma").replace("[limits]", "clients = 9\n[limits]")
-                read_again(proxy, other, lambda: ask(proxy))
-                proxy.waits_for("another clients in the file wants a restart")
-                proxy.waits_for("its account is gone; it is unbound")
-                assert last.hear().command == UNBIND
-                last.stream.close()
-                with proxy.connect() as it:
-                    assert it.ask(bind_of("beta", "secret")).status == BAD_NAME
-                    proxy.waits_for('bind as "beta" refused, 0x0F ESME_RINVSYSID: no such account')
-                proxy.child.send_signal(signal.SIGTERM)
-                proxy.child.wait(PATIENCE)
+        with by_words(program, words_of(program)) as (proxy, text), proxy.client() as first:
+            read_again(proxy, text.replace("[limits]", "[limits"), lambda: ask(proxy))
+            with proxy.client() as it:
+                assert it.ask(request(ENQUIRE_LINK, 2)).status == OK
+            other = text.replace('"secret"', '"other"') + account("beta", "50")
+            read_again(proxy, other + "\n[timers]\nbind = 1000\n", lambda: ask(proxy))
+            proxy.waits_for("its password is another one now; it is unbound")
+            unbind = first.hear()
+            assert unbind.command == UNBIND, unbind
+            first.say(response(unbind))
+            assert first.rest() == []
+            with proxy.connect() as it:
+                assert it.ask(bind_of("alpha", "secret")).status == BAD_PASSWORD
+                assert it.ask(bind_of("alpha", "other")).status == OK
+            with proxy.client("beta"):
+                pass
+            with proxy.connect():
+                proxy.waits_for("not bound in time")
+            last = proxy.connect()
+            assert last.ask(bind_of("alpha", "other")).status == OK
+            other = text.replace("alpha", "gamma").replace("[limits]", "clients = 9\n[limits]")
+            read_again(proxy, other, lambda: ask(proxy))
+            proxy.waits_for("another clients in the file wants a restart")
+            proxy.waits_for("its account is gone; it is unbound")
+            assert last.hear().command == UNBIND
+            last.stream.close()
+            with proxy.connect() as it:
+                assert it.ask(bind_of("beta", "secret")).status == BAD_NAME
+                proxy.waits_for('bind as "beta" refused, 0x0F ESME_RINVSYSID: no such account')
+            proxy.child.send_signal(signal.SIGTERM)
+            proxy.child.wait(PATIENCE)
     return case
 
 
 def told_at_usr1(program, _):
     """SIGUSR1 to smx-serve says how all stands, and nothing ends."""
-    port = free_port()
-    with Answering() as centre:
-        text = text_of(port, [f"{HOST}:{centre.port}"])
-        how = {"env": {**os.environ, "SMX": str(program)}, "start_new_session": True}
-        with Proxy(program, port, text, service(program), **how) as proxy, proxy.client() as link:
-            os.killpg(proxy.child.pid, signal.SIGUSR1)
-            proxy.waits_for("slots are taken")
-            assert link.ask(request(ENQUIRE_LINK, 2)).status == OK
-            proxy.child.send_signal(signal.SIGTERM)
-            assert proxy.child.wait(PATIENCE) == 0, proxy.said()
+    with by_words(program, service(program)) as (proxy, _text), proxy.client() as link:
+        os.killpg(proxy.child.pid, signal.SIGUSR1)
+        proxy.waits_for("slots are taken")
+        assert link.ask(request(ENQUIRE_LINK, 2)).status == OK
+        proxy.child.send_signal(signal.SIGTERM)
+        assert proxy.child.wait(PATIENCE) == 0, proxy.said()
 
 
 CASES = {
