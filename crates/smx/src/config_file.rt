@@ -1,7 +1,8 @@
 //! The check of a configuration's file.
+use crate::machine::{Amount, is_open, memory};
 use crate::watched::{Because, Watched};
 use smx_config::{
-    Config, ConfigFault, FileFault, SHARING_ADVICE, advice, check, key_table, may_take_all, read,
+    Config, ConfigFault, FileFault, bodies_held, check, counsel, faults, key_table, read,
     read_text, reject, unread,
 };
 use std::process::ExitCode;
@@ -28,40 +29,69 @@ fn text_of<R: Files + Eprint + AllocGlobal>(rt: &R, path: &str) -> Result<String
     }
 }
 
-// Says on standard error what is wrong with a text, and what would be right. A fault that isn't met
-// again was want of memory.
-fn advise<R: Eprint + AllocGlobal>(rt: &R, path: &str, text: &str) {
-    let fault = match read(rt.alloc(), text) {
-        Ok(_) => ConfigFault::NoMemory,
-        Err(fault) => fault,
-    };
-    let _ = match advice(rt.alloc(), text, fault) {
-        Ok(words) => eprintln!(rt; "{path}: {words}"),
-        Err(_) => eprintln!(rt; "{path}: {fault}"),
-    };
-}
-
-// Says on standard error that one account of a text can take all lanes, where it can.
-fn advise_on_sharing<R: Eprint + AllocGlobal>(rt: &R, path: &str, text: &str) {
-    if let Ok(config) = read(rt.alloc(), text) {
-        if may_take_all(&config) {
-            let _ = eprintln!(rt; "{path}: {SHARING_ADVICE}");
-        }
-    }
-}
-
-// Says on standard error which keys of a text nobody reads.
-fn name_unread<R: Eprint + AllocGlobal>(rt: &R, path: &str, text: &str) {
-    match unread(rt.alloc(), text) {
-        Ok(all) => {
-            for words in all.as_slice() {
+// Says on standard error what is wrong with a text, and what would be right. A fault that isn't met again
+// was want of memory.
+fn tell_faults<R: Eprint + AllocGlobal>(rt: &R, path: &str, text: &str) {
+    match faults(rt.alloc(), text) {
+        Ok(all) if !all.is_empty() => {
+            for words in all.iter() {
                 let _ = eprintln!(rt; "{path}: {words}");
             }
         }
-        Err(_) => {
-            let _ = eprintln!(rt; "{path}: out of memory; keys that nobody reads aren't named");
+        _ => {
+            let _ = eprintln!(rt; "{path}: {}", ConfigFault::NoMemory);
         }
     }
+}
+
+// Says on standard error that there is no memory to say more.
+fn tell_no_memory<R: Eprint>(rt: &R, path: &str) {
+    let _ = eprintln!(rt; "{path}: out of memory; not all that is to be said of it is said");
+}
+
+// Says on standard error what may be meant otherwise in a configuration; whether anything was said.
+fn tell_counsel<R: Files + Eprint + AllocGlobal>(rt: &R, path: &str, config: &Config) -> bool {
+    let Ok(all) = counsel(rt.alloc(), config) else {
+        tell_no_memory(rt, path);
+        return true;
+    };
+    for advice in all.iter() {
+        let _ = eprintln!(rt; "{path}: {advice}");
+    }
+    let held = bodies_held(config);
+    let is_much = memory(rt) < held;
+    if is_much {
+        let amount = Amount(held);
+        let _ = eprintln!(rt;
+            "{path}: at these limits the bodies held may come to {amount}; see OPERATING"
+        );
+    }
+    is_much || !all.is_empty()
+}
+
+// The same of a file and the text that it has.
+fn tell_advice<R: Files + Eprint + AllocGlobal>(rt: &R, path: &str, text: &str) -> bool {
+    let is_said = match read(rt.alloc(), text) {
+        Ok(config) => tell_counsel(rt, path, &config),
+        Err(_) => false,
+    };
+    let is_open = is_open(rt, path);
+    if is_open {
+        let _ = eprintln!(rt; "{path}: others than its owner can read its passwords: chmod 600 it");
+    }
+    is_said || is_open
+}
+
+// Says on standard error which keys of a text nobody reads; whether any was said.
+fn name_unread<R: Eprint + AllocGlobal>(rt: &R, path: &str, text: &str) -> bool {
+    let Ok(all) = unread(rt.alloc(), text) else {
+        tell_no_memory(rt, path);
+        return true;
+    };
+    for words in all.iter() {
+        let _ = eprintln!(rt; "{path}: {words}");
+    }
+    !all.is_empty()
 }
 
 // Writes the line of the check of a file that gives no text.
@@ -99,7 +129,7 @@ fn check_text<R: Print + Eprint + AllocGlobal>(rt: &R, path: &str, text: &str) -
     match check(rt.alloc(), text, &mut writer) {
         Ok(true) => ExitCode::SUCCESS,
         Ok(false) => {
-            advise(rt, path, text);
+            tell_faults(rt, path, text);
             ExitCode::FAILURE
         }
         Err(fault) => {
@@ -109,12 +139,13 @@ fn check_text<R: Print + Eprint + AllocGlobal>(rt: &R, path: &str, text: &str) -
     }
 }
 
-// A fault of a text in words.
+// The first fault of a text in words.
 fn words_on<R: AllocGlobal>(rt: &R, path: &str, text: &str, fault: ConfigFault) -> Option<String> {
     let alloc = rt.alloc();
-    match advice(alloc, text, fault) {
-        Ok(words) => format!(in alloc; "{path}: {words}").ok(),
-        Err(_) => format!(in alloc; "{path}: {fault}").ok(),
+    let all = faults(alloc, text).ok()?;
+    match all.first() {
+        Some(words) => format!(in alloc; "{path}: {words}").ok(),
+        None => format!(in alloc; "{path}: {fault}").ok(),
     }
 }
 
@@ -143,15 +174,24 @@ pub(crate) fn read_again<R: Files + AllocGlobal>(
     }
 }
 
-/// Checks the file with this path. The line of the check goes to standard output, and what would be
-/// right, in words that nothing fixes, to standard error.
-pub(crate) fn run<R: Files + Print + Eprint + AllocGlobal>(rt: &R, path: &str) -> ExitCode {
+/// Checks the file with this path. The line of the check goes to standard output; all that is wrong, what
+/// nobody reads and what may be meant otherwise, in words that nothing fixes, to standard error. Where it is
+/// strict the status is 1 if anything was said.
+pub(crate) fn run<R: Files + Print + Eprint + AllocGlobal>(
+    rt: &R,
+    path: &str,
+    is_strict: bool,
+) -> ExitCode {
     match text_of(rt, path) {
         Ok(text) => {
             let status = check_text(rt, path, &text);
-            name_unread(rt, path, &text);
-            advise_on_sharing(rt, path, &text);
-            status
+            let has_unread = name_unread(rt, path, &text);
+            let has_advice = tell_advice(rt, path, &text);
+            if is_strict && (has_unread || has_advice) {
+                ExitCode::FAILURE
+            } else {
+                status
+            }
         }
         Err(fault) => {
             refuse(rt, fault);

@@ -18,7 +18,12 @@ fn print_all<R: Print>(rt: &R, accounts: &[Account], counts: &[u32]) -> bool {
     for (index, account) in accounts.iter().enumerate() {
         let count = counts.get(index).copied().unwrap_or(0);
         all = all && count == MESSAGES;
-        if println!(rt; "{} {count} answered", account.system_id).is_err() {
+        if println!(rt;
+            "{} {count} answered",
+            account.system_id.as_str().escape_debug()
+        )
+        .is_err()
+        {
             return false;
         }
     }

@@ -3,6 +3,7 @@
 
 mod config_file;
 mod demonstrating;
+mod machine;
 mod relaying;
 mod serving;
 mod watched;
@@ -25,23 +26,23 @@ fn main(rt: HostRuntime) -> ExitCode {
     match asked_of(&rt, words.as_slice()) {
         Ok(Asked::Relay(None)) => relaying::run_input(&rt, rt.stdin().is_terminal()),
         Ok(Asked::Relay(Some(path))) => relaying::run_file(&rt, path),
-        Ok(Asked::Check(path)) => config_file::run(&rt, path),
+        Ok(Asked::Check(path, is_strict)) => config_file::run(&rt, path, is_strict),
         Ok(Asked::Keys) => config_file::tell_keys(&rt),
         Ok(Asked::Serve(path, how)) => {
             let Some(config) = config_of(&rt, path) else {
                 return ExitCode::from(CONFIG);
             };
+            let config = serving::logged(config, how.log);
             let Some(mut server) = Server::new(&rt, rt.alloc()) else {
                 let _ = eprintln!(rt; "{}", Ended::NoEvents);
                 return ExitCode::FAILURE;
             };
             let mut has_threads = true;
             if how.reads_terminal || !rt.stdin().is_terminal() {
-                let heeded = match serving::heard_by(rt.alloc(), &server, path) {
-                    Some((remote, log, file)) => thread::spawn(&rt, move || {
-                        serving::heed(&rt, &remote, &log, file.as_str())
-                    })
-                    .is_ok(),
+                let heeded = match serving::heard_by(rt.alloc(), &server, path, how.log) {
+                    Some((remote, log, source)) => thread::spawn(&rt, move || {
+                        serving::heed(&rt, &remote, &log, &source)
+                    }).is_ok(),
                     None => false,
                 };
                 has_threads &= heeded;

@@ -1,8 +1,8 @@
 //! The proxy, what it is told on standard input, and who writes its lines.
 use crate::config_file::read_again;
-use smx_config::Config;
-use smx_options::VERSION;
-use smx_serve::{Ended, Log, Notice, Remote, Server};
+use smx_config::{Config, LogForm};
+use smx_options::{LogForm as Asked, VERSION};
+use smx_serve::{Ended, Log, Notice, ReloadNews, Remote, RunNews, Server, wall};
 use std::alloc::Global;
 use std::io::{ErrorKind, Read, Write};
 use std::net::{Net, TcpListener, TcpStream};
@@ -64,22 +64,47 @@ impl Line {
     }
 }
 
+/// The file of a configuration, and the form of lines that the command line asks for, which counts more
+/// than the file's.
+#[derive(Drop)]
+pub(crate) struct Source {
+    pub path: String,
+    pub form: Option<Asked>,
+}
+
+/// The same configuration, whose lines are written in this form, where one is asked for.
+pub(crate) fn logged(config: Config, form: Option<Asked>) -> Config {
+    let mut config = config;
+    match form {
+        Some(Asked::Text) => config.log = LogForm::Text,
+        Some(Asked::Json) => config.log = LogForm::Json,
+        Some(Asked::Journal) => config.log = LogForm::Journal,
+        None => {}
+    }
+    config
+}
+
 // Reads the file again for the proxy. Where it is at fault nothing changes, and that is said.
-fn reload<R: Files + Wait + AllocGlobal>(rt: &R, remote: &Remote, log: &Log, path: &str) {
-    match read_again(rt, path) {
-        Ok(config) => remote.reload(rt, config),
+fn reload<R: Files + Wait + Clock + AllocGlobal>(
+    rt: &R,
+    remote: &Remote,
+    log: &Log,
+    source: &Source,
+) {
+    match read_again(rt, source.path.as_str()) {
+        Ok(config) => remote.reload(rt, logged(config, source.form)),
         Err(words) => {
             let words = words.as_deref().unwrap_or("no memory");
-            log.say(rt, Notice::NotReloaded(words));
+            log.tell(rt, wall(rt), Notice::Reload(ReloadNews::NotReloaded(words)));
         }
     }
 }
 
-// Does what lines of standard input ask for: `stop`, `status`, and `reload` of the file with this path.
-// Other lines, whatever octets they have, and the end of input are nothing.
-pub(crate) fn heed<R>(rt: &R, remote: &Remote, log: &Log, path: &str)
+/// Does what lines of standard input ask for: `stop`, `status`, and `reload` of this file. Other lines,
+/// whatever octets they have, and the end of input are nothing.
+pub(crate) fn heed<R>(rt: &R, remote: &Remote, log: &Log, source: &Source)
 where
-    R: Input + Files + Wait + AllocGlobal,
+    R: Input + Files + Wait + Clock + AllocGlobal,
 {
     let mut reader = rt.reader();
     let mut buffer = [0u8; 4_096];
@@ -95,22 +120,23 @@ where
             match line.hear(*octet) {
                 Some(Order::Stop) => remote.stop(),
                 Some(Order::Status) => remote.tell(),
-                Some(Order::Reload) => reload(rt, remote, log, path),
+                Some(Order::Reload) => reload(rt, remote, log, source),
                 None => {}
             }
         }
     }
 }
 
-/// What is wanted to heed the lines of standard input: the proxy's remote, its log, and the file's path.
-/// None where there is no memory.
+/// What is wanted to heed the lines of standard input: the proxy's remote, its log, and the file. None
+/// where there is no memory.
 pub(crate) fn heard_by(
     alloc: Global,
     server: &Server,
     path: &str,
-) -> Option<(Arc<Remote>, Arc<Log>, String)> {
+    form: Option<Asked>,
+) -> Option<(Arc<Remote>, Arc<Log>, Source)> {
     let path = String::from_str(alloc, path).ok()?;
-    Some((server.remote()?, server.log()?, path))
+    Some((server.remote()?, server.log()?, Source { path, form }))
 }
 
 /// Writes a proxy's lines in a thread of its own, which nobody waits for but at the end. False where
@@ -138,7 +164,7 @@ where
     let ended = server.serve(&rt, rt.alloc(), config);
     let is_stopped = ended == Ended::Stopped;
     if !is_stopped {
-        log.say(&rt, Notice::Ended(ended));
+        log.tell(&rt, wall(&rt), Notice::Run(RunNews::Ended(ended)));
     }
     log.finish(&rt);
     if let Some(lines) = service {
@@ -181,6 +207,7 @@ where
         let _ = eprintln!(rt; "{}", Ended::NoThreads);
         return ExitCode::FAILURE;
     }
-    log.say(&rt, Notice::Started(VERSION));
+    log.write_by(&rt, config);
+    log.tell(&rt, wall(&rt), Notice::Run(RunNews::Started(VERSION)));
     serve(rt, server, config, &log, service)
 }

@@ -5,6 +5,7 @@ mod centre;
 mod clients;
 mod codec;
 mod frames;
+mod requests;
 mod spelling;
 mod statuses;
 mod upstreams;

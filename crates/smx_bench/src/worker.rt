@@ -17,7 +17,7 @@ use member::Member;
 use smx_client::Desk;
 use smx_lane::Limits;
 use smx_memory_link::{FlagGate, Nobody};
-use smx_session::Account;
+use smx_session::{Account, Rules};
 use smx_shared::{Door, Exchange};
 use smx_slots::{ClientEnds, LaneEnds, ends_of};
 use std::alloc::{AllocError, Global};
@@ -58,6 +58,7 @@ fn desk(alloc: Global) -> Result<Desk, AllocError> {
     accounts.push(Account {
         system_id: Vec::from_slice(alloc, b"a")?,
         password: Vec::from_slice(alloc, b"p")?,
+        rules: Rules::none(),
     })?;
     prefixes.push(Vec::new(alloc))?;
     Ok(Desk { accounts, prefixes })

@@ -1,4 +1,5 @@
 -- What a sender and a receiver keep of their seats.
+use Rattle.std.specs.Bool.{◌==◌}
 use Rattle.std.proofs.Common.{cond, ◌≡◌, ℕ, ◌+◌, ◌<◌, ◌≤◌, Bool, true, false, eqb, List, [], ◌∷◌, ◌++◌, length, sym, refl, ap, ◌∙◌, subst, arith, Option, Some, None, Result, Ok, Err, MatchOption, MatchResult, length-append, nat_le}
 use Rattle.std.proofs.lemmas.Bool.{eqb-true}
 use Rattle.std.proofs.lemmas.List.{append-nil, nil_from_length}
@@ -9,8 +10,8 @@ use Rattle.smx_box.specs.declared.letter.Known.{Known}
 use Rattle.smx_box.specs.declared.letter.Note.{Note}
 use Rattle.smx_box.specs.declared.letter.Deed.TheVariants.{Putting, Getting}
 use Rattle.smx_box.specs.Letters.{is_item, letter, of, is_open, Numbered, AllShut}
-use Rattle.smx_box.specs.Boxes.{most_items, deed_note, pass_notes, puts, gets, Stood, Posts, TakesLetter, FindsLetters, BoxHistory, PassFront, PutServes, FullPutServes, OldestServes, EmptyGetServes, Receiving, Hands, GetServes}
-use Rattle.smx_box.specs.Private.Ends.{pass_front, IsTold, IsNextLetter, IsFreshPass, IsSender, IsReceiver, shut_below, sending, receiving, PostServes}
+use Rattle.smx_box.specs.Boxes.{most_items, deed_note, pass_notes, puts, gets, Stood, Posts, TakesLetter, FindsLetters, BoxHistory, PassFront, PutServes, FullPutServes, LookServes, OldestServes, EmptyGetServes, Receiving, Hands, GetServes}
+use Rattle.smx_box.specs.Private.Ends.{pass_front, IsTold, IsNextLetter, IsFreshPass, IsSender, IsReceiver, shut_below, sending, receiving, CountServes, PostServes}
 use Rattle.smx_box.specs.Private.Rule.{Tells, WasTold, FindsNone, FindsOne, telling_known, told_known}
 use Rattle.smx_box.specs.declared.receiver.Got.TheVariants.{Item, Shut}
 use Rattle.smx_box.proofs.LetterLists.{of-append, of_yes, of_no, open_snoc, shut_snoc, Numbered_snoc, next_got, numbered_got}
@@ -35,6 +36,10 @@ module _ {T : Type 0} where
 
   pub full_serves : (f g : PassFront T) (p : ℕ) → g ≡ f → f.known.number ≡ p + 1 → Held {T = Letter T} f.queue.places (FindsLetters f.known) → FullPutServes (sending p f) g
   full_serves f g p same pass s = (same, s.2.0, s.0, s.2.1, own_list f.known s.2.0 s.0 p s.2.1 pass, s.1)
+
+  -- what a look tells of a sender
+  pub looked : (f : PassFront T) (p count places : ℕ) → f.known.number ≡ p + 1 → CountServes f count → places ≡ f.queue.places → LookServes (sending p f) (count == places)
+  looked f p count places pass s all = (s.0, s.1, s.2, own_list f.known s.0 s.1 p s.2 pass, (let n = s.3 in cc))
 
   pub got_serves : (f g : PassFront T) (m : Letter T) → IsTold f → g.queue ≡ f.queue → f.known.number ≡ 0 → TakesLetter f.known m g.known → OldestServes (receiving f) g (Some m)
   got_serves f g m told same pass s = (same, s.0, s.1, s.2, own_gots f.known s.0 (m ∷ s.1) s.2.finds pass, subst (λ n. length (m ∷ s.1) ≤ n) told.1 s.2.finds.room)

@@ -1,5 +1,5 @@
 -- The history of a box, what a call did to it, and what clauses see of its ends.
-use Rattle.std.specs.Prelude.{◌≡◌, ℕ, ◌+◌, ◌<◌, ◌≤◌, ◌==◌, true, List, [], ◌∷◌, ◌++◌, length, filter, Option, Some, None}
+use Rattle.std.specs.Prelude.{◌≡◌, ℕ, ◌+◌, ◌<◌, ◌≤◌, ◌==◌, Bool, true, List, [], ◌∷◌, ◌++◌, length, filter, Option, Some, None}
 use mathlib.Core.List.{IsPrefix}
 use Rattle.atomic_table.specs.Seated.{TableId}
 use Rattle.smx_box.specs.declared.letter.Letter.{Letter}
@@ -134,6 +134,13 @@ module _ {T : Type 0} where
       × Stood s.front.known found items
       × (of s.sender (puts found) ≡ s.put)
       × (length items ≡ s.front.queue.places)
+
+  -- one step found every place with a letter, or one without; nothing changed
+  abbrev pub LookServes : Sending T → Bool → Type 0
+  LookServes s full = (found : List (Note T)) × (items : List (Letter T))
+      × Stood s.front.known found items
+      × (of s.sender (puts found) ≡ s.put)
+      × (full ≡ (length items == s.front.queue.places))
 
   -- one step got the oldest letter, of no more than places, or found none, and then nothing changed; what the history says was got is
   -- what the receiver got

@@ -3,7 +3,7 @@ ghost use Rattle.std.specs.Prelude.{◌≡◌};
 ghost use Rattle.std.specs.Arc.{arc_value};
 ghost use Rattle.crossbeam_queue.specs.Passes.{IsPassOf, ruled_capacity};
 ghost use Rattle.smx_box.specs.Boxes.{OldestServes};
-ghost use Rattle.smx_box.specs.Private.Ends.{IsNextLetter, IsTold, pass_front, sending, receiving, PostServes};
+ghost use Rattle.smx_box.specs.Private.Ends.{IsNextLetter, IsTold, pass_front, sending, receiving, CountServes, PostServes};
 
 use crate::letter::{Known, Letter};
 use crate::rule::{Put, Queue, Taken};
@@ -56,6 +56,14 @@ impl<T: Drop> End<T> {
         ensures { OldestServes (receiving self.old) self.new result }
     {
         self.queue.pop_as::<Taken, R>(rt, &mut self.pass)
+    }
+
+    // How many letters the box holds, at one step.
+    pub(crate) fn count<R: Wait>(&mut self, rt: &R) -> usize
+        ensures same { self.new ≡ self.old }
+        ensures serves { CountServes self.old result }
+    {
+        self.queue.len_as::<Put, R>(rt, &mut self.pass)
     }
 
     // How many letters the box holds at most.

@@ -1,7 +1,7 @@
 //! The end of a box at which items are put.
 ghost use Rattle.std.specs.Prelude.{◌≡◌, ◌<◌, ◌+◌, ◌++◌, [], ◌∷◌, true, length, Some, None, IfOk, IfErr, IsSome};
 ghost use Rattle.smx_box.specs.Letters.{letter, is_open, Numbered};
-ghost use Rattle.smx_box.specs.Boxes.{most_items, PutServes, FullPutServes};
+ghost use Rattle.smx_box.specs.Boxes.{most_items, PutServes, FullPutServes, LookServes};
 ghost use Rattle.smx_box.specs.Private.Ends.{IsFreshPass};
 
 use crate::end::End;
@@ -113,6 +113,14 @@ impl<T: Drop> Sender<T> {
             }
             Err(letter) => Err((item(letter), PutFault::Full)),
         }
+    }
+
+    /// Whether every place of the box has a letter, at one step.
+    pub fn is_full<R: Wait>(&mut self, rt: &R) -> bool
+        ensures looked { LookServes self.old result }
+        ensures same { self.new ≡ self.old }
+    {
+        self.end.count(rt) == self.end.places()
     }
 
     /// Puts the closing mark, which takes one place, and ends the sender. Where the box is full the

@@ -28,7 +28,7 @@ use Rattle.smx_client.specs.declared.mark.Stage.{Stage}
 use Rattle.smx_client.specs.declared.mark.Stage.TheVariants.{Open, Drained, Closed}
 use Rattle.smx_client.specs.declared.mark.Mark.TheVariants.{Offered, WriteFailed, Waited, NoRoom, Part, Entered, Full as Clogs}
 use Rattle.smx_client.specs.declared.reply.Reply.{Reply}
-use Rattle.smx_client.specs.declared.event.Event.TheVariants.{Decided, Broke, Collected, PutAgain, Heard, Expired, Looked, Got as Fetched}
+use Rattle.smx_client.specs.declared.event.Event.TheVariants.{Decided, Broke, Collected, PutAgain, Heard, Expired, Looked, LinkEnded, Got as Fetched}
 use Rattle.smx_client.specs.declared.event.Fate.TheVariants.{Submitted, Barred, Settled as Settles}
 use Rattle.smx_client.specs.declared.event.Delivery.{Delivery}
 use Rattle.smx_client.specs.declared.event.Progress.{Progress}
@@ -194,9 +194,13 @@ module _ (t : Before) where
   unfolding go from_deciding
   broke ended a = refl
 
-  pub parted : (ended : Bool) → go t (Deciding ended) (Marked Part) ≡ (if ended then Closing else Settled)
+  pub parted : (ended : Bool) → go t (Deciding ended) (Marked Part) ≡ (if ended then Wrong else Settled)
   unfolding go from_deciding
   parted ended = refl
+
+  pub ebbed : (ended : Bool) → go t (Deciding ended) (Did LinkEnded) ≡ (if ended then Closing else Wrong)
+  unfolding go from_deciding
+  ebbed ended = refl
 
   pub settles : (ended : Bool) (p : Snapshot Pdu) (a : Snapshot Act) (found : Option (ℕ × ℕ)) (reply : Reply) → go t (Deciding ended) (Did (Decided p a (Settles found reply))) ≡ after_reply (Deciding ended) reply
   unfolding go from_deciding

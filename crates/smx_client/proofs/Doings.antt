@@ -4,7 +4,7 @@ use Rattle.std.proofs.lemmas.List.{append-nil}
 use Rattle.std.specs.declared.snapshot.Snapshot.{Snapshot}
 use Rattle.smx_pdu.specs.declared.pdu.Pdu.{Pdu}
 use Rattle.smx_pdu.specs.Answers.{nack_of_undecoded}
-use Rattle.smx_session.specs.ClientTable.{client_decides}
+use Rattle.smx_session.specs.ClientTable.{client_decides, account_after}
 use Rattle.smx_session.specs.ClientMoments.{Client, after_octets, client_enquiry, after_client_moment, client_farewell, client_state_after_stop}
 use Rattle.smx_session.specs.declared.act.Act.{Act}
 use Rattle.smx_session.specs.declared.act.Act.TheVariants as act
@@ -26,11 +26,12 @@ use Rattle.smx_turns.specs.Worth.{those}
 use Rattle.smx_client.specs.declared.desk.Desk.{Desk}
 use Rattle.smx_client.specs.declared.reply.Parked.{Parked}
 use Rattle.smx_client.specs.declared.reply.Reply.{Reply}
-use Rattle.smx_client.specs.declared.event.Event.TheVariants.{Decided, Broke, Collected, PutAgain, Heard, Expired, Looked, Unbound, Got as Fetched}
+use Rattle.smx_client.specs.declared.event.Event.TheVariants.{Decided, Broke, Collected, PutAgain, Heard, Expired, Looked, Unbound, LinkEnded, Got as Fetched}
 use Rattle.smx_client.specs.declared.event.Fate.TheVariants.{Own, Submitted, Barred, Settled}
 use Rattle.smx_client.specs.declared.event.Delivery.{Delivery}
 use Rattle.smx_client.specs.Replies.{PutSo, SettlesSo, ExpiresSo, Parks, put_in, parked_on, on_lane}
 use Rattle.smx_client.specs.Events.{act_out, refusal_out, response_out, enquiry_out, got_out, got_answers, settled_out, expired_answers}
+use Rattle.smx_client.proofs.Bindings.{submits_by, settles_by}
 use Rattle.smx_client.specs.Parts.{parts, Does, Suits, fate_session, collect_step, submit_step, settle_step, expire_step, got_step, Gets, delivery_senders, delivery_parks, IsOfferOf}
 
 -- nothing is put, and nothing is to be answered
@@ -130,7 +131,7 @@ module _ (d : Desk) (said said' : List Pdu) (s : Client) (w : Window) (i : Recei
 
   -- the session alone decided
   pub owned : (p : PortView) (s' : Client) (q : Snapshot Pdu) (a : Snapshot Act) → said' ≡ said ++ (act_out a.value ++ [])
-      → ((a.value, s'.state) ≡ client_decides d.accounts.items s.state q.value) × Suits a.value Own → s' ≡ record s { state = s'.state } → Does (parts d said p s w i x h) (Decided q a Own) (parts d said' p s' w i x h)
+      → ((a.value, s'.state) ≡ client_decides d.accounts.items s.account s.state q.value) × Suits a.value Own → s' ≡ record s { state = s'.state; account = account_after a.value s.account } → Does (parts d said p s w i x h) (Decided q a Own) (parts d said' p s' w i x h)
   owned p s' q a says session kept = record {
     says = says;
     port = refl;
@@ -161,6 +162,22 @@ module _ (d : Desk) (said said' : List Pdu) (s : Client) (w : Window) (i : Recei
     lanes = refl;
   }
 
+  -- the link has ended
+  pub ebbed : (p : PortView) → Does (parts d said p s w i x h) LinkEnded (parts d said p s w i x h)
+  ebbed p = record {
+    says = sym (append-nil said);
+    port = refl;
+    lists = λ all has. no_accept p all has;
+    session = refl;
+    window = refl;
+    inbox = refl;
+    senders = refl;
+    answers = λ k within. same_put x h k;
+    parked = refl;
+    desk = refl;
+    lanes = refl;
+  }
+
   -- its client is sent unbind, where it was bound
   pub unbound : (p : PortView) (s' : Client) (o0 : Option Pdu) (o : Snapshot (Option Pdu)) → o.value ≡ o0 → o0 ≡ client_farewell s.state → s' ≡ record s { state = client_state_after_stop s.state } → said' ≡ said ++ those o0
       → Does (parts d said p s w i x h) (Unbound o) (parts d said' p s' w i x h)
@@ -181,13 +198,13 @@ module _ (d : Desk) (said said' : List Pdu) (s : Client) (w : Window) (i : Recei
   pub submitted : (p p' : PortView) (q : Snapshot Pdu) (a : Snapshot Act) (o : Snapshot Offer) (r : Snapshot (Result ℕ (Offer × SubmitFault)))
       → said' ≡ said ++ (act_out a.value ++ refusal_out q.value r.value) → IsOfferOf q.value o.value × submit_step o.value r.value p p'
       → ((all : List Accepted) → HasAccepted p all → HasAccepted p' (all ++ accepted_by o.value r.value))
-      → ((a.value, s.state) ≡ client_decides d.accounts.items s.state q.value) × Suits a.value (Submitted o r)
+      → ((a.value, s.state) ≡ client_decides d.accounts.items s.account s.state q.value) × Suits a.value (Submitted o r)
       → Does (parts d said p s w i x h) (Decided q a (Submitted o r)) (parts d said' p' s w i x h)
   submitted p p' q a o r says step lists session = record {
     says = says;
     port = step;
     lists = lists;
-    session = (session.0, session.1, refl);
+    session = (session.0, session.1, ap (λ o. record s { account = o }) (submits_by a.value o r s.account session.1));
     window = refl;
     inbox = refl;
     senders = refl;
@@ -198,7 +215,7 @@ module _ (d : Desk) (said said' : List Pdu) (s : Client) (w : Window) (i : Recei
   }
 
   pub settled : (p : PortView) (w' : Window) (x' : List (Sending Pdu)) (h' : Option Parked) (p0 : Pdu) (q : Snapshot Pdu) (a : Snapshot Act) (found : Option (ℕ × ℕ)) (reply : Reply)
-      → q.value ≡ p0 → said' ≡ said ++ (act_out a.value ++ []) → ((a.value, s.state) ≡ client_decides d.accounts.items s.state q.value) × Suits a.value (Settled found reply)
+      → q.value ≡ p0 → said' ≡ said ++ (act_out a.value ++ []) → ((a.value, s.state) ≡ client_decides d.accounts.items s.account s.state q.value) × Suits a.value (Settled found reply)
       → settle_step q.value found w w' → SettlesSo p0 found reply x x' → h ≡ None → Parks reply h' → length x' ≡ length x
       → ((k : ℕ) → k < length x → put_in x' k ++ parked_on k h' ≡ put_in x k ++ parked_on k h ++ settled_out k p0 found)
       → Does (parts d said p s w i x h) (Decided q a (Settled found reply)) (parts d said' p s w' i x' h')
@@ -206,7 +223,7 @@ module _ (d : Desk) (said said' : List Pdu) (s : Client) (w : Window) (i : Recei
     says = says;
     port = refl;
     lists = λ all has. no_accept p all has;
-    session = (session.0, session.1, refl);
+    session = (session.0, session.1, ap (λ o. record s { account = o }) (settles_by a.value found reply s.account session.1));
     window = window;
     inbox = refl;
     senders = subst (λ o. SettlesSo o found reply x x') (sym seen) so;

@@ -4,10 +4,11 @@ use Rattle.std.proofs.lemmas.List.{append-nil}
 use Rattle.smx_pdu.specs.declared.pdu.Pdu.{Pdu}
 use Rattle.smx_session.specs.Login.{Login}
 use Rattle.smx_session.specs.ClientMoments.{Client}
-use Rattle.smx_session.specs.ClientAsks.{bind_asks, cell_asks, client_asks, client_bars}
+use Rattle.smx_session.specs.ClientAsks.{bind_asks, request_asks, cell_asks, client_asks, client_bars}
 use Rattle.smx_session.specs.declared.ask.Ask.{Ask}
 use Rattle.smx_session.specs.declared.ask.Ask.TheVariants.{Request}
-use Rattle.smx_session.specs.ClientTable.{client_decides, client_decision, client_cell, client_row, bind_decision, ClientCell}
+use Rattle.smx_session.specs.ClientTable.{client_decides, client_decision, client_cell, client_row, bind_decision, request_decision, account_after, ClientCell}
+use Rattle.smx_session.specs.Rules.{rules_of, ruled_out}
 use Rattle.smx_session.specs.ClientTable.ClientCell.{checks, answer, nack, forward, message_answer, leave, closed, ignore}
 use Rattle.smx_session.specs.Binds.{check_bind}
 use Rattle.smx_session.specs.declared.kind.Kind.{Kind}
@@ -63,11 +64,11 @@ suits_forward : (a : Act) (f : Fate) (g : Suits act.Forward f) → a ≡ act.For
 suits_forward a f g e = subst (λ x. Suits x f) (sym e) g
 
 -- the session's state stays
-pub stays : (accounts : List Login) (s : ClientState) (h : Option Pdu) (p q : Pdu) (a b : Act) (f : Fate) → Some p ≡ h → q ≡ p → b ≡ a → Suits a f
-    → IfSome h (λ x. client_decides accounts s x ≡ (a, s)) → ((b, s) ≡ client_decides accounts s q) × Suits b f
-stays accounts s h p q a b f had same chosen suits decides =
-    let here : client_decides accounts s p ≡ (a, s) = subst (λ x. IfSome x (λ y. client_decides accounts s y ≡ (a, s))) (sym had) decides in
-    (ap (λ x. (x, s)) chosen ∙ sym here ∙ sym (ap (client_decides accounts s) same), subst (λ x. Suits x f) (sym chosen) suits)
+pub stays : (accounts : List Login) (account : Option ℕ) (s : ClientState) (h : Option Pdu) (p q : Pdu) (a b : Act) (f : Fate) → Some p ≡ h → q ≡ p → b ≡ a → Suits a f
+    → IfSome h (λ x. client_decides accounts account s x ≡ (a, s)) → ((b, s) ≡ client_decides accounts account s q) × Suits b f
+stays accounts account s h p q a b f had same chosen suits decides =
+    let here : client_decides accounts account s p ≡ (a, s) = subst (λ x. IfSome x (λ y. client_decides accounts account s y ≡ (a, s))) (sym had) decides in
+    (ap (λ x. (x, s)) chosen ∙ sym here ∙ sym (ap (client_decides accounts account s) same), subst (λ x. Suits x f) (sym chosen) suits)
 
 -- what the event of a decision by the session alone says
 pub own_out : (a b : Act) → b ≡ a → act_out a ≡ act_out b ++ []
@@ -85,132 +86,161 @@ pub settle_window : (p q : Pdu) (found : Option (ℕ × ℕ)) (w u : Window) →
 settle_window p q found w u same some none = subst (λ x. settle_step x found w u) (sym same) (settle_is p found w u some none)
 
 -- its moments stay
-pub kept_of : (s t : Client) (state : ClientState) → t ≡ record s { state = state } → t ≡ record s { state = t.state }
-kept_of s t state is = is ∙ ap (λ x. record s { state = x }) (sym (ap (λ x. x.state) is))
+pub kept_of : (s t : Client) (state : ClientState) (a b : Act) → b ≡ a → t ≡ record s { state = state; account = account_after a s.account }
+    → t ≡ record s { state = t.state; account = account_after b s.account }
+kept_of s t state a b chosen is =
+    is ∙ ap (λ x. record s { state = x; account = account_after a s.account }) (sym (ap (λ x. x.state) is)) ∙ ap (λ x. record s { state = t.state; account = account_after x s.account }) (sym chosen)
 
 -- of the PDU that waits
-pub settles : (accounts : List Login) (s : ClientState) (h : Option Pdu) (p : Pdu) → Some p ≡ h → IfSome h (λ x. client_decides accounts s x ≡ (act.MoAnswer x.number, s))
-    → IfSome h (λ x. client_decides accounts s x ≡ (act.MoAnswer p.number, s))
-settles accounts s h p had decides =
-    subst (λ x. IfSome x (λ y. client_decides accounts s y ≡ (act.MoAnswer p.number, s))) had
-    (subst (λ x. IfSome x (λ y. client_decides accounts s y ≡ (act.MoAnswer y.number, s))) (sym had) decides)
+pub settles : (accounts : List Login) (account : Option ℕ) (s : ClientState) (h : Option Pdu) (p : Pdu) → Some p ≡ h → IfSome h (λ x. client_decides accounts account s x ≡ (act.MoAnswer x.number, s))
+    → IfSome h (λ x. client_decides accounts account s x ≡ (act.MoAnswer p.number, s))
+settles accounts account s h p had decides =
+    subst (λ x. IfSome x (λ y. client_decides accounts account s y ≡ (act.MoAnswer p.number, s))) had
+    (subst (λ x. IfSome x (λ y. client_decides accounts account s y ≡ (act.MoAnswer y.number, s))) (sym had) decides)
 
 says_bind : (k : Kind) (x : Checked) (s : ClientState) (p : Pdu) → Suits (bind_decision k x s p).0 Own
 says_bind k (Refused status) s p = tt
 says_bind k (Granted i version) s p = tt
 
-says_cell : (c : ClientCell) (accounts : List Login) (s : ClientState) (p : Pdu) (a : Act) → a ≡ (client_decision c accounts s p).0 → a ≢ act.Forward → ((n : ℕ) → a ≢ act.MoAnswer n)
-    → Suits (client_decision c accounts s p).0 Own
-says_cell (checks k) accounts s p a e f m = says_bind k (check_bind accounts p.body) s p
-says_cell (answer status) accounts s p a e f m = tt
-says_cell nack accounts s p a e f m = tt
-says_cell forward accounts s p a e f m = f e
-says_cell message_answer accounts s p a e f m = m p.number e
-says_cell leave accounts s p a e f m = tt
-says_cell closed accounts s p a e f m = tt
-says_cell ignore accounts s p a e f m = tt
+says_request : (o : Option ℕ) (s : ClientState) (p : Pdu) (a : Act) → a ≡ (request_decision o s p).0 → a ≢ act.Forward → Suits (request_decision o s p).0 Own
+says_request None s p a e f = f e
+says_request (Some status) s p a e f = tt
+
+says_cell : (c : ClientCell) (accounts : List Login) (account : Option ℕ) (s : ClientState) (p : Pdu) (a : Act) → a ≡ (client_decision c accounts account s p).0 → a ≢ act.Forward → ((n : ℕ) → a ≢ act.MoAnswer n)
+    → Suits (client_decision c accounts account s p).0 Own
+says_cell (checks k) accounts account s p a e f m = says_bind k (check_bind accounts p.body) s p
+says_cell (answer status) accounts account s p a e f m = tt
+says_cell nack accounts account s p a e f m = tt
+says_cell forward accounts account s p a e f m = says_request (ruled_out (rules_of accounts account) p) s p a e f
+says_cell message_answer accounts account s p a e f m = m p.number e
+says_cell leave accounts account s p a e f m = tt
+says_cell closed accounts account s p a e f m = tt
+says_cell ignore accounts account s p a e f m = tt
 
 -- the session alone decides
-pub says_session : (accounts : List Login) (s t : ClientState) (p q : Pdu) (a b : Act) → q ≡ p → b ≡ a → a ≡ (client_decides accounts s p).0 → t ≡ (client_decides accounts s p).1
-    → a ≢ act.Forward → ((n : ℕ) → a ≢ act.MoAnswer n) → ((b, t) ≡ client_decides accounts s q) × Suits b Own
-says_session accounts s t p q a b same chosen act state f m = (
-  ap (λ x. (x, t)) (chosen ∙ act) ∙ ap (λ x. ((client_decides accounts s p).0, x)) state ∙ ap (client_decides accounts s) (sym same),
-  subst (λ x. Suits x Own) (sym (chosen ∙ act)) (says_cell (client_cell (client_row p.command) s) accounts s p a act f m),
+pub says_session : (accounts : List Login) (account : Option ℕ) (s t : ClientState) (p q : Pdu) (a b : Act) → q ≡ p → b ≡ a → a ≡ (client_decides accounts account s p).0 → t ≡ (client_decides accounts account s p).1
+    → a ≢ act.Forward → ((n : ℕ) → a ≢ act.MoAnswer n) → ((b, t) ≡ client_decides accounts account s q) × Suits b Own
+says_session accounts account s t p q a b same chosen act state f m = (
+  ap (λ x. (x, t)) (chosen ∙ act) ∙ ap (λ x. ((client_decides accounts account s p).0, x)) state ∙ ap (client_decides accounts account s) (sym same),
+  subst (λ x. Suits x Own) (sym (chosen ∙ act)) (says_cell (client_cell (client_row p.command) s) accounts account s p a act f m),
 )
 
 over_bind : (k : Kind) (x : Checked) (s : ClientState) (p : Pdu) (a : Act) (v : Verdict) → a ≡ (bind_decision k x s p).0 → IsVerdict a v → v ≡ verdict.Over → ⊥
 over_bind k (Refused status) s p a v is says over = let next : v ≡ verdict.Next = subst (λ x. IsVerdict x v) is says in absurd (cc)
 over_bind k (Granted i version) s p a v is says over = let next : v ≡ verdict.Bound k i = subst (λ x. IsVerdict x v) is says in absurd (cc)
 
-over_cell : (c : ClientCell) (accounts : List Login) (s : ClientState) (p : Pdu) (a : Act) (v : Verdict) → a ≡ (client_decision c accounts s p).0 → IsVerdict a v → v ≡ verdict.Over
-    → (client_decision c accounts s p).1 ≡ Ended
-over_cell (checks k) accounts s p a v is says over = absurd (over_bind k (check_bind accounts p.body) s p a v is says over)
-over_cell (answer status) accounts s p a v is says over = let next : v ≡ verdict.Next = subst (λ x. IsVerdict x v) is says in absurd (cc)
-over_cell nack accounts s p a v is says over = let next : v ≡ verdict.Next = subst (λ x. IsVerdict x v) is says in absurd (cc)
-over_cell forward accounts s p a v is says over = absurd (subst (λ x. IsVerdict x v) is says)
-over_cell message_answer accounts s p a v is says over = let next : v ≡ verdict.Settle = subst (λ x. IsVerdict x v) is says in absurd (cc)
-over_cell leave accounts s p a v is says over = refl
-over_cell closed accounts s p a v is says over = refl
-over_cell ignore accounts s p a v is says over = let next : v ≡ verdict.Next = subst (λ x. IsVerdict x v) is says in absurd (cc)
+over_request : (o : Option ℕ) (s : ClientState) (p : Pdu) (a : Act) (v : Verdict) → a ≡ (request_decision o s p).0 → IsVerdict a v → v ≡ verdict.Over → ⊥
+over_request None s p a v is says over = subst (λ x. IsVerdict x v) is says
+over_request (Some status) s p a v is says over = let next : v ≡ verdict.Next = subst (λ x. IsVerdict x v) is says in absurd (cc)
+
+over_cell : (c : ClientCell) (accounts : List Login) (account : Option ℕ) (s : ClientState) (p : Pdu) (a : Act) (v : Verdict) → a ≡ (client_decision c accounts account s p).0 → IsVerdict a v → v ≡ verdict.Over
+    → (client_decision c accounts account s p).1 ≡ Ended
+over_cell (checks k) accounts account s p a v is says over = absurd (over_bind k (check_bind accounts p.body) s p a v is says over)
+over_cell (answer status) accounts account s p a v is says over = let next : v ≡ verdict.Next = subst (λ x. IsVerdict x v) is says in absurd (cc)
+over_cell nack accounts account s p a v is says over = let next : v ≡ verdict.Next = subst (λ x. IsVerdict x v) is says in absurd (cc)
+over_cell forward accounts account s p a v is says over = absurd (over_request (ruled_out (rules_of accounts account) p) s p a v is says over)
+over_cell message_answer accounts account s p a v is says over = let next : v ≡ verdict.Settle = subst (λ x. IsVerdict x v) is says in absurd (cc)
+over_cell leave accounts account s p a v is says over = refl
+over_cell closed accounts account s p a v is says over = refl
+over_cell ignore accounts account s p a v is says over = let next : v ≡ verdict.Next = subst (λ x. IsVerdict x v) is says in absurd (cc)
 
 -- once nothing more is decided, the session has ended
-pub ends_session : (accounts : List Login) (s t : ClientState) (p : Pdu) (a : Act) (v : Verdict) → a ≡ (client_decides accounts s p).0 → t ≡ (client_decides accounts s p).1
+pub ends_session : (accounts : List Login) (account : Option ℕ) (s t : ClientState) (p : Pdu) (a : Act) (v : Verdict) → a ≡ (client_decides accounts account s p).0 → t ≡ (client_decides accounts account s p).1
     → IsVerdict a v → v ≡ verdict.Over → t ≡ Ended
-ends_session accounts s t p a v act state says over = state ∙ over_cell (client_cell (client_row p.command) s) accounts s p a v act says over
+ends_session accounts account s t p a v act state says over = state ∙ over_cell (client_cell (client_row p.command) s) accounts account s p a v act says over
 
 asks_bind : (k : Kind) (x : Checked) (s : ClientState) (p : Pdu) → (bind_decision k x s p).0 ≢ act.Forward
 asks_bind k (Refused status) s p = λ e. absurd (cc)
 asks_bind k (Granted i version) s p = λ e. absurd (cc)
 
-forward_cell : (c : ClientCell) (accounts : List Login) (s : ClientState) (p : Pdu) → (client_decision c accounts s p).0 ≡ act.Forward → cell_asks c accounts p.body ≡ Some Request
-forward_cell (checks k) accounts s p e = absurd (asks_bind k (check_bind accounts p.body) s p e)
-forward_cell (answer status) accounts s p e = absurd (cc)
-forward_cell nack accounts s p e = absurd (cc)
-forward_cell forward accounts s p e = refl
-forward_cell message_answer accounts s p e = absurd (cc)
-forward_cell leave accounts s p e = absurd (cc)
-forward_cell closed accounts s p e = absurd (cc)
-forward_cell ignore accounts s p e = absurd (cc)
+forwards : (o : Option ℕ) (s : ClientState) (p : Pdu) → (request_decision o s p).0 ≡ act.Forward → request_asks o ≡ Some Request
+forwards None s p e = refl
+forwards (Some status) s p e = absurd (cc)
+
+forward_cell : (c : ClientCell) (accounts : List Login) (account : Option ℕ) (s : ClientState) (p : Pdu) → (client_decision c accounts account s p).0 ≡ act.Forward → cell_asks c accounts account p ≡ Some Request
+forward_cell (checks k) accounts account s p e = absurd (asks_bind k (check_bind accounts p.body) s p e)
+forward_cell (answer status) accounts account s p e = absurd (cc)
+forward_cell nack accounts account s p e = absurd (cc)
+forward_cell forward accounts account s p e = forwards (ruled_out (rules_of accounts account) p) s p e
+forward_cell message_answer accounts account s p e = absurd (cc)
+forward_cell leave accounts account s p e = absurd (cc)
+forward_cell closed accounts account s p e = absurd (cc)
+forward_cell ignore accounts account s p e = absurd (cc)
 
 -- what asks for no request's leave isn't forwarded
-pub not_forward : (accounts : List Login) (s : ClientState) (h : Option Pdu) (p : Pdu) (a : Act) → Some p ≡ h → asks_in accounts s h ≢ Some Request → a ≡ (client_decides accounts s p).0 → a ≢ act.Forward
-not_forward accounts s h p a had own is e = own (ap (asks_in accounts s) (sym had) ∙ forward_cell (client_cell (client_row p.command) s) accounts s p (sym is ∙ e))
+pub not_forward : (accounts : List Login) (account : Option ℕ) (s : ClientState) (h : Option Pdu) (p : Pdu) (a : Act) → Some p ≡ h → asks_in accounts account s h ≢ Some Request → a ≡ (client_decides accounts account s p).0 → a ≢ act.Forward
+not_forward accounts account s h p a had own is e = own (ap (asks_in accounts account s) (sym had) ∙ forward_cell (client_cell (client_row p.command) s) accounts account s p (sym is ∙ e))
 
 bind_is_none : (k : Kind) (x : Checked) (s : ClientState) (p : Pdu) (n : ℕ) → (bind_decision k x s p).0 ≢ act.MoAnswer n
 bind_is_none k (Refused status) s p n = λ e. absurd (cc)
 bind_is_none k (Granted i version) s p n = λ e. absurd (cc)
 
-message_cell : (c : ClientCell) (accounts : List Login) (s : ClientState) (p : Pdu) (n : ℕ) → (client_decision c accounts s p).0 ≡ act.MoAnswer n → cell_asks c accounts p.body ≡ None
-message_cell (checks k) accounts s p n e = absurd (bind_is_none k (check_bind accounts p.body) s p n e)
-message_cell (answer status) accounts s p n e = refl
-message_cell nack accounts s p n e = refl
-message_cell forward accounts s p n e = absurd (cc)
-message_cell message_answer accounts s p n e = refl
-message_cell leave accounts s p n e = refl
-message_cell closed accounts s p n e = refl
-message_cell ignore accounts s p n e = refl
+no_message : (o : Option ℕ) (s : ClientState) (p : Pdu) (n : ℕ) → (request_decision o s p).0 ≢ act.MoAnswer n
+no_message None s p n = λ e. absurd (cc)
+no_message (Some status) s p n = λ e. absurd (cc)
+
+message_cell : (c : ClientCell) (accounts : List Login) (account : Option ℕ) (s : ClientState) (p : Pdu) (n : ℕ) → (client_decision c accounts account s p).0 ≡ act.MoAnswer n → cell_asks c accounts account p ≡ None
+message_cell (checks k) accounts account s p n e = absurd (bind_is_none k (check_bind accounts p.body) s p n e)
+message_cell (answer status) accounts account s p n e = refl
+message_cell nack accounts account s p n e = refl
+message_cell forward accounts account s p n e = absurd (no_message (ruled_out (rules_of accounts account) p) s p n e)
+message_cell message_answer accounts account s p n e = refl
+message_cell leave accounts account s p n e = refl
+message_cell closed accounts account s p n e = refl
+message_cell ignore accounts account s p n e = refl
 
 -- an answer to a message asks for no leave
-pub message_asks : (accounts : List Login) (s : ClientState) (h : Option Pdu) (p : Pdu) (a : Act) (n : ℕ) → Some p ≡ h → a ≡ (client_decides accounts s p).0 → a ≡ act.MoAnswer n → asks_in accounts s h ≡ None
-message_asks accounts s h p a n had is e = ap (asks_in accounts s) (sym had) ∙ message_cell (client_cell (client_row p.command) s) accounts s p n (sym is ∙ e)
+pub message_asks : (accounts : List Login) (account : Option ℕ) (s : ClientState) (h : Option Pdu) (p : Pdu) (a : Act) (n : ℕ) → Some p ≡ h → a ≡ (client_decides accounts account s p).0 → a ≡ act.MoAnswer n → asks_in accounts account s h ≡ None
+message_asks accounts account s h p a n had is e = ap (asks_in accounts account s) (sym had) ∙ message_cell (client_cell (client_row p.command) s) accounts account s p n (sym is ∙ e)
 
-message_is : (c : ClientCell) (accounts : List Login) (s : ClientState) (p : Pdu) (n : ℕ) → (client_decision c accounts s p).0 ≡ act.MoAnswer n → client_decision c accounts s p ≡ (act.MoAnswer p.number, s)
-message_is (checks k) accounts s p n e = absurd (bind_is_none k (check_bind accounts p.body) s p n e)
-message_is (answer status) accounts s p n e = absurd (cc)
-message_is nack accounts s p n e = absurd (cc)
-message_is forward accounts s p n e = absurd (cc)
-message_is message_answer accounts s p n e = refl
-message_is leave accounts s p n e = absurd (cc)
-message_is closed accounts s p n e = absurd (cc)
-message_is ignore accounts s p n e = absurd (cc)
+message_is : (c : ClientCell) (accounts : List Login) (account : Option ℕ) (s : ClientState) (p : Pdu) (n : ℕ) → (client_decision c accounts account s p).0 ≡ act.MoAnswer n → client_decision c accounts account s p ≡ (act.MoAnswer p.number, s)
+message_is (checks k) accounts account s p n e = absurd (bind_is_none k (check_bind accounts p.body) s p n e)
+message_is (answer status) accounts account s p n e = absurd (cc)
+message_is nack accounts account s p n e = absurd (cc)
+message_is forward accounts account s p n e = absurd (no_message (ruled_out (rules_of accounts account) p) s p n e)
+message_is message_answer accounts account s p n e = refl
+message_is leave accounts account s p n e = absurd (cc)
+message_is closed accounts account s p n e = absurd (cc)
+message_is ignore accounts account s p n e = absurd (cc)
 
 -- and leaves the session as it was
-pub message_decides : (accounts : List Login) (s t : ClientState) (p : Pdu) (a : Act) (n : ℕ) → a ≡ (client_decides accounts s p).0 → t ≡ (client_decides accounts s p).1 → a ≡ act.MoAnswer n
-    → client_decides accounts t p ≡ (act.MoAnswer p.number, t)
-message_decides accounts s t p a n is state e =
-    let here = message_is (client_cell (client_row p.command) s) accounts s p n (sym is ∙ e) in
-    subst (λ x. client_decides accounts x p ≡ (act.MoAnswer p.number, x)) (sym (state ∙ ap (λ x. x.1) here)) here
+pub message_keeps : (accounts : List Login) (s t : Client) (p : Pdu) (a : Act) (n : ℕ) → a ≡ (client_decides accounts s.account s.state p).0
+    → t ≡ record s { state = (client_decides accounts s.account s.state p).1; account = account_after (client_decides accounts s.account s.state p).0 s.account } → a ≡ act.MoAnswer n → t ≡ s
+message_keeps accounts s t p a n is state e =
+    let here = message_is (client_cell (client_row p.command) s.state) accounts s.account s.state p n (sym is ∙ e) in
+    state ∙ ap (λ (x : Act × ClientState). record s { state = x.1; account = account_after x.0 s.account }) here
+
+pub message_decides : (accounts : List Login) (account account' : Option ℕ) (s t : ClientState) (p : Pdu) (a : Act) (n : ℕ) → a ≡ (client_decides accounts account s p).0 → t ≡ (client_decides accounts account s p).1
+    → account' ≡ account_after (client_decides accounts account s p).0 account → a ≡ act.MoAnswer n → client_decides accounts account' t p ≡ (act.MoAnswer p.number, t)
+message_decides accounts account account' s t p a n is state by e =
+    let here = message_is (client_cell (client_row p.command) s) accounts account s p n (sym is ∙ e) in
+    let same : account' ≡ account = by ∙ ap (λ x. account_after x account) (sym is ∙ e) in
+    subst (λ (x : Option ℕ × ClientState). client_decides accounts x.0 x.1 p ≡ (act.MoAnswer p.number, x.1)) (λ i. (sym same i, sym (state ∙ ap (λ x. x.1) here) i)) here
 
 request_bind : (x : Checked) → Some (bind_asks x) ≢ Some Request
 request_bind (Refused status) = λ e. absurd (cc)
 request_bind (Granted i version) = λ e. absurd (cc)
 
-request_cell : (c : ClientCell) (accounts : List Login) (s : ClientState) (p : Pdu) → cell_asks c accounts p.body ≡ Some Request → client_decision c accounts s p ≡ (act.Forward, s)
-request_cell (checks k) accounts s p e = absurd (request_bind (check_bind accounts p.body) e)
-request_cell (answer status) accounts s p e = absurd (cc)
-request_cell nack accounts s p e = absurd (cc)
-request_cell forward accounts s p e = refl
-request_cell message_answer accounts s p e = absurd (cc)
-request_cell leave accounts s p e = absurd (cc)
-request_cell closed accounts s p e = absurd (cc)
-request_cell ignore accounts s p e = absurd (cc)
+asked_request : (o : Option ℕ) (s : ClientState) (p : Pdu) → request_asks o ≡ Some Request → request_decision o s p ≡ (act.Forward, s)
+asked_request None s p e = refl
+asked_request (Some status) s p e = absurd (cc)
+
+request_cell : (c : ClientCell) (accounts : List Login) (account : Option ℕ) (s : ClientState) (p : Pdu) → cell_asks c accounts account p ≡ Some Request → client_decision c accounts account s p ≡ (act.Forward, s)
+request_cell (checks k) accounts account s p e = absurd (request_bind (check_bind accounts p.body) e)
+request_cell (answer status) accounts account s p e = absurd (cc)
+request_cell nack accounts account s p e = absurd (cc)
+request_cell forward accounts account s p e = asked_request (ruled_out (rules_of accounts account) p) s p e
+request_cell message_answer accounts account s p e = absurd (cc)
+request_cell leave accounts account s p e = absurd (cc)
+request_cell closed accounts account s p e = absurd (cc)
+request_cell ignore accounts account s p e = absurd (cc)
 
 -- a request that waits is to be forwarded
-pub request_decides : (accounts : List Login) (s : ClientState) (h : Option Pdu) → asks_in accounts s h ≡ Some Request → IfSome h (λ p. client_decides accounts s p ≡ (act.Forward, s))
-request_decides accounts s None e = tt
-request_decides accounts s (Some p) e = request_cell (client_cell (client_row p.command) s) accounts s p e
+pub request_decides : (accounts : List Login) (account : Option ℕ) (s : ClientState) (h : Option Pdu) → asks_in accounts account s h ≡ Some Request → IfSome h (λ p. client_decides accounts account s p ≡ (act.Forward, s))
+request_decides accounts account s None e = tt
+request_decides accounts account s (Some p) e = request_cell (client_cell (client_row p.command) s) accounts account s p e
 
 -- what was barred asked for this leave
-pub bars_session : (accounts : List Login) (s : Client) (h : Option Pdu) (p q : Pdu) (a b : Act) (l : Ask) → Some p ≡ h → asks_in accounts s.state h ≡ Some l → q ≡ p → b ≡ a → a ≡ client_bars l p → fate_session accounts s q b (Barred l) s
+pub bars_session : (accounts : List Login) (s : Client) (h : Option Pdu) (p q : Pdu) (a b : Act) (l : Ask) → Some p ≡ h → asks_in accounts s.account s.state h ≡ Some l → q ≡ p → b ≡ a → a ≡ client_bars l p → fate_session accounts s q b (Barred l) s
 bars_session accounts s h p q a b l had asks same chosen is =
-    (ap (client_asks accounts s.state) same ∙ ap (asks_in accounts s.state) had ∙ asks, chosen ∙ is ∙ ap (client_bars l) (sym same), refl)
+    (ap (client_asks accounts s.account s.state) same ∙ ap (asks_in accounts s.account s.state) had ∙ asks, chosen ∙ is ∙ ap (client_bars l) (sym same), refl)

@@ -6,7 +6,7 @@ use Rattle.std.specs.List.{flat_map}
 use Rattle.smx_turns.specs.declared.end.Fault.{Fault}
 use Rattle.smx_turns.specs.declared.end.Fault.TheVariants as fault
 use Rattle.smx_turns.specs.declared.end.TurnEnd.{TurnEnd}
-use Rattle.smx_turns.specs.declared.end.TurnEnd.TheVariants.{Worked, Idle, Done}
+use Rattle.smx_turns.specs.declared.end.TurnEnd.TheVariants.{Worked, Filled, Idle, Done}
 use Rattle.smx_turns.specs.declared.step.Step.{Step}
 use Rattle.smx_turns.specs.declared.step.Step.TheVariants.{Asked, Read, Marked, Did}
 use Rattle.smx_turns.specs.Runs.{Runs}
@@ -183,6 +183,7 @@ module _ (n : ℕ) where
 
 ends_past : (r : Result TurnEnd Fault) (quiet : Bool) → (IsTurn r quiet Opening → ⊥) × (IsTurn r quiet Wrong → ⊥)
 ends_past (Ok Done) quiet = (λ e. e, λ e. e)
+ends_past (Ok Filled) quiet = (λ e. e, λ e. e)
 ends_past (Ok Idle) quiet = (λ e. e, λ e. e)
 ends_past (Ok Worked) quiet = (λ e. e, λ e. e)
 ends_past (Err fault.Link) quiet = (λ e. absurd (cc), λ e. absurd (cc))

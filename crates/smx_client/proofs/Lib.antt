@@ -1,4 +1,5 @@
 pub mod Fates
+pub mod Bindings
 pub mod Doings
 pub mod Starts
 pub mod Laws

@@ -1,5 +1,5 @@
 -- What a worker keeps by one event more.
-use Rattle.std.proofs.Common.{◌≡◌, ◌≢◌, ◌<◌, List, [], ◌∷◌, ◌++◌, length, Bool, true, false, true≢false, Option, Some, None, Result, sym, ◌∙◌, ap, subst}
+use Rattle.std.proofs.Common.{◌≡◌, ◌≢◌, ◌<◌, List, [], ◌∷◌, ◌++◌, length, Bool, true, false, true≢false, Option, Some, None, Result, sym, ◌∙◌, ap, refl, subst}
 use Rattle.smx_pdu.specs.declared.pdu.Pdu.{Pdu}
 use Rattle.smx_frame.specs.Stream.{HasNone}
 use Rattle.smx_link.specs.declared.link.Polled.{Polled}
@@ -11,7 +11,10 @@ use Rattle.smx_turns.specs.Wires.{has_ended}
 use Rattle.smx_turns.specs.Worth.{those}
 use Rattle.smx_turns.proofs.Breaking.{BadKept, still_bad}
 use Rattle.smx_turns.proofs.Chains.{chain_push}
-use Rattle.smx_turns.proofs.Worths.{heard_push}
+use Rattle.smx_turns.proofs.Logged.{phase_push}
+use Rattle.smx_turns.proofs.Worths.{ending_push, heard_push}
+use Rattle.smx_turns.specs.Endings.{or_end}
+use Rattle.smx_client.specs.Refusals.{refused_after, last_refused}
 use Rattle.smx_client.specs.declared.event.Event.{Event}
 use Rattle.smx_client.specs.declared.mark.Stage.{Stage}
 use Rattle.smx_client.specs.declared.mark.Stage.TheVariants.{Closed}
@@ -44,15 +47,22 @@ module _ {L : Type 0} (polls : L → List (Result Polled LinkFault)) where
 
   -- it did one thing more, which reads nothing
   pub did : (v w : Serving L) (e : Event) → IsServing polls v → w.wire.link ≡ v.wire.link → w.wire.start ≡ v.wire.start → w.stage ≡ v.stage → first_of w ≡ first_of v → w.events ≡ v.events ++ e ∷ []
-      → w.wire.heard ≡ v.wire.heard → (worth e).decided ++ those w.held ≡ those v.held → Does (parts_of v) e (parts_of w)
+      → w.ending ≡ or_end v.ending (worth e).ends → w.refused ≡ refused_after v.refused e → w.wire.heard ≡ v.wire.heard → (worth e).decided ++ those w.held ≡ those v.held → Does (parts_of v) e (parts_of w)
       → (w.settled ≡ true → (w.held ≡ None) × HasNone 65536 w.wire.rest) → BadKept (worth e).breaks v.wire w.wire
       → (w.stage ≡ Closed → w.session.state ≢ Ended → (w.settled ≡ true) × (has_ended (polls w.wire.link) ≡ true)) → IsServing polls w
-  did v w e was link start stage first grown heard decided does settled bad closed = record {
+  unfolding last_refused
+  did v w e was link start stage first grown ends refuses heard decided does settled bad closed = record {
     heard = heard_push worth v.wire.heard w.wire.heard v.events w.events e v.held w.held grown was.heard heard decided;
     runs = chain_push Does (first_of w) (parts_of v) (parts_of w) v.events w.events e grown does (subst (λ (a : Parts). Chain a v.events (parts_of v)) (sym first) was.runs);
     settled = settled;
+    over = ending_push worth v.events w.events e v.ending w.ending grown was.over ends;
+    turned_away = refuses ∙ sym (phase_push refused_after None v.events w.events e v.refused (refused_after v.refused e) grown refl (sym was.turned_away));
     broken = still_bad worth v.wire w.wire v.events w.events e grown was.broken bad;
     opened = λ at ended. ap polls link ∙ was.opened (sym stage ∙ at) (ap (λ l. has_ended (polls l)) (sym link) ∙ ended) ∙ ap polls (sym start);
     drained = λ at. ap (λ l. has_ended (polls l)) link ∙ was.drained (sym stage ∙ at);
     closed = closed;
   }
+
+  -- the same session, and the same PDU that waits
+  pub holds_on : (v w : Serving L) → IsServing polls v → w ≡ record v { session = w.session; held = w.held } → w.session ≡ v.session → w.held ≡ v.held → IsServing polls w
+  holds_on v w was same session held = subst (IsServing polls) (sym (same ∙ (λ i. record v { session = session i; held = held i }))) was

@@ -22,10 +22,12 @@ use Rattle.smx_box.specs.declared.receiver.Got.TheVariants.{Item, Shut, Empty}
 use Rattle.smx_turns.specs.declared.mo_item.MoItem.{MoItem}
 use Rattle.smx_turns.specs.declared.gate.Party.{Party}
 use Rattle.smx_turns.specs.declared.gate.Party.TheVariants as party
+use Rattle.smx_turns.specs.declared.end.End.{End}
+use Rattle.smx_turns.specs.declared.end.End.TheVariants as end
 use Rattle.smx_turns.specs.Puts.{finds_nothing}
 use Rattle.smx_turns.specs.Worth.{Worth, no_worth, says}
 use Rattle.smx_client.specs.declared.event.Event.{Event}
-use Rattle.smx_client.specs.declared.event.Event.TheVariants.{Decided, Broke, Collected, PutAgain, Heard, Expired, Looked, Unbound, Got as Fetched}
+use Rattle.smx_client.specs.declared.event.Event.TheVariants.{Decided, Broke, Collected, PutAgain, Heard, Expired, Looked, Unbound, LinkEnded, Got as Fetched}
 use Rattle.smx_client.specs.declared.event.Fate.{Fate}
 use Rattle.smx_client.specs.declared.event.Fate.TheVariants.{Own, Submitted, Barred, Settled}
 use Rattle.smx_client.specs.declared.event.Delivery.{Delivery}
@@ -40,16 +42,16 @@ why_unaccepted submit.Exhausted = UsedUp
 why_unaccepted submit.Spent = UsedUp
 why_unaccepted submit.AllFull = AllFull
 
--- what the session's act says, and whether nothing is decided after it
+-- what the session's act says, and how it ends the work, where nothing is decided after it
 abbrev pub act_worth : Act → Worth
 act_worth (act.Answer p) = says (Some p)
 act_worth (act.Bind k i p) = says (Some p)
 act_worth (act.Refuse p) = says (Some p)
 act_worth act.Forward = no_worth
 act_worth (act.MoAnswer n) = no_worth
-act_worth (act.Leave p) = record (says (Some p)) { ends = true }
-act_worth (act.Hangup p) = record (says (Some p)) { ends = true }
-act_worth act.Closed = record no_worth { ends = true }
+act_worth (act.Leave p) = record (says (Some p)) { ends = Some end.Left }
+act_worth (act.Hangup p) = record (says (Some p)) { ends = Some end.BadLength }
+act_worth act.Closed = record no_worth { ends = Some end.Stopped }
 act_worth act.Ignore = no_worth
 
 abbrev pub act_out : Act → List Pdu
@@ -70,6 +72,11 @@ abbrev pub is_unanswered : Enquiry → Bool
 is_unanswered NotDue = false
 is_unanswered (Due p) = false
 is_unanswered Unanswered = true
+
+-- how a silence ends the work
+abbrev pub silent_end : Bool → Option End
+silent_end true = Some end.Silent
+silent_end false = None
 
 -- the answer to a refused request
 abbrev pub refusal_out : Pdu → Result ℕ (Offer × SubmitFault) → List Pdu
@@ -110,6 +117,7 @@ event_accepts (Heard now) = []
 event_accepts (Expired until found reply) = []
 event_accepts (Looked now e) = []
 event_accepts (Unbound p) = []
+event_accepts LinkEnded = []
 
 abbrev pub settled_out : ℕ → Pdu → Option (ℕ × ℕ) → List (Option Pdu)
 settled_out k p None = []
@@ -145,6 +153,7 @@ event_answers k (Heard now) = []
 event_answers k (Expired until found reply) = expired_answers k found
 event_answers k (Looked now e) = []
 event_answers k (Unbound p) = []
+event_answers k LinkEnded = []
 
 -- the lane, where its return box took an answer
 abbrev pub lane_told : ℕ → Reply → List Party
@@ -229,14 +238,15 @@ decided_worth p a f = record no_worth {
 -- what an event is worth
 abbrev pub worth : Event → Worth
 worth (Decided p a f) = decided_worth p.value a.value f
-worth (Broke a) = record no_worth { said = act_out a.value; quiet = false; ends = true; breaks = true }
+worth (Broke a) = record no_worth { said = act_out a.value; quiet = false; ends = Some end.BadLength; breaks = true }
 worth (Collected lane r) = record no_worth { said = response_out r.value; quiet = is_none_found r.value; spent = is_err r.value }
 worth (Fetched g d) = record no_worth { said = got_out g.value d; tells = got_told g.value d; quiet = finds_nothing g.value; spent = is_err g.value || is_spent_delivery d }
 worth (PutAgain lane reply) = record no_worth { tells = lane_told lane reply; quiet = is_refused reply; spent = is_spent_reply reply }
 worth (Heard now) = record no_worth { quiet = false }
 worth (Expired until found reply) = record no_worth { tells = expired_told found reply; quiet = is_none found; spent = is_spent_reply reply }
-worth (Looked now e) = record no_worth { said = enquiry_out e.value; quiet = is_not_due e.value; ends = is_unanswered e.value }
+worth (Looked now e) = record no_worth { said = enquiry_out e.value; quiet = is_not_due e.value; ends = silent_end (is_unanswered e.value) }
 worth (Unbound p) = says p.value
+worth LinkEnded = record no_worth { ends = Some end.LinkEnded }
 
 -- whether nothing came of it
 abbrev pub is_quiet_event : Event → Bool

@@ -1,5 +1,6 @@
 pub mod Marks
 pub mod Replies
+pub mod Refusals
 pub mod Events
 pub mod Prefixes
 pub mod Parts

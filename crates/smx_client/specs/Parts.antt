@@ -3,7 +3,7 @@ use Rattle.std.specs.Prelude.{◌≡◌, ◌<◌, ◌++◌, length, ℕ, List, [
 use Rattle.smx_pdu.specs.declared.pdu.Pdu.{Pdu}
 use Rattle.smx_session.specs.Login.{Login}
 use Rattle.smx_pdu.specs.Answers.{nack_of_undecoded}
-use Rattle.smx_session.specs.ClientTable.{client_decides}
+use Rattle.smx_session.specs.ClientTable.{client_decides, account_after}
 use Rattle.smx_session.specs.ClientAsks.{client_asks, client_bars}
 use Rattle.smx_session.specs.ClientMoments.{Client, after_octets, client_enquiry, after_client_moment, client_farewell, client_state_after_stop}
 use Rattle.smx_session.specs.declared.act.Act.{Act}
@@ -28,7 +28,7 @@ use Rattle.smx_turns.specs.declared.mo_item.MoItem.{MoItem}
 use Rattle.smx_client.specs.declared.desk.Desk.{Desk}
 use Rattle.smx_client.specs.declared.reply.Parked.{Parked}
 use Rattle.smx_client.specs.declared.event.Event.{Event}
-use Rattle.smx_client.specs.declared.event.Event.TheVariants.{Decided, Broke, Collected, PutAgain, Heard, Expired, Looked, Unbound, Got as Fetched}
+use Rattle.smx_client.specs.declared.event.Event.TheVariants.{Decided, Broke, Collected, PutAgain, Heard, Expired, Looked, Unbound, LinkEnded, Got as Fetched}
 use Rattle.smx_client.specs.declared.event.Fate.{Fate}
 use Rattle.smx_client.specs.declared.event.Fate.TheVariants.{Own, Submitted, Barred, Settled}
 use Rattle.smx_client.specs.declared.event.Delivery.{Delivery}
@@ -67,6 +67,7 @@ port_step v (Heard now) w = w ≡ v
 port_step v (Expired until found reply) w = w ≡ v
 port_step v (Looked now e) w = w ≡ v
 port_step v (Unbound p) w = w ≡ v
+port_step v LinkEnded w = w ≡ v
 
 -- what may become of a PDU under that act
 abbrev pub Suits : Act → Fate → Type 0
@@ -82,8 +83,8 @@ Suits _ _ = ⊥
 
 -- what the session did with a PDU: what its table says, or nothing where the gate gave no leave
 abbrev pub fate_session : List Login → Client → Pdu → Act → Fate → Client → Type 0
-fate_session accounts s p a (Barred leave) t = (client_asks accounts s.state p ≡ Some leave) × (a ≡ client_bars leave p) × (t ≡ s)
-fate_session accounts s p a f t = ((a, t.state) ≡ client_decides accounts s.state p) × Suits a f × (t ≡ record s { state = t.state })
+fate_session accounts s p a (Barred leave) t = (client_asks accounts s.account s.state p ≡ Some leave) × (a ≡ client_bars leave p) × (t ≡ s)
+fate_session accounts s p a f t = ((a, t.state) ≡ client_decides accounts s.account s.state p) × Suits a f × (t ≡ record s { state = t.state; account = account_after a s.account })
 
 -- the session's table, and its moments
 abbrev pub session_step : List Login → Client → Event → Client → Type 0
@@ -93,6 +94,7 @@ session_step accounts s (Heard now) t = t ≡ after_octets s now
 session_step accounts s (Expired until found reply) t = t ≡ s
 session_step accounts s (Looked now e) t = (e.value ≡ client_enquiry s now) × (t ≡ after_client_moment s now)
 session_step accounts s (Unbound p) t = (p.value ≡ client_farewell s.state) × (t ≡ record s { state = client_state_after_stop s.state })
+session_step accounts s LinkEnded t = t ≡ s
 session_step accounts s (Collected k r) t = t ≡ s
 session_step accounts s (Fetched g d) t = t ≡ s
 session_step accounts s (PutAgain lane reply) t = t ≡ s
@@ -138,6 +140,7 @@ window_step w (Heard now) u = u ≡ w
 window_step w (Expired until found reply) u = expire_step until found w u
 window_step w (Looked now e) u = u ≡ w
 window_step w (Unbound p) u = u ≡ w
+window_step w LinkEnded u = u ≡ w
 
 -- which delivery an item gets: dropped where its lane has no sender, refused where it is for another client
 abbrev pub IsDelivered : ℕ → ℕ → Got MoItem → Delivery → Type 0
@@ -163,6 +166,7 @@ inbox_step client lanes a (Heard now) b = b ≡ a
 inbox_step client lanes a (Expired until found reply) b = b ≡ a
 inbox_step client lanes a (Looked now e) b = b ≡ a
 inbox_step client lanes a (Unbound p) b = b ≡ a
+inbox_step client lanes a LinkEnded b = b ≡ a
 
 abbrev pub fate_senders : Pdu → Fate → List (Sending Pdu) → List (Sending Pdu) → Type 0
 fate_senders p Own ss tt = tt ≡ ss
@@ -186,6 +190,7 @@ senders_step h ss (Heard now) tt = tt ≡ ss
 senders_step h ss (Expired until found reply) tt = ExpiresSo found reply ss tt
 senders_step h ss (Looked now e) tt = tt ≡ ss
 senders_step h ss (Unbound p) tt = tt ≡ ss
+senders_step h ss LinkEnded tt = tt ≡ ss
 
 abbrev pub fate_parks : Fate → Option Parked → Option Parked → Type 0
 fate_parks Own h i = i ≡ h
@@ -209,6 +214,7 @@ parked_step h (Heard now) i = i ≡ h
 parked_step h (Expired until found reply) i = (h ≡ None) × Parks reply i
 parked_step h (Looked now e) i = i ≡ h
 parked_step h (Unbound p) i = i ≡ h
+parked_step h LinkEnded i = i ≡ h
 
 pub record Parts : Type 0 where
   -- who may bind, and what was said to the client

@@ -17,6 +17,10 @@ use Rattle.smx_shared.specs.Views.{PortView}
 use Rattle.smx_turns.specs.declared.mo_item.MoItem.{MoItem}
 use Rattle.smx_turns.specs.declared.end.TurnEnd.{TurnEnd}
 use Rattle.smx_turns.specs.declared.end.Fault.{Fault}
+use Rattle.smx_turns.specs.declared.end.End.{End}
+use Rattle.smx_turns.specs.Endings.{ending_of}
+use Rattle.smx_client.specs.declared.ending.Refusal.{Refusal}
+use Rattle.smx_client.specs.Refusals.{last_refused}
 use Rattle.smx_client.specs.declared.desk.Desk.{Desk}
 use Rattle.smx_client.specs.declared.event.Event.{Event}
 use Rattle.smx_client.specs.declared.mark.Stage.{Stage}
@@ -47,6 +51,9 @@ pub record Serving (L : Type 0) : Type 0 where
   pub held : Option Pdu
   -- the answer to a message that a return box refused
   pub parked : Option Parked
+  -- how its work ended, and the last bind that was refused
+  pub ending : Option End
+  pub refused : Option Refusal
   -- whether every whole PDU that came was decided
   pub settled : Bool
   pub stage : Stage
@@ -67,12 +74,12 @@ abbrev pub first_of : {L : Type 0} → Serving L → Parts
 first_of w = parts w.desk [] w.origin.port.value w.origin.session.value w.origin.window.value w.origin.inbox.value w.origin.senders.value.items None
 
 -- what leave a PDU asks for, where one waits
-abbrev pub asks_in : List Login → ClientState → Option Pdu → Option Ask
-asks_in accounts state None = None
-asks_in accounts state (Some p) = client_asks accounts state p
+abbrev pub asks_in : List Login → Option ℕ → ClientState → Option Pdu → Option Ask
+asks_in accounts account state None = None
+asks_in accounts account state (Some p) = client_asks accounts account state p
 
 abbrev pub held_asks : {L : Type 0} → Serving L → Option Ask
-held_asks w = asks_in w.desk.accounts.items w.session.state w.held
+held_asks w = asks_in w.desk.accounts.items w.session.account w.session.state w.held
 
 -- what a worker keeps at every call
 pub record IsServing {L : Type 0} (polls : L → List (Result Polled LinkFault)) (w : Serving L) : Type 0 where
@@ -82,6 +89,9 @@ pub record IsServing {L : Type 0} (polls : L → List (Result Polled LinkFault))
   pub runs : Chain (first_of w) w.events (parts_of w)
   -- no whole PDU is left where every one was decided
   pub settled : w.settled ≡ true → (w.held ≡ None) × HasNone 65536 w.wire.rest
+  -- how the work ended, and which bind was refused, is what the events say
+  pub over : w.ending ≡ ending_of worth w.events
+  pub turned_away : w.refused ≡ last_refused w.events
   -- a bad length was told only where one was met
   pub broken : has_broken worth w.events ≡ true → IsBad w.wire
   -- the last read since it was made answered no end, or one, as its stage says

@@ -1,5 +1,5 @@
 -- The order of a client's turn.
-use Rattle.std.specs.Prelude.{◌≡◌, ◌≢◌, ◌==◌, ◌≤◌, ℕ, ◌+◌, ◌*◌, Bool, true, false, not, ◌&&◌, nat_le, List, [], length, Option, Some, None, IsSome, Result, Ok, Err, if◌then◌else◌}
+use Rattle.std.specs.Prelude.{◌≡◌, ◌≢◌, ◌==◌, ◌≤◌, ℕ, ◌+◌, ◌*◌, Bool, true, false, not, ◌&&◌, nat_le, List, [], length, Option, Some, None, IsSome, is_some, Result, Ok, Err, if◌then◌else◌}
 use Rattle.smx_pdu.specs.declared.pdu.Pdu.{Pdu}
 use Rattle.smx_frame.specs.Stream.{HasNone}
 use Rattle.smx_lock.specs.declared.faults.Spent.{Spent}
@@ -19,7 +19,7 @@ use Rattle.smx_turns.specs.declared.gate.Point.TheVariants.{Reading, Binding, Re
 use Rattle.smx_turns.specs.declared.end.Fault.{Fault}
 use Rattle.smx_turns.specs.declared.end.Fault.TheVariants as fault
 use Rattle.smx_turns.specs.declared.end.TurnEnd.{TurnEnd}
-use Rattle.smx_turns.specs.declared.end.TurnEnd.TheVariants.{Worked, Idle, Done}
+use Rattle.smx_turns.specs.declared.end.TurnEnd.TheVariants.{Worked, Filled, Idle, Done}
 use Rattle.smx_turns.specs.declared.mo_item.MoItem.{MoItem}
 use Rattle.smx_turns.specs.Steps.{phase_from}
 use Rattle.smx_turns.specs.declared.step.Step.{Step}
@@ -31,7 +31,7 @@ use Rattle.smx_client.specs.declared.mark.Mark.TheVariants.{Offered, WriteFailed
 use Rattle.smx_client.specs.declared.reply.Reply.{Reply}
 use Rattle.smx_client.specs.declared.reply.Reply.TheVariants as reply
 use Rattle.smx_client.specs.declared.event.Event.{Event}
-use Rattle.smx_client.specs.declared.event.Event.TheVariants.{Decided, Broke, Collected, PutAgain, Heard, Expired, Looked, Got as Fetched}
+use Rattle.smx_client.specs.declared.event.Event.TheVariants.{Decided, Broke, Collected, PutAgain, Heard, Expired, Looked, LinkEnded, Got as Fetched}
 use Rattle.smx_client.specs.declared.event.Fate.{Fate}
 use Rattle.smx_client.specs.declared.event.Fate.TheVariants.{Own, Submitted, Barred, Settled as Settles}
 use Rattle.smx_client.specs.declared.event.Delivery.{Delivery}
@@ -266,7 +266,7 @@ after_act ended (act.Bind k account p) = Wrong
 after_act ended (act.Refuse p) = Wrong
 after_act ended act.Forward = Wrong
 after_act ended (act.MoAnswer n) = Wrong
-after_act ended a = if (act_worth a).ends then Closing else Deciding ended
+after_act ended a = if is_some (act_worth a).ends then Closing else Deciding ended
 
 abbrev pub after_fate : Bool → Act → Fate → Phase
 after_fate ended a Own = after_act ended a
@@ -284,7 +284,8 @@ from_deciding ended (Asked Admitting true) = Admitted ended
 from_deciding ended (Asked Admitting false) = Barring ended leave.Request
 from_deciding ended (Did (Decided p a f)) = after_fate ended a.value f
 from_deciding ended (Did (Broke a)) = Closing
-from_deciding ended (Marked Part) = if ended then Closing else Settled
+from_deciding ended (Marked Part) = if ended then Wrong else Settled
+from_deciding ended (Did LinkEnded) = if ended then Closing else Wrong
 from_deciding ended _ = Wrong
 
 -- a client is bound by the account for which the gate said yes
@@ -379,6 +380,7 @@ abbrev pub EndsIn : TurnEnd → Bool → Phase → Type 0
 EndsIn Done quiet Over = Unit {0}
 EndsIn Done quiet Gone = Unit {0}
 EndsIn Done quiet _ = ⊥
+EndsIn Filled quiet _ = ⊥
 EndsIn Idle quiet Stopped = Unit {0}
 EndsIn Idle quiet Settled = quiet ≡ true
 EndsIn Idle quiet _ = ⊥

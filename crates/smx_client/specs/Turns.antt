@@ -14,7 +14,7 @@ use Rattle.smx_turns.specs.Wires.{some_wait}
 use Rattle.smx_client.specs.declared.mark.Mark.{Mark}
 use Rattle.smx_client.specs.declared.mark.Mark.TheVariants.{Offered, WriteFailed, Waited, NoRoom, Part, Entered, Full as Clogs}
 use Rattle.smx_client.specs.declared.event.Event.{Event}
-use Rattle.smx_client.specs.declared.event.Event.TheVariants.{Decided, Broke, Collected, PutAgain, Heard, Expired, Looked, Unbound, Got as Fetched}
+use Rattle.smx_client.specs.declared.event.Event.TheVariants.{Decided, Broke, Collected, PutAgain, Heard, Expired, Looked, Unbound, LinkEnded, Got as Fetched}
 use Rattle.smx_client.specs.Events.{worth}
 use Rattle.smx_client.specs.Parts.{Parts, Does}
 use Rattle.smx_client.specs.Prefixes.{Adds, account_prefixes}
@@ -64,7 +64,7 @@ Marks a Part b = (length a.unsent < 65536) × (b ≡ a)
 Marks a (Entered account whole) b =
     Adds a.parts.port.client (account_prefixes a.parts.desk.prefixes.items account) a.queries b.queries whole × (b ≡ record a { queries = b.queries })
 
--- fewer than 65,536 octets wait where a PDU is decided, collected or got, a bad length answered, or an enquiry due
+-- fewer than 65,536 octets wait where a PDU is decided, collected or got, a bad length answered, an enquiry due, or no PDU of an ended link left
 abbrev pub Fits : List ℕ → Event → Type 0
 Fits unsent (Decided p a f) = length unsent < 65536
 Fits unsent (Broke a) = length unsent < 65536
@@ -75,6 +75,7 @@ Fits unsent (Heard now) = Unit {0}
 Fits unsent (Expired until found reply) = Unit {0}
 Fits unsent (Looked now e) = length unsent < 65536
 Fits unsent (Unbound p) = Unit {0}
+Fits unsent LinkEnded = length unsent < 65536
 
 -- an event is a step of the parts, tells the gate, and what it says waits to be written
 pub record Happens (a : Scene) (e : Event) (b : Scene) : Type 0 where

@@ -55,6 +55,8 @@ pub enum Event {
     /// A read answered that nothing more is there, and the moment was handed in: what it asks of
     /// the session.
     Looked(u64, Snapshot<Enquiry>),
+    /// The link has ended, and no whole PDU is left.
+    LinkEnded,
     /// Between two turns its client was sent this unbind, where it was bound.
     Unbound(Snapshot<Option<Pdu>>),
 }

@@ -3,6 +3,7 @@
 
 mod deliver;
 mod desk;
+mod ending;
 mod event;
 mod leaver;
 mod ledger;
@@ -13,6 +14,7 @@ mod saying;
 mod worker;
 
 pub use desk::Desk;
+pub use ending::Refusal;
 pub use event::{Delivery, Event, Fate};
 pub use leaver::{Closed, Leaving};
 pub use mark::{Mark, Stage};

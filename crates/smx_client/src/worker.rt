@@ -16,6 +16,7 @@ ghost use Rattle.smx_turns.specs.Worth.{those, ins, outs, has_broken};
 ghost use Rattle.smx_client.specs.Parts.{parts, Chain};
 
 use crate::desk::Desk;
+use crate::ending::Refusal;
 use crate::event::Event;
 use crate::mark::{Mark, Stage};
 use crate::reply::Parked;
@@ -26,7 +27,7 @@ use smx_routes::MoWindow;
 use smx_session::{ClientSession, ClientState};
 use smx_shared::Port;
 use smx_trace::Trace;
-use smx_turns::{Fault, MoItem, Step, TurnEnd};
+use smx_turns::{End, Fault, MoItem, Step, TurnEnd};
 use std::alloc::Global;
 use std::marker::Model;
 use std::snapshot::Snapshot;
@@ -71,6 +72,10 @@ pub struct ClientWorker<'d, L: Link + Drop> {
     held: Option<Pdu>,
     // The answer to a message that a return box refused.
     parked: Option<Parked>,
+    // How the work ended, where nothing but writing is left to do.
+    pub(crate) ending: Option<End>,
+    // The last bind that was refused.
+    pub(crate) refused: Option<Refusal>,
     // Whether every whole PDU that came was decided.
     settled: bool,
     stage: Stage,
@@ -99,6 +104,8 @@ impl<'d, L: Link + Drop> Model for ClientWorker<'d, L> {
       wire = w.wire;
       held = w.held;
       parked = w.parked;
+      ending = w.ending;
+      refused = w.refused;
       settled = w.settled;
       stage = w.stage;
       turns = w.turns;
@@ -119,6 +126,8 @@ impl<'d, L: Link + Drop> Model for ClientWorker<'d, L> {
       wire = w.wire;
       held = w.held;
       parked = w.parked;
+      ending = w.ending;
+      refused = w.refused;
       settled = w.settled;
       stage = w.stage;
       turns = w.turns;
@@ -189,6 +198,8 @@ impl<'d, L: Link + Drop> ClientWorker<'d, L> {
             wire: Wire::new(alloc, link),
             held: None,
             parked: None,
+            ending: None,
+            refused: None,
             settled: true,
             stage: Stage::Open,
             turns: 0,
@@ -251,6 +262,13 @@ impl<'d, L: Link + Drop> ClientWorker<'d, L> {
         ensures { result ≡ self.now.session.state }
     {
         self.session.state()
+    }
+
+    /// The index of the account by which its client was bound.
+    pub fn account(&self) -> Option<usize>
+        ensures { result ≡ self.now.session.account }
+    {
+        self.session.account()
     }
 
     /// Whether the session has ended since no octet came after an enquiry.

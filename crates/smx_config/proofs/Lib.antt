@@ -1,3 +1,4 @@
+mod Addresses
 mod Distinct
 mod Items
 mod OneKey

@@ -1,4 +1,6 @@
+pub mod Address
 pub mod Keys
+pub mod Choices
 pub mod Settings
 pub mod Reading
 pub mod Lines

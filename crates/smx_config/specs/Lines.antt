@@ -2,7 +2,7 @@
 use Rattle.std.specs.Prelude.{◌≡◌, ℕ, List, [], ◌∷◌, ◌++◌, length, Result, Ok, Err, ◌⊎◌, codes}
 use Rattle.std.specs.Fmt.{decimal}
 use Rattle.smx_config.specs.declared.fault.ConfigFault.{ConfigFault}
-use Rattle.smx_config.specs.declared.fault.ConfigFault.TheVariants.{NotToml, Listen, Numbers, ProxyProtocol, Limits, Timers, Upstreams, Upstream, Accounts, Account, NoMemory}
+use Rattle.smx_config.specs.declared.fault.ConfigFault.TheVariants.{NotToml, Listen, Numbers, ProxyProtocol, Log, Limits, Timers, Upstreams, Upstream, Accounts, Account, NoMemory}
 use Rattle.smx_config.specs.declared.file.FileFault.{FileFault}
 use Rattle.smx_config.specs.declared.file.FileFault.TheVariants as file
 use Rattle.smx_config.specs.Settings.{Settings}
@@ -17,6 +17,7 @@ fault_name NotToml = codes "NotToml"
 fault_name Listen = codes "Listen"
 fault_name Numbers = codes "Numbers"
 fault_name ProxyProtocol = codes "ProxyProtocol"
+fault_name Log = codes "Log"
 fault_name Limits = codes "Limits"
 fault_name Timers = codes "Timers"
 fault_name Upstreams = codes "Upstreams"
@@ -54,6 +55,7 @@ fault_place NotToml = []
 fault_place Listen = []
 fault_place Numbers = []
 fault_place ProxyProtocol = []
+fault_place Log = []
 fault_place Limits = codes "limits: "
 fault_place Timers = codes "timers: "
 fault_place Upstreams = []

@@ -16,7 +16,20 @@ use Rattle.smx_config.specs.declared.text.Text.TheVariants as text
 use Rattle.smx_config.specs.declared.timers.Timers.{Timers}
 use Rattle.smx_config.specs.declared.fault.ConfigFault.{ConfigFault}
 use Rattle.smx_config.specs.declared.fault.ConfigFault.TheVariants as fault
-use Rattle.smx_config.specs.Keys.{number_row, is_number, flag_row, text_row, is_text}
+use Rattle.smx_config.specs.declared.choice.Choice.{Choice}
+use Rattle.smx_config.specs.declared.choice.Choice.TheVariants as choice
+use Rattle.smx_config.specs.declared.log_form.LogForm.{LogForm}
+use Rattle.smx_config.specs.declared.log_form.LogForm.TheVariants.{Text as PlainText}
+use Rattle.smx_config.specs.declared.log_level.LogLevel.{LogLevel}
+use Rattle.smx_config.specs.declared.log_level.LogLevel.TheVariants.{Info}
+use Rattle.smx_config.specs.declared.bind_kind.BindKind.{BindKind}
+use Rattle.smx_config.specs.declared.bind_kind.BindKind.TheVariants.{Transceiver}
+use Rattle.smx_config.specs.declared.bodies.Bodies.{Bodies}
+use Rattle.smx_config.specs.declared.bodies.Bodies.TheVariants.{Any}
+use Rattle.smx_config.specs.declared.commands.Commands.{Commands}
+use Rattle.smx_config.specs.declared.command.Command.{Command}
+use Rattle.smx_config.specs.Keys.{number_row, is_number, flag_row, text_row, is_text, choice_row}
+use Rattle.smx_config.specs.Choices.{form_word, all_forms, level_word, all_levels, kind_word, all_kinds, bodies_word, all_bodies, command_word, all_command_names, meant, no_commands, all_commands, with_command}
 use Rattle.smx_config.specs.Settings.{UpstreamSettings, AccountSettings, Settings}
 
 -- an integer as a number that may stand at the key
@@ -31,6 +44,10 @@ number_of key d = option_and_then (number_within key) (as_integer d)
 -- the number at a key, or its default where the key is absent
 abbrev pub number_or_default : Number → Members → Option ℕ
 number_or_default key ms = option_map_or (number_of key) (get_member (number_row key).key ms) (number_row key).default
+
+-- the number at a key of a value, or its default where the key is absent
+abbrev pub number_in : Number → Data → Option ℕ
+number_in key d = option_map_or (number_of key) (get (number_row key).key d) (number_row key).default
 
 -- the limit at a key of a value; where the key is absent, there is none
 abbrev pub limit_in : Number → Data → Option (Option ℕ)
@@ -53,6 +70,45 @@ text_at key ms = option_and_then (text_of key) (get_member (text_row key).key ms
 
 abbrev pub text_in : Text → Data → Option (List ℕ)
 text_in key d = option_and_then (text_of key) (get (text_row key).key d)
+
+-- the text at a key of a value, or none of its octets where the key is absent
+abbrev pub text_or_empty : Text → Data → Option (List ℕ)
+text_or_empty key d = option_map_or (text_of key) (get (text_row key).key d) (Some [])
+
+-- the text at a key, which is among the words of its values: Some None where the key is absent
+abbrev pub word_at : Choice → Members → Option (Option (List ℕ))
+word_at key ms = option_map_or (λ d. option_map Some (as_str d)) (get_member (choice_row key).key ms) (Some None)
+
+abbrev pub word_in : Choice → Data → Option (Option (List ℕ))
+word_in key d = option_map_or (λ v. option_map Some (as_str v)) (get (choice_row key).key d) (Some None)
+
+-- what is meant by a word, or what it is where there is none
+abbrev pub chosen : {A : Type 0} → (List ℕ → Option A) → A → Option (List ℕ) → Option A
+chosen means default word = option_map_or means word (Some default)
+
+abbrev pub form_at : Members → Option LogForm
+form_at ms = option_and_then (chosen (meant form_word all_forms) PlainText) (word_at choice.Log ms)
+
+abbrev pub level_at : Members → Option LogLevel
+level_at ms = option_and_then (chosen (meant level_word all_levels) Info) (word_at choice.LogLevel ms)
+
+abbrev pub kind_in : Data → Option BindKind
+kind_in d = option_and_then (chosen (meant kind_word all_kinds) Transceiver) (word_in choice.Bind d)
+
+abbrev pub bodies_in : Data → Option Bodies
+bodies_in d = option_and_then (chosen (meant bodies_word all_bodies) Any) (word_in choice.Bodies d)
+
+abbrev pub command_of : Data → Option Command
+command_of d = option_and_then (meant command_word all_command_names) (as_str d)
+
+-- the commands that are named, after these
+abbrev pub commands_after : Commands → Items → Option Commands
+commands_after so no_items = Some so
+commands_after so (item d ds) = option_and_then (λ c. commands_after (with_command so c) ds) (command_of d)
+
+-- the commands of an account, all where the key is absent
+abbrev pub commands_in : Data → Option Commands
+commands_in d = option_map_or (λ v. option_and_then (commands_after no_commands) (as_array v)) (get (choice_row choice.Commands).key d) (Some all_commands)
 
 -- a lane's limits, where each is in its range
 abbrev pub all_four : Option ℕ → Option ℕ → Option ℕ → Option ℕ → Option Limits
@@ -116,14 +172,16 @@ abbrev pub stated_after : {A : Type 0} → (List A → Data → Option A) → Li
 stated_after one before no_items = Ok before
 stated_after one before (item d ds) = option_map_or (λ a. stated_after one (before ++ a ∷ []) ds) (one before d) (Err (length before))
 
-abbrev pub upstream_from : Option (List ℕ) → Option (List ℕ) → Option (List ℕ) → Option UpstreamSettings
-upstream_from None system_id password = None
-upstream_from (Some address) None password = None
-upstream_from (Some address) (Some system_id) None = None
-upstream_from (Some address) (Some system_id) (Some password) = Some (record { address = address; system_id = system_id; password = password })
-
 abbrev pub upstream_in : List UpstreamSettings → Data → Option UpstreamSettings
-upstream_in before d = upstream_from (text_in text.Address d) (text_in text.SystemId d) (text_in text.Password d)
+upstream_in before d =
+    given (text_in text.Address d) (λ address.
+    given (text_in text.SystemId d) (λ system_id.
+    given (text_in text.Password d) (λ password.
+    given (kind_in d) (λ bind.
+    given (text_or_empty text.SystemType d) (λ system_type.
+    given (text_or_empty text.AddressRange d) (λ address_range.
+    given (number_in number.InterfaceVersion d) (λ interface_version.
+    Some (record { address = address; system_id = system_id; password = password; bind = bind; system_type = system_type; address_range = address_range; interface_version = interface_version }))))))))
 
 -- a prefix that no earlier one of the account equals
 abbrev pub new_prefix : List (List ℕ) → List ℕ → Option (List ℕ)
@@ -151,7 +209,9 @@ account_in before d =
     given (prefixes_in d) (λ prefixes.
     given (limit_in number.Binds d) (λ binds.
     given (limit_in number.Requests d) (λ requests.
-    new_account before (record { system_id = system_id; password = password; prefixes = prefixes; binds = binds; requests = requests }))))))
+    given (commands_in d) (λ commands.
+    given (bodies_in d) (λ bodies.
+    new_account before (record { system_id = system_id; password = password; prefixes = prefixes; binds = binds; requests = requests; commands = commands; bodies = bodies }))))))))
 
 -- goes on with what is stated, or stops at the fault
 abbrev pub on : {A B E : Type 0} → Result A E → (A → Result B E) → Result B E
@@ -177,13 +237,15 @@ config_of ms =
     on (ok_or (number_or_default number.Places ms) fault.Numbers) (λ places.
     on (ok_or (number_or_default number.Silence ms) fault.Numbers) (λ silence.
     on (ok_or (flag_or_default flag.ProxyProtocol ms) fault.ProxyProtocol) (λ proxy_protocol.
+    on (ok_or (form_at ms) fault.Log) (λ log.
+    on (ok_or (level_at ms) fault.Log) (λ log_level.
     on (ok_or (limits_at ms) fault.Limits) (λ limits.
     on (ok_or (timers_at silence ms) fault.Timers) (λ timers.
     on (ok_or (tables_at (codes "upstream") 16 ms) fault.Upstreams) (λ upstreams.
     on (upstreams_of upstreams) (λ upstream.
     on (ok_or (tables_at (codes "account") 256 ms) fault.Accounts) (λ accounts.
     on (accounts_of accounts) (λ account.
-    Ok (record { listen = listen; proxy_protocol = proxy_protocol; clients = clients; places = places; limits = limits; timers = timers; upstream = upstream; account = account }))))))))))))
+    Ok (record { listen = listen; proxy_protocol = proxy_protocol; log = log; log_level = log_level; clients = clients; places = places; limits = limits; timers = timers; upstream = upstream; account = account }))))))))))))))
 
 -- the settings that a text states, or its first fault
 abbrev pub settings_of : List ℕ → Result Settings ConfigFault

@@ -8,6 +8,8 @@ ghost use Rattle.smx_config.specs.Keys.{is_text};
 ghost use Rattle.smx_config.specs.Settings.{ArePrefixes};
 ghost use Rattle.smx_config.specs.Reading.{prefix_in, prefixes_of, prefixes_in, account_in, accounts_of};
 
+use crate::bodies::Bodies;
+use crate::commands::Commands;
 use crate::fault::ConfigFault;
 use crate::number::Number;
 use crate::text::Text;
@@ -35,6 +37,10 @@ pub struct Account {
     /// The most requests of its clients, gone ones too, that are accepted and not yet answered or failed:
     /// 1 to 65,535. None: no limit.
     pub requests: Option<u32>,
+    /// The requests that its clients may send.
+    pub commands: Commands,
+    /// The bodies that those may have.
+    pub bodies: Bodies,
 }
 
 impl Model for Account {
@@ -49,6 +55,8 @@ impl Model for Account {
       prefixes = map string_bytes a.prefixes.items;
       binds = a.binds;
       requests = a.requests;
+      commands = a.commands;
+      bodies = a.bodies;
     } };
 
     ghost invariant = { λ a. IsAccount
@@ -58,6 +66,8 @@ impl Model for Account {
           prefixes = map string_bytes a.prefixes.items;
           binds = a.binds;
           requests = a.requests;
+          commands = a.commands;
+          bodies = a.bodies;
         }) };
 }
 
@@ -165,6 +175,12 @@ fn read_account(
     let Some(requests) = Number::Requests.limit_within(value) else {
         return Ok(None);
     };
+    let Some(commands) = Commands::within(value) else {
+        return Ok(None);
+    };
+    let Some(bodies) = Bodies::within(value) else {
+        return Ok(None);
+    };
     if is_known(before, system_id) {
         return Ok(None);
     }
@@ -176,6 +192,8 @@ fn read_account(
         prefixes,
         binds,
         requests,
+        commands,
+        bodies,
     }))
 }
 

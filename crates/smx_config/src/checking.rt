@@ -39,6 +39,7 @@ fn fault_line(alloc: Global, fault: ConfigFault) -> Result<String, AllocError>
         ConfigFault::Listen => String::from_str(alloc, "fault Listen\n"),
         ConfigFault::Numbers => String::from_str(alloc, "fault Numbers\n"),
         ConfigFault::ProxyProtocol => String::from_str(alloc, "fault ProxyProtocol\n"),
+        ConfigFault::Log => String::from_str(alloc, "fault Log\n"),
         ConfigFault::Limits => String::from_str(alloc, "fault Limits\n"),
         ConfigFault::Timers => String::from_str(alloc, "fault Timers\n"),
         ConfigFault::Upstreams => String::from_str(alloc, "fault Upstreams\n"),

@@ -1,5 +1,7 @@
 //! A whole configuration.
 use crate::account::Account;
+use crate::log_form::LogForm;
+use crate::log_level::LogLevel;
 use crate::timers::Timers;
 use crate::upstream::Upstream;
 use smx_history::Limits;
@@ -8,10 +10,14 @@ use std::marker::Model;
 /// The settings of the proxy, each within its limits.
 #[derive(Debug, Drop)]
 pub struct Config {
-    /// Where clients connect: 1 to 255 octets, as `127.0.0.1:2775`.
+    /// Where clients connect: an address of 1 to 255 octets, as `127.0.0.1:2775`.
     pub listen: String,
     /// Whether each connection of a client begins with a header of the PROXY protocol, version 2.
     pub proxy_protocol: bool,
+    /// How the lines of the log are written.
+    pub log: LogForm,
+    /// Which lines of the log are written.
+    pub log_level: LogLevel,
     /// The most clients at a time: 1 to 256.
     pub clients: u32,
     /// The places of each client's message box, of its window of messages, and of each lane's return
@@ -36,6 +42,8 @@ impl Model for Config {
     ghost view = { λ c. record {
       listen = string_bytes c.listen;
       proxy_protocol = c.proxy_protocol;
+      log = c.log;
+      log_level = c.log_level;
       clients = c.clients;
       places = c.places;
       limits = c.limits;
@@ -48,6 +56,8 @@ impl Model for Config {
         (record {
           listen = string_bytes c.listen;
           proxy_protocol = c.proxy_protocol;
+          log = c.log;
+          log_level = c.log_level;
           clients = c.clients;
           places = c.places;
           limits = c.limits;

@@ -1,4 +1,6 @@
 //! What is wrong with a configuration.
+ghost use Rattle.std.specs.Prelude.{◌≡◌, ◌↔◌, IsTrue};
+
 use thiserror::Error;
 
 /// The first fault of a configuration, in this order, but for want of memory, which can come at any
@@ -8,7 +10,7 @@ pub enum ConfigFault {
     /// The text isn't TOML.
     #[error("the text is not TOML")]
     NotToml,
-    /// `listen` is missing or is no address.
+    /// `listen` is missing or is no address, as `127.0.0.1:2775`.
     #[error("listen is not an address")]
     Listen,
     /// `clients`, `box` or `silence` is no number in its range.
@@ -17,6 +19,9 @@ pub enum ConfigFault {
     /// `proxy_protocol` is neither true nor false.
     #[error("proxy_protocol is neither true nor false")]
     ProxyProtocol,
+    /// `log` or `log_level` is none of its words.
+    #[error("log or log_level is none of its words")]
+    Log,
     /// `limits` is no table, or one of its keys is no number in its range.
     #[error("limits are out of range")]
     Limits,
@@ -40,4 +45,13 @@ pub enum ConfigFault {
     /// Memory was refused.
     #[error("out of memory")]
     NoMemory,
+}
+
+impl ConfigFault {
+    /// Whether it is want of memory, which says nothing of the text.
+    pub fn is_memory(self) -> bool
+        ensures { IsTrue result ↔ (self ≡ ConfigFault.NoMemory) }
+    {
+        self == ConfigFault::NoMemory
+    }
 }

@@ -1,6 +1,7 @@
 //! The table of keys, in words for a person.
 
 use crate::account::MAX_PREFIXES;
+use crate::choice::Choice;
 use crate::flag::Flag;
 use crate::number::Number;
 use crate::reading::{MAX_ACCOUNTS, MAX_UPSTREAMS};
@@ -71,6 +72,36 @@ fn flag_line(alloc: Global, flag: Flag) -> Result<String, AllocError> {
     )
 }
 
+// Words in a row, with commas between them.
+fn listed(alloc: Global, words: &[&'static str]) -> Result<String, AllocError> {
+    let mut all = String::new(alloc);
+    for word in words {
+        if !all.as_str().is_empty() {
+            all.push_str(", ")?;
+        }
+        all.push_str(word)?;
+    }
+    Ok(all)
+}
+
+fn choice_line(alloc: Global, choice: Choice) -> Result<String, AllocError> {
+    let key = format!(in alloc; "`{}`", choice.rule().key)?;
+    let words = listed(alloc, &choice.words(alloc)?)?;
+    let may_be = match choice {
+        Choice::Commands => format!(in alloc; "a list of {words}")?,
+        _ => format!(in alloc; "one of {words}")?,
+    };
+    line(
+        alloc,
+        [
+            key.as_str(),
+            choice.means(),
+            may_be.as_str(),
+            choice.default_word(),
+        ],
+    )
+}
+
 // What a text may be where it stands in a table.
 fn text_may_be(alloc: Global, section: Section, text: Text) -> Result<String, AllocError> {
     let rule = text.rule();
@@ -80,12 +111,17 @@ fn text_may_be(alloc: Global, section: Section, text: Text) -> Result<String, Al
             "at most {MAX_PREFIXES} texts of {fewest} to {longest} octets, no two equal"
         );
     }
+    let what = if rule.must_be_address {
+        "text `host:port`"
+    } else {
+        "text"
+    };
     let more = match (section, text) {
         (Section::Account, Text::SystemId) => ", none 0, no other account's",
         _ if rule.may_have_zero => "",
         _ => ", none 0",
     };
-    format!(in alloc; "text of {fewest} to {longest} octets{more}")
+    format!(in alloc; "{what} of {fewest} to {longest} octets{more}")
 }
 
 fn text_line(alloc: Global, section: Section, text: Text) -> Result<String, AllocError> {
@@ -93,6 +129,7 @@ fn text_line(alloc: Global, section: Section, text: Text) -> Result<String, Allo
     let may_be = text_may_be(alloc, section, text)?;
     let default = match text {
         Text::Prefix => "none",
+        Text::SystemType | Text::AddressRange => "empty",
         _ => "required",
     };
     line(
@@ -137,6 +174,11 @@ pub fn key_table(alloc: Global) -> Result<String, AllocError> {
         for text in Text::all() {
             if text.stands_in(*section) {
                 table.push_str(text_line(alloc, *section, *text)?.as_str())?;
+            }
+        }
+        for choice in Choice::all() {
+            if section.is(choice.rule().section) {
+                table.push_str(choice_line(alloc, *choice)?.as_str())?;
             }
         }
         for number in Number::all() {

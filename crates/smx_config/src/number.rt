@@ -2,7 +2,7 @@
 ghost use Rattle.std.specs.Prelude.{◌≡◌, Some, None, IfSome, IsTrue};
 ghost use Rattle.toml.specs.View.{table_view, view};
 ghost use Rattle.smx_config.specs.Keys.{number_row, all_numbers, is_number, is_read};
-ghost use Rattle.smx_config.specs.Reading.{number_of, number_or_default, limit_in};
+ghost use Rattle.smx_config.specs.Reading.{number_of, number_or_default, number_in, limit_in};
 
 use crate::section::Section;
 use crate::table::find;
@@ -26,6 +26,7 @@ pub(crate) enum Number {
     ClientSilence,
     Message,
     Stop,
+    InterfaceVersion,
     Binds,
     Requests,
 }
@@ -81,8 +82,9 @@ impl Number {
         ensures { result.now ≡ all_numbers }
     {
         use Number::{
-            Bind, Binds, Client, ClientSilence, Clients, Enquire, History, Message, Places, Queue,
-            Reconnect, ReconnectMost, Requests, Response, Silence, Stop, Window,
+            Bind, Binds, Client, ClientSilence, Clients, Enquire, History, InterfaceVersion,
+            Message, Places, Queue, Reconnect, ReconnectMost, Requests, Response, Silence, Stop,
+            Window,
         };
         &[
             Clients,
@@ -100,6 +102,7 @@ impl Number {
             ClientSilence,
             Message,
             Stop,
+            InterfaceVersion,
             Binds,
             Requests,
         ]
@@ -114,7 +117,7 @@ impl Number {
         ensures default { result.default ≡ (number_row self).default }
         ensures read { IsTrue (is_read (number_row self).section (number_row self).key) }
     {
-        use Section::{Account, Limits, Timers, Top};
+        use Section::{Account, Limits, Timers, Top, Upstream};
         match self {
             Number::Clients => row(Top, "clients", 1, 256, 8),
             Number::Places => row(Top, "box", 1, 256, 16),
@@ -131,6 +134,7 @@ impl Number {
             Number::ClientSilence => row(Timers, "client_silence", 0, 3_600_000, 60_000),
             Number::Message => row(Timers, "message", 0, 3_600_000, 60_000),
             Number::Stop => row(Timers, "stop", 0, 600_000, 5_000),
+            Number::InterfaceVersion => row(Upstream, "interface_version", 0, 255, 52),
             Number::Binds => limit_row(Account, "binds", 1, 65_535),
             Number::Requests => limit_row(Account, "requests", 1, 65_535),
         }
@@ -172,6 +176,8 @@ impl Number {
                 "how long a message that a client was sent may be unanswered; 0: for ever"
             }
             Number::Stop => "how long a stop waits for requests that are under way",
+            Number::InterfaceVersion =>
+                "the version that the bind names (section 5.2.4); that of 3.4 is 0x34",
             Number::Binds => "clients bound by the account at a time",
             Number::Requests => {
                 "requests of the account's clients, gone ones too, accepted and not yet answered or failed"
@@ -213,6 +219,18 @@ impl Number {
     {
         let rule = self.rule();
         match find(table, rule.key) {
+            Some(value) => self.of(value),
+            None => rule.default,
+        }
+    }
+
+    /// The number at this key of a value that is a table, or its default where the key is absent.
+    pub(crate) fn within(self, value: &Value) -> Option<u32>
+        ensures value { result ≡ number_in self (view value.now) }
+        ensures kept { IfSome result (λ n. IsTrue (is_number self n)) }
+    {
+        let rule = self.rule();
+        match value.get(rule.key) {
             Some(value) => self.of(value),
             None => rule.default,
         }

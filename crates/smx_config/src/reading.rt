@@ -10,6 +10,8 @@ use crate::account::read_accounts;
 use crate::config::Config;
 use crate::fault::ConfigFault;
 use crate::flag::Flag;
+use crate::log_form::LogForm;
+use crate::log_level::LogLevel;
 use crate::number::Number;
 use crate::table::{find, tables_at};
 use crate::text::Text;
@@ -80,6 +82,12 @@ fn read_table(alloc: Global, table: &Table) -> Result<Config, ConfigFault>
     let Some(proxy_protocol) = Flag::ProxyProtocol.at(table) else {
         return Err(ConfigFault::ProxyProtocol);
     };
+    let Some(log) = LogForm::at(table) else {
+        return Err(ConfigFault::Log);
+    };
+    let Some(log_level) = LogLevel::at(table) else {
+        return Err(ConfigFault::Log);
+    };
     let Some(limits) = limits(alloc, table) else {
         return Err(ConfigFault::Limits);
     };
@@ -98,6 +106,8 @@ fn read_table(alloc: Global, table: &Table) -> Result<Config, ConfigFault>
         Ok(listen) => Ok(Config {
             listen,
             proxy_protocol,
+            log,
+            log_level,
             clients,
             places,
             limits,

@@ -1,7 +1,8 @@
 //! The tables of a configuration in which keys stand.
 ghost use Rattle.std.specs.Prelude.{◌≡◌};
-ghost use Rattle.smx_config.specs.Keys.{is_same, is_number_key, is_flag_key, is_text_key, is_table_key, is_read};
+ghost use Rattle.smx_config.specs.Keys.{is_same, is_number_key, is_flag_key, is_text_key, is_choice_key, is_table_key, is_read};
 
+use crate::choice::Choice;
 use crate::flag::Flag;
 use crate::number::Number;
 use crate::text::Text;
@@ -60,6 +61,15 @@ impl Section {
             .any(|text| text.stands_in(self) && key == text.rule().key)
     }
 
+    fn has_choice(self, key: &str) -> bool
+        ensures { result ≡ is_choice_key self key.now }
+    {
+        Choice::all().iter().any(|choice| {
+            let rule = choice.rule();
+            self.is(rule.section) && key == rule.key
+        })
+    }
+
     fn has_table(self, key: &str) -> bool
         ensures { result ≡ is_table_key self key.now }
     {
@@ -75,7 +85,33 @@ impl Section {
     pub(crate) fn reads(self, key: &str) -> bool
         ensures { result ≡ is_read self key.now }
     {
-        self.has_number(key) || self.has_flag(key) || self.has_text(key) || self.has_table(key)
+        self.has_number(key)
+            || self.has_flag(key)
+            || self.has_text(key)
+            || self.has_choice(key)
+            || self.has_table(key)
+    }
+
+    /// The key of the table, which the whole file has none of.
+    pub(crate) fn name(self) -> &'static str {
+        match self {
+            Section::Top => "",
+            Section::Limits => "limits",
+            Section::Timers => "timers",
+            Section::Upstream => "upstream",
+            Section::Account => "account",
+        }
+    }
+
+    /// Where a key of the table is written, in words for a person.
+    pub(crate) fn place(self) -> &'static str {
+        match self {
+            Section::Top => "before the first table",
+            Section::Limits => "in [limits]",
+            Section::Timers => "in [timers]",
+            Section::Upstream => "in [[upstream]]",
+            Section::Account => "in [[account]]",
+        }
     }
 
     /// The keys that are read in this table.
@@ -94,6 +130,12 @@ impl Section {
         }
         for flag in Flag::all() {
             let rule = flag.rule();
+            if self.is(rule.section) {
+                keys.push(rule.key)?;
+            }
+        }
+        for choice in Choice::all() {
+            let rule = choice.rule();
             if self.is(rule.section) {
                 keys.push(rule.key)?;
             }

@@ -6,10 +6,6 @@ ghost use Rattle.smx_config.specs.Settings.{may_take_all};
 use crate::account::Account;
 use crate::config::Config;
 
-/// The words for a person on a configuration of which [`may_take_all`] is true.
-pub const SHARING_ADVICE: &str =
-    "one account's requests can take all lanes: write requests = 100, or another limit, in each [[account]]";
-
 // Whether none of the accounts has a limit of its requests.
 fn are_boundless(accounts: &[Account]) -> bool
     ensures { result ≡ list_all (λ a. is_none a.requests) accounts.now }

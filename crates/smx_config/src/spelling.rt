@@ -3,25 +3,22 @@ ghost use Rattle.std.specs.Prelude.{◌≡◌, ◌++◌, [], IfOk, OnOk, string_
 ghost use Rattle.toml.specs.View.{table_view, view, items_view};
 ghost use Rattle.smx_config.specs.Unread.{names, unread_in, unread_within, unread_below, unread_among, unread_listed, unread_of, unread_names};
 
+use crate::near::near;
 use crate::section::Section;
 use crate::table::find;
 use crate::unread_key::UnreadKey;
 use std::alloc::{AllocError, Global};
-use strsim::levenshtein;
 use toml::{Table, Value};
 
-// The first of the names that is nearest to a key.
-fn nearest(alloc: Global, key: &str, names: &[&'static str]) -> Result<&'static str, AllocError> {
-    let mut best = "";
-    let mut least = usize::MAX;
-    for name in names {
-        let distance = levenshtein(alloc, key, name)?;
-        if distance < least {
-            least = distance;
-            best = name;
+// Where else a key is read.
+fn elsewhere(alloc: Global, key: &str) -> Result<Vec<&'static str>, AllocError> {
+    let mut places = Vec::new(alloc);
+    for section in Section::all() {
+        if section.reads(key) {
+            places.push(section.place())?;
         }
     }
-    Ok(best)
+    Ok(places)
 }
 
 // A key that isn't read in its table, behind these words.
@@ -29,9 +26,11 @@ fn on_key(alloc: Global, place: &str, key: &str, section: Section) -> Result<Unr
     ensures { IfOk result (λ unread. string_bytes unread.name ≡ place.now ++ key.now) }
 {
     let all = section.keys(alloc)?;
-    let nearest = nearest(alloc, key, &all)?;
+    let nearest = near(alloc, key, &all)?;
+    let places = elsewhere(alloc, key)?;
     Ok(UnreadKey {
         name: format!(in alloc; "{place}{key}")?,
+        places,
         nearest,
     })
 }
@@ -147,8 +146,8 @@ fn on_whole(alloc: Global, table: &Table) -> Result<Vec<UnreadKey>, AllocError>
     Ok(all)
 }
 
-/// Each key of a text that nobody reads, with the known key that is nearest, of which no clause says
-/// anything. There is none where the text isn't TOML.
+/// Each key of a text that nobody reads, with where it is read, and the known key that is nearest, of which no
+/// clause says anything. There is none where the text isn't TOML.
 pub fn unread(alloc: Global, text: &str) -> Result<Vec<UnreadKey>, AllocError>
     ensures names { IfOk result (λ all. names all.items ≡ unread_names text.now) }
 {

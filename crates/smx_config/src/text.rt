@@ -1,10 +1,11 @@
 //! The texts of a configuration.
-ghost use Rattle.std.specs.Prelude.{◌≡◌, IfSome, IsTrue, option_copied};
+ghost use Rattle.std.specs.Prelude.{◌≡◌, ◌⊎◌, [], IfSome, IsTrue, option_copied};
 ghost use Rattle.std.specs.List.{list_all};
 ghost use Rattle.toml.specs.View.{table_view, view};
 ghost use Rattle.smx_config.specs.Keys.{text_row, all_texts, stands_in, has_zero, is_text, is_read};
-ghost use Rattle.smx_config.specs.Reading.{text_of, text_at, text_in};
+ghost use Rattle.smx_config.specs.Reading.{text_of, text_at, text_in, text_or_empty};
 
+use crate::address::is_address;
 use crate::section::Section;
 use crate::table::find;
 use toml::{Table, Value};
@@ -16,6 +17,8 @@ pub(crate) enum Text {
     Address,
     SystemId,
     Password,
+    SystemType,
+    AddressRange,
     Prefix,
 }
 
@@ -32,6 +35,8 @@ pub(crate) struct TextRule {
     pub(crate) longest: usize,
     /// Whether such a text may have the octet 0.
     pub(crate) may_have_zero: bool,
+    /// Whether it must be an address.
+    pub(crate) must_be_address: bool,
 }
 
 fn row(
@@ -40,12 +45,14 @@ fn row(
     fewest: usize,
     longest: usize,
     may_have_zero: bool,
+    must_be_address: bool,
 ) -> TextRule
     ensures sections { result.sections.now ≡ sections.now }
     ensures key { result.key.now ≡ key.now }
     ensures fewest { result.fewest ≡ fewest }
     ensures longest { result.longest ≡ longest }
     ensures may_have_zero { result.may_have_zero ≡ may_have_zero }
+    ensures must_be_address { result.must_be_address ≡ must_be_address }
 {
     TextRule {
         sections,
@@ -53,6 +60,7 @@ fn row(
         fewest,
         longest,
         may_have_zero,
+        must_be_address,
     }
 }
 
@@ -61,8 +69,16 @@ impl Text {
     pub(crate) fn all() -> &'static [Text]
         ensures { result.now ≡ all_texts }
     {
-        use Text::{Address, Listen, Password, Prefix, SystemId};
-        &[Listen, Address, SystemId, Password, Prefix]
+        use Text::{Address, AddressRange, Listen, Password, Prefix, SystemId, SystemType};
+        &[
+            Listen,
+            Address,
+            SystemId,
+            Password,
+            SystemType,
+            AddressRange,
+            Prefix,
+        ]
     }
 
     /// The row of the key.
@@ -72,16 +88,19 @@ impl Text {
         ensures fewest { result.fewest ≡ (text_row self).fewest }
         ensures longest { result.longest ≡ (text_row self).longest }
         ensures may_have_zero { result.may_have_zero ≡ (text_row self).may_have_zero }
+        ensures must_be_address { result.must_be_address ≡ (text_row self).must_be_address }
         ensures read { IsTrue (list_all (λ section. is_read section (text_row self).key)
             (text_row self).sections) }
     {
         use Section::{Account, Top, Upstream};
         match self {
-            Text::Listen => row(&[Top], "listen", 1, 255, true),
-            Text::Address => row(&[Upstream], "address", 1, 255, true),
-            Text::SystemId => row(&[Upstream, Account], "system_id", 1, 15, false),
-            Text::Password => row(&[Upstream, Account], "password", 0, 8, false),
-            Text::Prefix => row(&[Account], "prefixes", 0, 64, true),
+            Text::Listen => row(&[Top], "listen", 1, 255, true, true),
+            Text::Address => row(&[Upstream], "address", 1, 255, true, true),
+            Text::SystemId => row(&[Upstream, Account], "system_id", 1, 15, false, false),
+            Text::Password => row(&[Upstream, Account], "password", 0, 8, false, false),
+            Text::SystemType => row(&[Upstream], "system_type", 0, 12, false, false),
+            Text::AddressRange => row(&[Upstream], "address_range", 0, 40, false, false),
+            Text::Prefix => row(&[Account], "prefixes", 0, 64, true, false),
         }
     }
 
@@ -94,6 +113,8 @@ impl Text {
             (Text::SystemId, _) => "the proxy's own name there (SMPP 3.4, section 5.2.1)",
             (Text::Password, Section::Account) => "",
             (Text::Password, _) => "the proxy's own password there (section 5.2.2)",
+            (Text::SystemType, _) => "the kind of client that the proxy is there (section 5.2.3)",
+            (Text::AddressRange, _) => "whose messages the bind asks for (section 5.2.7)",
             (Text::Prefix, _) => {
                 "the client gets messages whose destination begins with one of these; `\"\"` begins \
                  every address"
@@ -116,6 +137,7 @@ impl Text {
         rule.fewest <= length
             && length <= rule.longest
             && (rule.may_have_zero || !has_zero(text.as_bytes()))
+            && (!rule.must_be_address || is_address(text))
     }
 
     /// The text that a value is, where it may stand at this key.
@@ -148,6 +170,17 @@ impl Text {
         match value.get(self.rule().key) {
             Some(value) => self.of(value),
             None => None,
+        }
+    }
+
+    /// The text at this key of a value that is a table, or the empty one where the key is absent.
+    pub(crate) fn within_or_empty(self, value: &Value) -> Option<&str>
+        ensures value { option_copied result ≡ text_or_empty self (view value.now) }
+        ensures kept { IfSome result (λ s. IsTrue (is_text self s.now) ⊎ (s.now ≡ [])) }
+    {
+        match value.get(self.rule().key) {
+            Some(value) => self.of(value),
+            None => Some(""),
         }
     }
 }

@@ -3,27 +3,35 @@ ghost use Rattle.std.specs.Prelude.{◌≡◌, vec_len, IfOk};
 
 use crate::centres::{ANY_PORT, Centres};
 use crate::showing::NotShown;
-use smx_config::{Config, Upstream};
+use smx_config::{BindKind, Config, Upstream, is_address};
 use std::alloc::Global;
 
 /// The most octets of an address.
 const MOST: usize = 255;
 
-// The same upstream elsewhere. None where the address can't be a configuration's.
+// The same upstream elsewhere, bound as a transceiver, which the demo's centres take. None where the address
+// can't be a configuration's.
 fn upstream_at(upstream: Upstream, address: String) -> Option<Upstream> {
     let length = address.len();
-    if length == 0 || length > MOST {
+    if length == 0 || length > MOST || !is_address(address.as_str()) {
         return None;
     }
     let Upstream {
         system_id,
         password,
+        system_type,
+        address_range,
+        interface_version,
         ..
     } = upstream;
     Some(Upstream {
         address,
         system_id,
         password,
+        bind: BindKind::Transceiver,
+        system_type,
+        address_range,
+        interface_version,
     })
 }
 
@@ -59,6 +67,8 @@ fn upstreams_at(
 /// the PROXY protocol, and that the centres are its upstreams.
 pub(crate) fn moved(alloc: Global, config: Config, centres: &Centres) -> Result<Config, NotShown> {
     let Config {
+        log,
+        log_level,
         clients,
         places,
         limits,
@@ -72,6 +82,8 @@ pub(crate) fn moved(alloc: Global, config: Config, centres: &Centres) -> Result<
     Ok(Config {
         listen,
         proxy_protocol: false,
+        log,
+        log_level,
         clients,
         places,
         limits,

@@ -3,7 +3,7 @@ use crate::stream_peer::StreamPeer;
 use smx_config::Account;
 use smx_demo_client::ask;
 use smx_memory_link::MemoryLink;
-use smx_session::Account as Login;
+use smx_session::{Account as Login, Rules};
 use std::alloc::{AllocError, Global};
 use std::net::{Net, TcpListener, TcpStream};
 use std::rt::Clock;
@@ -33,6 +33,7 @@ where
     let login = Login {
         system_id: Vec::from_slice(alloc, account.system_id.as_str().as_bytes())?,
         password: Vec::from_slice(alloc, account.password.as_str().as_bytes())?,
+        rules: Rules::none(),
     };
     let mut link = MemoryLink::new(peer);
     ask(alloc, &mut link, &login, TURNS)

@@ -7,7 +7,7 @@ use smx_link::{Link, Polled};
 use smx_pdu::command::SUBMIT_SM;
 use smx_pdu::status::ESME_ROK;
 use smx_pdu::{Body, Pdu, encode, is_response_to};
-use smx_session::{Account, UpAct, UpstreamSession};
+use smx_session::{Account, UpAct, UpstreamBind, UpstreamSession};
 use std::alloc::{AllocError, Global};
 use std::cmp::Ord;
 
@@ -45,7 +45,8 @@ impl Esme {
     {
         let system_id = Vec::from_slice(alloc, &account.system_id)?;
         let password = Vec::from_slice(alloc, &account.password)?;
-        let session = UpstreamSession::new(alloc, system_id, password, u64::MAX, 0);
+        let bind = UpstreamBind::transceiver(alloc, system_id, password);
+        let session = UpstreamSession::new(alloc, bind, u64::MAX, 0);
         let bind = session.start()?;
         let mut waiting = Vec::new(alloc);
         encode(&bind, &mut waiting)?;

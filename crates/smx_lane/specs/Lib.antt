@@ -3,6 +3,7 @@ pub mod Conditions
 pub mod Faults
 pub mod Inside
 pub mod Kept
+pub mod Loads
 pub mod Members
 pub mod Roster
 pub mod Taking

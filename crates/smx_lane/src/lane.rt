@@ -4,6 +4,7 @@ ghost use Rattle.smx_history.specs.Contents.{AgreesWith};
 ghost use Rattle.smx_history.specs.Room.{AreLimits};
 ghost use Rattle.smx_history.specs.Replies.{has_room};
 ghost use Rattle.smx_lane.specs.Faults.{IsLaneFault};
+ghost use Rattle.smx_lane.specs.Loads.{IsLoad};
 
 mod clients;
 mod expiry;
@@ -13,6 +14,7 @@ mod responses;
 mod shifts;
 
 use crate::fault::LaneFault;
+use crate::load::Load;
 use crate::roster::Roster;
 use crate::window::Window;
 use circular_buffer::HeapCircularBuffer;
@@ -113,6 +115,18 @@ impl Lane {
         ensures { result ≡ slice_get self.now.entries (length self.now.entries - 1) }
     {
         self.entries.last().copied()
+    }
+
+    /// How much it holds. It looks at each place of the window, and takes no memory.
+    pub fn load(&self) -> Load
+        ensures { IsLoad self.now result }
+    {
+        Load {
+            queued: self.queue.len(),
+            unanswered: self.window.len(),
+            earliest: self.window.earliest(),
+            entries: self.entries.len(),
+        }
     }
 
     /// Whether there is room in the history for one more admit or accept, and all that may follow.

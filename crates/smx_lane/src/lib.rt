@@ -6,6 +6,7 @@ mod call;
 mod fault;
 mod kept;
 mod lane;
+mod load;
 mod numbers;
 mod roster;
 mod rows;
@@ -15,6 +16,7 @@ mod window;
 pub use call::{Call, Reply, run, run_all};
 pub use fault::{LaneFault, NotAdmitted};
 pub use lane::Lane;
+pub use load::Load;
 pub use sent::Sent;
 pub use smx_history::{
     AdmitFault, AlreadyDown, Answered, Entry, Event, FailRefusal, Failed, Kind, Limits,

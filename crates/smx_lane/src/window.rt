@@ -9,7 +9,9 @@ ghost use Rattle.smx_history.specs.Prefixes.{SameCounts};
 ghost use Rattle.smx_history.specs.Replies.{is_expired as is_so_old};
 ghost use Rattle.smx_history.proofs.Numbering.{IsNextNumber};
 ghost use Rattle.smx_history.proofs.Updates.{place_for, following as following_on};
+ghost use Rattle.smx_lane.specs.Loads.{IsEarliest};
 ghost use Rattle.smx_lane.specs.Private.Places.{IsPlaceOf};
+ghost use Rattle.smx_lane.specs.Private.Window.{earlier_of};
 
 use crate::ages::{Ages, is_expired};
 use crate::numbers::{following, number_of, place_in};
@@ -44,6 +46,17 @@ impl Model for Window {
     ghost view = { places_of };
 
     ghost invariant = { KeepsPlaces };
+}
+
+// The earlier one of a moment, where there is one, and that of a row's request, where it has one.
+fn earlier_of(earliest: Option<u64>, row: Option<Place>) -> Option<u64>
+    ensures { result ≡ earlier_of earliest row }
+{
+    match (earliest, row) {
+        (Some(moment), Some(place)) => Some(moment.min(place.moment)),
+        (None, Some(place)) => Some(place.moment),
+        (_, None) => earliest,
+    }
 }
 
 impl Window {
@@ -142,6 +155,17 @@ impl Window {
             }
         }
         None
+    }
+
+    // The earliest moment at which a request was taken, where there is one.
+    pub(crate) fn earliest(&self) -> Option<u64>
+        ensures { IsEarliest self.now.taken result }
+    {
+        let mut earliest = None;
+        for at in 0..self.rows.len() {
+            earliest = earlier_of(earliest, self.rows.get(at));
+        }
+        earliest
     }
 
     // The first request that was taken at least so long ago, where there is one. Where there is none, the oldest tells so.

@@ -6,11 +6,10 @@ use Rattle.std.proofs.lemmas.List.Elements.{All-filter}
 use Rattle.smx_pdu.specs.declared.pdu.Pdu.{Pdu}
 use Rattle.smx_session.specs.declared.act.Act.{Act}
 use Rattle.smx_session.specs.declared.up_act.UpAct.{UpAct}
-use Rattle.smx_session.specs.declared.client_state.ClientState.TheVariants.{Ended}
 use Rattle.smx_pdu.specs.Answers.{nack_of_undecoded}
 use Rattle.smx_lines.specs.declared.state.LinkedClient.{LinkedClient}
 use Rattle.smx_lines.specs.declared.state.State.{State}
-use Rattle.smx_lines.specs.Links.{ClientLink, CentreLink, has_left}
+use Rattle.smx_lines.specs.Links.{ClientLink, CentreLink, has_left, at_end}
 use Rattle.smx_lines.specs.Texts.{pdu_line, up_lane, down_line}
 use Rattle.smx_routes.specs.Routing.{Route}
 use Rattle.smx_lines.specs.declared.state.LinkedLane.{LinkedLane}
@@ -104,12 +103,12 @@ left_by_all old new s c a leaves keeps clients routes = record {
 }
 
 -- a client was hung up
-pub client_ended : (new : State) (s : Relay) (c : ℕ) (k after : ClientLink) (answer : Pdu) (text : List ℕ) → (client_at s c).link ≡ k → after ≡ record k { session = Ended } → answer ≡ nack_of_undecoded → TurnLeaves (hang_up c answer (with_link s c after)) new text → TurnLeaves (client_end c true s) new text
+pub client_ended : (new : State) (s : Relay) (c : ℕ) (k after : ClientLink) (answer : Pdu) (text : List ℕ) → (client_at s c).link ≡ k → after ≡ at_end k → answer ≡ nack_of_undecoded → TurnLeaves (hang_up c answer (with_link s c after)) new text → TurnLeaves (client_end c true s) new text
 unfolding client_end
 client_ended new s c k after answer text at link said turned =
     let named : TurnLeaves (hang_up c nack_of_undecoded (with_link s c after)) new text = subst (λ (p : Pdu). TurnLeaves (hang_up c p (with_link s c after)) new text) said turned in
-    let ended : TurnLeaves (hang_up c nack_of_undecoded (with_link s c (record k { session = Ended }))) new text = subst (λ (l : ClientLink). TurnLeaves (hang_up c nack_of_undecoded (with_link s c l)) new text) link named in
-    subst (λ (l : ClientLink). TurnLeaves (hang_up c nack_of_undecoded (with_link s c (record l { session = Ended }))) new text) (sym at) ended
+    let ended : TurnLeaves (hang_up c nack_of_undecoded (with_link s c (at_end k))) new text = subst (λ (l : ClientLink). TurnLeaves (hang_up c nack_of_undecoded (with_link s c l)) new text) link named in
+    subst (λ (l : ClientLink). TurnLeaves (hang_up c nack_of_undecoded (with_link s c (at_end l))) new text) (sym at) ended
 
 pub lanes_reached : (old : State) → IsReached old → AreReached old.lanes.items
 lanes_reached old reached = (reached.0.limits, lasts reached.0.clients, reached.0.lanes, reached.1.lanes)

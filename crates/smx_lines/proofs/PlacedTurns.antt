@@ -10,7 +10,6 @@ use Rattle.smx_session.specs.declared.act.Act.{Act}
 use Rattle.smx_session.specs.declared.act.Act.TheVariants as act
 use Rattle.smx_session.specs.declared.up_act.UpAct.{UpAct}
 use Rattle.smx_session.specs.declared.up_act.UpAct.TheVariants as up
-use Rattle.smx_session.specs.declared.client_state.ClientState.TheVariants.{Ended}
 use Rattle.smx_history.specs.declared.limits.Limits.{Limits}
 use Rattle.smx_history.specs.declared.note.Note.{Note}
 use Rattle.smx_history.specs.declared.note.Event.TheVariants as event
@@ -37,7 +36,7 @@ use Rattle.smx_script.specs.declared.command.Setting.TheVariants.{Sizes, Lanes, 
 use Rattle.smx_script.specs.Script.{command_of}
 use Rattle.smx_lines.specs.declared.state.LinkedClient.{LinkedClient}
 use Rattle.smx_lines.specs.Texts.{down_line}
-use Rattle.smx_lines.specs.Links.{ClientLink, CentreLink, bound_centre, has_failed, has_left}
+use Rattle.smx_lines.specs.Links.{ClientLink, CentreLink, at_end, bound_centre, has_failed, has_left}
 use Rattle.smx_lines.specs.Relay.{Relay, back_on, begin_lanes, client_at, client_of, client_turn, client_turn_at, collect_lane, collect_lanes, enter_and_leave_lane, enter_lane, going_on, has_lane, history_of, history_on, in_turn_at, known_lane_turn, lane_after, lane_at, lane_for, lane_turn, leave_lane, moment_on, new_lane, request_of, set_turn, take_on, take_with, turn_on, with_link, with_request}
 use Rattle.smx_lines.specs.Messages.{answer_turn, answer_with, leave_turn, message_to, message_turn, put_to, put_with, send_turn}
 use Rattle.smx_lines.specs.ClientTurn.{client_act, client_end, client_pdu, decides, each_pdu, followed_by, forward, offer_at, OnClient, OnOpen, OnStream, InTurn}
@@ -159,7 +158,7 @@ each_placed turn keeps (p ∷ ps) s placed = each_placed turn keeps ps (turn p s
 placed_end : (c : ℕ) (b : Bool) (s : Relay) → ArePlacedOn s.lanes → ArePlacedOn (client_end c b s).1.lanes
 unfolding client_end
 placed_end c false s placed = placed
-placed_end c true s placed = placed_leave (with_link s c (record (client_at s c).link { session = Ended })) c placed
+placed_end c true s placed = placed_leave (with_link s c (at_end (client_at s c).link)) c placed
 
 placed_open : (s : Relay) (c : ℕ) (octets : List ℕ) (k : ClientLink) (x : Option (List ℕ × Relay)) → ArePlacedOn s.lanes → OnOpen s c octets k x → LeavesPlaced x
 placed_open s c octets k x placed (ps, stream, receives, is) =

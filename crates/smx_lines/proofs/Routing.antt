@@ -25,7 +25,7 @@ route_bad : (s : Relay) (c : ℕ) (prefix : List ℕ) (k : LinkedClient) (new : 
 unfolding RouteTurn
 route_bad s c prefix k new known bad = (None, rw (known, bad) refl, tt)
 
-pub route_unbound : (s : Relay) (c : ℕ) (prefix : List ℕ) (k : LinkedClient) (new : State) → client_of s.clients c ≡ Some k → may_receive k.link.session ≡ false → MayPrint (RouteTurn s c prefix) new None
+pub route_unbound : (s : Relay) (c : ℕ) (prefix : List ℕ) (k : LinkedClient) (new : State) → client_of s.clients c ≡ Some k → may_receive k.link.session.state ≡ false → MayPrint (RouteTurn s c prefix) new None
 route_unbound s c prefix k new known unbound = route_bad s c prefix k new known (rw unbound refl)
 
 or_true : (b : Bool) → b || true ≡ true
@@ -35,12 +35,12 @@ or_true false = refl
 pub route_long : (s : Relay) (c : ℕ) (prefix : List ℕ) (k : LinkedClient) (new : State) → client_of s.clients c ≡ Some k → 64 < length prefix → MayPrint (RouteTurn s c prefix) new None
 route_long s c prefix k new known long =
     let far : nat_lt 64 (length prefix) ≡ true = grind (arith, nat_tests, long) in
-    route_bad s c prefix k new known (rw far (or_true (not (may_receive k.link.session))))
+    route_bad s c prefix k new known (rw far (or_true (not (may_receive k.link.session.state))))
 
 pub route_known : (s : Relay) (c : ℕ) (prefix : List ℕ) (k : LinkedClient) (rs : List Route) (new : State) → client_of s.clients c ≡ Some k → rs ≡ s.routes → Contains rs (route prefix c) → MayPrint (RouteTurn s c prefix) new None
 route_known s c prefix k rs new known same there =
     let has : has_route s.routes (route prefix c) ≡ true = ap (λ (xs : List Route). has_route xs (route prefix c)) (sym same) ∙ has_it rs (route prefix c) there in
-    route_bad s c prefix k new known (rw has (ap (λ b. not (may_receive k.link.session) || b) (or_true (nat_lt 64 (length prefix))) ∙ or_true (not (may_receive k.link.session))))
+    route_bad s c prefix k new known (rw has (ap (λ b. not (may_receive k.link.session.state) || b) (or_true (nat_lt 64 (length prefix))) ∙ or_true (not (may_receive k.link.session.state))))
 
 -- the prefix was added, and no more
 pub record IsRouting (old new : State) (c : ℕ) (prefix : List ℕ) : Type 0 where
@@ -68,7 +68,7 @@ routed_on old new s c prefix a known is = record {
   };
 }
 
-pub route_added : (old new : State) (s : Relay) (c : ℕ) (prefix : List ℕ) (k : LinkedClient) (text : Vec ℕ) → StandsFor old s → client_of s.clients c ≡ Some k → may_receive k.link.session ≡ true → IsRouting old new c prefix → text.items ≡ [] → MayPrint (RouteTurn s c prefix) new (Some text)
+pub route_added : (old new : State) (s : Relay) (c : ℕ) (prefix : List ℕ) (k : LinkedClient) (text : Vec ℕ) → StandsFor old s → client_of s.clients c ≡ Some k → may_receive k.link.session.state ≡ true → IsRouting old new c prefix → text.items ≡ [] → MayPrint (RouteTurn s c prefix) new (Some text)
 unfolding RouteTurn
 route_added old new s c prefix k text a known may is e =
     let near : nat_lt 64 (length prefix) ≡ false = grind (arith, nat_tests, is.fresh.0) in

@@ -6,12 +6,11 @@ use Rattle.smx_session.specs.Login.{Login}
 use Rattle.smx_session.specs.declared.act.Act.{Act}
 use Rattle.smx_session.specs.declared.act.Act.TheVariants.{Answer, Bind, Refuse, Forward, MoAnswer, Leave, Hangup, Closed, Ignore}
 use Rattle.smx_session.specs.declared.client_state.ClientState.{ClientState}
-use Rattle.smx_session.specs.declared.client_state.ClientState.TheVariants.{Ended}
 use Rattle.smx_pdu.specs.Answers.{nack_of_undecoded}
-use Rattle.smx_session.specs.ClientTable.{client_decides}
+use Rattle.smx_session.specs.ClientTable.{client_decides, account_after}
 use Rattle.smx_history.specs.declared.request.Request.{Request}
 use Rattle.smx_lines.specs.Texts.{pdu_line, to_client, closed_line}
-use Rattle.smx_lines.specs.Links.{ClientLink, Receives, has_failed}
+use Rattle.smx_lines.specs.Links.{ClientLink, Session, at_end, Receives, has_failed}
 use Rattle.smx_lines.specs.declared.state.LinkedClient.{LinkedClient}
 use Rattle.smx_lines.specs.Relay.{Relay, client_of, client_at, lane_for, in_turn_at, request_of, with_link}
 use Rattle.smx_lines.specs.Messages.{answer_turn, leave_turn}
@@ -52,9 +51,12 @@ client_act c p (Hangup answer) s = hang_up c answer s
 client_act c p Closed s = leave_turn c s
 client_act c p Ignore s = ([], s)
 
--- what a session in a state makes of a PDU
-unfoldable pub decides : List Login → ClientState → Pdu → Act × ClientState
-decides accounts state p = client_decides accounts state p
+-- what a session makes of a PDU
+abbrev pub session_decision : Session → Act × ClientState → Act × Session
+session_decision session x = (x.0, record { state = x.1; account = account_after x.0 session.account })
+
+unfoldable pub decides : List Login → Session → Pdu → Act × Session
+decides accounts session p = session_decision session (client_decides accounts session.account session.state p)
 
 abbrev pub client_pdu_on : ℕ → Pdu → ClientLink → Relay → List ℕ × Relay
 client_pdu_on c p k s = client_act c p (decides s.accounts k.session p).0 (with_link s c (record k { session = (decides s.accounts k.session p).1 }))
@@ -66,7 +68,7 @@ client_pdu c p s = client_pdu_on c p (client_at s c).link s
 -- at a bad length the client is hung up
 unfoldable pub client_end : ℕ → Bool → Relay → List ℕ × Relay
 client_end c false s = ([], s)
-client_end c true s = hang_up c nack_of_undecoded (with_link s c (record (client_at s c).link { session = Ended }))
+client_end c true s = hang_up c nack_of_undecoded (with_link s c (at_end (client_at s c).link))
 
 -- each PDU that the octets complete is decided
 abbrev pub OnOpen : Relay → ℕ → List ℕ → ClientLink → Option (List ℕ × Relay) → Type 0

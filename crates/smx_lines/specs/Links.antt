@@ -8,13 +8,19 @@ use Rattle.smx_session.specs.declared.client_state.ClientState.TheVariants.{Open
 use Rattle.smx_session.specs.declared.client_state.ClientState.TheVariants as client
 use Rattle.smx_session.specs.declared.upstream_state.UpstreamState.{UpstreamState}
 use Rattle.smx_session.specs.declared.upstream_state.UpstreamState.TheVariants.{Binding, Bound, Unbinding, Ended}
+use Rattle.smx_session.specs.Binds.{transceiver_bind}
 use Rattle.smx_session.specs.ClientTable.{bound_state}
 use Rattle.smx_session.specs.Moments.{Upstream}
 use Rattle.smx_mailbox.specs.Mailbox.{Mailbox, new_mailbox}
 
--- a client's link: the state of its session, the stream of its octets, and its messages
+-- a client's session: its state, and the account that it is bound by; no script has moments
+pub record Session : Type 0 where
+  pub state : ClientState
+  pub account : Option ℕ
+
+-- a client's link: its session, the stream of its octets, and its messages
 pub record ClientLink : Type 0 where
-  pub session : ClientState
+  pub session : Session
   pub stream : Stream
   pub mailbox : Mailbox
 
@@ -41,7 +47,11 @@ opening None = Opened
 opening (Some kind) = bound_state kind
 
 abbrev pub new_link : ℕ → Option Kind → ClientLink
-new_link places kind = record { session = opening kind; stream = new_stream; mailbox = new_mailbox places }
+new_link places kind = record { session = record { state = opening kind; account = None }; stream = new_stream; mailbox = new_mailbox places }
+
+-- its session has ended
+abbrev pub at_end : ClientLink → ClientLink
+at_end k = record k { session = record k.session { state = client.Ended } }
 
 -- a client that is bound to receive
 abbrev pub may_receive : ClientState → Bool
@@ -52,10 +62,10 @@ may_receive BoundTrx = true
 may_receive client.Unbinding = false
 may_receive client.Ended = false
 
--- a lane is bound before the first line that is no setting; no script has moments
+-- a lane is bound before the first line that is no setting
 abbrev pub bound_centre : CentreLink
 bound_centre = record {
-  session = record { system_id = codes "smx"; password = []; silence = 0; state = Bound; latest = 0; heard = 0; enquired = None };
+  session = record { bind = transceiver_bind (codes "smx") []; silence = 0; state = Bound; latest = 0; heard = 0; enquired = None };
   stream = new_stream;
 }
 

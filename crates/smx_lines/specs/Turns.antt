@@ -60,7 +60,7 @@ AddRoute s r false x = (rs : List Route) × IsPermutation (r ∷ s.routes) rs ×
 
 -- the client isn't bound to receive, the prefix is too long, or the pair is there
 abbrev pub is_bad_route : Relay → ℕ → List ℕ → ClientLink → Bool
-is_bad_route s c prefix k = not (may_receive k.session) || (nat_lt 64 (length prefix) || has_route s.routes (route prefix c))
+is_bad_route s c prefix k = not (may_receive k.session.state) || (nat_lt 64 (length prefix) || has_route s.routes (route prefix c))
 
 abbrev pub RouteOf : Relay → ℕ → List ℕ → Option LinkedClient → Option (List ℕ × Relay) → Type 0
 RouteOf s c prefix None x = x ≡ None

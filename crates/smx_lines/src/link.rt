@@ -10,12 +10,14 @@ use smx_frame::Framer;
 use smx_mailbox::{Message, Unanswered};
 use smx_pdu::{MAX_PDU, Pdu};
 use smx_session::{
-    Account, Act, ClientSession, ClientState, Kind, UpAct, UpstreamSession, UpstreamState,
+    Account, Act, ClientSession, ClientState, Kind, UpAct, UpstreamBind, UpstreamSession,
+    UpstreamState,
 };
 use std::alloc::{AllocError, Global};
 use std::marker::Model;
 
-/// A client's link. Contracts see it as the state of its session and the stream of its octets.
+/// A client's link. Contracts see it as its session, without moments, the stream of its octets and
+/// its mailbox.
 #[derive(Drop)]
 pub struct ClientLink {
     session: ClientSession,
@@ -29,14 +31,14 @@ impl Model for ClientLink {
     ghost Value = { ClientLink };
 
     ghost view = { λ l. record {
-      session = l.session.state;
+      session = record { state = l.session.state; account = l.session.account };
       stream = l.framer.stream;
       mailbox = l.mailbox;
     } };
 }
 
 impl ClientLink {
-    ghost use Rattle.smx_session.specs.declared.client_state.ClientState.TheVariants.{Ended};
+    ghost use Rattle.smx_lines.specs.Links.{at_end};
     ghost use Rattle.smx_pdu.specs.Answers.{nack_of_undecoded};
     ghost use Rattle.smx_lines.specs.ClientTurn.{decides};
     ghost use Rattle.smx_routes.specs.Window.{message_for};
@@ -62,7 +64,7 @@ impl ClientLink {
 
     /// Whether the client is bound to receive.
     pub(crate) fn may_receive(&self) -> bool
-        ensures { result ≡ may_receive self.now.session }
+        ensures { result ≡ may_receive self.now.session.state }
     {
         match self.session.state() {
             ClientState::BoundRx | ClientState::BoundTrx => true,
@@ -103,7 +105,7 @@ impl ClientLink {
     /// Ends the session at a bad length, and gives what the client gets last.
     pub(crate) fn end(&mut self) -> Pdu
         ensures answer { result ≡ nack_of_undecoded }
-        ensures link { self.new ≡ record self.old { session = Ended } }
+        ensures link { self.new ≡ at_end self.old }
     {
         match self.session.on_fault() {
             Act::Hangup(answer) => answer,
@@ -180,8 +182,9 @@ impl CentreLink {
         ensures { IfOk result (λ link. link ≡ bound_centre) }
     {
         let system_id = Vec::from_slice(alloc, b"smx")?;
+        let bind = UpstreamBind::transceiver(alloc, system_id, Vec::new(alloc));
         Ok(CentreLink {
-            session: UpstreamSession::bound(alloc, system_id, Vec::new(alloc), 0, 0),
+            session: UpstreamSession::bound(alloc, bind, 0, 0),
             framer: Framer::new(alloc, MAX_PDU as u32),
         })
     }

@@ -5,7 +5,7 @@ use std::fmt;
 
 /// A request's command, and its client: its number, and the system_id of its account while it is
 /// connected.
-#[derive(Clone, Copy)]
+#[derive(Clone, Copy, Debug)]
 pub struct LastSent<'a> {
     pub command: u32,
     pub client: u64,
@@ -22,6 +22,13 @@ fn name_of(command: u32) -> &'static str {
         REPLACE_SM => "replace_sm",
         DATA_SM => "data_sm",
         _ => "a request",
+    }
+}
+
+impl LastSent<'_> {
+    /// The command's name.
+    pub fn name(self) -> &'static str {
+        name_of(self.command)
     }
 }
 

@@ -5,7 +5,7 @@ mod options;
 mod words;
 
 use clap::Error;
-pub use options::{Asked, Serving, VERSION};
+pub use options::{Asked, LogForm, Serving, VERSION};
 use std::process::ExitCode;
 use std::rt::Env;
 

@@ -23,6 +23,30 @@ const KEYS: &str = "keys";
 
 const NOTIFY: &str = "notify";
 
+const LOG: &str = "log";
+
+const STRICT: &str = "strict";
+
+/// How the lines of the log are written.
+#[derive(Clone, Copy, Debug, PartialEq, Eq)]
+pub enum LogForm {
+    Text,
+    Json,
+    Journal,
+}
+
+impl LogForm {
+    // Which one a word of the command line names.
+    fn named(word: &str) -> Option<LogForm> {
+        match word {
+            "text" => Some(LogForm::Text),
+            "json" => Some(LogForm::Json),
+            "journal" => Some(LogForm::Journal),
+            _ => None,
+        }
+    }
+}
+
 /// How the proxy is run.
 #[derive(Clone, Copy, Debug, PartialEq, Eq)]
 pub struct Serving {
@@ -30,6 +54,8 @@ pub struct Serving {
     pub reads_terminal: bool,
     /// Standard output has lines for a service manager.
     pub notifies: bool,
+    /// How the lines of the log are written. None: as the configuration says.
+    pub log: Option<LogForm>,
 }
 
 /// What the command line asks for.
@@ -37,8 +63,8 @@ pub struct Serving {
 pub enum Asked<'a> {
     /// Runs the script in the file with this path, or from standard input.
     Relay(Option<&'a str>),
-    /// Checks the configuration in the file with this path.
-    Check(&'a str),
+    /// Checks the configuration in the file with this path. True: what is advised is a fault, too.
+    Check(&'a str, bool),
     /// Says which keys a configuration may have.
     Keys,
     /// Runs the proxy by the configuration in the file with this path.
@@ -75,6 +101,16 @@ fn flag<'a>(alloc: Global, name: &'a str, help: &'a str) -> Arg<'a> {
         .help(help)
 }
 
+// The form of the log's lines.
+fn log<'a>(alloc: Global) -> Arg<'a> {
+    Arg::new(alloc, LOG)
+        .long(LOG)
+        .action(ArgAction::Set)
+        .value_name("FORM")
+        .value_parser(["text", "json", "journal"].as_slice())
+        .help("How each line on standard error is written, in place of what FILE says")
+}
+
 // The command of scripts.
 fn relay<'a>(alloc: Global) -> Result<Command<'a>, AllocError> {
     let file = Arg::new(alloc, "FILE").action(ArgAction::Set).help(
@@ -103,7 +139,8 @@ fn command<'a>(alloc: Global) -> Result<Command<'a>, AllocError> {
         alloc,
         NOTIFY,
         "Write lines for a service manager, as of sd_notify(3), on standard output",
-    ))?;
+    ))?
+    .arg(log(alloc))?;
     let demo = over_file(
         alloc,
         "demo",
@@ -117,6 +154,11 @@ fn command<'a>(alloc: Global) -> Result<Command<'a>, AllocError> {
         "Checks a configuration, and says what would be right",
         "Example: smx check /etc/smx/smx.toml",
     )?
+    .arg(flag(
+        alloc,
+        STRICT,
+        "Take a key that isn't read, and whatever is advised, for a fault, too",
+    ))?
     .arg(flag(
         alloc,
         KEYS,
@@ -151,12 +193,16 @@ pub(crate) fn read<'a>(alloc: Global, words: &'a [String]) -> Result<Asked<'a>, 
         return Ok(Asked::Nothing);
     };
     Ok(match name {
-        "check" => Asked::Check(path),
+        "check" => Asked::Check(path, found.get_flag(STRICT)),
         "serve" => Asked::Serve(
             path,
             Serving {
                 reads_terminal: found.get_flag(STDIN),
                 notifies: found.get_flag(NOTIFY),
+                log: match found.get_str(LOG) {
+                    Some(word) => LogForm::named(word),
+                    None => None,
+                },
             },
         ),
         "demo" => Asked::Demo(path, found.get_flag(VERBOSE)),

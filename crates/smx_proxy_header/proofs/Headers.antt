@@ -5,8 +5,8 @@ use Rattle.std.proofs.lemmas.List.{length-replicate, length-take-le, take-append
 use Rattle.std.proofs.lemmas.Bool.{and_parts, leb-true, leb-false, cases_Bool}
 use Rattle.smx_proxy_header.specs.declared.addresses.Addresses.{Addresses}
 use Rattle.smx_proxy_header.specs.declared.addresses.Addresses.TheVariants.{Unread, Tcp4, Tcp6}
-use Rattle.smx_proxy_header.specs.declared.header.Header.{Header}
-use Rattle.smx_proxy_header.specs.declared.header.Header.TheVariants.{Part, Whole, Wrong}
+use Rattle.smx_proxy_header.specs.declared.header.ProxyHeader.{ProxyHeader}
+use Rattle.smx_proxy_header.specs.declared.header.ProxyHeader.TheVariants.{Part, Whole, Wrong}
 use Rattle.smx_proxy_header.specs.declared.source.Source.{Source}
 use Rattle.smx_proxy_header.specs.Header.{signature, addresses_of, count, source_in, IsHeader, HasNone, Begins}
 use Rattle.smx_proxy_header.specs.Private.Front.{may_begin}
@@ -161,5 +161,5 @@ part_few s (none, (o ∷ more, source, is)) =
     let within = is.within in
     omega arith
 
-pub few_of : (s : List ℕ) (h : Header) → Begins s h → h ≡ Part → length s < 4112
+pub few_of : (s : List ℕ) (h : ProxyHeader) → Begins s h → h ≡ Part → length s < 4112
 few_of s h begins e = part_few s (subst (Begins s) e begins)

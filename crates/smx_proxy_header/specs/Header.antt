@@ -2,8 +2,8 @@
 use Rattle.std.specs.Prelude.{◌≡◌, ◌≤◌, ℕ, ◌+◌, ◌*◌, List, [], ◌∷◌, ◌++◌, length, take, get_or, Option, Some, None, if◌then◌else◌, ◌==◌}
 use Rattle.smx_proxy_header.specs.declared.addresses.Addresses.{Addresses}
 use Rattle.smx_proxy_header.specs.declared.addresses.Addresses.TheVariants.{Unread, Tcp4, Tcp6}
-use Rattle.smx_proxy_header.specs.declared.header.Header.{Header}
-use Rattle.smx_proxy_header.specs.declared.header.Header.TheVariants.{Part, Whole, Wrong}
+use Rattle.smx_proxy_header.specs.declared.header.ProxyHeader.{ProxyHeader}
+use Rattle.smx_proxy_header.specs.declared.header.ProxyHeader.TheVariants.{Part, Whole, Wrong}
 use Rattle.smx_proxy_header.specs.declared.source.Source.{Source}
 use Rattle.smx_proxy_header.specs.declared.source.Source.TheVariants.{Local, V4, V6}
 
@@ -54,7 +54,7 @@ abbrev pub HasNone : List ℕ → Type 0
 HasNone octets = (header more : List ℕ) (source : Source) → IsHeader header source → octets ≡ header ++ more → ⊥
 
 -- what octets begin with: less than a header, a header, or neither, whatever follows
-abbrev pub Begins : List ℕ → Header → Type 0
+abbrev pub Begins : List ℕ → ProxyHeader → Type 0
 Begins octets Part = HasNone octets × ((more : List ℕ) × (source : Source) × IsHeader (octets ++ more) source)
 Begins octets (Whole count source) = (count ≤ length octets) × IsHeader (take count octets) source
 Begins octets Wrong = (more : List ℕ) → HasNone (octets ++ more)

@@ -3,7 +3,7 @@ use crate::source::Source;
 
 /// What the octets of a connection begin with, as far as they came.
 #[derive(Clone, Copy, Debug, PartialEq, Eq)]
-pub enum Header {
+pub enum ProxyHeader {
     /// Less than a header.
     Part,
     /// A header of so many octets, and the source that it names.

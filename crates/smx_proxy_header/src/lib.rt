@@ -7,6 +7,6 @@ mod header;
 mod reading;
 mod source;
 
-pub use header::Header;
-pub use reading::{MAX_HEADER, MAX_LENGTH, read_header};
+pub use header::ProxyHeader;
+pub use reading::{MAX_HEADER, MAX_LENGTH, read_proxy_header};
 pub use source::Source;

@@ -4,7 +4,7 @@ ghost use Rattle.smx_proxy_header.specs.Header.{signature, Begins};
 ghost use Rattle.smx_proxy_header.specs.Private.Front.{may_begin};
 
 use crate::addresses::{addresses_of, number};
-use crate::header::Header;
+use crate::header::ProxyHeader;
 
 /// The most octets behind a header's length: a limit of this reader, where the protocol's is 65,535.
 pub const MAX_LENGTH: usize = 4_096;
@@ -33,53 +33,53 @@ fn may_begin(octets: &[u8]) -> bool
 }
 
 // What octets are, of which these four follow the signature, and the rest follows them.
-fn read_fields(command: u8, family: u8, high: u8, low: u8, rest: &[u8]) -> Header
+fn read_fields(command: u8, family: u8, high: u8, low: u8, rest: &[u8]) -> ProxyHeader
     ensures { Begins (signature ++ command ∷ family ∷ high ∷ low ∷ rest.now) result }
 {
     let length = usize::from(number(high, low));
     if length > MAX_LENGTH {
-        return Header::Wrong;
+        return ProxyHeader::Wrong;
     }
     let Some(addresses) = addresses_of(command, family) else {
-        return Header::Wrong;
+        return ProxyHeader::Wrong;
     };
     if length < addresses.count() {
-        return Header::Wrong;
+        return ProxyHeader::Wrong;
     }
     match rest.get(..length) {
-        Some(rest) => Header::Whole {
+        Some(rest) => ProxyHeader::Whole {
             length: 16 + length,
             source: addresses.source(rest),
         },
-        None => Header::Part,
+        None => ProxyHeader::Part,
     }
 }
 
 // What octets are that begin with the signature, behind which these stand.
-fn read_rest(octets: &[u8]) -> Header
+fn read_rest(octets: &[u8]) -> ProxyHeader
     ensures { Begins (signature ++ octets.now) result }
 {
     if let [command, family, high, low, rest @ ..] = octets {
         return read_fields(*command, *family, *high, *low, rest);
     }
     if may_begin(octets) {
-        Header::Part
+        ProxyHeader::Part
     } else {
-        Header::Wrong
+        ProxyHeader::Wrong
     }
 }
 
 /// What the octets of a connection begin with, as far as they came: a header of version 2, less than
 /// one, or neither. Version 1, which is text, isn't read.
-pub fn read_header(octets: &[u8]) -> Header
+pub fn read_proxy_header(octets: &[u8]) -> ProxyHeader
     ensures value { Begins octets.now result }
-    ensures few { result ≡ Header.Part → length octets.now < MAX_HEADER }
+    ensures few { result ≡ ProxyHeader.Part → length octets.now < MAX_HEADER }
 {
     if octets.starts_with(&SIGNATURE) {
         read_rest(&octets[SIGNATURE.len()..])
     } else if SIGNATURE.starts_with(octets) {
-        Header::Part
+        ProxyHeader::Part
     } else {
-        Header::Wrong
+        ProxyHeader::Wrong
     }
 }

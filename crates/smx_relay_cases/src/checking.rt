@@ -4,7 +4,10 @@
 //! line that takes the place of the one that begins with the same word, or, behind a `-`, a word whose
 //! line is left out.
 
-use smx_config::{Account, Config, Upstream, advice, check, key_table, may_take_all, read, unread};
+use smx_config::{
+    Account, Commands, Config, Upstream, bodies_held, check, counsel, faults, key_table,
+    may_take_all, read, unread,
+};
 use std::alloc::{AllocError, Global};
 use std::io;
 use std::io::{ErrorKind, Write};
@@ -73,15 +76,12 @@ pub fn tell_changes(alloc: Global, text: &str, out: &mut Vec<u8>) -> io::Result<
     Ok(())
 }
 
-// The words for a person on a text with a fault.
+// The words for a person on each fault of a text.
 fn tell_words(alloc: Global, text: &str, out: &mut Vec<u8>) -> io::Result<()> {
-    match read(alloc, text) {
-        Ok(_) => Ok(()),
-        Err(fault) => {
-            let words = advice(alloc, text, fault)?;
-            writeln!(out, "{words}")
-        }
+    for words in faults(alloc, text)?.iter() {
+        writeln!(out, "{words}")?;
     }
+    Ok(())
 }
 
 /// The lines that the check writes, whether it says that all is fine, and the words for a person.
@@ -93,6 +93,24 @@ pub fn tell_advice(alloc: Global, text: &str, out: &mut Vec<u8>) -> io::Result<(
         let is_fine = tell_check(alloc, &text, out)?;
         writeln!(out, "fine: {is_fine}")?;
         tell_words(alloc, &text, out)?;
+    }
+    Ok(())
+}
+
+/// What may be meant otherwise, and how much the bodies may come to.
+pub fn tell_counsel(alloc: Global, text: &str, out: &mut Vec<u8>) -> io::Result<()> {
+    let (base, changes) = parts(text);
+    for change in changes.lines() {
+        tell_change(change, out)?;
+        match read(alloc, &changed(alloc, base, change)?) {
+            Ok(config) => {
+                writeln!(out, "{} octets", bodies_held(&config))?;
+                for advice in counsel(alloc, &config)?.iter() {
+                    writeln!(out, "{advice}")?;
+                }
+            }
+            Err(fault) => writeln!(out, "{fault}")?,
+        }
     }
     Ok(())
 }
@@ -127,6 +145,7 @@ fn tell_numbers(config: &Config, out: &mut Vec<u8>) -> io::Result<()> {
     writeln!(out, "listen {}", config.listen)?;
     writeln!(out, "clients {} box {}", config.clients, config.places)?;
     writeln!(out, "proxy_protocol {}", config.proxy_protocol)?;
+    writeln!(out, "log {:?} level {:?}", config.log, config.log_level)?;
     let timers = config.timers;
     let (response, enquire, bind) = (timers.response, timers.enquire, timers.bind);
     let (reconnect, most) = (timers.reconnect, timers.reconnect_most);
@@ -142,7 +161,29 @@ fn tell_numbers(config: &Config, out: &mut Vec<u8>) -> io::Result<()> {
 }
 
 fn tell_upstream(upstream: &Upstream, out: &mut Vec<u8>) -> io::Result<()> {
-    writeln!(out, "upstream {} {}", upstream.address, upstream.system_id)
+    write!(out, "upstream {} {}", upstream.address, upstream.system_id)?;
+    let (kind, version) = (upstream.bind, upstream.interface_version);
+    write!(out, " {kind:?} version {version}")?;
+    let (system_type, range) = (&upstream.system_type, &upstream.address_range);
+    writeln!(out, " type \"{system_type}\" range \"{range}\"")
+}
+
+// The requests that may be sent.
+fn tell_commands(commands: Commands, out: &mut Vec<u8>) -> io::Result<()> {
+    let all = [
+        ("submit_sm", commands.submit_sm),
+        ("submit_multi", commands.submit_multi),
+        ("data_sm", commands.data_sm),
+        ("query_sm", commands.query_sm),
+        ("cancel_sm", commands.cancel_sm),
+        ("replace_sm", commands.replace_sm),
+    ];
+    for (name, may_be_sent) in all {
+        if may_be_sent {
+            write!(out, " {name}")?;
+        }
+    }
+    Ok(())
 }
 
 fn tell_account(account: &Account, out: &mut Vec<u8>) -> io::Result<()> {
@@ -156,6 +197,8 @@ fn tell_account(account: &Account, out: &mut Vec<u8>) -> io::Result<()> {
     if let Some(requests) = account.requests {
         write!(out, " requests {requests}")?;
     }
+    write!(out, " bodies {:?} of", account.bodies)?;
+    tell_commands(account.commands, out)?;
     writeln!(out)
 }
 

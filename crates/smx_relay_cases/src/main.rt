@@ -34,6 +34,7 @@ fn tell_case(alloc: Global, kind: &str, text: &str, out: &mut Vec<u8>) -> io::Re
         "configurations, keys that nobody reads" => checking::tell_keys(alloc, text, out),
         "configurations, the table of keys" => checking::tell_table(alloc, text, out),
         "configurations, values" => checking::tell_values(alloc, text, out),
+        "configurations, what may be meant otherwise" => checking::tell_counsel(alloc, text, out),
         "configurations, files" => files::tell_files(alloc, text, out),
         "configurations, writers that fail" => failing::tell_check_writers(alloc, text, out),
         "sessions" => sessions::tell_cells(alloc, text, out),

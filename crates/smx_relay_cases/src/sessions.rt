@@ -1,12 +1,17 @@
 //! What the two sessions do with PDUs in each of their states: the cells of their tables.
 //!
-//! Each line of a case names a session, `client` or `centre`, and a PDU without a body from there, by
-//! its command_id, command_status and sequence_number in hexadecimal. The line is printed again, and
-//! then a cell for each state: the act, and behind `>` the new state where it is another. A PDU that
-//! is sent is printed by its three numbers and the length of its body.
+//! Each line of a case names a session and a PDU from there, by its command_id, command_status and
+//! sequence_number and, if it has any, the octets of its body, all in hexadecimal. The sessions are
+//! `client`, without rules; `ruled`, a client whose account may send all but cancel_sm, with readable
+//! bodies; and `centre`, `transmitter` and `receiver`, by the proxy's bind. The line is printed again,
+//! and then a cell for each state: the act, and behind `>` the new state where it is another. A PDU
+//! that is sent is printed by its three numbers and the length of its body.
 
 use smx_pdu::Pdu;
-use smx_session::{Act, ClientSession, ClientState, Kind, UpAct, UpstreamSession, UpstreamState};
+use smx_session::{
+    Account, Act, Bodies, ClientSession, ClientState, Commands, Kind, Rules, UpAct, UpstreamBind,
+    UpstreamSession, UpstreamState,
+};
 use std::alloc::{AllocError, Global};
 use std::io;
 use std::io::Write;
@@ -72,18 +77,82 @@ fn client_in(alloc: Global, state: ClientState) -> ClientSession {
     }
 }
 
-fn client_act(alloc: Global, session: &mut ClientSession, pdu: &Pdu) -> Result<String, AllocError> {
-    match session.on_pdu(pdu, &[]) {
+// The account of a client with rules, whose texts are empty.
+fn ruled_account(alloc: Global) -> Account {
+    let mut commands = Commands::all();
+    commands.cancel_sm = false;
+    Account {
+        system_id: Vec::new(alloc),
+        password: Vec::new(alloc),
+        rules: Rules {
+            commands,
+            bodies: Bodies::Readable,
+        },
+    }
+}
+
+// Binds a session by the first account, with this command.
+fn bind_by(
+    alloc: Global,
+    session: &mut ClientSession,
+    command: u32,
+    accounts: &[Account],
+) -> Result<(), AllocError> {
+    let body = Vec::from_slice(alloc, b"\0\0\0\x34\0\0\0")?;
+    if let Ok(bind) = Pdu::new(command, 0, 1, body) {
+        let _ = session.on_pdu(&bind, accounts)?;
+    }
+    Ok(())
+}
+
+// The session of a client with rules in this state.
+fn ruled_in(
+    alloc: Global,
+    state: ClientState,
+    accounts: &[Account],
+) -> Result<ClientSession, AllocError> {
+    let mut session = ClientSession::new(alloc, 0, 0);
+    match state {
+        ClientState::Opened => {}
+        ClientState::BoundTx => bind_by(alloc, &mut session, 2, accounts)?,
+        ClientState::BoundRx => bind_by(alloc, &mut session, 1, accounts)?,
+        ClientState::BoundTrx => bind_by(alloc, &mut session, 9, accounts)?,
+        ClientState::Unbinding => {
+            bind_by(alloc, &mut session, 9, accounts)?;
+            let _ = session.stop();
+        }
+        ClientState::Ended => {
+            bind_by(alloc, &mut session, 9, accounts)?;
+            let _ = session.on_fault();
+        }
+    }
+    Ok(session)
+}
+
+fn client_act(
+    alloc: Global,
+    session: &mut ClientSession,
+    pdu: &Pdu,
+    accounts: &[Account],
+) -> Result<String, AllocError> {
+    match session.on_pdu(pdu, accounts) {
         Ok(act) => client_act_text(alloc, &act),
         Err(AllocError) => Err(AllocError),
     }
 }
 
-fn client_cell(alloc: Global, state: ClientState, pdu: &Pdu) -> Result<String, AllocError> {
-    let mut session = client_in(alloc, state);
-    let act = client_act(alloc, &mut session, pdu);
+// What a session in this state does with a PDU.
+fn client_cell(
+    alloc: Global,
+    session: &mut ClientSession,
+    state: ClientState,
+    pdu: &Pdu,
+    accounts: &[Account],
+) -> Result<String, AllocError> {
+    let before = session.state();
+    let act = client_act(alloc, session, pdu, accounts);
     let after = session.state();
-    if after == state {
+    if after == state && before == state {
         return act;
     }
     format!(in alloc; "{}>{after:?}", act?)
@@ -102,15 +171,15 @@ fn centre_act_text(alloc: Global, act: &UpAct) -> Result<String, AllocError> {
     }
 }
 
-// The session with a centre in this state.
-fn centre_in(alloc: Global, state: UpstreamState) -> UpstreamSession {
+// The session with a centre in this state, over a bind of this kind.
+fn centre_in(alloc: Global, kind: Kind, state: UpstreamState) -> UpstreamSession {
+    let mut bind = UpstreamBind::transceiver(alloc, Vec::new(alloc), Vec::new(alloc));
+    bind.kind = kind;
     let mut session = match state {
         UpstreamState::Bound | UpstreamState::Unbinding => {
-            UpstreamSession::bound(alloc, Vec::new(alloc), Vec::new(alloc), 1000, 0)
+            UpstreamSession::bound(alloc, bind, 1000, 0)
         }
-        UpstreamState::Binding | UpstreamState::Ended => {
-            UpstreamSession::new(alloc, Vec::new(alloc), Vec::new(alloc), 1000, 0)
-        }
+        UpstreamState::Binding | UpstreamState::Ended => UpstreamSession::new(alloc, bind, 1000, 0),
     };
     if state == UpstreamState::Unbinding {
         let _ = session.stop();
@@ -130,8 +199,13 @@ fn centre_act(
     centre_act_text(alloc, &act)
 }
 
-fn centre_cell(alloc: Global, state: UpstreamState, pdu: &Pdu) -> Result<String, AllocError> {
-    let mut session = centre_in(alloc, state);
+fn centre_cell(
+    alloc: Global,
+    kind: Kind,
+    state: UpstreamState,
+    pdu: &Pdu,
+) -> Result<String, AllocError> {
+    let mut session = centre_in(alloc, kind, state);
     let before = session.state();
     let act = centre_act(alloc, &mut session, pdu);
     let after = session.state();
@@ -146,28 +220,47 @@ fn number_in(word: Option<&str>) -> Option<u32> {
     u32::from_str_radix(word?, 16).ok()
 }
 
-// The PDU without a body whose three numbers these are.
-fn pdu_in(alloc: Global, words: &mut SplitWhitespace<'_>) -> Option<Pdu> {
-    let command = number_in(words.next())?;
-    let status = number_in(words.next())?;
-    let number = number_in(words.next())?;
-    Some(Pdu::header_only(alloc, command, status, number))
+// The PDU whose three numbers and body these are.
+fn pdu_in(alloc: Global, words: &mut SplitWhitespace<'_>) -> Result<Option<Pdu>, AllocError> {
+    let command = number_in(words.next());
+    let status = number_in(words.next());
+    let number = number_in(words.next());
+    let (Some(command), Some(status), Some(number)) = (command, status, number) else {
+        return Ok(None);
+    };
+    match hex::decode(alloc, words.next().unwrap_or("")) {
+        Ok(body) => Ok(Pdu::new(command, status, number, body).ok()),
+        Err(hex::FromHexError::OutOfMemory) => Err(AllocError),
+        Err(_) => Ok(None),
+    }
 }
 
 fn client_cells(alloc: Global, pdu: &Pdu) -> Result<String, AllocError> {
     let mut text = String::new(alloc);
     for state in CLIENT_STATES {
+        let mut session = client_in(alloc, state);
         text.push(' ')?;
-        text.push_str(&client_cell(alloc, state, pdu)?)?;
+        text.push_str(&client_cell(alloc, &mut session, state, pdu, &[])?)?;
     }
     Ok(text)
 }
 
-fn centre_cells(alloc: Global, pdu: &Pdu) -> Result<String, AllocError> {
+fn ruled_cells(alloc: Global, pdu: &Pdu) -> Result<String, AllocError> {
+    let accounts = [ruled_account(alloc)];
+    let mut text = String::new(alloc);
+    for state in CLIENT_STATES {
+        let mut session = ruled_in(alloc, state, &accounts)?;
+        text.push(' ')?;
+        text.push_str(&client_cell(alloc, &mut session, state, pdu, &accounts)?)?;
+    }
+    Ok(text)
+}
+
+fn centre_cells(alloc: Global, kind: Kind, pdu: &Pdu) -> Result<String, AllocError> {
     let mut text = String::new(alloc);
     for state in CENTRE_STATES {
         text.push(' ')?;
-        text.push_str(&centre_cell(alloc, state, pdu)?)?;
+        text.push_str(&centre_cell(alloc, kind, state, pdu)?)?;
     }
     Ok(text)
 }
@@ -176,12 +269,15 @@ fn centre_cells(alloc: Global, pdu: &Pdu) -> Result<String, AllocError> {
 fn cells(alloc: Global, line: &str) -> Result<Option<String>, AllocError> {
     let mut words = line.split_whitespace();
     let session = words.next();
-    let Some(pdu) = pdu_in(alloc, &mut words) else {
+    let Some(pdu) = pdu_in(alloc, &mut words)? else {
         return Ok(None);
     };
     match session {
         Some("client") => client_cells(alloc, &pdu).map(Some),
-        Some("centre") => centre_cells(alloc, &pdu).map(Some),
+        Some("ruled") => ruled_cells(alloc, &pdu).map(Some),
+        Some("centre") => centre_cells(alloc, Kind::Trx, &pdu).map(Some),
+        Some("transmitter") => centre_cells(alloc, Kind::Tx, &pdu).map(Some),
+        Some("receiver") => centre_cells(alloc, Kind::Rx, &pdu).map(Some),
         _ => Ok(None),
     }
 }

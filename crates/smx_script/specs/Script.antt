@@ -6,6 +6,7 @@ use Rattle.std.specs.Option.{option_map}
 use Rattle.std.specs.Str.{bytes_eq}
 use Rattle.hex.specs.Hex.{decode_of}
 use Rattle.hex.specs.declared.error.FromHexError.{FromHexError}
+use Rattle.smx_session.specs.Rules.{no_rules}
 use Rattle.smx_session.specs.declared.kind.Kind.{Kind}
 use Rattle.smx_session.specs.declared.kind.Kind.TheVariants.{Tx, Rx, Trx}
 use Rattle.smx_script.specs.declared.command.Command.{Command}
@@ -95,7 +96,7 @@ back_command (Some lane) (Some octets) = Some (Run (Back lane octets))
 back_command _ _ = None
 
 abbrev pub account_command : List ℕ → List ℕ → Option Command
-account_command id password = if is_printable_word 15 id && is_printable_word 8 password then Some (Set (Account (record { system_id = id; password = password }))) else None
+account_command id password = if is_printable_word 15 id && is_printable_word 8 password then Some (Set (Account (record { system_id = id; password = password; rules = no_rules }))) else None
 
 -- a word of printable ASCII, of at most 20 octets; one hyphen stands for no octet
 abbrev pub prefix_of : List ℕ → Option (List ℕ)

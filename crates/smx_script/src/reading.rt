@@ -5,7 +5,7 @@ ghost use Rattle.smx_script.specs.Script.{account_command, command_of, entry_of,
 use crate::command::{Action, Command, Setting};
 use crate::words::{is_text, number, number_within, octets_in, parts_of, prefix_of};
 use smx_history::Limits;
-use smx_session::{Account, Kind};
+use smx_session::{Account, Kind, Rules};
 use std::alloc::{AllocError, Global};
 
 /// How a client enters.
@@ -75,7 +75,7 @@ fn pair_command(word: &[u8], what: &[u8]) -> Option<Command>
     lane_command(word, what)
 }
 
-// A client that may bind.
+// A client that may bind, without rules.
 fn account_command(alloc: Global, id: &[u8], password: &[u8]) -> Result<Option<Command>, AllocError>
     ensures { IfOk result (λ command. command ≡ account_command id.now password.now) }
 {
@@ -85,6 +85,7 @@ fn account_command(alloc: Global, id: &[u8], password: &[u8]) -> Result<Option<C
     let account = Account {
         system_id: Vec::from_slice(alloc, id)?,
         password: Vec::from_slice(alloc, password)?,
+        rules: Rules::none(),
     };
     Ok(Some(Command::Set(Setting::Account(account))))
 }

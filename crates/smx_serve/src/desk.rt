@@ -3,8 +3,8 @@
 use smx_client::Desk;
 use smx_config::Config;
 use smx_notice::AccountChange;
-use smx_session::Account;
-use smx_slots::Limits;
+use smx_session::{Account, Bodies, Commands, Rules};
+use smx_slots::AccountLimits;
 use std::alloc::{AllocError, Global};
 
 // The octets of texts.
@@ -16,6 +16,32 @@ fn octets_of(alloc: Global, texts: &[String]) -> Result<Vec<Vec<u8>>, AllocError
     Ok(all)
 }
 
+// What its clients may send.
+fn rules_of(account: &smx_config::Account) -> Rules {
+    let smx_config::Commands {
+        submit_sm,
+        submit_multi,
+        data_sm,
+        query_sm,
+        cancel_sm,
+        replace_sm,
+    } = account.commands;
+    Rules {
+        commands: Commands {
+            submit_sm,
+            submit_multi,
+            data_sm,
+            query_sm,
+            cancel_sm,
+            replace_sm,
+        },
+        bodies: match account.bodies {
+            smx_config::Bodies::Any => Bodies::Any,
+            smx_config::Bodies::Readable => Bodies::Readable,
+        },
+    }
+}
+
 // The accounts and their prefixes.
 pub(crate) fn desk_of(alloc: Global, config: &Config) -> Result<Desk, AllocError> {
     let mut accounts = Vec::new(alloc);
@@ -24,6 +50,7 @@ pub(crate) fn desk_of(alloc: Global, config: &Config) -> Result<Desk, AllocError
         accounts.push(Account {
             system_id: Vec::from_slice(alloc, account.system_id.as_str().as_bytes())?,
             password: Vec::from_slice(alloc, account.password.as_str().as_bytes())?,
+            rules: rules_of(account),
         })?;
         prefixes.push(octets_of(alloc, account.prefixes.as_slice())?)?;
     }
@@ -64,11 +91,10 @@ fn change_at(desk: &Desk, place: usize, other: &Desk) -> Option<AccountChange> {
     }
     let prefixes = desk.prefixes.as_slice().get(place)?;
     let others = other.prefixes.as_slice().get(found)?;
-    if are_same_texts(prefixes.as_slice(), others.as_slice()) {
-        None
-    } else {
-        Some(AccountChange::Prefixes)
+    if !are_same_texts(prefixes.as_slice(), others.as_slice()) {
+        return Some(AccountChange::Prefixes);
     }
+    (same.rules != account.rules).then_some(AccountChange::Rules)
 }
 
 /// The prefixes of the account with this system_id.
@@ -91,10 +117,10 @@ pub(crate) fn moves_of(
 }
 
 /// What each account may have, by the configuration.
-pub(crate) fn limits_of(alloc: Global, config: &Config) -> Result<Vec<Limits>, AllocError> {
+pub(crate) fn limits_of(alloc: Global, config: &Config) -> Result<Vec<AccountLimits>, AllocError> {
     let mut limits = Vec::with_capacity(alloc, config.account.len())?;
     for account in config.account.as_slice() {
-        limits.push(Limits {
+        limits.push(AccountLimits {
             binds: account.binds,
             requests: account.requests,
         })?;

@@ -11,7 +11,7 @@ use crate::seats::{Gateway, Member};
 use crate::stillness::Stillness;
 use mio::net::{TcpListener, TcpStream};
 use mio::{Registry, Token};
-use smx_notice::{ClientName, ClientNews, Notice, TurnedAway};
+use smx_notice::{ClientName, ClientNews, DoorNews, Notice, TurnedAway};
 use smx_slots::ClientEnds;
 use smx_socket::{Socket, SocketLink};
 use std::alloc::Global;
@@ -154,6 +154,11 @@ fn say_connected<R: Wait>(rt: &R, moment: Moment<'_>, client: u64, address: &str
     moment.say(rt, Notice::Client(name, ClientNews::Connected));
 }
 
+// Says that a connection from this address was closed at once.
+fn turn_away<R: Wait>(rt: &R, moment: Moment<'_>, address: &str, reason: TurnedAway) {
+    moment.say(rt, Notice::Door(DoorNews::TurnedAway(address, reason)));
+}
+
 impl Entrance {
     // The next connection, or none for now. A want of descriptors is said once.
     fn accept<R: Wait>(&mut self, rt: &R, moment: Moment<'_>) -> Option<(TcpStream, SocketAddr)> {
@@ -164,7 +169,7 @@ impl Entrance {
         let was_short = self.short;
         self.short = matches!(next, Next::Short);
         if self.short && !was_short {
-            moment.say(rt, Notice::NoDescriptor);
+            moment.say(rt, Notice::Door(DoorNews::NoDescriptor));
         }
         match next {
             Next::Came(stream, address) => Some((stream, address)),
@@ -188,7 +193,7 @@ impl Entrance {
         let Moment { config, .. } = moment;
         guests.make_place(rt, moment, queues, addresses);
         let Some((slot, ends)) = guests.slots.pick() else {
-            moment.say(rt, Notice::Refused(address.as_str(), TurnedAway::NoSlot));
+            turn_away(rt, moment, address.as_str(), TurnedAway::NoSlot);
             return;
         };
         let party = queues.party(slot);
@@ -202,11 +207,12 @@ impl Entrance {
                 }
                 let _ = addresses.roll.add(entered.client, slot);
                 queues.begin_anew(slot);
+                addresses.mail.begin_anew(slot);
                 guests.seat(slot, guest_of(entered, address, moment));
             }
             Err((ends, reason)) => {
                 guests.slots.give_back(slot, ends);
-                moment.say(rt, Notice::Refused(address.as_str(), reason));
+                turn_away(rt, moment, address.as_str(), reason);
             }
         }
     }
@@ -274,7 +280,6 @@ fn guest_of<'d>(entered: Entered<'d>, address: String, moment: Moment<'d>) -> Gu
         desk: moment.desk,
         name: None,
         kind: None,
-        heard: 0,
         since: moment.now,
         is_late: false,
         preface: config.proxy_protocol.then(|| Preface::new(alloc)),

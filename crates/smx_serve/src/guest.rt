@@ -2,7 +2,7 @@
 
 use crate::addresses::Addresses;
 use crate::desk::{change_of, prefixes_of};
-use crate::heard::{Heard, Refusal, heard_at};
+use crate::mail::Counted;
 use crate::pace::Moment;
 use crate::preface::{Preface, Prefaced};
 use crate::queues::{Progress, Queues, TURNS, is_enough};
@@ -10,11 +10,13 @@ use crate::refusals::Refusals;
 use crate::seats::Member;
 use crate::stillness::Stillness;
 use smx_client::Desk;
-use smx_notice::{AccountChange, ClientName, ClientNews, ClientStanding, Notice};
+use smx_notice::{AccountChange, ClientEnd, ClientName, ClientNews, ClientStanding, Notice};
+use smx_pdu::read_bind;
+use smx_pdu::status::ESME_RINVSYSID;
 use smx_session::{ClientState, Kind};
-use smx_slots::{Bell, ClientEnds, Door, Guide};
+use smx_slots::{ClientBell, ClientEnds, ClientTurn, Guide};
 use smx_socket::Socket;
-use smx_turns::{Directory, RunEnd};
+use smx_turns::{Directory, End, RunEnd};
 use std::alloc::Global;
 use std::rc::Rc;
 use std::sync::Wait;
@@ -30,8 +32,6 @@ pub(crate) struct Guest<'d> {
     // The system_id of its account, once it is bound, and as what it is.
     pub name: Option<&'d str>,
     pub kind: Option<Kind>,
-    // Up to which of the first octets that came its binds were told of.
-    pub heard: usize,
     // Since which moment it is connected, in milliseconds, and whether the last tick found its bind
     // late.
     pub since: u64,
@@ -47,12 +47,6 @@ pub(crate) struct Guest<'d> {
 
 /// How long the answer to an unbind is awaited, in milliseconds.
 const PARTING: u64 = 1_000;
-
-/// How many of the first octets that come from a client are kept.
-const KEPT: usize = 256;
-
-/// The end of what is written where the proxy hangs up: generic_nack of a bad length.
-pub(crate) const NACK: u64 = 0x0000_0002_0000_0000;
 
 // As what a client is bound; None where it isn't.
 fn kind_of(state: ClientState) -> Option<Kind> {
@@ -70,37 +64,38 @@ impl<'d> Guest<'d> {
     fn run<R: Wait>(
         &mut self,
         rt: &R,
-        bell: &mut Bell<'_>,
+        gate: &mut Counted<'_, ClientBell<'_>>,
         guide: &mut Guide<'_>,
         now: u64,
     ) -> (RunEnd, ClientState) {
         let before = self.socket.traffic();
-        let mut ran = self.member.run(rt, bell, guide, now, 1);
+        let mut ran = self.member.run(rt, gate, guide, now, 1);
         for _ in 1..TURNS {
             if ran.0 != RunEnd::Turns || is_enough(before, self.socket.traffic()) {
                 break;
             }
-            ran = self.member.run(rt, bell, guide, now, 1);
+            ran = self.member.run(rt, gate, guide, now, 1);
         }
         ran
     }
 
-    // For whom a turn of its worker rings, and what that may do.
-    fn door(&self, now: u64) -> Door {
-        Door::Client {
+    // What a turn of its worker may do.
+    fn allowed(&self, now: u64) -> ClientTurn {
+        ClientTurn {
             client: self.client,
             may_read: !self.refusals.is_over(),
             may_refuse: self.refusals.may_refuse(now),
         }
     }
 
-    // Takes in what a turn at this moment asked of the bell: whether it refused a bind, and the account by
-    // which it bound.
-    fn heed(&mut self, has_refused: bool, account: Option<usize>, now: u64) {
+    // Takes in what a turn came to: whether a bind was refused, which is said, and by which account the
+    // client is bound.
+    fn heed<R: Wait>(&mut self, rt: &R, moment: Moment<'_>, has_refused: bool) {
         if has_refused {
-            self.refusals.add(now);
+            self.refusals.add(moment.now);
+            self.say_refused(rt, moment);
         }
-        if let Some(account) = account {
+        if let (None, Some(account)) = (self.name, self.member.account()) {
             self.name = Some(name_at(self.desk, account));
         }
     }
@@ -109,28 +104,35 @@ impl<'d> Guest<'d> {
     fn turn_worker<R: Wait>(
         &mut self,
         rt: &R,
+        moment: Moment<'_>,
         queues: &mut Queues,
         addresses: &mut Addresses,
         slot: usize,
-        now: u64,
     ) -> (RunEnd, ClientState) {
+        let now = moment.now;
         let before = self.socket.traffic();
-        let mut bell = Bell::new(
+        let bell = ClientBell::new(
             queues.lanes,
             &mut queues.schedule,
             &addresses.roll,
             &mut addresses.ledger,
-            self.door(now),
+            self.allowed(now),
         );
         let mut guide = Guide::new(&mut addresses.routes, &addresses.roll);
-        let (end, state) = self.run(rt, &mut bell, &mut guide, now);
+        let mut gate = Counted {
+            gate: bell,
+            mail: &mut addresses.mail,
+            slot: Some(slot),
+        };
+        let (end, state) = self.run(rt, &mut gate, &mut guide, now);
         let progress = Progress {
             end,
             moved: self.socket.traffic() != before,
-            rang: bell.has_rung(),
+            rang: gate.gate.has_rung(),
             writable: self.socket.is_writable(),
         };
-        self.heed(bell.has_refused(), bell.account(), now);
+        let has_refused = gate.gate.has_refused();
+        self.heed(rt, moment, has_refused);
         if kind_of(state).is_some() {
             queues.bind(slot);
         }
@@ -148,7 +150,6 @@ impl<'d> Guest<'d> {
             Prefaced::Wrong => return None,
             Prefaced::Whole(source) => source,
         };
-        self.heard = preface.length();
         self.preface = None;
         if let Some(source) = source {
             self.address = format!(in alloc; "{source}").ok()?;
@@ -172,7 +173,7 @@ impl<'d> Guest<'d> {
             }
             self.say(rt, moment, ClientNews::Connected);
         }
-        Some(self.turn_worker(rt, queues, addresses, slot, moment.now))
+        Some(self.turn_worker(rt, moment, queues, addresses, slot))
     }
 
     // Sends its client unbind: no message goes to it from now on, and its answer is awaited for a second.
@@ -250,12 +251,13 @@ impl<'d> Guest<'d> {
         }
     }
 
-    // How its client stands, of which so many requests are under way.
-    pub fn standing(&self, requests: u64, now: u64) -> ClientStanding {
+    // How its client stands, of which so many requests are under way and so many messages unanswered.
+    pub fn standing(&self, requests: u64, messages: u64, now: u64) -> ClientStanding {
         ClientStanding {
             kind: self.kind,
             time: now.saturating_sub(self.since),
             requests,
+            messages,
             octets: self.member.unsent(),
             waits: self.socket.has_octets(),
         }
@@ -266,15 +268,18 @@ impl<'d> Guest<'d> {
         moment.say(rt, Notice::Client(self.named(), news));
     }
 
-    // Why its client is gone.
-    pub fn farewell(&self, end: RunEnd) -> ClientNews<'static> {
-        match end {
-            RunEnd::Fault(fault) => ClientNews::Fault(fault),
-            _ if self.socket.has_ended() => ClientNews::Closed,
-            _ if self.member.is_silent() => ClientNews::Silent,
-            _ if self.parting.is_some() => ClientNews::Unbound,
-            RunEnd::Left if self.socket.tail() == NACK => ClientNews::BadLength,
-            _ => ClientNews::Left,
+    // Why its client is gone, whose worker's last run ended so.
+    pub fn farewell(&self, end: RunEnd) -> ClientEnd {
+        if let RunEnd::Fault(fault) = end {
+            return ClientEnd::Fault(fault);
+        }
+        match self.member.ending() {
+            Some(End::Left) if self.parting.is_none() => ClientEnd::Left,
+            Some(End::Left | End::Stopped) => ClientEnd::Unbound,
+            Some(End::BadLength) => ClientEnd::BadLength,
+            Some(End::Silent) => ClientEnd::Silent,
+            Some(End::LinkEnded | End::Refused(_) | End::LaneDown) => ClientEnd::Closed,
+            None => ClientEnd::Stopped,
         }
     }
 
@@ -305,43 +310,28 @@ impl<'d> Guest<'d> {
         }
     }
 
-    // Says that a bind of its client was refused.
-    fn say_refused<R: Wait>(&self, rt: &R, moment: Moment<'_>, refusal: Refusal<'_, '_>) {
+    // Says which bind of its client was refused last: by the name of its account where it has one, else by
+    // what it said.
+    fn say_refused<R: Wait>(&self, rt: &R, moment: Moment<'_>) {
+        let Some(refusal) = self.member.refused() else {
+            return;
+        };
+        let said = match read_bind(refusal.bind.body.as_slice()) {
+            Ok(bind) => Some(bind.system_id),
+            Err(_) => None,
+        };
+        let has_account = refusal.status != ESME_RINVSYSID;
         let name = ClientName {
-            system_id: refusal.account,
+            system_id: said
+                .filter(|_| has_account)
+                .and_then(|said| name_of(self.desk, said)),
             ..self.named()
         };
         let news = ClientNews::BindRefused {
             status: refusal.status,
-            said: refusal.said,
+            said: said.filter(|_| !has_account),
         };
         moment.say(rt, Notice::Client(name, news));
-    }
-
-    // Says which binds of its client were refused and weren't told of, as far as they are among the first
-    // octets that came.
-    pub fn say_refusals<R: Wait>(&mut self, rt: &R, moment: Moment<'_>) {
-        if self.name.is_some() || self.heard >= KEPT {
-            return;
-        }
-        let Some(octets) = self.socket.head(moment.alloc) else {
-            return;
-        };
-        for _ in 0..octets.len() {
-            let accounts = self.desk.accounts.as_slice();
-            let Some((end, heard)) = heard_at(octets.as_slice(), self.heard, accounts) else {
-                break;
-            };
-            self.heard = end;
-            match heard {
-                Heard::Refused(refusal) => self.say_refused(rt, moment, refusal),
-                Heard::Granted => self.heard = KEPT,
-                Heard::Other => {}
-            }
-        }
-        if octets.len() >= KEPT {
-            self.heard = KEPT;
-        }
     }
 
     // Says as what its client is bound, and by which account, where it is and that wasn't said.
@@ -354,6 +344,15 @@ impl<'d> Guest<'d> {
             self.say(rt, moment, ClientNews::Bound(kind));
         }
     }
+}
+
+// The system_id of the account of the desk that has it.
+fn name_of<'d>(desk: &'d Desk, system_id: &[u8]) -> Option<&'d str> {
+    let accounts = desk.accounts.as_slice();
+    let place = accounts
+        .iter()
+        .position(|account| account.system_id.as_slice() == system_id)?;
+    Some(name_at(desk, place))
 }
 
 // The system_id of an account of the desk.

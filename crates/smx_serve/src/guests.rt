@@ -7,7 +7,7 @@ use crate::pace::Moment;
 use crate::queues::Queues;
 use crate::seating::Seating;
 use smx_client::Desk;
-use smx_notice::{AccountChange, ClientNews};
+use smx_notice::{AccountChange, ClientEnd, ClientNews};
 use smx_slots::{Roll, Slots};
 use smx_socket::Socket;
 use smx_turns::RunEnd;
@@ -66,17 +66,16 @@ impl<'d> Guests<'d> {
         queues: &mut Queues,
         addresses: &mut Addresses,
         slot: usize,
-    ) -> Result<RunEnd, ClientNews<'static>> {
+    ) -> Result<RunEnd, ClientEnd> {
         let Some(guest) = self.guests.get_mut(self.seating.place(slot)) else {
             return Ok(RunEnd::Idle);
         };
         let Some((end, state)) = guest.turn(rt, moment, queues, addresses, slot) else {
-            return Err(ClientNews::NoHeader);
+            return Err(ClientEnd::NoHeader);
         };
-        guest.say_refusals(rt, moment);
         guest.say_bound(rt, moment, state);
         if guest.is_refused() {
-            return Err(ClientNews::TurnedOut);
+            return Err(ClientEnd::TurnedOut);
         }
         Ok(end)
     }
@@ -95,12 +94,12 @@ impl<'d> Guests<'d> {
                 self.let_go(rt, moment, queues, addresses, slot, end);
                 true
             }
-            Ok(RunEnd::Idle | RunEnd::Turns) => {
+            Ok(RunEnd::Idle | RunEnd::Turns | RunEnd::Filled) => {
                 self.settle(queues, slot, moment.now);
                 false
             }
-            Err(news) => {
-                self.dismiss_one(rt, moment, queues, addresses, slot, news);
+            Err(end) => {
+                self.dismiss_one(rt, moment, queues, addresses, slot, end);
                 true
             }
         }
@@ -114,10 +113,10 @@ impl<'d> Guests<'d> {
         queues: &mut Queues,
         addresses: &mut Addresses,
         slot: usize,
-        news: ClientNews<'_>,
+        end: ClientEnd,
     ) {
         if let Some(guest) = self.take(slot) {
-            guest.say(rt, moment, news);
+            guest.say(rt, moment, ClientNews::Gone(end));
             self.part(rt, queues, addresses, slot, guest, moment.now);
         }
     }
@@ -135,7 +134,7 @@ impl<'d> Guests<'d> {
         let Some(guest) = self.take(slot) else {
             return;
         };
-        guest.say(rt, moment, guest.farewell(end));
+        guest.say(rt, moment, ClientNews::Gone(guest.farewell(end)));
         self.part(rt, queues, addresses, slot, guest, moment.now);
     }
 
@@ -146,7 +145,7 @@ impl<'d> Guests<'d> {
         moment: Moment<'_>,
         queues: &mut Queues,
         slot: usize,
-    ) -> Option<ClientNews<'static>> {
+    ) -> Option<ClientEnd> {
         let Moment { timers, now, .. } = moment;
         let guest = self.guests.get_mut(self.seating.place(slot))?;
         if guest.refusals.is_paced(now) {
@@ -154,14 +153,14 @@ impl<'d> Guests<'d> {
             queues.schedule.add(party);
         }
         if guest.has_parted(now) {
-            return Some(ClientNews::NotUnbound);
+            return Some(ClientEnd::NotUnbound);
         }
         if guest.is_stuck(now, timers.client_silence.saturating_mul(2)) {
-            return Some(ClientNews::Stuck);
+            return Some(ClientEnd::Stuck);
         }
         guest
             .stays_late(now, timers.bind)
-            .then_some(ClientNews::Late)
+            .then_some(ClientEnd::Late)
     }
 
     /// Lets each client go that wasn't bound in time, takes no octet, or didn't answer the proxy's unbind. A
@@ -174,8 +173,8 @@ impl<'d> Guests<'d> {
         addresses: &mut Addresses,
     ) {
         for slot in 0..queues.slots {
-            if let Some(news) = self.found_at(moment, queues, slot) {
-                self.dismiss_one(rt, moment, queues, addresses, slot, news);
+            if let Some(end) = self.found_at(moment, queues, slot) {
+                self.dismiss_one(rt, moment, queues, addresses, slot, end);
             }
         }
     }
@@ -248,7 +247,7 @@ impl<'d> Guests<'d> {
         addresses: &mut Addresses,
     ) {
         for slot in 0..queues.slots {
-            self.dismiss_one(rt, moment, queues, addresses, slot, ClientNews::NotUnbound);
+            self.dismiss_one(rt, moment, queues, addresses, slot, ClientEnd::NotUnbound);
         }
     }
 
@@ -290,6 +289,7 @@ impl<'d> Guests<'d> {
         match guest.change(rt, moment) {
             None => return,
             Some(AccountChange::Prefixes) => guest.reroute(rt, moment, addresses),
+            Some(AccountChange::Rules) => guest.desk = moment.desk,
             Some(AccountChange::Gone | AccountChange::Password) => {
                 self.unbind_at(rt, queues, addresses, slot, moment.now);
             }
@@ -308,7 +308,7 @@ impl<'d> Guests<'d> {
         for slot in 0..queues.slots {
             match self.at(slot) {
                 Some(guest) if guest.name.is_none() => {
-                    self.dismiss_one(rt, moment, queues, addresses, slot, ClientNews::Renewed);
+                    self.dismiss_one(rt, moment, queues, addresses, slot, ClientEnd::Renewed);
                 }
                 _ => self.renew_at(rt, moment, queues, addresses, slot),
             }
@@ -399,7 +399,7 @@ impl<'d> Guests<'d> {
             return;
         };
         if let Some(guest) = self.take(slot) {
-            guest.say(rt, moment, ClientNews::Displaced);
+            guest.say(rt, moment, ClientNews::Gone(ClientEnd::Displaced));
             let (socket, ends) = guest.close(rt, queues, addresses);
             drop(socket);
             self.slots.keep(slot, ends);

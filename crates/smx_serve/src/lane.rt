@@ -3,20 +3,17 @@
 
 use crate::addresses::Addresses;
 use crate::course::{Course, Way};
-use crate::guest::NACK;
-use crate::heard::bind_status;
+use crate::linked::{Linked, Spare, Turned, link_to};
 use crate::pace::Moment;
-use crate::queues::{Progress, Queues, TURNS, is_enough};
-use crate::seats::{Carrier, Drawer};
-use crate::upstreams::{connect, session_of};
+use crate::queues::Queues;
+use crate::seats::Drawer;
 use mio::Registry;
 use smx_config::Upstream;
 use smx_notice::{LinkLoss, LinkState};
-use smx_pdu::status::ESME_ROK;
 use smx_session::UpstreamState;
-use smx_slots::{Bell, Door, Guide, LaneEnds};
+use smx_slots::{LaneBell, LaneEnds};
 use smx_socket::Socket;
-use smx_turns::{Fault, RunEnd};
+use smx_turns::RunEnd;
 use smx_upstream::LastRequest;
 use std::alloc::Global;
 use std::io;
@@ -33,36 +30,6 @@ pub(crate) struct Lane {
     course: Course,
     // Since which moment what is queued here waits for a link, in milliseconds.
     lost: Option<u64>,
-}
-
-// A worker beside its socket.
-#[derive(Drop)]
-struct Linked {
-    carrier: Carrier,
-    socket: Rc<Socket>,
-    // When it began to connect, and the moment of its last turn.
-    begun: u64,
-    turned: u64,
-    // Since when it was bound, where its session stood after the last turn, and whether its worker has
-    // ended.
-    bound: Option<u64>,
-    state: UpstreamState,
-    over: bool,
-}
-
-// What a worker is made of, beside its link.
-#[derive(Drop)]
-struct Spare {
-    drawer: Drawer,
-    ends: LaneEnds,
-}
-
-/// What a turn of a worker did.
-#[derive(Clone, Copy)]
-pub(crate) struct Turned {
-    pub end: RunEnd,
-    // It is bound since.
-    pub newly_bound: bool,
 }
 
 /// How a link was lost, which request went out last over it, and how many failed with it.
@@ -82,130 +49,14 @@ pub(crate) enum Unlinked {
     Unknown(String),
 }
 
-/// How long a link has to be bound for the next pause to be the first again, in milliseconds.
-const HELD: u64 = 60_000;
-
-// What rings in a lane's turn.
-fn lane_bell<'a>(queues: &'a mut Queues, addresses: &'a mut Addresses) -> Bell<'a> {
-    Bell::new(
+// What rings where a lane's worker is closed or gives up.
+fn lane_bell<'a>(queues: &'a mut Queues, addresses: &'a mut Addresses) -> LaneBell<'a> {
+    LaneBell::new(
         queues.lanes,
         &mut queues.schedule,
         &addresses.roll,
         &mut addresses.ledger,
-        Door::Lane,
     )
-}
-
-impl Linked {
-    // Whether an octet came from the centre.
-    fn has_heard(&self, alloc: Global) -> bool {
-        match self.socket.head(alloc) {
-            Some(octets) => !octets.is_empty(),
-            None => false,
-        }
-    }
-
-    // Whether its address could not be reached, where its worker ended so.
-    fn is_unreached(&self, alloc: Global, end: RunEnd) -> bool {
-        end == RunEnd::Fault(Fault::Link) && !self.has_heard(alloc)
-    }
-
-    // The status with which the centre refused the bind, where it did.
-    fn refusal(&self, alloc: Global) -> Option<u32> {
-        let status = bind_status(self.socket.head(alloc)?.as_slice())?;
-        if status == ESME_ROK {
-            None
-        } else {
-            Some(status)
-        }
-    }
-
-    // Why it has ended, where it wasn't told to.
-    fn farewell(&self, alloc: Global, end: RunEnd) -> LinkLoss {
-        if self.is_unreached(alloc, end) {
-            return LinkLoss::Unreached(None);
-        }
-        if let RunEnd::Fault(fault) = end {
-            return LinkLoss::Fault(fault);
-        }
-        if let Some(status) = self.refusal(alloc) {
-            return LinkLoss::Refused(status);
-        }
-        if self.socket.has_ended() {
-            LinkLoss::Closed
-        } else if self.socket.tail() == NACK {
-            LinkLoss::BadLength
-        } else if self.state == UpstreamState::Bound {
-            LinkLoss::Silent
-        } else {
-            LinkLoss::Unbound
-        }
-    }
-
-    // Whether it was bound for long.
-    fn has_held(&self, now: u64) -> bool {
-        match self.bound {
-            Some(bound) => now >= bound.saturating_add(HELD),
-            None => false,
-        }
-    }
-
-    // Runs the worker turn by turn, until it is idle or the party's turn is over: how that ended.
-    fn run<R: Wait>(
-        &mut self,
-        rt: &R,
-        bell: &mut Bell<'_>,
-        guide: &mut Guide<'_>,
-        now: u64,
-    ) -> RunEnd {
-        let before = self.socket.traffic();
-        for _ in 0..TURNS {
-            let (end, state) = self.carrier.run(rt, bell, guide, now, 1);
-            self.state = state;
-            if end != RunEnd::Turns || is_enough(before, self.socket.traffic()) {
-                return end;
-            }
-        }
-        RunEnd::Turns
-    }
-
-    // Makes a turn of the lane; who is told of something is ready then.
-    fn turn<R: Wait>(
-        &mut self,
-        rt: &R,
-        queues: &mut Queues,
-        addresses: &mut Addresses,
-        lane: usize,
-        now: u64,
-    ) -> Turned {
-        let before = self.socket.traffic();
-        let mut bell = Bell::new(
-            queues.lanes,
-            &mut queues.schedule,
-            &addresses.roll,
-            &mut addresses.ledger,
-            Door::Lane,
-        );
-        let mut guide = Guide::new(&mut addresses.routes, &addresses.roll);
-        let end = self.run(rt, &mut bell, &mut guide, now);
-        self.over = matches!(end, RunEnd::Left | RunEnd::Fault(_));
-        self.turned = now;
-        let progress = Progress {
-            end,
-            moved: self.socket.traffic() != before,
-            rang: bell.has_rung(),
-            writable: self.socket.is_writable(),
-        };
-        queues.was_turned(lane, progress);
-        if progress.moved {
-            queues.empty_boxes();
-        }
-        let newly_bound = self.state == UpstreamState::Bound && self.bound.is_none();
-        if newly_bound {
-            self.bound = Some(now);
-        }
-        Turned { end, newly_bound }
-    }
 }
 
 impl Lane {
@@ -358,11 +209,11 @@ impl Lane {
         addresses: &mut Addresses,
         end: RunEnd,
     ) -> Option<Lost> {
-        let Moment { alloc, now, .. } = moment;
+        let now = moment.now;
         let (loss, has_held, last) = match &self.link {
             Some(linked) => {
                 let last = linked.carrier.last_request();
-                (linked.farewell(alloc, end), linked.has_held(now), last)
+                (linked.farewell(end), linked.has_held(now), last)
             }
             None => return None,
         };
@@ -420,10 +271,10 @@ impl Lane {
         failed
     }
 
-    // Lets go what was noted of its lane, where that is so much. A worker does it of its own.
-    pub fn turn_over<R: Wait>(&mut self, rt: &R, least: usize) {
+    // Lets go what was noted of its lane, where that is enough. A worker does it of its own.
+    pub fn turn_over<R: Wait>(&mut self, rt: &R) {
         if let Some(spare) = &mut self.spare {
-            spare.drawer.turn_over(rt, least);
+            spare.drawer.turn_over(rt);
         }
     }
 
@@ -490,53 +341,3 @@ impl Lane {
 
 /// More addresses than a name has.
 const MOST: usize = 64;
-
-// A worker over a new connection to this address, or what it would have been made of, and the system's
-// reason, if it is one.
-fn link_to<R: Wait + Net>(
-    rt: &R,
-    registry: &Registry,
-    moment: Moment<'_>,
-    upstream: &Upstream,
-    spare: Spare,
-    address: SocketAddr,
-) -> Result<Linked, (Spare, Option<io::Error>)> {
-    let Moment {
-        alloc,
-        config,
-        timers,
-        now,
-        ..
-    } = moment;
-    let lane = spare.drawer.tap.lane();
-    let Some(session) = session_of(alloc, upstream, timers.enquire, now) else {
-        return Err((spare, None));
-    };
-    let (socket, link) = match connect(rt, alloc, registry, address, lane) {
-        Ok(wired) => wired,
-        Err(reason) => return Err((spare, reason)),
-    };
-    let Spare { drawer, ends } = spare;
-    let history = config.limits.history as usize;
-    match Carrier::new(
-        rt,
-        alloc,
-        drawer,
-        session,
-        ends,
-        link,
-        history,
-        timers.response,
-    ) {
-        Ok(carrier) => Ok(Linked {
-            carrier,
-            socket,
-            begun: now,
-            turned: now,
-            bound: None,
-            state: UpstreamState::Binding,
-            over: false,
-        }),
-        Err((drawer, ends)) => Err((Spare { drawer, ends }, None)),
-    }
-}

@@ -5,16 +5,18 @@ mod addresses;
 mod course;
 mod desk;
 mod entrance;
+mod exchanges;
 mod guest;
 mod guests;
-mod heard;
 mod herald;
 mod lane;
 mod lingering;
+mod linked;
 mod linking;
 mod listening;
 mod log;
 mod lookup;
+mod mail;
 mod pace;
 mod parties;
 mod preface;
@@ -33,11 +35,12 @@ mod teller;
 mod turning;
 mod upstreams;
 
-pub use log::Log;
+pub use log::{Log, wall};
 pub use lookup::{Lookups, is_name};
 pub use remote::Remote;
 pub use serve::Server;
 pub use smx_notice::{
-    AccountChange, ClientName, ClientNews, ClientStanding, Counts, Ended, LastSent, LinkLoss,
-    LinkState, MeteredKind, Notice, Service, Standing, TurnedAway, UpstreamName, UpstreamNews,
+    AccountChange, ClientEnd, ClientName, ClientNews, ClientStanding, Counts, DoorNews, Ended,
+    Form, LastSent, Level, LinkLoss, LinkState, MeteredKind, Notice, ReloadNews, RunNews, Service,
+    Standing, TurnedAway, UpstreamName, UpstreamNews, UpstreamStanding,
 };

@@ -78,7 +78,7 @@ pub(crate) fn turn_lane<R: Wait>(
         say(rt, moment, lane, UpstreamNews::Bound);
     }
     match turned.end {
-        RunEnd::Idle | RunEnd::Turns => {}
+        RunEnd::Idle | RunEnd::Turns | RunEnd::Filled => {}
         RunEnd::Left | RunEnd::Fault(_) if moment.stopping => {
             say(rt, moment, lane, UpstreamNews::Unbound);
         }
@@ -173,7 +173,7 @@ fn tend<R: Wait + Net>(
     let config = moment.config;
     end_late(rt, moment, queues, addresses, lane, place);
     give_up(rt, moment, queues, addresses, lane, place);
-    place.turn_over(rt, config.limits.history as usize / 8);
+    place.turn_over(rt);
     if let Some(upstream) = config.upstream.get(lane) {
         connect(rt, registry, moment, upstream, lane, place);
     }

@@ -5,7 +5,7 @@ use crate::parties::LISTENER;
 use crate::remote::Remote;
 use mio::net::TcpListener;
 use mio::{Events, Interest, Poll, Token};
-use smx_notice::{Ended, Notice, Service};
+use smx_notice::{DoorNews, Ended, Notice, RunNews, Service};
 use std::io;
 use std::net::{Net, TcpStream};
 use std::sync::Wait;
@@ -43,7 +43,7 @@ fn pause<R: Wait>(
         return Err(Ended::NoEvents);
     }
     if remote.is_stopping() {
-        moment.say(rt, Notice::Stopping);
+        moment.say(rt, Notice::Run(RunNews::Stopping));
         moment.herald.say(rt, Service::Stopping);
         return Err(Ended::Stopped);
     }
@@ -70,7 +70,7 @@ where
             Err(error) => error,
         };
         if attempt % ATTEMPTS == 0 {
-            moment.say(rt, Notice::NotListening(address, error));
+            moment.say(rt, Notice::Door(DoorNews::NotListening(address, error)));
         }
         if attempt == 0 {
             moment.herald.say(rt, Service::Awaiting(address));

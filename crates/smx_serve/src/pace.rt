@@ -1,6 +1,7 @@
 //! The moments of the loop, and what is due at each.
 
 use crate::herald::Herald;
+use crate::log::wall;
 use crate::lookup::Lookups;
 use crate::teller::Teller;
 use smx_client::Desk;
@@ -33,6 +34,8 @@ pub(crate) struct Moment<'d> {
     pub herald: &'d Herald,
     pub lookups: &'d Lookups,
     pub now: u64,
+    // The milliseconds since 1970-01-01 UTC.
+    pub wall: u64,
     // The nanoseconds behind these milliseconds: a number by chance, below 1,000,000.
     pub chance: u64,
     pub stopping: bool,
@@ -41,7 +44,7 @@ pub(crate) struct Moment<'d> {
 impl Moment<'_> {
     /// Says a line at this moment.
     pub fn say<R: Wait>(self, rt: &R, notice: Notice<'_>) {
-        self.teller.say(rt, self.now, notice);
+        self.teller.say(rt, self.now, self.wall, notice);
     }
 }
 
@@ -80,6 +83,10 @@ impl<'d> Pace<'d> {
             self.moment.now = u64::try_from(passed.as_millis()).unwrap_or(u64::MAX);
             self.moment.chance = u64::from(passed.subsec_nanos() % 1_000_000);
         }
+        self.moment.wall = self
+            .moment
+            .wall
+            .saturating_add(self.moment.now.saturating_sub(before));
         let is_soon = self.moment.now < before.saturating_add(2 * TICK);
         if std::mem::take(&mut self.has_waited) && is_soon {
             self.polled = self.moment.now;
@@ -88,6 +95,7 @@ impl<'d> Pace<'d> {
             return false;
         }
         self.ticked = self.moment.now;
+        self.moment.wall = wall(rt);
         true
     }
 

@@ -1,7 +1,7 @@
 //! What stands before a client's PDUs where the listener has `proxy_protocol`.
 
 use smx_link::Polled;
-use smx_proxy_header::{Header, Source, read_header};
+use smx_proxy_header::{ProxyHeader, Source, read_proxy_header};
 use smx_socket::{Answers, Socket};
 use std::alloc::Global;
 
@@ -43,14 +43,14 @@ impl Preface {
 
     // What the octets that came are.
     fn judged(&self) -> Prefaced {
-        match read_header(self.octets.as_slice()) {
-            Header::Part => Prefaced::Waits,
-            Header::Whole {
+        match read_proxy_header(self.octets.as_slice()) {
+            ProxyHeader::Part => Prefaced::Waits,
+            ProxyHeader::Whole {
                 source: Source::Local,
                 ..
             } => Prefaced::Whole(None),
-            Header::Whole { source, .. } => Prefaced::Whole(Some(source)),
-            Header::Wrong => Prefaced::Wrong,
+            ProxyHeader::Whole { source, .. } => Prefaced::Whole(Some(source)),
+            ProxyHeader::Wrong => Prefaced::Wrong,
         }
     }
 
@@ -88,10 +88,5 @@ impl Preface {
             }
         }
         Prefaced::Wrong
-    }
-
-    /// How many octets the header had.
-    pub fn length(&self) -> usize {
-        self.octets.len()
     }
 }

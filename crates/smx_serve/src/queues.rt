@@ -130,7 +130,7 @@ impl Queues {
         if moved {
             self.dirty.add(party);
         }
-        if end != RunEnd::Turns {
+        if !matches!(end, RunEnd::Turns | RunEnd::Filled) {
             return;
         }
         if !(moved || rang || writable) {

@@ -5,7 +5,7 @@ use crate::pace::Moment;
 use crate::turning::Loop;
 use smx_client::Desk;
 use smx_config::{Config, Upstream};
-use smx_notice::{Notice, Service};
+use smx_notice::{Notice, ReloadNews, Service};
 use std::alloc::{AllocError, Global};
 use std::sync::Wait;
 
@@ -24,6 +24,10 @@ fn is_same_upstream(one: &Upstream, other: &Upstream) -> bool {
     one.address == other.address
         && one.system_id == other.system_id
         && one.password == other.password
+        && one.bind == other.bind
+        && one.system_type == other.system_type
+        && one.address_range == other.address_range
+        && one.interface_version == other.interface_version
 }
 
 // Whether two lists of upstreams are the same.
@@ -57,7 +61,7 @@ fn say_not_taken<R: Wait>(rt: &R, moment: Moment<'_>, read: &Config) {
     let same = are_same(moment.config, read);
     for (index, name) in NAMES.iter().enumerate() {
         if same.get(index) == Some(&false) {
-            moment.say(rt, Notice::NotTaken(name));
+            moment.say(rt, Notice::Reload(ReloadNews::NotTaken(name)));
         }
     }
 }
@@ -100,18 +104,19 @@ impl<'d> Loop<'d> {
     fn take<R: Wait>(&mut self, rt: &R, read: &Config) {
         let moment = self.pace.moment;
         let Ok(desk) = other_desk(moment.alloc, read, moment.desk) else {
-            moment.say(rt, Notice::NotReloaded("no memory"));
+            moment.say(rt, Notice::Reload(ReloadNews::NotReloaded("no memory")));
             return;
         };
         if self
             .renew_limits(read, desk.unwrap_or(moment.desk))
             .is_err()
         {
-            moment.say(rt, Notice::NotReloaded("no memory"));
+            moment.say(rt, Notice::Reload(ReloadNews::NotReloaded("no memory")));
             return;
         }
         self.pace.moment.timers = read.timers;
-        moment.say(rt, Notice::Reloaded(read.account.len()));
+        moment.teller.renew(rt, read);
+        moment.say(rt, Notice::Reload(ReloadNews::Reloaded(read.account.len())));
         say_not_taken(rt, moment, read);
         if let Some(desk) = desk {
             self.replace_desk(rt, desk);

@@ -3,7 +3,7 @@
 use crate::lookup::is_name;
 use mio::Poll;
 use smx_config::Config;
-use smx_notice::Notice;
+use smx_notice::{DoorNews, Notice};
 use smx_slots::clients_that_fit;
 use std::alloc::Global;
 use std::net::Net;
@@ -72,10 +72,10 @@ impl Room {
             found,
             wanted,
         } = self;
-        (found < wanted).then_some(Notice::FewDescriptors {
+        (found < wanted).then_some(Notice::Door(DoorNews::FewDescriptors {
             found,
             wanted,
             clients,
-        })
+        }))
     }
 }

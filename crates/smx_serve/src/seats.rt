@@ -7,14 +7,15 @@ ghost use Rattle.smx_client.specs.declared.mark.Stage.{Stage};
 ghost use Rattle.smx_session.specs.declared.upstream_state.UpstreamState.{UpstreamState};
 
 use smx_box::{Got, Receiver};
-use smx_client::{ClientWorker, Closed, Desk, run_client};
+use smx_client::{ClientWorker, Closed, Desk, Refusal, run_client};
 use smx_config::Timers;
+use smx_lane::Load;
 use smx_pdu::Pdu;
 use smx_session::{ClientState, UpstreamSession, UpstreamState};
 use smx_shared::{Door, EnterFault, Exchange, Port, Tap};
 use smx_slots::{ClientEnds, LaneEnds};
 use smx_socket::SocketLink;
-use smx_turns::{Directory, Gate, RunEnd};
+use smx_turns::{Directory, End, Gate, RunEnd};
 use smx_upstream::{
     Closed as Ended, LastRequest, Parts, UpstreamWorker, give_up_queued, run_upstream,
 };
@@ -26,6 +27,8 @@ use std::sync::{Arc, Wait};
 pub(crate) struct Drawer {
     pub at: Arc<Exchange>,
     pub tap: Tap,
+    // How many entries its lane's history may have.
+    pub history: usize,
     ghost fits: { slice_get (arc_value at) tap.lane ≡ Some tap.front.lock },
 }
 
@@ -61,6 +64,7 @@ pub(crate) struct Member<'d> {
 pub(crate) struct Carrier {
     at: Arc<Exchange>,
     worker: UpstreamWorker<SocketLink>,
+    history: usize,
     // It has ended, or a turn of it failed: it is turned no more.
     over: bool,
     ghost fits: { slice_get (arc_value at) worker.stand.tap.lane
@@ -79,9 +83,9 @@ impl Drawer {
         give_up_queued(&mut self.tap, &self.at, rt, gate, now).failed
     }
 
-    // The lane lets go what was noted there, where that is so much.
-    pub fn turn_over<R: Wait>(&mut self, rt: &R, least: usize) {
-        let _ = self.tap.turn_over(&self.at, rt, least);
+    // The lane lets go what was noted there, where that is an eighth of its history.
+    pub fn turn_over<R: Wait>(&mut self, rt: &R) {
+        let _ = self.tap.turn_over(&self.at, rt, self.history / 8);
     }
 }
 
@@ -105,6 +109,14 @@ impl Gateway {
             Ok(port) => Ok(Entrant { at, port }),
             Err((fault, _)) => Err(fault),
         }
+    }
+
+    // How much a lane holds. None where there is no such lane, or it takes no more calls.
+    pub fn load<R: Wait>(&mut self, rt: &R, lane: usize) -> Option<Load> {
+        if lane >= self.door.lanes() {
+            return None;
+        }
+        self.door.load(&self.at, rt, lane).ok()
     }
 }
 
@@ -192,9 +204,19 @@ impl<'d> Member<'d> {
         (end, self.worker.state())
     }
 
-    // Whether no octet came after an enquiry.
-    pub fn is_silent(&self) -> bool {
-        self.worker.is_silent()
+    // Why its session has ended, where it has.
+    pub fn ending(&self) -> Option<End> {
+        self.worker.ending()
+    }
+
+    // The last bind of it that was refused.
+    pub fn refused(&self) -> Option<&Refusal> {
+        self.worker.refused()
+    }
+
+    // The index of the account by which it is bound.
+    pub fn account(&self) -> Option<usize> {
+        self.worker.account()
     }
 
     // How many octets it said that its socket hasn't taken.
@@ -230,12 +252,11 @@ impl Carrier {
         session: UpstreamSession,
         ends: LaneEnds,
         link: SocketLink,
-        history: usize,
         response_timer: u64,
     ) -> Result<Carrier, (Drawer, LaneEnds)>
         requires { session.state ≡ UpstreamState.Binding }
     {
-        let Drawer { at, tap } = drawer;
+        let Drawer { at, tap, history } = drawer;
         let LaneEnds {
             mut answers,
             senders,
@@ -254,6 +275,7 @@ impl Carrier {
             Ok(worker) => Ok(Carrier {
                 at,
                 worker,
+                history,
                 over: false,
             }),
             Err(parts) => {
@@ -269,7 +291,7 @@ impl Carrier {
                     senders,
                     owed,
                 };
-                Err((Drawer { at, tap }, ends))
+                Err((Drawer { at, tap, history }, ends))
             }
         }
     }
@@ -278,7 +300,12 @@ impl Carrier {
     // answer that waits for this link goes out. The tap and the ends come back, and how many requests
     // failed.
     pub fn close<R: Wait, G: Gate>(self, rt: &R, gate: &mut G) -> (Drawer, LaneEnds, usize) {
-        let Carrier { at, worker, .. } = self;
+        let Carrier {
+            at,
+            worker,
+            history,
+            ..
+        } = self;
         let Ended {
             tap,
             mut answers,
@@ -288,13 +315,18 @@ impl Carrier {
             ..
         } = worker.close(&at, rt, gate);
         empty(rt, &mut answers);
-        let drawer = Drawer { at, tap };
+        let drawer = Drawer { at, tap, history };
         let ends = LaneEnds {
             answers,
             senders,
             owed,
         };
         (drawer, ends, lost.failed)
+    }
+
+    // Why its session has ended, where it has.
+    pub fn ending(&self) -> Option<End> {
+        self.worker.ending()
     }
 
     // The request that went out last over its link.

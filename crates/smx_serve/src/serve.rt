@@ -3,11 +3,12 @@
 use crate::addresses::Addresses;
 use crate::desk::{desk_of, limits_of};
 use crate::entrance::Entrance;
+use crate::exchanges::gateway_of;
 use crate::guests::Guests;
 use crate::herald::Herald;
 use crate::lane::Lane;
 use crate::listening::{await_listener, port_of};
-use crate::log::Log;
+use crate::log::{Log, wall};
 use crate::lookup::Lookups;
 use crate::pace::{Moment, Pace};
 use crate::parties::WAKER;
@@ -18,11 +19,9 @@ use crate::seats::{Drawer, Gateway};
 use crate::status::Survey;
 use crate::teller::Teller;
 use crate::turning::Loop;
-use crate::upstreams::drawers_of;
 use mio::{Events, Poll, Token, Waker};
 use smx_config::Config;
-use smx_notice::{Ended, Notice, Service};
-use smx_shared::Exchange;
+use smx_notice::{DoorNews, Ended, Form, Notice, Service};
 use smx_slots::{ClientEnds, LaneEnds, Slots, ends_of};
 use std::alloc::{AllocError, Global};
 use std::net::{Net, TcpStream};
@@ -35,23 +34,6 @@ use std::time::Instant;
 pub struct Server {
     poll: Poll,
     shared: Shared,
-}
-
-// The lanes: their door, and each tap beside the exchange.
-fn gateway_of<R: Wait>(
-    rt: &R,
-    alloc: Global,
-    config: &Config,
-) -> Result<(Gateway, Vec<Drawer>), Ended> {
-    let lanes = config.upstream.len();
-    let Ok((exchange, door, taps)) = Exchange::new(rt, alloc, config.limits, lanes) else {
-        return Err(Ended::NoMemory);
-    };
-    let Ok(at) = Arc::new(alloc, exchange) else {
-        return Err(Ended::NoMemory);
-    };
-    let drawers = drawers_of(alloc, &at, taps)?;
-    Ok((Gateway { at, door }, drawers))
 }
 
 // The boxes between the slots of so many clients and the lanes.
@@ -201,7 +183,7 @@ struct Shared {
 impl Shared {
     fn new(alloc: Global, waker: Waker) -> Result<Shared, AllocError> {
         let remote = Arc::new(alloc, Remote::new(waker))?;
-        let log = Arc::new(alloc, Log::new(alloc)?)?;
+        let log = Arc::new(alloc, Log::new(alloc, Some(Form::Text))?)?;
         let lookups = Lookups::new(alloc, Arc::try_clone(&remote)?)?;
         Ok(Shared {
             remote,
@@ -248,7 +230,7 @@ impl Server {
     /// them. Without this call nothing is said of that. None where there is no memory.
     pub fn service(&mut self, alloc: Global) -> Option<Arc<Log>> {
         if self.shared.service.is_none() {
-            let Ok(log) = Log::new(alloc) else {
+            let Ok(log) = Log::new(alloc, None) else {
                 return None;
             };
             let Ok(lines) = Arc::new(alloc, log) else {
@@ -288,6 +270,7 @@ impl Server {
         let Ok(desk) = desk_of(alloc, config) else {
             return Ended::NoMemory;
         };
+        log.write_by(rt, config);
         let teller = Teller::new(log);
         let herald = Herald::new(service);
         let moment = Moment {
@@ -299,6 +282,7 @@ impl Server {
             herald: &herald,
             lookups: &lookups,
             now: 0,
+            wall: wall(rt),
             chance: 0,
             stopping: false,
         };
@@ -318,7 +302,10 @@ where
 {
     let mut turning = loop_of(rt, poll, moment, remote)?;
     let Moment { config, .. } = moment;
-    moment.say(rt, Notice::Listening(config.listen.as_str()));
+    moment.say(
+        rt,
+        Notice::Door(DoorNews::Listening(config.listen.as_str())),
+    );
     moment.herald.say(rt, Service::Ready);
     Ok(turning.run(rt, remote))
 }

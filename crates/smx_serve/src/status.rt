@@ -1,12 +1,14 @@
 //! How all stands, told of while the loop goes on.
 
+use crate::addresses::Addresses;
 use crate::guests::Guests;
 use crate::lane::Lane;
 use crate::linking::name_of;
 use crate::pace::Moment;
+use crate::seats::Gateway;
 use crate::turning::Loop;
-use smx_notice::{Notice, Standing};
-use smx_slots::Ledger;
+use smx_lane::Load;
+use smx_notice::{LinkState, Notice, Standing, UpstreamStanding};
 use std::sync::Wait;
 
 /// Of how many lanes and slots is told before the next pass.
@@ -42,34 +44,72 @@ impl Survey {
     }
 }
 
+// How a lane's upstream stands, of which the lane tells how much it holds.
+fn standing_of(link: LinkState, load: Option<Load>, now: u64) -> UpstreamStanding {
+    let none = UpstreamStanding {
+        link,
+        queued: 0,
+        under_way: 0,
+        oldest: None,
+        history: 0,
+    };
+    match load {
+        Some(load) => UpstreamStanding {
+            link,
+            queued: load.queued as u64,
+            under_way: load.unanswered as u64,
+            oldest: load.earliest.map(|taken| now.saturating_sub(taken)),
+            history: load.entries as u64,
+        },
+        None => none,
+    }
+}
+
 // Tells how a lane's upstream stands.
-fn tell_lane<R: Wait>(rt: &R, moment: Moment<'_>, lane: usize, place: &Lane) {
+fn tell_lane<R: Wait>(
+    rt: &R,
+    moment: Moment<'_>,
+    gateway: &mut Gateway,
+    lane: usize,
+    place: &Lane,
+) {
     if let Some(name) = name_of(moment, lane) {
-        let standing = Standing::Upstream(name, place.standing(moment.now));
-        moment.say(rt, Notice::Status(standing));
+        let load = gateway.load(rt, lane);
+        let standing = standing_of(place.standing(moment.now), load, moment.now);
+        moment.say(rt, Notice::Status(Standing::Upstream(name, standing)));
     }
 }
 
 // Tells how the slot's client stands, where it has one.
-fn tell_slot<R: Wait>(rt: &R, moment: Moment<'_>, guests: &Guests, ledger: &Ledger, slot: usize) {
+fn tell_slot<R: Wait>(
+    rt: &R,
+    moment: Moment<'_>,
+    guests: &Guests,
+    addresses: &Addresses,
+    slot: usize,
+) {
     if let Some(guest) = guests.at(slot) {
-        let requests = ledger.of_client(guest.client);
-        let standing = Standing::Client(guest.named(), guest.standing(requests, moment.now));
-        moment.say(rt, Notice::Status(standing));
+        let requests = addresses.ledger.of_client(guest.client);
+        let messages = addresses.mail.of(slot);
+        let standing = guest.standing(requests, messages, moment.now);
+        moment.say(
+            rt,
+            Notice::Status(Standing::Client(guest.named(), standing)),
+        );
     }
 }
 
 impl Loop<'_> {
     // Tells how a lane or a slot stands.
-    fn tell<R: Wait>(&self, rt: &R, party: usize) {
+    fn tell<R: Wait>(&mut self, rt: &R, party: usize) {
         let moment = self.pace.moment;
         match self.lanes.get(party) {
-            Some(lane) => tell_lane(rt, moment, party, lane),
+            Some(lane) => tell_lane(rt, moment, &mut self.entrance.gateway, party, lane),
             None => tell_slot(
                 rt,
                 moment,
                 &self.guests,
-                &self.addresses.ledger,
+                &self.addresses,
                 party.saturating_sub(self.lanes.len()),
             ),
         }

@@ -3,7 +3,7 @@
 use crate::parties::{are_idle, are_settled};
 use crate::remote::Remote;
 use crate::turning::Loop;
-use smx_notice::{Ended, Notice, Service};
+use smx_notice::{Ended, Notice, RunNews, Service};
 use std::net::Net;
 use std::rt::Clock;
 use std::sync::Wait;
@@ -77,7 +77,9 @@ impl<'d> Loop<'d> {
     // Awaits or answers each request that is under way, and lets the clients have the answers.
     fn drain<R: Wait + Clock + Net>(&mut self, rt: &R, remote: &Remote) -> Result<(), Ended> {
         let requests = self.addresses.ledger.under_way();
-        self.pace.moment.say(rt, Notice::Draining(requests));
+        self.pace
+            .moment
+            .say(rt, Notice::Run(RunNews::Draining(requests)));
         self.shut(rt);
         let before = self.queues.failed;
         self.await_answers(rt, remote)?;
@@ -88,10 +90,10 @@ impl<'d> Loop<'d> {
         let failed = self.queues.failed.saturating_sub(before);
         self.pace.moment.say(
             rt,
-            Notice::Drained {
+            Notice::Run(RunNews::Drained {
                 answered: requests.saturating_sub(failed),
                 failed,
-            },
+            }),
         );
         Ok(())
     }
@@ -141,11 +143,14 @@ impl<'d> Loop<'d> {
     /// upstream, and ends.
     pub fn stop<R: Wait + Clock + Net>(&mut self, rt: &R, remote: &Remote) -> Ended {
         let moment = self.pace.moment;
-        moment.say(rt, Notice::Stopping);
+        moment.say(rt, Notice::Run(RunNews::Stopping));
         moment.herald.say(rt, Service::Stopping);
-        match self.end(rt, remote) {
+        let ended = match self.end(rt, remote) {
             Ok(()) => Ended::Stopped,
             Err(ended) => ended,
-        }
+        };
+        let moment = self.pace.moment;
+        moment.teller.end(rt, moment.wall);
+        ended
     }
 }

@@ -81,7 +81,7 @@ impl<'d> Loop<'d> {
             &mut self.queues,
             &mut self.addresses,
         );
-        moment.teller.settle(rt, moment.now);
+        moment.teller.settle(rt, moment.now, moment.wall);
         if moment.herald.looks(moment.now) {
             moment.herald.tell(rt, moment.now, self.counts());
         }

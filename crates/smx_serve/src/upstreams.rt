@@ -1,39 +1,17 @@
 //! The links to the centre.
-ghost use Rattle.std.specs.Prelude.{◌≡◌, true, slice_get, Some, All, IfOk, IfSome};
-ghost use Rattle.std.specs.Arc.{arc_value};
+ghost use Rattle.std.specs.Prelude.{◌≡◌, true, IfSome};
 ghost use Rattle.smx_pdu.specs.Fields.{IsText};
 ghost use Rattle.smx_session.specs.declared.upstream_state.UpstreamState.{UpstreamState};
 
 use crate::entrance::wire;
-use crate::seats::Drawer;
 use mio::Registry;
-use smx_config::Upstream;
-use smx_session::UpstreamSession;
-use smx_shared::{Exchange, Tap};
+use smx_config::{BindKind, Upstream};
+use smx_session::{Kind, UpstreamBind, UpstreamSession};
 use smx_socket::{Socket, SocketLink};
-use std::alloc::{AllocError, Global};
+use std::alloc::Global;
 use std::io;
 use std::net::{Net, SocketAddr};
 use std::rc::Rc;
-use std::sync::Arc;
-
-// Each tap beside its exchange.
-pub(crate) fn drawers_of(
-    alloc: Global,
-    at: &Arc<Exchange>,
-    taps: Vec<Tap>,
-) -> Result<Vec<Drawer>, AllocError>
-    requires { All (λ t. slice_get (arc_value at.now) t.lane ≡ Some t.front.lock) taps.items }
-{
-    let mut drawers = Vec::new(alloc);
-    for tap in taps {
-        drawers.push(Drawer {
-            at: Arc::try_clone(at)?,
-            tap,
-        })?;
-    }
-    Ok(drawers)
-}
 
 // Whether a text is that of a bind, below this length and with no octet 0. A configuration's are.
 fn is_text(text: &[u8], limit: usize) -> bool
@@ -42,8 +20,28 @@ fn is_text(text: &[u8], limit: usize) -> bool
     text.len() < limit && !text.contains(&0)
 }
 
-// The session of an upstream's bind, with this silence before an enquiry. None where there is no memory
-// for its texts.
+// As what the proxy binds there.
+fn kind_of(bind: BindKind) -> Kind {
+    match bind {
+        BindKind::Transceiver => Kind::Trx,
+        BindKind::Transmitter => Kind::Tx,
+        BindKind::Receiver => Kind::Rx,
+    }
+}
+
+// A copy of a text of a bind. None where it is too long for that, has an octet 0, or there is no memory.
+fn copy_of(alloc: Global, text: &str, limit: usize) -> Option<Vec<u8>>
+    ensures { IfSome result (λ copy. IsText limit copy.items) }
+{
+    let octets = text.as_bytes();
+    if !is_text(octets, limit) {
+        return None;
+    }
+    Vec::from_slice(alloc, octets).ok()
+}
+
+/// The session of an upstream's bind, with this silence before an enquiry. None where there is no memory
+/// for its texts.
 pub(crate) fn session_of(
     alloc: Global,
     upstream: &Upstream,
@@ -52,18 +50,15 @@ pub(crate) fn session_of(
 ) -> Option<UpstreamSession>
     ensures { IfSome result (λ s. s.state ≡ UpstreamState.Binding) }
 {
-    let system_id = upstream.system_id.as_str().as_bytes();
-    let password = upstream.password.as_str().as_bytes();
-    if !is_text(system_id, 16) || !is_text(password, 9) {
-        return None;
-    }
-    let Ok(system_id) = Vec::from_slice(alloc, system_id) else {
-        return None;
+    let bind = UpstreamBind {
+        kind: kind_of(upstream.bind),
+        system_id: copy_of(alloc, upstream.system_id.as_str(), 16)?,
+        password: copy_of(alloc, upstream.password.as_str(), 9)?,
+        system_type: copy_of(alloc, upstream.system_type.as_str(), 13)?,
+        interface_version: upstream.interface_version,
+        address_range: copy_of(alloc, upstream.address_range.as_str(), 41)?,
     };
-    let Ok(password) = Vec::from_slice(alloc, password) else {
-        return None;
-    };
-    Some(UpstreamSession::new(alloc, system_id, password, enquire, now))
+    Some(UpstreamSession::new(alloc, bind, enquire, now))
 }
 
 // A connection to this address that is begun, which the loop knows by this lane. It waits for nothing.

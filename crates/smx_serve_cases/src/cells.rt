@@ -1,15 +1,14 @@
 //! The cells of the two session tables over sockets (SMPP 3.4, sections 2.2 and 4): in each state
 //! each kind of PDU, by its header alone, and what comes back.
 use crate::stage::{
-    Header, OWN_BOUND, binding, bound, comes, config_for, connected, number_of, server,
+    Header, OWN_BOUND, Running, binding, bound, comes, config_for, connected, number_of,
 };
-use smx_serve::{Ended, Remote};
+use smx_serve::Remote;
 use std::alloc::Global;
 use std::io::Write;
 use std::net::{Net, TcpListener, TcpStream};
 use std::process::Abort;
 use std::test::Fail;
-use std::thread;
 
 // What comes back for a PDU.
 #[derive(Clone, Copy, PartialEq, Eq)]
@@ -240,10 +239,9 @@ fn clients_met<R: Net<Stream = TcpStream> + Abort>(
 fn cells_of_a_client(rt: HostRuntime) -> Result<(), Fail> {
     let centre = TcpListener::bind(&rt, "127.0.0.1:0")?;
     let config = config_for(rt.alloc(), &centre, 30_000)?;
-    let (server, remote) = server(&rt, rt.alloc());
-    let proxy = thread::spawn(&rt, move || server.serve(&rt, rt.alloc(), &config))?;
-    let _link = clients_met(&rt, rt.alloc(), &centre, &remote)?;
-    assert_eq!(rt; proxy.join(&rt), Ended::Stopped);
+    let proxy = Running::of(rt, config)?;
+    let _link = clients_met(&rt, rt.alloc(), &centre, &proxy.remote)?;
+    proxy.is_over(&rt);
     Ok(())
 }
 
@@ -264,10 +262,9 @@ fn centre_met(rt: &impl Abort, alloc: Global, centre: &TcpListener) -> Result<Tc
 fn cells_of_a_centre(rt: HostRuntime) -> Result<(), Fail> {
     let centre = TcpListener::bind(&rt, "127.0.0.1:0")?;
     let config = config_for(rt.alloc(), &centre, 30_000)?;
-    let (server, remote) = server(&rt, rt.alloc());
-    let proxy = thread::spawn(&rt, move || server.serve(&rt, rt.alloc(), &config))?;
+    let proxy = Running::of(rt, config)?;
     let _link = centre_met(&rt, rt.alloc(), &centre)?;
-    remote.stop();
-    assert_eq!(rt; proxy.join(&rt), Ended::Stopped);
+    proxy.remote.stop();
+    proxy.is_over(&rt);
     Ok(())
 }

@@ -10,6 +10,7 @@ mod running;
 mod system;
 
 use running::run;
+use std::test::Fail;
 use system::peak;
 
 // What is tried.
@@ -34,34 +35,35 @@ const MORE: u64 = 65_536;
 
 // The test is a process of its own, so that nothing else takes its memory.
 #[test]
-fn a_client_that_never_reads_costs_no_memory(rt: HostRuntime) {
+fn a_client_that_never_reads_costs_no_memory(rt: HostRuntime) -> Result<(), Fail> {
     let before = peak(&rt, rt.alloc());
-    run(&rt, rt.alloc(), Trial::Unread);
+    run(rt, rt.alloc(), Trial::Unread)?;
     let more = peak(&rt, rt.alloc()).saturating_sub(before);
     assert!(rt;
         more <= MORE,
         "beside a client that never reads the process has {more} KB more"
     );
+    Ok(())
 }
 
 // Each account at once, the longest PDUs and one that is longer, random octets, all slots and one more,
 // and connections that are closed beside an octet a second.
 #[test]
-fn clients_of_bad_manners(rt: HostRuntime) {
-    run(&rt, rt.alloc(), Trial::Clients);
+fn clients_of_bad_manners(rt: HostRuntime) -> Result<(), Fail> {
+    run(rt, rt.alloc(), Trial::Clients)
 }
 
 #[test]
-fn a_centre_that_never_reads(rt: HostRuntime) {
-    run(&rt, rt.alloc(), Trial::Deaf);
+fn a_centre_that_never_reads(rt: HostRuntime) -> Result<(), Fail> {
+    run(rt, rt.alloc(), Trial::Deaf)
 }
 
 #[test]
-fn a_centre_that_answers_what_was_never_asked(rt: HostRuntime) {
-    run(&rt, rt.alloc(), Trial::Lying);
+fn a_centre_that_answers_what_was_never_asked(rt: HostRuntime) -> Result<(), Fail> {
+    run(rt, rt.alloc(), Trial::Lying)
 }
 
 #[test]
-fn a_centre_with_lengths_below_16(rt: HostRuntime) {
-    run(&rt, rt.alloc(), Trial::Short);
+fn a_centre_with_lengths_below_16(rt: HostRuntime) -> Result<(), Fail> {
+    run(rt, rt.alloc(), Trial::Short)
 }

@@ -1,5 +1,5 @@
-//! The proxy and its demonstration over sockets of the loopback, and the proxy's tables. It has tests
-//! alone, in a crate of their own, so that none of them is proved twice.
+//! The proxy and its demonstration over sockets of the loopback. It has tests alone, in a crate of their
+//! own, so that none of them is proved twice.
 #![tactic(auto)]
 
 #[cfg(test)]
@@ -16,5 +16,3 @@ mod returning;
 mod showing;
 #[cfg(test)]
 mod stage;
-#[cfg(test)]
-mod tables;

@@ -3,4 +3,4 @@ mod clients;
 mod orders;
 mod told;
 mod upstreams;
-mod words;
+mod waiting;

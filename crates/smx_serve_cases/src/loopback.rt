@@ -1,12 +1,11 @@
 use self::Step::{CentreHears, CentreSays, ClientHears, ClientSays};
-use crate::stage::{bound, comes, config_for, connected, server};
-use smx_serve::{Ended, Remote};
+use crate::stage::{Running, bound, comes, config_for, connected};
+use smx_serve::Remote;
 use std::alloc::Global;
 use std::io::Write;
 use std::net::{Net, TcpListener, TcpStream};
 use std::process::Abort;
 use std::test::Fail;
-use std::thread;
 
 // The bind of the account alpha as transceiver, and its answer (SMPP 3.4, sections 4.1.5 and 4.1.6).
 pub(crate) const BIND: &[u8] =
@@ -118,9 +117,8 @@ pub(crate) fn walk<R: Net<Stream = TcpStream> + Abort>(
 fn a_message_goes_both_ways(rt: HostRuntime) -> Result<(), Fail> {
     let centre = TcpListener::bind(&rt, "127.0.0.1:0")?;
     let config = config_for(rt.alloc(), &centre, 30_000)?;
-    let (server, remote) = server(&rt, rt.alloc());
-    let proxy = thread::spawn(&rt, move || server.serve(&rt, rt.alloc(), &config))?;
-    let _links = walk(&rt, rt.alloc(), &centre, &remote)?;
-    assert_eq!(rt; proxy.join(&rt), Ended::Stopped);
+    let proxy = Running::of(rt, config)?;
+    let _links = walk(&rt, rt.alloc(), &centre, &proxy.remote)?;
+    proxy.is_over(&rt);
     Ok(())
 }

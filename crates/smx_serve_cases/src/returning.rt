@@ -1,11 +1,9 @@
 //! A centre that is gone for a while.
 
-use crate::stage::{binding, bound, config_for, server};
-use smx_serve::Ended;
+use crate::stage::{Running, binding, bound, config_for};
 use std::net::{TcpListener, TcpStream};
 use std::process::Abort;
 use std::test::Fail;
-use std::thread;
 
 // After so many milliseconds the proxy gives up a bind.
 const SILENCE: u64 = 1_000;
@@ -26,10 +24,9 @@ fn rebound(rt: &impl Abort, centre: &TcpListener) -> Result<(TcpStream, TcpStrea
 fn centre_comes_back(rt: HostRuntime) -> Result<(), Fail> {
     let centre = TcpListener::bind(&rt, "127.0.0.1:0")?;
     let config = config_for(rt.alloc(), &centre, SILENCE)?;
-    let (server, remote) = server(&rt, rt.alloc());
-    let proxy = thread::spawn(&rt, move || server.serve(&rt, rt.alloc(), &config))?;
+    let proxy = Running::of(rt, config)?;
     let _links = rebound(&rt, &centre)?;
-    remote.stop();
-    assert_eq!(rt; proxy.join(&rt), Ended::Stopped);
+    proxy.remote.stop();
+    proxy.is_over(&rt);
     Ok(())
 }

@@ -1,13 +1,15 @@
 //! A proxy, the links to it, and headers over a socket.
 use smx_config::{Config, read};
 use smx_pdu::{Body, Pdu, encode};
-use smx_serve::{Remote, Server};
+use smx_serve::{Ended, Log, Remote, Server};
 use std::alloc::Global;
 use std::io::{Read, Write};
 use std::net::{Net, TcpListener, TcpStream};
 use std::process::Abort;
-use std::sync::Arc;
+use std::rt::Clock;
+use std::sync::{Arc, Wait};
 use std::test::Fail;
+use std::thread::{JoinHandle, Threads, spawn};
 use std::time::Duration;
 
 // How long what has only to end may take, in milliseconds.
@@ -40,11 +42,66 @@ pub(crate) fn config_for(
     Ok(read(alloc, text.as_str())?)
 }
 
-// A proxy, and what stops it.
-pub(crate) fn server<R: Net + Abort>(rt: &R, alloc: Global) -> (Server, Arc<Remote>) {
-    let server = Server::new(rt, alloc).expect(rt, "no server");
-    let remote = server.remote().expect(rt, "no remote");
-    (server, remote)
+// A proxy that runs in a thread of its own.
+#[derive(Drop)]
+pub(crate) struct Running {
+    pub remote: Arc<Remote>,
+    proxy: JoinHandle<Ended>,
+}
+
+impl Running {
+    // Serves by this configuration; this log is finished behind it.
+    pub(crate) fn told<R>(
+        rt: R,
+        server: Server,
+        config: Config,
+        log: Option<Arc<Log>>,
+    ) -> Result<Running, Fail>
+    where
+        R: Net<Listener = TcpListener, Stream = TcpStream>
+            + Clock
+            + Wait
+            + Threads
+            + Abort
+            + AllocGlobal
+            + Copy
+            + Drop
+            + Send
+            + 'static,
+    {
+        let remote = server.remote().expect(&rt, "no remote");
+        let proxy = spawn(&rt, move || {
+            let ended = server.serve(&rt, rt.alloc(), &config);
+            if let Some(log) = log {
+                log.finish(&rt);
+            }
+            ended
+        })?;
+        Ok(Running { remote, proxy })
+    }
+
+    // The same, where nobody reads its lines.
+    pub(crate) fn of<R>(rt: R, config: Config) -> Result<Running, Fail>
+    where
+        R: Net<Listener = TcpListener, Stream = TcpStream>
+            + Clock
+            + Wait
+            + Threads
+            + Abort
+            + AllocGlobal
+            + Copy
+            + Drop
+            + Send
+            + 'static,
+    {
+        let server = Server::new(&rt, rt.alloc()).expect(&rt, "no server");
+        Running::told(rt, server, config, None)
+    }
+
+    // It has ended, as it was told to.
+    pub(crate) fn is_over<R: Threads + Wait + Abort>(self, rt: &R) {
+        assert_eq!(rt; self.proxy.join(rt), Ended::Stopped);
+    }
 }
 
 // The connection that the proxy makes to the centre, which hears its bind.

@@ -13,8 +13,8 @@ use Rattle.smx_session.specs.declared.client_state.ClientState.TheVariants.{Open
 use Rattle.smx_session.specs.ClientTable.{client_cell, client_row}
 use Rattle.smx_session.specs.ClientAsks.{cell_asks, client_asks}
 
-module _ (accounts : List Login) (body : List ℕ) where
-  message_asks : (s : ClientState) → cell_asks (client_cell row.MessageAnswer s) accounts body ≡ None
+module _ (accounts : List Login) (account : Option ℕ) (p : Pdu) where
+  message_asks : (s : ClientState) → cell_asks (client_cell row.MessageAnswer s) accounts account p ≡ None
   message_asks Opened = refl
   message_asks BoundTx = refl
   message_asks BoundRx = refl
@@ -22,7 +22,7 @@ module _ (accounts : List Login) (body : List ℕ) where
   message_asks Unbinding = refl
   message_asks Ended = refl
 
-  unbind_asks : (s : ClientState) → cell_asks (client_cell row.UnbindAnswer s) accounts body ≡ None
+  unbind_asks : (s : ClientState) → cell_asks (client_cell row.UnbindAnswer s) accounts account p ≡ None
   unbind_asks Opened = refl
   unbind_asks BoundTx = refl
   unbind_asks BoundRx = refl
@@ -30,7 +30,7 @@ module _ (accounts : List Login) (body : List ℕ) where
   unbind_asks Unbinding = refl
   unbind_asks Ended = refl
 
-  other_asks : (s : ClientState) → cell_asks (client_cell row.OtherResponse s) accounts body ≡ None
+  other_asks : (s : ClientState) → cell_asks (client_cell row.OtherResponse s) accounts account p ≡ None
   other_asks Opened = refl
   other_asks BoundTx = refl
   other_asks BoundRx = refl
@@ -42,15 +42,15 @@ module _ (accounts : List Login) (body : List ℕ) where
 response_row : (command : ℕ) → RESPONSE ≤ command → (client_row command ≡ row.MessageAnswer) ⊎ ((client_row command ≡ row.UnbindAnswer) ⊎ (client_row command ≡ row.OtherResponse))
 response_row command high = grind (arith, high)
 
-asked_row : (accounts : List Login) (s : ClientState) (body : List ℕ) (r : ClientRow) (ask : Ask) → (r ≡ row.MessageAnswer) ⊎ ((r ≡ row.UnbindAnswer) ⊎ (r ≡ row.OtherResponse)) → cell_asks (client_cell r s) accounts body ≡ Some ask → ⊥
-asked_row accounts s body r ask (inl is) asks = let none = ap (λ x. cell_asks (client_cell x s) accounts body) is ∙ message_asks accounts body s in absurd (cc)
-asked_row accounts s body r ask (inr (inl is)) asks = let none = ap (λ x. cell_asks (client_cell x s) accounts body) is ∙ unbind_asks accounts body s in absurd (cc)
-asked_row accounts s body r ask (inr (inr is)) asks = let none = ap (λ x. cell_asks (client_cell x s) accounts body) is ∙ other_asks accounts body s in absurd (cc)
+asked_row : (accounts : List Login) (account : Option ℕ) (s : ClientState) (p : Pdu) (r : ClientRow) (ask : Ask) → (r ≡ row.MessageAnswer) ⊎ ((r ≡ row.UnbindAnswer) ⊎ (r ≡ row.OtherResponse)) → cell_asks (client_cell r s) accounts account p ≡ Some ask → ⊥
+asked_row accounts account s p r ask (inl is) asks = let none = ap (λ x. cell_asks (client_cell x s) accounts account p) is ∙ message_asks accounts account p s in absurd (cc)
+asked_row accounts account s p r ask (inr (inl is)) asks = let none = ap (λ x. cell_asks (client_cell x s) accounts account p) is ∙ unbind_asks accounts account p s in absurd (cc)
+asked_row accounts account s p r ask (inr (inr is)) asks = let none = ap (λ x. cell_asks (client_cell x s) accounts account p) is ∙ other_asks accounts account p s in absurd (cc)
 
 -- what asks for leave is a request
-pub asked_below : (accounts : List Login) (s : ClientState) (p : Pdu) (ask : Ask) → client_asks accounts s p ≡ Some ask → p.command < RESPONSE
-asked_below accounts s p ask asks = below (cases_lt p.command RESPONSE)
+pub asked_below : (accounts : List Login) (account : Option ℕ) (s : ClientState) (p : Pdu) (ask : Ask) → client_asks accounts account s p ≡ Some ask → p.command < RESPONSE
+asked_below accounts account s p ask asks = below (cases_lt p.command RESPONSE)
   where
     below : (p.command < RESPONSE) ⊎ (RESPONSE ≤ p.command) → p.command < RESPONSE
     below (inl low) = low
-    below (inr high) = absurd (asked_row accounts s p.body (client_row p.command) ask (response_row p.command high) asks)
+    below (inr high) = absurd (asked_row accounts account s p (client_row p.command) ask (response_row p.command high) asks)

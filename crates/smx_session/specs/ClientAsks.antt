@@ -12,6 +12,7 @@ use Rattle.smx_session.specs.declared.bind_check.Checked.{Checked}
 use Rattle.smx_session.specs.declared.bind_check.Checked.TheVariants.{Refused, Granted}
 use Rattle.smx_session.specs.declared.client_state.ClientState.{ClientState}
 use Rattle.smx_session.specs.Binds.{check_bind}
+use Rattle.smx_session.specs.Rules.{rules_of, ruled_out}
 use Rattle.smx_session.specs.ClientTable.{ClientCell, client_cell, client_row}
 use Rattle.smx_session.specs.ClientTable.ClientCell.{checks, answer, nack, forward, message_answer, leave, closed, ignore}
 
@@ -20,19 +21,24 @@ abbrev pub bind_asks : Checked → Ask
 bind_asks (Refused status) = RefusedBind
 bind_asks (Granted i version) = Bind i
 
-abbrev pub cell_asks : ClientCell → List Login → List ℕ → Option Ask
-cell_asks (checks k) accounts body = Some (bind_asks (check_bind accounts body))
-cell_asks (answer status) accounts body = None
-cell_asks nack accounts body = None
-cell_asks forward accounts body = Some Request
-cell_asks message_answer accounts body = None
-cell_asks leave accounts body = None
-cell_asks closed accounts body = None
-cell_asks ignore accounts body = None
+-- and a request only where the account's rules let it go to a lane
+abbrev pub request_asks : Option ℕ → Option Ask
+request_asks None = Some Request
+request_asks (Some status) = None
+
+abbrev pub cell_asks : ClientCell → List Login → Option ℕ → Pdu → Option Ask
+cell_asks (checks k) accounts account p = Some (bind_asks (check_bind accounts p.body))
+cell_asks (answer status) accounts account p = None
+cell_asks nack accounts account p = None
+cell_asks forward accounts account p = request_asks (ruled_out (rules_of accounts account) p)
+cell_asks message_answer accounts account p = None
+cell_asks leave accounts account p = None
+cell_asks closed accounts account p = None
+cell_asks ignore accounts account p = None
 
 -- what leave a session in a state asks for before it decides a PDU
-abbrev pub client_asks : List Login → ClientState → Pdu → Option Ask
-client_asks accounts s p = cell_asks (client_cell (client_row p.command) s) accounts p.body
+abbrev pub client_asks : List Login → Option ℕ → ClientState → Pdu → Option Ask
+client_asks accounts account s p = cell_asks (client_cell (client_row p.command) s) accounts account p
 
 -- the answer where no leave was given (5.1.3): a bind fails, and the queue is full for a request. A
 -- bind that is refused is never barred

@@ -1,5 +1,5 @@
 -- A client's session and its moments in milliseconds (SMPP 3.4, sections 4.11 and 7.2).
-use Rattle.std.specs.Prelude.{ℕ, ◌-◌, ◌==◌, Option, Some, None, Bool, true, false, not, ◌&&◌, ◌||◌, max, nat_le, if◌then◌else◌}
+use Rattle.std.specs.Prelude.{ℕ, ◌-◌, ◌==◌, Option, Some, None, Bool, false, not, ◌&&◌, ◌||◌, max, nat_le, if◌then◌else◌}
 use Rattle.smx_pdu.specs.declared.pdu.Pdu.{Pdu}
 use Rattle.smx_pdu.specs.declared.command.TheConstants.{ENQUIRE_LINK, UNBIND}
 use Rattle.smx_pdu.specs.declared.status.TheConstants.{ESME_ROK}
@@ -11,20 +11,21 @@ use Rattle.smx_session.specs.declared.enquiry.Enquiry.TheVariants.{NotDue, Due, 
 use Rattle.smx_session.specs.ClientTable.{is_enquired, client_enquiry_number, client_unbind_number}
 use Rattle.smx_session.specs.Moments.{none_waits, unanswered_for}
 
--- what a session keeps: its state, the silence before an enquiry (0: none is sent), the last moment
+-- what a session keeps: its state, the account that it is bound by, the silence before an enquiry (0: none is sent), the last moment
 -- that was handed in, that of the last octets (at first that of the start), since when an enquiry is
 -- unanswered, and whether the session ended for that
 pub record Client : Type 0 where
   pub state : ClientState
+  pub account : Option ℕ
   pub silence : ℕ
   pub latest : ℕ
   pub heard : ℕ
   pub enquired : Option ℕ
   pub silent : Bool
 
--- a session in this state that begins at a moment
+-- a session in this state that begins at a moment, and is bound by no account
 abbrev pub client_at : ClientState → ℕ → ℕ → Client
-client_at state silence now = record { state = state; silence = silence; latest = now; heard = now; enquired = None; silent = false }
+client_at state silence now = record { state = state; account = None; silence = silence; latest = now; heard = now; enquired = None; silent = false }
 
 -- a moment that is handed in: below the last one it counts as the last one
 abbrev pub client_moment : Client → ℕ → ℕ

@@ -1,5 +1,5 @@
 -- What a client's session does with each PDU in each state (SMPP 3.4, sections 2.2, 2.3 and 4).
-use Rattle.std.specs.Prelude.{ℕ, ◌+◌, Bool, true, false, List, [], ◌∷◌, nat_le, ◌==◌, if◌then◌else◌}
+use Rattle.std.specs.Prelude.{ℕ, ◌+◌, Bool, true, false, List, [], ◌∷◌, nat_le, ◌==◌, Option, Some, None, if◌then◌else◌}
 use Rattle.std.specs.List.{list_any}
 use Rattle.smx_pdu.specs.declared.pdu.Pdu.{Pdu}
 use Rattle.smx_pdu.specs.declared.command.TheConstants.{BIND_RECEIVER, BIND_TRANSMITTER, BIND_TRANSCEIVER, QUERY_SM, SUBMIT_SM, DELIVER_SM, UNBIND, REPLACE_SM, CANCEL_SM, OUTBIND, ENQUIRE_LINK, SUBMIT_MULTI, ALERT_NOTIFICATION, DATA_SM, GENERIC_NACK, RESPONSE}
@@ -17,6 +17,7 @@ use Rattle.smx_pdu.specs.Answers.{response, unknown}
 use Rattle.smx_session.specs.declared.bind_check.Checked.{Checked}
 use Rattle.smx_session.specs.declared.bind_check.Checked.TheVariants.{Refused, Granted}
 use Rattle.smx_session.specs.Binds.{check_bind, bind_answer}
+use Rattle.smx_session.specs.Rules.{rules_of, ruled_out}
 
 abbrev pub is_among : List ℕ → ℕ → Bool
 is_among commands command = list_any (λ id. id == command) commands
@@ -45,6 +46,7 @@ pub data ClientCell : Type 0 where
   answer : ℕ → ClientCell
   -- generic_nack of an unknown command
   nack : ClientCell
+  -- to a lane, where the rules of the account let it
   forward : ClientCell
   message_answer : ClientCell
   -- the response to unbind, and then Ended
@@ -155,19 +157,37 @@ abbrev pub bind_decision : Kind → Checked → ClientState → Pdu → Act × C
 bind_decision k (Refused status) s p = (act.Refuse (response p status []), s)
 bind_decision k (Granted i version) s p = (act.Bind k i (response p ESME_ROK (bind_answer version)), bound_state k)
 
-abbrev pub client_decision : ClientCell → List Login → ClientState → Pdu → Act × ClientState
-client_decision (checks k) accounts s p = bind_decision k (check_bind accounts p.body) s p
-client_decision (answer status) accounts s p = (act.Answer (response p status []), s)
-client_decision nack accounts s p = (act.Answer (unknown p.number), s)
-client_decision forward accounts s p = (act.Forward, s)
-client_decision message_answer accounts s p = (act.MoAnswer p.number, s)
-client_decision leave accounts s p = (act.Leave (response p ESME_ROK []), Ended)
-client_decision closed accounts s p = (act.Closed, Ended)
-client_decision ignore accounts s p = (act.Ignore, s)
+-- a request that the account's rules bar is answered by a response with a header alone
+abbrev pub request_decision : Option ℕ → ClientState → Pdu → Act × ClientState
+request_decision None s p = (act.Forward, s)
+request_decision (Some status) s p = (act.Answer (response p status []), s)
+
+-- by the account that the session is bound by, if it is by one
+abbrev pub client_decision : ClientCell → List Login → Option ℕ → ClientState → Pdu → Act × ClientState
+client_decision (checks k) accounts account s p = bind_decision k (check_bind accounts p.body) s p
+client_decision (answer status) accounts account s p = (act.Answer (response p status []), s)
+client_decision nack accounts account s p = (act.Answer (unknown p.number), s)
+client_decision forward accounts account s p = request_decision (ruled_out (rules_of accounts account) p) s p
+client_decision message_answer accounts account s p = (act.MoAnswer p.number, s)
+client_decision leave accounts account s p = (act.Leave (response p ESME_ROK []), Ended)
+client_decision closed accounts account s p = (act.Closed, Ended)
+client_decision ignore accounts account s p = (act.Ignore, s)
 
 -- what a session in a state does with a PDU
-abbrev pub client_decides : List Login → ClientState → Pdu → Act × ClientState
-client_decides accounts s p = client_decision (client_cell (client_row p.command) s) accounts s p
+abbrev pub client_decides : List Login → Option ℕ → ClientState → Pdu → Act × ClientState
+client_decides accounts account s p = client_decision (client_cell (client_row p.command) s) accounts account s p
+
+-- the account that a session is bound by after an act: a bind's alone changes it
+abbrev pub account_after : Act → Option ℕ → Option ℕ
+account_after (act.Bind k i p) account = Some i
+account_after (act.Answer p) account = account
+account_after (act.Refuse p) account = account
+account_after act.Forward account = account
+account_after (act.MoAnswer number) account = account
+account_after (act.Leave p) account = account
+account_after (act.Hangup p) account = account
+account_after act.Closed account = account
+account_after act.Ignore account = account
 
 -- a bind that succeeds, whose answer is all that takes memory
 abbrev pub IsGranted : Checked → Type 0

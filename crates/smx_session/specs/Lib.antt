@@ -1,4 +1,5 @@
 pub mod Login
+pub mod Rules
 pub mod Binds
 pub mod ClientTable
 pub mod UpstreamTable

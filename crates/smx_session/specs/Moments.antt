@@ -1,5 +1,5 @@
 -- The session with a centre, and its moments in milliseconds.
-use Rattle.std.specs.Prelude.{ℕ, ◌-◌, List, Option, Some, None, Bool, true, false, ◌&&◌, max, nat_le, if◌then◌else◌}
+use Rattle.std.specs.Prelude.{ℕ, ◌-◌, Option, Some, None, Bool, true, false, ◌&&◌, max, nat_le, if◌then◌else◌}
 use Rattle.smx_pdu.specs.declared.pdu.Pdu.{Pdu}
 use Rattle.smx_pdu.specs.declared.command.TheConstants.{ENQUIRE_LINK, UNBIND}
 use Rattle.smx_pdu.specs.declared.status.TheConstants.{ESME_ROK}
@@ -7,15 +7,15 @@ use Rattle.smx_session.specs.declared.upstream_state.UpstreamState.{UpstreamStat
 use Rattle.smx_session.specs.declared.upstream_state.UpstreamState.TheVariants.{Binding, Bound, Unbinding, Ended}
 use Rattle.smx_session.specs.declared.up_act.UpAct.{UpAct}
 use Rattle.smx_pdu.specs.Answers.{header_only}
+use Rattle.smx_session.specs.Login.{OwnBind}
 use Rattle.smx_session.specs.UpstreamTable.{UpstreamCell, upstream_row, upstream_cell, upstream_decision, enquiry_number, unbind_number}
 use Rattle.smx_session.specs.UpstreamTable.UpstreamCell.{bind_answer, failed, answered, closed, to_lane, mo, answer, leave, nack, ignore}
 
--- what a session keeps: the texts of its bind, the silence before an enquiry, its state, the last
+-- what a session keeps: its bind, the silence before an enquiry, its state, the last
 -- moment that was handed in, that of the last PDU (at first that of the start), and since when an
 -- enquiry is unanswered
 pub record Upstream : Type 0 where
-  pub system_id : List ℕ
-  pub password : List ℕ
+  pub bind : OwnBind
   pub silence : ℕ
   pub state : UpstreamState
   pub latest : ℕ
@@ -44,7 +44,7 @@ enquired_after nack since = since
 enquired_after ignore since = since
 
 abbrev pub cell_at : Upstream → Pdu → UpstreamCell
-cell_at u p = upstream_cell (upstream_row p.command p.number) u.state
+cell_at u p = upstream_cell (upstream_row u.bind.kind p.command p.number) u.state
 
 -- the act on a PDU, and the session after it
 abbrev pub act_on : Upstream → Pdu → UpAct

@@ -11,9 +11,15 @@ use Rattle.smx_session.specs.declared.upstream_row.UpstreamRow.TheVariants as ro
 use Rattle.smx_session.specs.declared.up_act.UpAct.{UpAct}
 use Rattle.smx_session.specs.declared.up_act.UpAct.TheVariants as act
 use Rattle.smx_pdu.specs.Answers.{response, unknown}
+use Rattle.smx_pdu.specs.Fields.{bind_fields, all_octets}
+use Rattle.smx_pdu.specs.Reading.{in_order}
+use Rattle.smx_session.specs.declared.kind.Kind.{Kind}
+use Rattle.smx_session.specs.declared.kind.Kind.TheVariants.{Tx, Rx, Trx}
+use Rattle.smx_session.specs.Login.{OwnBind}
+use Rattle.smx_session.specs.Binds.{own_bind, bind_command}
 use Rattle.smx_session.specs.ClientTable.{is_among}
 
--- the numbers of the proxy's own bind_transceiver, enquire_link and unbind
+-- the numbers of the proxy's own bind, enquire_link and unbind
 abbrev pub bind_number : ℕ
 bind_number = 0x7FFF_FFFD
 
@@ -23,10 +29,25 @@ enquiry_number = 0x7FFF_FFFE
 abbrev pub unbind_number : ℕ
 unbind_number = 0x7FFF_FFFF
 
--- the rows of the table, by a command and a number
-abbrev pub upstream_row : ℕ → ℕ → UpstreamRow
-upstream_row command number =
-    if (command == RESPONSE + BIND_TRANSCEIVER) && (number == bind_number) then row.BindAnswer
+-- the proxy's own bind
+abbrev pub own_bind_pdu : OwnBind → Pdu
+own_bind_pdu b = record {
+  command = bind_command b.kind;
+  status = ESME_ROK;
+  number = bind_number;
+  body = all_octets bind_fields (in_order (own_bind b));
+}
+
+-- a message from the centre: over a transmitter's bind there is none (2.1.1, 4.6)
+abbrev pub message_row : Kind → UpstreamRow
+message_row Tx = row.MessageToTransmitter
+message_row Rx = row.Message
+message_row Trx = row.Message
+
+-- the rows of the table, by the kind of the proxy's bind, a command and a number
+abbrev pub upstream_row : Kind → ℕ → ℕ → UpstreamRow
+upstream_row kind command number =
+    if (command == RESPONSE + bind_command kind) && (number == bind_number) then row.BindAnswer
     else if (command == GENERIC_NACK) && (number == bind_number) then row.BindNack
     else if (command == GENERIC_NACK) && (number == enquiry_number) then row.EnquiryAnswer
     else if command == RESPONSE + ENQUIRE_LINK then row.EnquiryAnswer
@@ -34,7 +55,7 @@ upstream_row command number =
     else if command == RESPONSE + UNBIND then row.UnbindAnswer
     else if is_among ((RESPONSE + BIND_RECEIVER) ∷ (RESPONSE + BIND_TRANSMITTER) ∷ (RESPONSE + BIND_TRANSCEIVER) ∷ []) command then row.OtherBindAnswer
     else if nat_le RESPONSE command then row.OtherResponse
-    else if is_among (DELIVER_SM ∷ DATA_SM ∷ []) command then row.Message
+    else if is_among (DELIVER_SM ∷ DATA_SM ∷ []) command then message_row kind
     else if command == ENQUIRE_LINK then row.EnquireLink
     else if command == UNBIND then row.Unbind
     else if is_among (BIND_RECEIVER ∷ BIND_TRANSMITTER ∷ BIND_TRANSCEIVER ∷ QUERY_SM ∷ SUBMIT_SM ∷ REPLACE_SM ∷ CANCEL_SM ∷ SUBMIT_MULTI ∷ []) command then row.OtherRequest
@@ -98,6 +119,11 @@ upstream_cell row.Message Binding = answer ESME_RINVBNDSTS
 upstream_cell row.Message Bound = mo
 upstream_cell row.Message Unbinding = answer ESME_RINVBNDSTS
 upstream_cell row.Message Ended = answer ESME_RINVBNDSTS
+-- the same over a transmitter's bind
+upstream_cell row.MessageToTransmitter Binding = answer ESME_RINVBNDSTS
+upstream_cell row.MessageToTransmitter Bound = answer ESME_RINVBNDSTS
+upstream_cell row.MessageToTransmitter Unbinding = answer ESME_RINVBNDSTS
+upstream_cell row.MessageToTransmitter Ended = answer ESME_RINVBNDSTS
 -- enquire_link (4.11)
 upstream_cell row.EnquireLink Binding = answer ESME_ROK
 upstream_cell row.EnquireLink Bound = answer ESME_ROK

@@ -2,17 +2,19 @@
 ghost use Rattle.std.specs.Prelude.{◌≡◌};
 ghost use Rattle.std.specs.Str.{bytes_eq};
 
+use crate::rules::Rules;
 use std::fmt;
 use std::marker::Model;
 
-/// A client that may bind, by what its bind says. Contracts see it as its two texts. Printed for
-/// debugging it has neither, so that no password is seen.
+/// A client that may bind, by what its bind says, and what it may send then. Contracts see it as its
+/// two texts and its rules. Printed for debugging it has none of them, so that no password is seen.
 #[derive(Drop)]
 pub struct Account {
     /// Without its ending 0.
     pub system_id: Vec<u8>,
     /// Without its ending 0.
     pub password: Vec<u8>,
+    pub rules: Rules,
 }
 
 impl Model for Account {
@@ -20,7 +22,7 @@ impl Model for Account {
 
     ghost Value = { Login };
 
-    ghost view = { λ a. record { system_id = a.system_id.items; password = a.password.items } };
+    ghost view = { λ a. record { system_id = a.system_id.items; password = a.password.items; rules = a.rules } };
 }
 
 impl fmt::Debug for Account {

@@ -2,9 +2,9 @@
 ghost use Rattle.std.specs.Prelude.{◌≡◌, List, Some, IfOk, OnOk, OnErr};
 ghost use Rattle.smx_session.specs.Login.{Login};
 ghost use Rattle.smx_pdu.specs.Answers.{nack_of_undecoded};
-ghost use Rattle.smx_session.specs.ClientTable.{bound_state, client_decides, client_cell, client_row, Binds, is_enquired};
+ghost use Rattle.smx_session.specs.ClientTable.{bound_state, client_decides, account_after, client_cell, client_row, Binds, is_enquired};
 ghost use Rattle.smx_session.specs.Binds.{check_bind};
-ghost use Rattle.smx_session.specs.ClientAsks.{bind_asks, client_asks, client_bars};
+ghost use Rattle.smx_session.specs.ClientAsks.{bind_asks, request_asks, client_asks, client_bars};
 ghost use Rattle.smx_session.specs.ClientMoments.{client_at, after_octets, client_enquiry, after_client_moment, client_moment, client_farewell, client_state_after_stop};
 
 use crate::account::Account;
@@ -17,6 +17,7 @@ use crate::client_state::ClientState::{
 };
 use crate::enquiry::Enquiry;
 use crate::kind::Kind;
+use crate::rules::rules_of;
 use smx_pdu::Pdu;
 use smx_pdu::command::{ENQUIRE_LINK, UNBIND};
 use smx_pdu::status::{ESME_RALYBND, ESME_RBINDFAIL, ESME_RINVBNDSTS, ESME_RMSGQFUL, ESME_ROK};
@@ -30,11 +31,13 @@ const ENQUIRY_NUMBER: u32 = 0x7FFF_FFFF;
 const UNBIND_NUMBER: u32 = 0x7FFF_FFFF;
 
 /// A client's session. Moments are in milliseconds from any origin; one below the last one handed
-/// in counts as the last one. Contracts see it as its state and its moments.
+/// in counts as the last one. Contracts see it as its state, its account and its moments.
 #[derive(Drop)]
 pub struct ClientSession {
     alloc: Global,
     state: ClientState,
+    // The index of the account that it is bound by.
+    account: Option<usize>,
     // After so long without an octet it enquires. 0: never.
     silence: u64,
     // The last moment that was handed in.
@@ -54,6 +57,7 @@ impl Model for ClientSession {
 
     ghost view = { λ s. record {
       state = s.state;
+      account = s.account;
       silence = s.silence;
       latest = s.latest;
       heard = s.heard;
@@ -93,6 +97,16 @@ fn bind_asks(accounts: &[Account], body: &[u8]) -> Ask
     }
 }
 
+// What leave a request asks for that the rules bar so.
+fn request_asks(ruled_out: Option<u32>) -> Option<Ask>
+    ensures { result ≡ request_asks ruled_out }
+{
+    match ruled_out {
+        Some(_) => None,
+        None => Some(Ask::Request),
+    }
+}
+
 impl ClientSession {
     // A session in this state.
     fn begin(alloc: Global, state: ClientState, silence: u64, now: u64) -> ClientSession
@@ -101,6 +115,7 @@ impl ClientSession {
         ClientSession {
             alloc,
             state,
+            account: None,
             silence,
             latest: now,
             heard: now,
@@ -117,8 +132,8 @@ impl ClientSession {
         ClientSession::begin(alloc, Opened, silence, now)
     }
 
-    /// A session with a client that is bound so, with the same silence and moment. It takes no
-    /// memory.
+    /// A session with a client that is bound so, by no account and so without rules, with the same
+    /// silence and moment. It takes no memory.
     pub fn bound(alloc: Global, kind: Kind, silence: u64, now: u64) -> ClientSession
         ensures { result ≡ client_at (bound_state kind) silence now }
     {
@@ -131,6 +146,13 @@ impl ClientSession {
         self.state
     }
 
+    /// The index of the account that the client is bound by: of the accounts that decided its bind.
+    pub fn account(&self) -> Option<usize>
+        ensures { result ≡ self.now.account }
+    {
+        self.account
+    }
+
     /// Whether the session has ended since no octet came after an enquiry.
     pub fn is_silent(&self) -> bool
         ensures { result ≡ self.now.silent }
@@ -141,11 +163,13 @@ impl ClientSession {
     /// What leave is asked for before the PDU is decided: a bind's, by its checks, or that of a
     /// request which goes to a lane. It takes no memory.
     pub fn asks(&self, pdu: &Pdu, accounts: &[Account]) -> Option<Ask>
-        ensures { result ≡ client_asks accounts.now self.now.state pdu.now }
+        ensures { result ≡ client_asks accounts.now self.now.account self.now.state pdu.now }
     {
         match (client_row(pdu.command), self.state) {
             (ClientRow::Bind(_), Opened) => Some(bind_asks(accounts, pdu.body.as_slice())),
-            (ClientRow::Forwarded, BoundTx | BoundTrx) => Some(Ask::Request),
+            (ClientRow::Forwarded, BoundTx | BoundTrx) => {
+                request_asks(rules_of(accounts, self.account).ruled_out(pdu))
+            }
             _ => None,
         }
     }
@@ -154,7 +178,7 @@ impl ClientSession {
     /// was. It takes no memory.
     pub fn bars(&self, pdu: &Pdu, ask: Ask) -> Act
         requires asks { (accounts : List Login)
-            × (client_asks accounts self.now.state pdu.now ≡ Some ask) }
+            × (client_asks accounts self.now.account self.now.state pdu.now ≡ Some ask) }
         ensures { result ≡ client_bars ask pdu.now }
     {
         match ask {
@@ -167,9 +191,13 @@ impl ClientSession {
     /// Decides a PDU of the client. Only the answer to a bind that succeeds takes memory; where
     /// that is refused, the state stays.
     pub fn on_pdu(&mut self, pdu: &Pdu, accounts: &[Account]) -> Result<Act, AllocError>
-        ensures act { IfOk result (λ act. act ≡ (client_decides accounts.now self.old.state pdu.now).0) }
+        ensures act { IfOk result (λ act. act
+            ≡ (client_decides accounts.now self.old.account self.old.state pdu.now).0) }
         ensures state { OnOk result (self.new ≡ record self.old {
-          state = (client_decides accounts.now self.old.state pdu.now).1;
+          state = (client_decides accounts.now self.old.account self.old.state pdu.now).1;
+          account = account_after
+              (client_decides accounts.now self.old.account self.old.state pdu.now).0
+              self.old.account;
         }) }
         ensures err { OnErr result (self.new ≡ self.old) }
         ensures memory { OnErr result (Binds (client_cell (client_row pdu.now.command) self.old.state)
@@ -181,7 +209,12 @@ impl ClientSession {
             (ClientRow::Bind(_), BoundTx | BoundRx | BoundTrx | Unbinding) => {
                 Act::Answer(pdu.header_response(alloc, ESME_RALYBND))
             }
-            (ClientRow::Forwarded, BoundTx | BoundTrx) => Act::Forward,
+            (ClientRow::Forwarded, BoundTx | BoundTrx) => {
+                match rules_of(accounts, self.account).ruled_out(pdu) {
+                    Some(status) => Act::Answer(pdu.header_response(alloc, status)),
+                    None => Act::Forward,
+                }
+            }
             (ClientRow::Forwarded, Unbinding) => {
                 Act::Answer(pdu.header_response(alloc, ESME_RMSGQFUL))
             }
@@ -217,9 +250,13 @@ impl ClientSession {
     fn on_bind(&mut self, kind: Kind, pdu: &Pdu, accounts: &[Account]) -> Result<Act, AllocError>
         requires opened { self.old.state ≡ ClientState.Opened }
         requires bind { client_row pdu.now.command ≡ ClientRow.Bind kind }
-        ensures act { IfOk result (λ act. act ≡ (client_decides accounts.now self.old.state pdu.now).0) }
+        ensures act { IfOk result (λ act. act
+            ≡ (client_decides accounts.now self.old.account self.old.state pdu.now).0) }
         ensures state { OnOk result (self.new ≡ record self.old {
-          state = (client_decides accounts.now self.old.state pdu.now).1;
+          state = (client_decides accounts.now self.old.account self.old.state pdu.now).1;
+          account = account_after
+              (client_decides accounts.now self.old.account self.old.state pdu.now).0
+              self.old.account;
         }) }
         ensures err { OnErr result (self.new ≡ self.old) }
         ensures memory { OnErr result (Binds (client_cell (client_row pdu.now.command) self.old.state)
@@ -230,6 +267,7 @@ impl ClientSession {
             Checked::Granted { account, version } => {
                 let answer = pdu.response(ESME_ROK, bind_answer(self.alloc, version)?);
                 self.state = bound_state(kind);
+                self.account = Some(account);
                 Ok(Act::Bind {
                     kind,
                     account,

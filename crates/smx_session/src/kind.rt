@@ -1,6 +1,6 @@
 //! Kinds of binds.
 
-/// How a client binds (SMPP 3.4, section 2.1).
+/// How an ESME binds (SMPP 3.4, section 2.1).
 #[derive(Clone, Copy, Debug, PartialEq, Eq)]
 pub enum Kind {
     /// As transmitter: it sends requests to the centre.

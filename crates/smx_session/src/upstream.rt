@@ -1,25 +1,29 @@
 //! The session with a centre.
 ghost use Rattle.std.specs.Prelude.{◌≡◌, IfOk, None};
+ghost use Rattle.smx_session.specs.declared.kind.Kind.{Kind};
 ghost use Rattle.smx_session.specs.UpstreamTable.{upstream_row, upstream_cell, upstream_decision};
 ghost use Rattle.smx_session.specs.Moments.{enquired_after};
 
+use crate::kind::Kind;
 use crate::up_act::UpAct;
-use crate::upstream_row::{BIND_NUMBER, ENQUIRY_NUMBER, UNBIND_NUMBER, UpstreamRow, upstream_row};
+use crate::upstream_bind::UpstreamBind;
+use crate::upstream_row::{
+    BIND_NUMBER, ENQUIRY_NUMBER, UNBIND_NUMBER, UpstreamRow, bind_command, upstream_row,
+};
 use crate::upstream_state::UpstreamState::{self, Binding, Bound, Ended, Unbinding};
-use smx_pdu::command::{BIND_TRANSCEIVER, ENQUIRE_LINK, UNBIND};
+use smx_pdu::command::{ENQUIRE_LINK, UNBIND};
 use smx_pdu::status::{ESME_RINVBNDSTS, ESME_ROK};
 use smx_pdu::{Bind, Body, Pdu, write_bind};
 use std::alloc::{AllocError, Global};
 use std::marker::Model;
 
-/// The session with a message centre, in which the proxy is an ESME that binds as transceiver.
-/// Moments are in milliseconds from any origin; one below the last one handed in counts as the
-/// last one. Contracts see a session as its bind's texts, its state and its moments.
+/// The session with a message centre, in which the proxy is an ESME that binds. Moments are in
+/// milliseconds from any origin; one below the last one handed in counts as the last one. Contracts
+/// see a session as its bind, its state and its moments.
 #[derive(Drop)]
 pub struct UpstreamSession {
     alloc: Global,
-    system_id: Vec<u8>,
-    password: Vec<u8>,
+    bind: UpstreamBind,
     silence: u64,
     state: UpstreamState,
     // The last moment that was handed in.
@@ -31,14 +35,14 @@ pub struct UpstreamSession {
 }
 
 impl Model for UpstreamSession {
-    ghost use Rattle.smx_pdu.specs.Fields.{IsText};
+    ghost use Rattle.smx_pdu.specs.Reading.{BindFits};
+    ghost use Rattle.smx_session.specs.Binds.{own_bind};
     ghost use Rattle.smx_session.specs.Moments.{Upstream};
 
     ghost Value = { Upstream };
 
     ghost view = { λ s. record {
-      system_id = s.system_id.items;
-      password = s.password.items;
+      bind = s.bind;
       silence = s.silence;
       state = s.state;
       latest = s.latest;
@@ -46,15 +50,20 @@ impl Model for UpstreamSession {
       enquired = s.enquired;
     } };
 
-    ghost invariant = { λ s. IsText 16 s.system_id.items × IsText 9 s.password.items };
+    ghost invariant = { λ s. BindFits (own_bind s.bind) };
 }
 
 // What becomes of a PDU in this state, and the state after it.
-fn decide(alloc: Global, state: UpstreamState, pdu: &Pdu) -> (UpAct, UpstreamState)
-    ensures { result ≡ upstream_decision
-        (upstream_cell (upstream_row pdu.now.command pdu.now.number) state) state pdu.now }
+fn decide(
+    alloc: Global,
+    row: UpstreamRow,
+    state: UpstreamState,
+    pdu: &Pdu,
+) -> (UpAct, UpstreamState)
+    requires { (kind : Kind) × (row ≡ upstream_row kind pdu.now.command pdu.now.number) }
+    ensures { result ≡ upstream_decision (upstream_cell row state) state pdu.now }
 {
-    match (upstream_row(pdu.command, pdu.number), state) {
+    match (row, state) {
         (UpstreamRow::BindAnswer, Binding) if pdu.status == ESME_ROK => (UpAct::Up, Bound),
         (UpstreamRow::BindAnswer | UpstreamRow::BindNack, Binding) => {
             (UpAct::Failed(pdu.status), Ended)
@@ -72,6 +81,7 @@ fn decide(alloc: Global, state: UpstreamState, pdu: &Pdu) -> (UpAct, UpstreamSta
         // Each other request isn't allowed in its state.
         (
             UpstreamRow::Message
+            | UpstreamRow::MessageToTransmitter
             | UpstreamRow::EnquireLink
             | UpstreamRow::Unbind
             | UpstreamRow::OtherRequest,
@@ -95,26 +105,19 @@ fn enquired_after(row: UpstreamRow, state: UpstreamState, since: Option<u64>) ->
 }
 
 impl UpstreamSession {
-    ghost use Rattle.smx_pdu.specs.Fields.{IsText, all_octets, bind_fields};
-    ghost use Rattle.smx_pdu.specs.Reading.{in_order};
-    ghost use Rattle.smx_session.specs.Binds.{own_bind};
-    ghost use Rattle.smx_session.specs.UpstreamTable.{bind_number};
+    ghost use Rattle.smx_pdu.specs.Fields.{IsText};
+    ghost use Rattle.smx_session.specs.UpstreamTable.{own_bind_pdu};
     ghost use Rattle.smx_session.specs.Moments.{at, act_on, after_pdu, enquiry, after_moment, is_silent, farewell, state_after_stop};
 
-    /// A session that isn't bound yet, with the texts of its bind, without their ending 0, the
-    /// silence after which it enquires, in milliseconds, and the moment now. It takes no memory.
-    pub fn new(
-        alloc: Global,
-        system_id: Vec<u8>,
-        password: Vec<u8>,
-        silence: u64,
-        now: u64,
-    ) -> UpstreamSession
-        requires system_id { IsText 16 system_id.items }
-        requires password { IsText 9 password.items }
+    /// A session that isn't bound yet, with its bind, the silence after which it enquires, in
+    /// milliseconds, and the moment now. It takes no memory.
+    pub fn new(alloc: Global, bind: UpstreamBind, silence: u64, now: u64) -> UpstreamSession
+        requires system_id { IsText 16 bind.system_id }
+        requires password { IsText 9 bind.password }
+        requires system_type { IsText 13 bind.system_type }
+        requires address_range { IsText 41 bind.address_range }
         ensures { result ≡ record {
-          system_id = system_id.items;
-          password = password.items;
+          bind = bind;
           silence = silence;
           state = UpstreamState.Binding;
           latest = now;
@@ -124,8 +127,7 @@ impl UpstreamSession {
     {
         UpstreamSession {
             alloc,
-            system_id,
-            password,
+            bind,
             silence,
             state: Binding,
             latest: now,
@@ -134,19 +136,14 @@ impl UpstreamSession {
         }
     }
 
-    /// A session that is bound, with the same texts, silence and moment. It takes no memory.
-    pub fn bound(
-        alloc: Global,
-        system_id: Vec<u8>,
-        password: Vec<u8>,
-        silence: u64,
-        now: u64,
-    ) -> UpstreamSession
-        requires system_id { IsText 16 system_id.items }
-        requires password { IsText 9 password.items }
+    /// A session that is bound, with the same bind, silence and moment. It takes no memory.
+    pub fn bound(alloc: Global, bind: UpstreamBind, silence: u64, now: u64) -> UpstreamSession
+        requires system_id { IsText 16 bind.system_id }
+        requires password { IsText 9 bind.password }
+        requires system_type { IsText 13 bind.system_type }
+        requires address_range { IsText 41 bind.address_range }
         ensures { result ≡ record {
-          system_id = system_id.items;
-          password = password.items;
+          bind = bind;
           silence = silence;
           state = UpstreamState.Bound;
           latest = now;
@@ -154,7 +151,7 @@ impl UpstreamSession {
           enquired = None;
         } }
     {
-        let mut session = UpstreamSession::new(alloc, system_id, password, silence, now);
+        let mut session = UpstreamSession::new(alloc, bind, silence, now);
         session.state = Bound;
         session
     }
@@ -165,6 +162,13 @@ impl UpstreamSession {
         self.state
     }
 
+    /// How the proxy binds.
+    pub fn kind(&self) -> Kind
+        ensures { result ≡ self.now.bind.kind }
+    {
+        self.bind.kind
+    }
+
     /// The last moment that was handed in, in milliseconds.
     pub fn latest(&self) -> u64
         ensures { result ≡ self.now.latest }
@@ -172,29 +176,23 @@ impl UpstreamSession {
         self.latest
     }
 
-    /// The proxy's bind_transceiver (SMPP 3.4, section 4.1.5), which is sent first. It takes memory
-    /// for its body.
+    /// The proxy's bind (SMPP 3.4, section 4.1), which is sent first. It takes memory for its body.
     pub fn start(&self) -> Result<Pdu, AllocError>
-        ensures { IfOk result (λ p. p ≡ record {
-          command = BIND_TRANSCEIVER;
-          status = ESME_ROK;
-          number = bind_number;
-          body = all_octets bind_fields (in_order (own_bind self.now.system_id self.now.password));
-        }) }
+        ensures { IfOk result (λ p. p ≡ own_bind_pdu self.now.bind) }
     {
         let mut octets = Vec::new(self.alloc);
         let bind = Bind {
-            system_id: &self.system_id,
-            password: &self.password,
-            system_type: &[],
-            interface_version: 0x34,
+            system_id: &self.bind.system_id,
+            password: &self.bind.password,
+            system_type: &self.bind.system_type,
+            interface_version: self.bind.interface_version,
             addr_ton: 0,
             addr_npi: 0,
-            address_range: &[],
+            address_range: &self.bind.address_range,
         };
         write_bind(&bind, &mut octets)?;
         Ok(Pdu {
-            command: BIND_TRANSCEIVER,
+            command: bind_command(self.bind.kind),
             status: ESME_ROK,
             number: BIND_NUMBER,
             body: Body::short(octets),
@@ -215,8 +213,8 @@ impl UpstreamSession {
         ensures act { result ≡ act_on self.old pdu.now }
         ensures session { self.new ≡ after_pdu self.old pdu.now now }
     {
-        let row = upstream_row(pdu.command, pdu.number);
-        let (act, state) = decide(self.alloc, self.state, pdu);
+        let row = upstream_row(self.bind.kind, pdu.command, pdu.number);
+        let (act, state) = decide(self.alloc, row, self.state, pdu);
         self.heard = self.hand_in(now);
         self.enquired = enquired_after(row, self.state, self.enquired);
         self.state = state;

@@ -1,14 +1,16 @@
 //! The commands of a centre, as the rows of its session's table.
 ghost use Rattle.std.specs.Prelude.{◌≡◌};
-ghost use Rattle.smx_session.specs.UpstreamTable.{upstream_row};
+ghost use Rattle.smx_session.specs.UpstreamTable.{upstream_row, message_row};
+ghost use Rattle.smx_session.specs.Binds.{bind_command};
 
+use crate::kind::Kind;
 use smx_pdu::command::{
     ALERT_NOTIFICATION, BIND_RECEIVER, BIND_TRANSCEIVER, BIND_TRANSMITTER, CANCEL_SM, DATA_SM,
     DELIVER_SM, ENQUIRE_LINK, GENERIC_NACK, OUTBIND, QUERY_SM, REPLACE_SM, RESPONSE, SUBMIT_MULTI,
     SUBMIT_SM, UNBIND,
 };
 
-/// The number of the proxy's own bind_transceiver.
+/// The number of the proxy's own bind.
 pub const BIND_NUMBER: u32 = 0x7FFF_FFFD;
 
 /// The number of the proxy's own enquire_link, of which at most one is unanswered.
@@ -30,7 +32,7 @@ const UNBIND_RESP: u32 = RESPONSE + UNBIND;
 /// PDUs of a centre that its session treats alike.
 #[derive(Clone, Copy, Debug, PartialEq, Eq)]
 pub enum UpstreamRow {
-    /// bind_transceiver_resp to the proxy's bind.
+    /// The response to the proxy's bind, of its kind.
     BindAnswer,
     /// generic_nack of the proxy's bind.
     BindNack,
@@ -44,6 +46,8 @@ pub enum UpstreamRow {
     OtherResponse,
     /// deliver_sm and data_sm.
     Message,
+    /// The same over a transmitter's bind.
+    MessageToTransmitter,
     EnquireLink,
     Unbind,
     /// Any other request that has a response.
@@ -54,18 +58,41 @@ pub enum UpstreamRow {
     Unknown,
 }
 
-pub(crate) fn upstream_row(command: u32, number: u32) -> UpstreamRow
-    ensures { result ≡ upstream_row command number }
+// The command of a bind of this kind.
+pub(crate) fn bind_command(kind: Kind) -> u32
+    ensures { result ≡ bind_command kind }
 {
+    match kind {
+        Kind::Tx => BIND_TRANSMITTER,
+        Kind::Rx => BIND_RECEIVER,
+        Kind::Trx => BIND_TRANSCEIVER,
+    }
+}
+
+// The row of a message over a bind of this kind.
+fn message_row(kind: Kind) -> UpstreamRow
+    ensures { result ≡ message_row kind }
+{
+    match kind {
+        Kind::Tx => UpstreamRow::MessageToTransmitter,
+        Kind::Rx | Kind::Trx => UpstreamRow::Message,
+    }
+}
+
+pub(crate) fn upstream_row(kind: Kind, command: u32, number: u32) -> UpstreamRow
+    ensures { result ≡ upstream_row kind command number }
+{
+    if number == BIND_NUMBER && command == RESPONSE + bind_command(kind) {
+        return UpstreamRow::BindAnswer;
+    }
     match (command, number) {
-        (BIND_TRANSCEIVER_RESP, BIND_NUMBER) => UpstreamRow::BindAnswer,
         (GENERIC_NACK, BIND_NUMBER) => UpstreamRow::BindNack,
         (GENERIC_NACK, ENQUIRY_NUMBER) | (ENQUIRE_LINK_RESP, _) => UpstreamRow::EnquiryAnswer,
         (GENERIC_NACK, UNBIND_NUMBER) | (UNBIND_RESP, _) => UpstreamRow::UnbindAnswer,
         (BIND_RECEIVER_RESP | BIND_TRANSMITTER_RESP | BIND_TRANSCEIVER_RESP, _) => {
             UpstreamRow::OtherBindAnswer
         }
-        (DELIVER_SM | DATA_SM, _) => UpstreamRow::Message,
+        (DELIVER_SM | DATA_SM, _) => message_row(kind),
         (ENQUIRE_LINK, _) => UpstreamRow::EnquireLink,
         (UNBIND, _) => UpstreamRow::Unbind,
         (

@@ -13,7 +13,9 @@ use Rattle.smx_lane.specs.Kept.{writer, limits_of, suits}
 use Rattle.smx_lane.specs.declared.call.Call.{Call}
 use Rattle.smx_lane.specs.declared.call.Reply.{Reply}
 use Rattle.smx_lane.specs.Calls.{IsReply}
-use Rattle.smx_shared.specs.Serving.{OneHold, CallServes, SplitServes, SplitFails}
+use Rattle.smx_shared.specs.Serving.{OneHold, CallServes, LoadServes, SplitServes, SplitFails}
+use Rattle.smx_lane.specs.declared.load.Load.{Load}
+use Rattle.smx_lane.specs.Loads.{IsLoad}
 use Rattle.smx_shared.specs.Steps.{IsMade, hold_notes, own_notes}
 use Rattle.smx_shared.specs.Roomy.{lane_met, shifts_before}
 
@@ -94,3 +96,23 @@ made_no_seat f g (inr full) =
     let h = full.0 in
     let left : g ≡ after_hold (holding h h.value) [] = full.3 in
     inr (h.found, h.value, served f g h h.value [] full.1 refl (subst (λ l. AgreesWith l h.value) (sym (append-nil h.found)) full.1.agrees) left, ap (λ z. z.seats) full.3 ∙ full.2)
+
+-- a lane that was only looked at may be put back
+pub load_may : (h : Hold Content Note Limits) (w : Content) → w ≡ h.value → h.value.limits ≡ h.lock.fixed → AgreesWith h.found h.value
+    → MayLeave writer limits_of suits (holding h w) []
+load_may h w same limits agrees = record {
+  own = λ k n below. absurd (omega (arith, below));
+  agrees = subst (λ v. AgreesWith (h.found ++ []) v) (sym same) (subst (λ l. AgreesWith l h.value) (sym (append-nil h.found)) agrees);
+  fixed = ap (λ v. v.limits) same ∙ limits;
+}
+
+-- and once it is back the load was told
+pub load_serves : (f g : Front Note Limits) (load : Load)
+    → Runs writer limits_of suits f g (λ by old a new. (new ≡ old) × IsLoad old a) (λ by old a. []) load → LoadServes f g load
+load_serves f g load ran =
+    let h = ran.0 in
+    let w = ran.1 in
+    let found = ran.2 in
+    let same : w ≡ h.value = ran.3.0 in
+    let agrees = subst (λ v. AgreesWith (h.found ++ []) v) (sym same) (subst (λ l. AgreesWith l h.value) (sym (append-nil h.found)) found.agrees) in
+    (h.found, h.value, served f g h w [] found (ap (λ v. v.limits) same) agrees ran.4, ran.3.1)

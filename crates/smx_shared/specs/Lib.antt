@@ -7,6 +7,7 @@ pub mod Ports
 pub mod Submits
 pub mod Collecting
 pub mod Leaving
+pub mod Loads
 pub mod Rounds
 pub mod Entering
 pub mod Making

@@ -45,6 +45,8 @@ use Rattle.smx_lane.specs.declared.call.Call.TheVariants as call
 use Rattle.smx_lane.specs.declared.call.Reply.{Reply}
 use Rattle.smx_lane.specs.declared.call.Reply.TheVariants as reply
 use Rattle.smx_lane.specs.Calls.{IsReply}
+use Rattle.smx_lane.specs.declared.load.Load.{Load}
+use Rattle.smx_lane.specs.Loads.{IsLoad}
 use Rattle.smx_shared.specs.Roomy.{lane_met, shifts_before}
 
 -- one hold found this history and left these notes, in a lane that held v, and what was left is legal
@@ -155,6 +157,10 @@ TurnServes f g least None = (found : List Note) × (v : Content) × OneHold f g 
 -- one hold found no memory for the new list, and changed nothing
 abbrev pub StaysServes : Front Note Limits → Front Note Limits → Type 0
 StaysServes f g = (found : List Note) × (v : Content) × OneHold f g found [] v
+
+-- one hold told how much the lane holds, and changed nothing
+abbrev pub LoadServes : Front Note Limits → Front Note Limits → Load → Type 0
+LoadServes f g load = (found : List Note) × (v : Content) × OneHold f g found [] v × IsLoad v load
 
 -- One hold made a seat, which has seen what that hold found, under a number above the holder's that
 -- no seat had. There is one seat more, and a holder that was alone made the second

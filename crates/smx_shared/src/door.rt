@@ -1,8 +1,9 @@
 //! The token that enters clients.
-ghost use Rattle.std.specs.Prelude.{◌≡◌, [], IfOk, IfErr};
+ghost use Rattle.std.specs.Prelude.{◌≡◌, ◌<◌, [], length, IfOk, IfErr};
 ghost use Rattle.smx_shared.specs.Views.{locks_of};
 ghost use Rattle.smx_shared.specs.Ports.{HasAccepted};
 ghost use Rattle.smx_shared.specs.Entering.{Admits, RefusesEntry};
+ghost use Rattle.smx_shared.specs.Loads.{Loads};
 
 use crate::admit::admit_all;
 use crate::departed::Departed;
@@ -11,6 +12,8 @@ use crate::fault::EnterFault;
 use crate::lane_seat::LaneSeat;
 use crate::port::Port;
 use crate::retire::retire_all;
+use smx_lane::Load;
+use smx_lock::Spent;
 use smx_ticket_core::MOST;
 use std::marker::Model;
 use std::sync::Wait;
@@ -74,5 +77,24 @@ impl Door {
                 ))
             }
         }
+    }
+
+    /// How many lanes there are.
+    pub fn lanes(&self) -> usize
+        ensures { result ≡ length self.now.fronts }
+    {
+        self.seats.len()
+    }
+
+    /// How much a lane holds: what is queued and under way there, since when, and its history. It may
+    /// wait, changes nothing and takes no memory.
+    pub fn load<R: Wait>(&mut self, at: &Exchange, rt: &R, lane: usize) -> Result<Load, Spent>
+        requires locks { locks_of self.old.fronts ≡ at.now }
+        requires lane { lane < length self.old.fronts }
+        ensures served { Loads lane self.old self.new result }
+        ensures same { self.new ≡ record self.old { fronts = self.new.fronts } }
+        ensures locks { locks_of self.new.fronts ≡ locks_of self.old.fronts }
+    {
+        self.seats[lane].load(rt, &at.locks[lane])
     }
 }

@@ -10,7 +10,7 @@ use smx_history::{
     AlreadyDown, Answered, Entry, FailRefusal, Failed, NoneExpired, Note, Refusal, Request,
     TakeRefusal, UpRefusal,
 };
-use smx_lane::{AdmitFault, Lane, NotAdmitted, Sent};
+use smx_lane::{AdmitFault, Lane, Load, NotAdmitted, Sent};
 use smx_lock::CriticalSection;
 use smx_pdu::Pdu;
 use std::alloc::AllocError;
@@ -57,6 +57,27 @@ impl<C: LaneCall> CriticalSection<Lane, Note> for Calling<C> {
     fn run(self, value: &mut Lane, number: u64) -> C::Answer {
         let Calling { made } = self;
         made.make(value, number)
+    }
+}
+
+// Tells how much a lane holds, in one hold that changes nothing.
+#[derive(Drop)]
+pub(crate) struct Weighing;
+
+impl CriticalSection<Lane, Note> for Weighing {
+    ghost use Rattle.std.specs.Prelude.{◌≡◌, []};
+    ghost use Rattle.smx_lane.specs.Loads.{IsLoad};
+
+    type Answer = Load;
+
+    ghost may = { λ s by lane. Unit {0} };
+
+    ghost does = { λ s by old answer new. (new ≡ old) × IsLoad old answer };
+
+    ghost notes = { λ s by old answer. [] };
+
+    fn run(self, value: &mut Lane, _number: u64) -> Load {
+        value.load()
     }
 }
 

@@ -1,11 +1,11 @@
 //! A seat on one lane. Each call of the lane is made in one hold of its lock.
 ghost use Rattle.std.specs.Prelude.{◌≡◌, MatchResult};
 ghost use Rattle.smx_lock.specs.Fronts.{IsSpent, Refused};
-ghost use Rattle.smx_shared.specs.Serving.{CallServes, SplitServes, SplitFails};
+ghost use Rattle.smx_shared.specs.Serving.{CallServes, LoadServes, SplitServes, SplitFails, Waited};
 ghost use Rattle.smx_shared.specs.Steps.{MayCall};
 
-use crate::lane_call::{Calling, LaneCall};
-use smx_lane::Lane;
+use crate::lane_call::{Calling, LaneCall, Weighing};
+use smx_lane::{Lane, Load};
 use smx_lock::{SeatInPlace, Spent, TicketLock, TryFault};
 use std::marker::Model;
 use std::sync::Wait;
@@ -63,6 +63,18 @@ impl LaneSeat {
         match self.seat.try_hold(lock, Calling { made }) {
             Ok(answer) => Ok(answer),
             Err((calling, fault)) => Err((calling.made, fault)),
+        }
+    }
+
+    // How much the lane holds, in one hold, for which it may wait.
+    pub(crate) fn load<R: Wait>(&mut self, rt: &R, lock: &TicketLock<Lane>) -> Result<Load, Spent>
+        requires lock { self.old.lock ≡ lock.now }
+        ensures lock { self.new.lock ≡ self.old.lock }
+        ensures served { Waited (LoadServes self.old self.new) self.old self.new result }
+    {
+        match self.seat.hold(rt, lock, Weighing) {
+            Ok(load) => Ok(load),
+            Err((_, spent)) => Err(spent),
         }
     }
 

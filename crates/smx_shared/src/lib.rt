@@ -3,9 +3,9 @@
 //! An `Exchange` keeps the lanes, each under its ticket lock. A `Door` enters clients, a `Port` is
 //! one client's right to submit, to collect and to leave, and a `Tap` takes from one lane, brings its
 //! answers, gives up requests that are too old, turns it over, and brings it down and up with its
-//! link. A call of a port or a tap is served by one hold of each lane that it uses. `Door::enter`
-//! holds each lane twice, to make a seat and by that seat, and a lane that it leaves again a third
-//! time.
+//! link. A call of a port or a tap is served by one hold of each lane that it uses, and so is
+//! `Door::load`. `Door::enter` holds each lane twice, to make a seat and by that seat, and a lane that
+//! it leaves again a third time.
 #![tactic(auto)]
 
 mod admit;

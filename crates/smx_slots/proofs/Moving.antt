@@ -2,7 +2,7 @@
 use Rattle.std.proofs.Common.{◌≡◌, ◌<◌, ◌≤◌, ◌+◌, ℕ, true, false, List, [], ◌∷◌, length, get_or, drop, Option, Some, None, refl, ap, sym, ◌∙◌, arith, add-one, drop-cons, zero, suc}
 use Rattle.std.specs.Prelude.{if◌then◌else◌, min, nat_eq, IfSome}
 use Rattle.std.specs.Option.{option_eq}
-use Rattle.smx_slots.specs.declared.limits.Limits.{Limits}
+use Rattle.smx_slots.specs.declared.limits.AccountLimits.{AccountLimits}
 use Rattle.smx_slots.specs.Ledger.{Accounts, moves_to, key_moved, with_account, with_accounts}
 
 one_moved : (moves : List (Option ℕ)) (keys : List ℕ) (n index : ℕ) → n < length moves → n < length keys
@@ -37,11 +37,11 @@ none_moved (m ∷ moves) (k ∷ keys) zero index past = absurd (omega (arith, pa
 none_moved (m ∷ moves) (k ∷ keys) (suc n) index past = none_moved moves keys n index (omega (arith, past))
 
 -- one account more
-pub account_entered : (key_of : ℕ → Option ℕ) (limits : List Limits) (index : ℕ) (key : Option ℕ) (d : Limits) (a b : Accounts) → index < length limits → key ≡ key_of index → b ≡ with_account key (get_or limits index d) a
+pub account_entered : (key_of : ℕ → Option ℕ) (limits : List AccountLimits) (index : ℕ) (key : Option ℕ) (d : AccountLimits) (a b : Accounts) → index < length limits → key ≡ key_of index → b ≡ with_account key (get_or limits index d) a
     → with_accounts key_of (index + 1) (drop (index + 1) limits) b ≡ with_accounts key_of index (drop index limits) a
 account_entered key_of limits index key d a b low known entered =
     let parts : drop index limits ≡ get_or limits index d ∷ drop (index + 1) limits = rw (add-one index) (drop-cons limits index d low) in
-    ap (with_accounts key_of (index + 1) (drop (index + 1) limits)) (entered ∙ ap (λ (o : Option ℕ). with_account o (get_or limits index d) a) known) ∙ sym (ap (λ (ls : List Limits). with_accounts key_of index ls a) parts)
+    ap (with_accounts key_of (index + 1) (drop (index + 1) limits)) (entered ∙ ap (λ (o : Option ℕ). with_account o (get_or limits index d) a) known) ∙ sym (ap (λ (ls : List AccountLimits). with_accounts key_of index ls a) parts)
 
 pub some_within : (o : Option ℕ) (n m : ℕ) → n ≤ m → IfSome o (λ k. k < n) → IfSome o (λ k. k < m)
 some_within None n m le low = low

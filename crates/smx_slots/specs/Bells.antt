@@ -5,43 +5,56 @@ use Rattle.smx_turns.specs.declared.gate.Party.{Party}
 use Rattle.smx_turns.specs.declared.gate.Party.TheVariants as party
 use Rattle.smx_turns.specs.declared.gate.Point.{Point}
 use Rattle.smx_turns.specs.declared.gate.Point.TheVariants as point
-use Rattle.smx_slots.specs.declared.bell.Door.{Door}
-use Rattle.smx_slots.specs.declared.bell.Door.TheVariants as door
+use Rattle.smx_slots.specs.declared.client_bell.ClientTurn.{ClientTurn}
 use Rattle.smx_slots.specs.Ledger.{Book, account_of, may_bind, may_request, with_client, with_accepted, with_settled}
 
--- what a turn changes by its questions: the ledger, the account by which its client was bound, and whether a bind was refused
+-- what a turn of a client's worker changes by its questions: the ledger, the account by which the client was bound, whether a bind was refused, and whether there was no memory for one
 pub record Visit : Type 0 where
   pub book : Book
   pub account : Option ℕ
   pub refused : Bool
+  pub lacked : Bool
 
-abbrev pub visit : Book → Option ℕ → Bool → Visit
-visit book account refused = record { book = book; account = account; refused = refused }
+abbrev pub visit : Book → Option ℕ → Bool → Bool → Visit
+visit book account refused lacked = record { book = book; account = account; refused = refused; lacked = lacked }
 
--- the client is bound by the account with this index where it may be, and the answer says whether it is
+-- whether the client may be bound by the account with this index
+abbrev pub may_bind_at : ℕ → ℕ → Book → Bool
+may_bind_at client index book = may_bind client (slice_get book.keys index) book
+
+-- the ledger where the client is bound by it
+abbrev pub bound_at : ℕ → ℕ → Book → Book
+bound_at client index book = with_client client (slice_get book.keys index) book
+
+-- the client is bound where it may be, and the answer says whether it is; one that may be and isn't had no memory, which is noted
 pub record Binds (client index : ℕ) (old : Visit) (answer : Bool) (new : Visit) : Type 0 where
-  pub may : answer ≡ true → may_bind client (slice_get old.book.keys index) old.book ≡ true
-  pub bound : answer ≡ true → new ≡ record old { book = with_client client (slice_get old.book.keys index) old.book; account = Some index }
-  pub same : answer ≡ false → new ≡ old
+  pub may : answer ≡ true → may_bind_at client index old.book ≡ true
+  pub bound : answer ≡ true → new ≡ record old { book = bound_at client index old.book; account = Some index }
+  pub lacked : answer ≡ false → new ≡ record old { lacked = old.lacked || may_bind_at client index old.book }
 
--- what the gate of a turn answers at a point, and what that changes
-abbrev pub Answers : Door → Point → Visit → Bool → Visit → Type 0
-Answers door.Lane point old answer new = (answer ≡ true) × (new ≡ old)
-Answers (door.Client client may_read may_refuse) point.Reading old answer new = (answer ≡ may_read) × (new ≡ old)
-Answers (door.Client client may_read may_refuse) (point.Binding index) old answer new = Binds client index old answer new
-Answers (door.Client client may_read may_refuse) point.Refusing old answer new = (answer ≡ (may_refuse && not old.refused)) × (new ≡ record old { refused = old.refused || answer })
-Answers (door.Client client may_read may_refuse) point.Admitting old answer new = (answer ≡ may_request client (account_of client old.book.notes) old.book) × (new ≡ old)
-Answers (door.Client client may_read may_refuse) point.Submitting old answer new = (answer ≡ true) × (new ≡ old)
-Answers (door.Client client may_read may_refuse) point.Collecting old answer new = (answer ≡ true) × (new ≡ old)
-Answers (door.Client client may_read may_refuse) point.Taking old answer new = (answer ≡ true) × (new ≡ old)
+-- what the gate of such a turn answers at a point, and what that changes
+abbrev pub Answers : ClientTurn → Point → Visit → Bool → Visit → Type 0
+Answers turn point.Reading old answer new = (answer ≡ turn.may_read) × (new ≡ old)
+Answers turn (point.Binding index) old answer new = Binds turn.client index old answer new
+Answers turn point.Refusing old answer new = (answer ≡ (turn.may_refuse && not old.refused)) × (new ≡ record old { refused = old.refused || answer })
+Answers turn point.Admitting old answer new = (answer ≡ may_request turn.client (account_of turn.client old.book.movements) old.book) × (new ≡ old)
+Answers turn point.Submitting old answer new = (answer ≡ true) × (new ≡ old)
+Answers turn point.Collecting old answer new = (answer ≡ true) × (new ≡ old)
+Answers turn point.Taking old answer new = (answer ≡ true) × (new ≡ old)
 
--- the ledger after a party was told: a request of the client is settled, or one of the turn's client was accepted
-abbrev pub book_after : Door → Party → Book → Book
-book_after door (party.Client client lane) book = with_settled client book
-book_after (door.Client client may_read may_refuse) (party.Lane lane) book = with_accepted client book
-book_after door.Lane (party.Lane lane) book = book
-book_after door (party.Answer lane) book = book
-book_after door (party.Slot slot) book = book
+-- the ledger after a party was told in a turn of a lane's worker: a request of the party is settled
+abbrev pub settled_by : Party → Book → Book
+settled_by (party.Client client lane) book = with_settled client book
+settled_by (party.Lane lane) book = book
+settled_by (party.Answer lane) book = book
+settled_by (party.Slot slot) book = book
+
+-- the same in a turn of this client's worker, of which a lane that is told accepted a request
+abbrev pub book_after : ℕ → Party → Book → Book
+book_after client (party.Client c lane) book = with_settled c book
+book_after client (party.Lane lane) book = with_accepted client book
+book_after client (party.Answer lane) book = book
+book_after client (party.Slot slot) book = book
 
 -- the number of a slot's party behind so many lanes
 abbrev pub slot_number : ℕ → ℕ → ℕ

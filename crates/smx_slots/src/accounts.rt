@@ -2,7 +2,7 @@
 ghost use Rattle.std.specs.Prelude.{◌≡◌, ◌++◌, ◌≤◌, ◌<◌, [], ℕ, length, replicate, All, IfOk, OnOk, IfSome};
 ghost use Rattle.smx_slots.specs.Ledger.{accounts, key_moved, with_account, with_accounts};
 
-use crate::limits::Limits;
+use crate::limits::AccountLimits;
 use std::alloc::{AllocError, Global};
 
 // The key of the first account that moved to this index.
@@ -22,9 +22,9 @@ fn key_moved(moves: &[Option<usize>], keys: &[usize], index: usize) -> Option<us
 // Enters an account that has this key, or one of its own.
 fn enter(
     keys: &mut Vec<usize>,
-    table: &mut Vec<Limits>,
+    table: &mut Vec<AccountLimits>,
     key: Option<usize>,
-    limits: Limits,
+    limits: AccountLimits,
 ) -> Result<(), AllocError>
     requires { IfSome key (λ k. k < length table.old.items) }
     ensures entered { OnOk result (accounts keys.new.items table.new.items
@@ -48,9 +48,9 @@ pub(crate) fn accounts_of(
     alloc: Global,
     moves: &[Option<usize>],
     keys: &[usize],
-    table: &[Limits],
-    limits: &[Limits],
-) -> Result<(Vec<usize>, Vec<Limits>), AllocError>
+    table: &[AccountLimits],
+    limits: &[AccountLimits],
+) -> Result<(Vec<usize>, Vec<AccountLimits>), AllocError>
     requires { All (λ key. key < length table.now) keys.now }
     ensures accounts { IfOk result (λ r. accounts r.0.items r.1.items
         ≡ with_accounts (key_moved moves.now keys.now) 0 limits.now (accounts [] table.now)) }
@@ -58,7 +58,7 @@ pub(crate) fn accounts_of(
     ensures more { IfOk result (λ r. length table.now ≤ length r.1.items) }
 {
     let mut next = Vec::with_capacity(alloc, limits.len())?;
-    let mut all: Vec<Limits> = table.iter().copied().collect(alloc)?;
+    let mut all: Vec<AccountLimits> = table.iter().copied().collect(alloc)?;
     for (index, limit) in limits.iter().enumerate() {
         let key = key_moved(moves, keys, index);
         enter(&mut next, &mut all, key, *limit)?;

@@ -1,6 +1,6 @@
 //! The clients that a ledger knows.
-ghost use Rattle.std.specs.Prelude.{◌≡◌, ℕ, IsSome, Some, None, OnOk, OnErr};
-ghost use Rattle.smx_slots.specs.Private.Entries.{entry_at, SetsEntry, HasSameEntries};
+ghost use Rattle.std.specs.Prelude.{◌≡◌, ℕ, IsSome, IfOk, Some, None, OnOk, OnErr, slice_index_or};
+ghost use Rattle.smx_slots.specs.Private.Entries.{entry_at, place_of, entry_of, is_free_for, SetsEntry, HasSameEntries};
 
 use std::alloc::{AllocError, Global};
 use std::collections::HashMap;
@@ -14,20 +14,69 @@ pub(crate) struct Entry {
     pub requests: u64,
 }
 
-/// Clients by their numbers.
+/// A client's entry, with its number.
+#[derive(Clone, Copy, Debug, PartialEq, Eq)]
+pub(crate) struct Row {
+    pub client: u64,
+    pub entry: Entry,
+}
+
+/// How many rows there are: a power of 2, four times as many as clients can be connected.
+const ROWS: u64 = 1_024;
+
+/// Clients by their numbers. A client's row is where its number says; the others are those whose row another
+/// one has, of which a look-up costs more.
 #[derive(Drop)]
 pub(crate) struct Entries {
-    // A look-up costs the same however many there are.
-    clients: HashMap<u64, Entry>,
+    rows: Vec<Option<Row>>,
+    others: HashMap<u64, Entry>,
+}
+
+// Where the client's row is.
+fn place_of(client: u64) -> usize
+    ensures { result ≡ place_of client }
+{
+    (client % ROWS) as usize
+}
+
+// The entry of a row that is the client's.
+fn entry_of(row: Option<Row>, client: u64) -> Option<Entry>
+    ensures { result ≡ entry_of client row }
+{
+    match row {
+        Some(row) if row.client == client => Some(row.entry),
+        _ => None,
+    }
+}
+
+// Whether no other client has the row.
+fn is_free_for(row: Option<Row>, client: u64) -> bool
+    ensures { result ≡ is_free_for client row }
+{
+    match row {
+        Some(row) => row.client == client,
+        None => true,
+    }
 }
 
 impl Entries {
-    // No client.
-    pub(crate) fn new(alloc: Global) -> Entries
-        ensures { (c : ℕ) → entry_at c result ≡ None }
+    // No client. It takes the memory for all rows.
+    pub(crate) fn new(alloc: Global) -> Result<Entries, AllocError>
+        ensures { IfOk result (λ entries. (c : ℕ) → entry_at c entries ≡ None) }
     {
-        Entries {
-            clients: HashMap::new(alloc),
+        Ok(Entries {
+            rows: vec![in alloc; None; ROWS as usize]?,
+            others: HashMap::new(alloc),
+        })
+    }
+
+    // The row where the client's would be.
+    fn row(&self, client: u64) -> Option<Row>
+        ensures { result ≡ slice_index_or self.now.rows.items (place_of client) None }
+    {
+        match self.rows.get(place_of(client)) {
+            Some(row) => *row,
+            None => None,
         }
     }
 
@@ -35,15 +84,23 @@ impl Entries {
     pub(crate) fn get(&self, client: u64) -> Option<Entry>
         ensures { result ≡ entry_at client self.now }
     {
-        self.clients.get(&client).copied()
+        match entry_of(self.row(client), client) {
+            Some(entry) => Some(entry),
+            None => self.others.get(&client).copied(),
+        }
     }
 
-    // Enters the client.
+    // Enters the client. It takes memory where another one has its row.
     pub(crate) fn enter(&mut self, client: u64, entry: Entry) -> Result<(), AllocError>
         ensures ok { OnOk result (SetsEntry (Some entry) self.old client self.new) }
         ensures err { OnErr result (HasSameEntries self.old self.new) }
     {
-        self.clients.insert(client, entry)?;
+        let at = place_of(client);
+        if at < self.rows.len() && is_free_for(self.rows[at], client) {
+            self.rows[at] = Some(Row { client, entry });
+            return Ok(());
+        }
+        self.others.insert(client, entry)?;
         Ok(())
     }
 
@@ -52,7 +109,12 @@ impl Entries {
         requires { IsSome (entry_at client self.old) }
         ensures { SetsEntry (Some entry) self.old client self.new }
     {
-        if let Some(place) = self.clients.get_mut(&client) {
+        let at = place_of(client);
+        if entry_of(self.row(client), client).is_some() {
+            self.rows[at] = Some(Row { client, entry });
+            return;
+        }
+        if let Some(place) = self.others.get_mut(&client) {
             *place = entry;
         }
     }
@@ -61,6 +123,10 @@ impl Entries {
     pub(crate) fn remove(&mut self, client: u64)
         ensures { SetsEntry None self.old client self.new }
     {
-        self.clients.remove(&client);
+        let at = place_of(client);
+        if entry_of(self.row(client), client).is_some() {
+            self.rows[at] = None;
+        }
+        self.others.remove(&client);
     }
 }

@@ -1,13 +1,13 @@
 //! Which requests are under way, and whose they are.
-ghost use Rattle.std.specs.Prelude.{◌≡◌, [], ◌++◌, ◌≤◌, ◌<◌, length, false, true, slice_get, replicate, All, IfOk, OnOk, OnErr};
+ghost use Rattle.std.specs.Prelude.{◌≡◌, [], ◌++◌, ◌≤◌, ◌<◌, length, false, true, if◌then◌else◌, slice_get, replicate, All, IfOk, OnOk, OnErr};
 ghost use Rattle.std.specs.List.{range_with_len};
 ghost use Rattle.std.specs.Option.{option_map_or};
-ghost use Rattle.smx_slots.specs.Ledger.{with_client, without_client, with_accepted, with_settled, may_bind, may_request, account_of, requests_of, count_of, bound_of, total_of, renewed};
+ghost use Rattle.smx_slots.specs.Ledger.{with_client, without_client, with_accepted, with_settled, may_bind, may_request, account_of, requests_of, is_known, count_of, bound_of, total_of, renewed};
 
 use crate::accounts::{accounts_of, with_zeros};
 use crate::entries::{Entries, Entry};
-use crate::limits::{Limits, is_below};
-use crate::note::Note;
+use crate::limits::{AccountLimits, is_below};
+use crate::movement::Movement;
 use smx_trace::Trace;
 use std::alloc::{AllocError, Global};
 use std::marker::Model;
@@ -21,12 +21,12 @@ pub struct Ledger {
     clients: Entries,
     // By index: the account's key, under which its limits and counts are.
     keys: Vec<usize>,
-    limits: Vec<Limits>,
+    limits: Vec<AccountLimits>,
     bound: Vec<u64>,
     requests: Vec<u64>,
     total: u64,
     draining: bool,
-    notes: Trace<Note>,
+    movements: Trace<Movement>,
 }
 
 impl Model for Ledger {
@@ -60,9 +60,9 @@ fn key_at(keys: &[usize], account: usize) -> Option<usize>
 
 impl Ledger {
     /// Accounts with these limits, each with its index as its key. Nobody is bound.
-    pub fn new(alloc: Global, limits: &[Limits]) -> Result<Ledger, AllocError>
+    pub fn new(alloc: Global, limits: &[AccountLimits]) -> Result<Ledger, AllocError>
         ensures { IfOk result (λ ledger. ledger ≡ record {
-          notes = [];
+          movements = [];
           keys = range_with_len 0 (length limits.now);
           limits = limits.now;
           draining = false;
@@ -71,47 +71,58 @@ impl Ledger {
         let count = limits.len();
         Ok(Ledger {
             alloc,
-            clients: Entries::new(alloc),
+            clients: Entries::new(alloc)?,
             keys: first_keys(alloc, count)?,
             limits: limits.iter().copied().collect(alloc)?,
             bound: vec![in alloc; 0; count]?,
             requests: vec![in alloc; 0; count]?,
             total: 0,
             draining: false,
-            notes: Trace::new(),
+            movements: Trace::new(),
         })
     }
 
-    /// The client is bound by the account with this index. False where as many are as may be, where nothing
-    /// is admitted any more, where the ledger knows the client or no such account, and where there is no
-    /// memory: nothing changes then.
-    pub fn bind(&mut self, client: u64, account: usize) -> bool
-        ensures may { result ≡ true
-            → may_bind client (slice_get self.old.keys account) self.old ≡ true }
-        ensures bound { result ≡ true
-            → self.new ≡ with_client client (slice_get self.old.keys account) self.old }
-        ensures same { result ≡ false → self.new ≡ self.old }
+    // Whether the client is bound or has requests under way.
+    fn knows(&self, client: u64) -> bool
+        ensures { result ≡ is_known client self.now.movements }
+    {
+        match self.clients.get(client) {
+            Some(entry) => entry.here || entry.requests > 0,
+            None => false,
+        }
+    }
+
+    /// Binds the client by the account with this index where it may be, and tells whether it may. It may not
+    /// where as many are as may be, where nothing is admitted any more, and where the ledger knows the client
+    /// or no such account. Want of memory is answered, and nothing changes then.
+    pub fn bind(&mut self, client: u64, account: usize) -> Result<bool, AllocError>
+        ensures may { IfOk result (λ may. may
+            ≡ may_bind client (slice_get self.old.keys account) self.old) }
+        ensures bound { IfOk result (λ may. self.new
+            ≡ (if may then with_client client (slice_get self.old.keys account) self.old
+            else self.old)) }
+        ensures allowed { OnErr result
+            (may_bind client (slice_get self.old.keys account) self.old ≡ true) }
+        ensures same { OnErr result (self.new ≡ self.old) }
     {
         let Some(key) = key_at(self.keys.as_slice(), account) else {
-            return false;
+            return Ok(false);
         };
-        if self.draining || self.clients.get(client).is_some() {
-            return false;
+        if self.draining || self.knows(client) {
+            return Ok(false);
         }
         if !is_below(self.limits[key].binds, self.bound[key]) {
-            return false;
+            return Ok(false);
         }
         let entry = Entry {
             key,
             here: true,
             requests: 0,
         };
-        if self.clients.enter(client, entry).is_err() {
-            return false;
-        }
+        self.clients.enter(client, entry)?;
         self.bound[key] += 1;
-        self.notes = self.notes.and(&Note::Bound(client, key));
-        true
+        self.movements = self.movements.and(&Movement::Bound(client, key));
+        Ok(true)
     }
 
     /// The client is gone. Its requests that are under way still count for its account. It takes no
@@ -135,13 +146,13 @@ impl Ledger {
             self.clients.change(client, gone);
         }
         self.bound[entry.key] = self.bound[entry.key].saturating_sub(1);
-        self.notes = self.notes.and(&Note::Left(client));
+        self.movements = self.movements.and(&Movement::Left(client));
     }
 
     /// Whether one more request of the client may be under way.
     pub fn admits(&self, client: u64) -> bool
         ensures { result
-            ≡ may_request client (account_of client self.now.notes) self.now }
+            ≡ may_request client (account_of client self.now.movements) self.now }
     {
         let Some(entry) = self.clients.get(client) else {
             return false;
@@ -174,7 +185,7 @@ impl Ledger {
         self.clients.change(client, more);
         self.requests[entry.key] = requests + 1;
         self.total += 1;
-        self.notes = self.notes.and(&Note::Accepted(client));
+        self.movements = self.movements.and(&Movement::Accepted(client));
     }
 
     /// A request of the client was answered or failed. Nothing changes where none of it is under way. It
@@ -199,12 +210,12 @@ impl Ledger {
         }
         self.requests[entry.key] = self.requests[entry.key].saturating_sub(1);
         self.total = self.total.saturating_sub(1);
-        self.notes = self.notes.and(&Note::Settled(client));
+        self.movements = self.movements.and(&Movement::Settled(client));
     }
 
     /// How many requests are under way.
     pub fn under_way(&self) -> u64
-        ensures { result ≡ total_of self.now.notes }
+        ensures { result ≡ total_of self.now.movements }
     {
         self.total
     }
@@ -212,7 +223,7 @@ impl Ledger {
     /// How many requests of the account's clients are under way, of those that are gone too. 0 where there is
     /// no such account.
     pub fn of_account(&self, account: usize) -> u64
-        ensures { result ≡ option_map_or (λ key. count_of key self.now.notes)
+        ensures { result ≡ option_map_or (λ key. count_of key self.now.movements)
             (slice_get self.now.keys account) 0 }
     {
         match key_at(self.keys.as_slice(), account) {
@@ -223,7 +234,7 @@ impl Ledger {
 
     /// How many clients are bound by the account. 0 where there is no such account.
     pub fn bound_by(&self, account: usize) -> u64
-        ensures { result ≡ option_map_or (λ key. bound_of key self.now.notes)
+        ensures { result ≡ option_map_or (λ key. bound_of key self.now.movements)
             (slice_get self.now.keys account) 0 }
     {
         match key_at(self.keys.as_slice(), account) {
@@ -234,7 +245,7 @@ impl Ledger {
 
     /// How many requests of the client are under way, also where it is gone.
     pub fn of_client(&self, client: u64) -> u64
-        ensures { result ≡ requests_of client self.now.notes }
+        ensures { result ≡ requests_of client self.now.movements }
     {
         match self.clients.get(client) {
             Some(entry) => entry.requests,
@@ -259,7 +270,11 @@ impl Ledger {
     /// Other accounts, with these limits: by old index the new one that the account moved to, where it did.
     /// Clients keep their account, and one that is gone keeps its limits. Want of memory is answered, and
     /// nothing changes then.
-    pub fn renew(&mut self, moves: &[Option<usize>], limits: &[Limits]) -> Result<(), AllocError>
+    pub fn renew(
+        &mut self,
+        moves: &[Option<usize>],
+        limits: &[AccountLimits],
+    ) -> Result<(), AllocError>
         ensures ok { OnOk result (self.new ≡ renewed moves.now limits.now self.old) }
         ensures err { OnErr result (self.new ≡ self.old) }
     {

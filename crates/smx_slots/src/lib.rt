@@ -6,28 +6,31 @@
 #![tactic(auto)]
 
 mod accounts;
-mod bell;
 mod boxes;
+mod client_bell;
 mod entries;
 mod fitting;
 mod guide;
+mod lane_bell;
 mod ledger;
 mod limits;
 mod line;
-mod note;
+mod movement;
+mod parties;
 mod polling;
 mod roll;
 mod schedule;
 mod slots;
 
-pub use bell::{Bell, Door};
 pub use boxes::{ClientEnds, LaneEnds, ends_of};
+pub use client_bell::{ClientBell, ClientTurn};
 pub use fitting::clients_that_fit;
 pub use guide::Guide;
+pub use lane_bell::LaneBell;
 pub use ledger::Ledger;
-pub use limits::Limits;
+pub use limits::AccountLimits;
 pub use line::{Line, is_in_turn};
-pub use note::Note;
+pub use movement::Movement;
 pub use polling::is_poll_due;
 pub use roll::Roll;
 pub use schedule::Schedule;

@@ -5,7 +5,7 @@ ghost use Rattle.smx_slots.specs.Ledger.{is_below, greatest_count};
 /// What an account may have at a time: so many bound clients, and so many requests of theirs that were
 /// accepted and not yet answered or failed. None: any number.
 #[derive(Clone, Copy, Debug, PartialEq, Eq)]
-pub struct Limits {
+pub struct AccountLimits {
     pub binds: Option<u32>,
     pub requests: Option<u32>,
 }

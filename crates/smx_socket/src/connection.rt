@@ -7,8 +7,8 @@ mod reading;
 mod writing;
 
 use crate::marks::Marks;
-use crate::noted::Noted;
 use crate::outgoing::Outgoing;
+use crate::traffic::Traffic;
 use crate::transport::Transport;
 pub use reading::Drained;
 use smx_link::{LinkFault, Polled};
@@ -162,7 +162,7 @@ pub struct Connection<T: Transport + Drop> {
     waiting: Outgoing,
     accepted: Trace<u8>,
     marks: Marks,
-    noted: Noted,
+    traffic: Traffic,
 }
 
 impl<T: Transport + Drop> Model for Connection<T> {
@@ -202,7 +202,7 @@ impl<T: Transport + Drop> Connection<T> {
             waiting: Outgoing::new(alloc)?,
             accepted: Trace::new(),
             marks: Marks::new(),
-            noted: Noted::new(alloc)?,
+            traffic: Traffic::new(),
         })
     }
 
@@ -260,17 +260,12 @@ impl<T: Transport + Drop> Connection<T> {
 
     /// How many octets its links gave and took, modulo 2^64.
     pub fn traffic(&self) -> u64 {
-        self.noted.traffic()
+        self.traffic.total()
     }
 
-    /// The first octets that its links gave, at most 256.
-    pub fn head(&self) -> &[u8] {
-        self.noted.head()
-    }
-
-    /// The last eight octets that its links took, as one number, the last octet in its lowest place.
-    pub fn tail(&self) -> u64 {
-        self.noted.tail()
+    /// Whether its links gave an octet.
+    pub fn has_given(&self) -> bool {
+        self.traffic.came > 0
     }
 
     /// What a connection keeps at every call.

@@ -2,12 +2,13 @@
 #![tactic(auto)]
 
 mod connection;
+mod keeping;
 mod link;
 mod marks;
-mod noted;
 mod outgoing;
 mod socket;
 mod tcp;
+mod traffic;
 mod transport;
 
 pub use connection::{Answers, Connection, Drained, Flushed};

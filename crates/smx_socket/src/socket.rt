@@ -3,6 +3,7 @@ ghost use Rattle.std.specs.Prelude.{◌≡◌, ◌≤◌, ◌+◌, ◌++◌, len
 ghost use Rattle.smx_link.specs.Links.{octets_read, octets_written, IsReadWithin, polls_of, fault_count};
 
 use crate::connection::{Answers, Connection, Drained, Flushed};
+use crate::keeping::keep_alive;
 use crate::marks::Marks;
 use crate::tcp::Tcp;
 use mio::event::Event;
@@ -11,6 +12,7 @@ use mio::{Interest, Registry, Token};
 use smx_link::{LinkFault, Polled};
 use std::alloc::Global;
 use std::cell::RefCell;
+use std::io;
 
 /// A connection that never waits, shared by its link and by whoever waits for the system's events.
 /// What is written waits, at most 65,536 octets of it, until it is flushed.
@@ -21,8 +23,9 @@ pub struct Socket {
 
 impl Socket {
     /// Over a connection that doesn't block and that nobody has read or written, whose events come
-    /// under this token. It takes memory for 65,536 octets; where that is wanted, or the system
-    /// refuses to watch it, it is closed.
+    /// under this token. The system sees to it that a peer which is gone is noticed, as far as it can.
+    /// It takes memory for 65,536 octets; where that is wanted, or the system refuses to watch it, it
+    /// is closed.
     pub fn new(
         alloc: Global,
         stream: TcpStream,
@@ -34,6 +37,7 @@ impl Socket {
         if registry.register(&mut stream, token, interest).is_err() {
             return None;
         }
+        keep_alive(&stream);
         match Connection::new(alloc, Tcp::new(stream)) {
             Ok(connection) => Some(Socket {
                 connection: RefCell::new(connection),
@@ -93,22 +97,19 @@ impl Socket {
         }
     }
 
-    /// The first octets that its link gave, at most 256. None where there is no memory for them.
-    pub fn head(&self, alloc: Global) -> Option<Vec<u8>> {
+    /// Whether its link gave an octet.
+    pub fn has_given(&self) -> bool {
         match self.connection.try_borrow() {
-            Ok(connection) => match Vec::from_slice(alloc, connection.head()) {
-                Ok(octets) => Some(octets),
-                Err(_) => None,
-            },
-            Err(_) => None,
+            Ok(connection) => connection.has_given(),
+            Err(_) => false,
         }
     }
 
-    /// The last eight octets that its link took, as one number, the last octet in its lowest place.
-    pub fn tail(&self) -> u64 {
+    /// Why the connection failed, where it did and the system said so.
+    pub fn failure(&self) -> Option<io::Error> {
         match self.connection.try_borrow() {
-            Ok(connection) => connection.tail(),
-            Err(_) => 0,
+            Ok(connection) => connection.transport().failure(),
+            Err(_) => None,
         }
     }
 

@@ -13,6 +13,8 @@ use std::net::Shutdown;
 #[derive(Drop)]
 pub struct Tcp {
     stream: TcpStream,
+    // Why the last call that failed did.
+    failure: Option<io::Error>,
     is_shut: bool,
     given: Trace<u8>,
     taken: Trace<u8>,
@@ -29,12 +31,29 @@ impl Tcp {
     {
         Tcp {
             stream,
+            failure: None,
             is_shut: false,
             given: Trace::new(),
             taken: Trace::new(),
             reads: Trace::new(),
             writes: Trace::new(),
         }
+    }
+
+    /// Why the connection failed, where a call of the system did.
+    pub fn failure(&self) -> Option<io::Error> {
+        self.failure
+    }
+}
+
+// Why a call of the system failed: none where it may be made again.
+fn failure_of(answer: &io::Result<usize>) -> Option<io::Error> {
+    match answer {
+        Ok(_) => None,
+        Err(error) => match error.kind() {
+            ErrorKind::WouldBlock | ErrorKind::Interrupted => None,
+            _ => Some(*error),
+        },
     }
 }
 
@@ -64,7 +83,9 @@ impl Transport for Tcp {
     ghost is_shut = { λ t. t.is_shut };
 
     fn read(&mut self, buffer: &mut [u8]) -> Outcome {
-        let outcome = outcome(self.stream.read(buffer));
+        let answer = self.stream.read(buffer);
+        self.failure = failure_of(&answer).or(self.failure);
+        let outcome = outcome(answer);
         if let Outcome::Moved(count) = outcome {
             self.given.extend(&buffer[..count]);
         }
@@ -73,7 +94,9 @@ impl Transport for Tcp {
     }
 
     fn write(&mut self, octets: &[u8]) -> Outcome {
-        let outcome = outcome(self.stream.write(octets));
+        let answer = self.stream.write(octets);
+        self.failure = failure_of(&answer).or(self.failure);
+        let outcome = outcome(answer);
         if let Outcome::Moved(count) = outcome {
             self.taken.extend(&octets[..count]);
         }

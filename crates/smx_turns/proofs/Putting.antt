@@ -1,5 +1,5 @@
 -- One put and one get, as their own clauses say it and as the lists do.
-use Rattle.std.proofs.Common.{◌≡◌, ◌<◌, ℕ, arith, List, [], ◌∷◌, ◌++◌, length, refl, sym, ap, ◌∙◌, subst, Some, Result, Ok, Err, IfOk, IfErr, IsOk, true≢false, slice_get, set, inl, inr}
+use Rattle.std.proofs.Common.{◌≡◌, ◌<◌, ℕ, arith, Bool, List, [], ◌∷◌, ◌++◌, length, refl, sym, ap, ◌∙◌, subst, Some, Result, Ok, Err, IfOk, IfErr, IsOk, true≢false, slice_get, set, inl, inr}
 use Rattle.std.proofs.lemmas.List.{append-nil, get_or-set_same, get_or-set_other, length-set}
 use Rattle.std.proofs.lemmas.Bool.{cases_eq, cases_lt, eq-eqb, ne_eqb}
 use Rattle.std.proofs.lemmas.Option.{slice_get-get_or, slice_get_within, slice_get_past}
@@ -10,10 +10,20 @@ use Rattle.smx_box.specs.declared.fault.Spent.{Spent as BoxSpent}
 use Rattle.smx_box.specs.declared.receiver.Got.{Got}
 use Rattle.smx_box.specs.declared.letter.Letter.{Letter}
 use Rattle.smx_box.specs.Letters.{letter}
-use Rattle.smx_box.specs.Boxes.{most_items, Sending, PutServes, FullPutServes, Receiving, GetServes, Hands}
-use Rattle.smx_turns.specs.Puts.{AtIndex, PutAnswers, contents, contents_in, put_on, Gets}
+use Rattle.smx_box.specs.Boxes.{most_items, Sending, PutServes, FullPutServes, LookServes, Receiving, GetServes, Hands}
+use Rattle.smx_turns.specs.Puts.{AtIndex, PutAnswers, contents, contents_in, put_on, LooksAt, Gets}
+
+got_same : {X : Type 0} (xs : List X) (i : ℕ) (y : X) → i < length xs → slice_get (set xs i y) i ≡ Some y
+got_same xs i y h = slice_get-get_or (set xs i y) i y (omega (arith, length-set xs i y)) ∙ ap Some (get_or-set_same xs i y y h)
 
 module _ {T : Type 0} where
+  -- a look behind a put
+  pub looked_behind : (i : ℕ) (xs ys : List (Sending T)) (full : Bool) (P : Sending T → Sending T → Type 0) → AtIndex i xs ys P → LooksAt i ys full → AtIndex i xs ys (λ x y. P x y × LookServes y full)
+  looked_behind i xs ys full P (x, y, at, now, p) (z, there, looks) =
+      let same : Some y ≡ Some z = sym (ap (λ l. slice_get l i) now ∙ got_same xs i y (slice_get_within xs i x at)) ∙ there in
+      let is : y ≡ z = cc in
+      (x, y, at, now, (p, subst (λ s. LookServes s full) (sym is) looks))
+
   -- what the contract of a put says
   pub answers : (x y : Sending T) (item : T) (r : Result ℕ (T × PutFault)) → IfOk r (λ n. n ≡ length y.put) → IfOk r (λ n. y.put ≡ x.put ++ letter x.sender n (Some item) ∷ [])
       → IfErr r (λ e. (e.0 ≡ item) × (y.put ≡ x.put)) → IfOk r (λ n. PutServes x y.front (letter x.sender n (Some item)))
@@ -45,9 +55,6 @@ module _ {T : Type 0} where
         ∙ ap (λ l. contents_in (slice_get xs k) ++ l) (sym (put_there k i item r apart))
   ]
     where
-      got_same : {X : Type 0} (xs : List X) (i : ℕ) (y : X) → i < length xs → slice_get (set xs i y) i ≡ Some y
-      got_same xs i y h = slice_get-get_or (set xs i y) i y (omega (arith, length-set xs i y)) ∙ ap Some (get_or-set_same xs i y y h)
-
       got_other : {X : Type 0} (xs : List X) (i k : ℕ) (y : X) → (k ≡ i → ⊥) → slice_get (set xs i y) k ≡ slice_get xs k
       got_other xs i k y apart = elim (cases_lt k (length xs)) [
         | inl within ↦ slice_get-get_or (set xs i y) k y (omega (arith, length-set xs i y)) ∙ ap Some (get_or-set_other xs i k y y apart) ∙ sym (slice_get-get_or xs k y within)

@@ -1,11 +1,14 @@
 -- One event more, and what the events are worth.
-use Rattle.std.proofs.Common.{◌≡◌, List, [], ◌∷◌, ◌++◌, Bool, ◌||◌, Option, sym, ◌∙◌, ap, append_assoc}
+use Rattle.std.proofs.Common.{◌≡◌, List, [], ◌∷◌, ◌++◌, Bool, ◌||◌, Option, None, sym, ◌∙◌, ap, refl, append_assoc}
 use Rattle.std.proofs.Math.Bool.{or-false}
 use Rattle.std.proofs.lemmas.List.Folds.{list_any-append}
 use Rattle.std.specs.List.{flat_map, list_any}
 use Rattle.smx_pdu.specs.declared.pdu.Pdu.{Pdu}
 use Rattle.smx_turns.specs.Worth.{Worth, those, ins, outs, has_broken}
+use Rattle.smx_turns.specs.declared.end.End.{End}
+use Rattle.smx_turns.specs.Endings.{or_end, ending_of}
 use Rattle.smx_turns.proofs.Chains.{pushed}
+use Rattle.smx_turns.proofs.Logged.{phase_push}
 
 -- whether any is so, of one more
 pub any_push : {E : Type 0} (f : E → Bool) (es es' : List E) (e : E) → es' ≡ es ++ e ∷ [] → list_any f es' ≡ (list_any f es || f e)
@@ -23,6 +26,11 @@ module _ {E : Type 0} (worth : E → Worth) where
   pub broken_push : (es es' : List E) (e : E) → es' ≡ es ++ e ∷ [] → has_broken worth es' ≡ (has_broken worth es || (worth e).breaks)
   unfolding has_broken
   broken_push es es' e grown = any_push (λ x. (worth x).breaks) es es' e grown
+
+  -- how the work ended, with one more
+  pub ending_push : (es es' : List E) (e : E) (o o' : Option End) → es' ≡ es ++ e ∷ [] → o ≡ ending_of worth es → o' ≡ or_end o (worth e).ends → o' ≡ ending_of worth es'
+  unfolding ending_of
+  ending_push es es' e o o' grown was now = now ∙ sym (phase_push (λ x y. or_end x (worth y).ends) None es es' e o (or_end o (worth e).ends) grown refl (sym was))
 
   -- what was heard is what was decided, and then one that waits
   pub heard_push : (was now : List Pdu) (es es' : List E) (e : E) (held held' : Option Pdu) → es' ≡ es ++ e ∷ [] → was ≡ ins worth es ++ those held → now ≡ was

@@ -4,3 +4,4 @@ pub mod Wires
 pub mod Steps
 pub mod Puts
 pub mod Rounds
+pub mod Endings

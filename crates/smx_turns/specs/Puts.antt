@@ -7,7 +7,7 @@ use Rattle.smx_box.specs.Letters.{letter}
 use Rattle.smx_box.specs.declared.fault.Spent.{Spent as BoxSpent}
 use Rattle.smx_box.specs.declared.receiver.Got.{Got}
 use Rattle.smx_box.specs.declared.receiver.Got.TheVariants as got
-use Rattle.smx_box.specs.Boxes.{most_items, Sending, PutServes, FullPutServes, Receiving, GetServes, Hands}
+use Rattle.smx_box.specs.Boxes.{most_items, Sending, PutServes, FullPutServes, LookServes, Receiving, GetServes, Hands}
 
 -- just that at this index changed, so
 abbrev pub AtIndex : {X : Type 0} → ℕ → List X → List X → (X → X → Type 0) → Type 0
@@ -24,6 +24,10 @@ module _ {T : Type 0} where
   pub record FindsFull (x y : Sending T) : Type 0 where
     pub put : y.put ≡ x.put
     pub served : FullPutServes x y.front
+
+  -- one step found each place of the box of the sender at this index taken, or one free
+  abbrev pub LooksAt : ℕ → List (Sending T) → Bool → Type 0
+  LooksAt i ss full = (x : Sending T) × (slice_get ss i ≡ Some x) × LookServes x full
 
   -- the sender's numbers are spent
   pub record FindsSpent (x y : Sending T) : Type 0 where

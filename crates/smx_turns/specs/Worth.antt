@@ -2,6 +2,7 @@
 use Rattle.std.specs.Prelude.{◌≡◌, Bool, true, false, is_none, List, [], ◌∷◌, Option, Some, None}
 use Rattle.std.specs.List.{flat_map, list_any}
 use Rattle.smx_pdu.specs.declared.pdu.Pdu.{Pdu}
+use Rattle.smx_turns.specs.declared.end.End.{End}
 use Rattle.smx_turns.specs.declared.gate.Party.{Party}
 use Rattle.smx_turns.specs.declared.directory.Query.{Query}
 use Rattle.smx_turns.specs.declared.outcome.Outcome.{Outcome}
@@ -21,8 +22,8 @@ pub record Worth : Type 0 where
   pub finds : List Query
   -- whether nothing came of it
   pub quiet : Bool
-  -- whether nothing is decided after it
-  pub ends : Bool
+  -- how it ended the work, where nothing is decided after it
+  pub ends : Option End
   -- whether it answered a bad length
   pub breaks : Bool
   -- whether a lane or a box took no more calls
@@ -30,7 +31,7 @@ pub record Worth : Type 0 where
 
 -- nothing came of it
 abbrev pub no_worth : Worth
-no_worth = record { decided = []; said = []; tells = []; finds = []; quiet = true; ends = false; breaks = false; spent = false }
+no_worth = record { decided = []; said = []; tells = []; finds = []; quiet = true; ends = None; breaks = false; spent = false }
 
 -- nothing came of it, since a lane or a box takes no more calls
 abbrev pub spent_worth : Worth

@@ -12,10 +12,10 @@ mod step;
 mod wire;
 
 pub use directory::{Directory, Place, Query};
-pub use end::{Fault, RunEnd, TurnEnd, last_end};
+pub use end::{End, Fault, RunEnd, TurnEnd, last_end};
 pub use gate::{Gate, Party, Point, Question};
 pub use mo_item::MoItem;
 pub use outcome::Outcome;
-pub use put::put_at;
+pub use put::{is_full_at, put_at};
 pub use step::{Deed, Log, Step, ask};
 pub use wire::{is_end, is_memory};

@@ -1,4 +1,5 @@
 //! What an event leads to.
+use crate::end::End;
 use smx_pdu::Pdu;
 
 /// What an event of a worker leads to, and what its caller learns beside.
@@ -9,7 +10,7 @@ pub struct Outcome<E: Drop, A: Drop> {
     pub quiet: bool,
     /// What is to be said over the link.
     pub sent: Option<Pdu>,
-    /// Nothing is decided after it.
-    pub ends: bool,
+    /// How it ended the work, where nothing is decided after it.
+    pub ends: Option<End>,
     pub answer: A,
 }

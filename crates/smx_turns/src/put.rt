@@ -1,6 +1,6 @@
 //! An item put by one of several senders.
 ghost use Rattle.std.specs.Prelude.{◌≡◌, ◌++◌, ◌<◌, ℕ, length, slice_get};
-ghost use Rattle.smx_turns.specs.Puts.{AtIndex, PutAnswers, contents_in, put_on};
+ghost use Rattle.smx_turns.specs.Puts.{AtIndex, LooksAt, PutAnswers, contents_in, put_on};
 
 use smx_box::{PutFault, Sender};
 use std::sync::Wait;
@@ -20,4 +20,13 @@ pub fn put_at<T: Drop, R: Wait>(
     ensures count { length senders.new.items ≡ length senders.old.items }
 {
     senders[index].put(rt, item)
+}
+
+/// Whether every place of the box is taken into which the sender at this index puts, at one step.
+pub fn is_full_at<T: Drop, R: Wait>(rt: &R, senders: &mut Vec<Sender<T>>, index: usize) -> bool
+    requires { index < length senders.old.items }
+    ensures looks { LooksAt index senders.old.items result }
+    ensures same { senders.new.items ≡ senders.old.items }
+{
+    senders[index].is_full(rt)
 }

@@ -62,6 +62,7 @@ no_message row.UnbindAnswer p h = absurd (cc h)
 no_message row.OtherBindAnswer p h = absurd (cc h)
 no_message row.OtherResponse p h = absurd (cc h)
 no_message row.Message p h = absurd (cc h)
+no_message row.MessageToTransmitter p h = absurd (cc h)
 no_message row.EnquireLink p h = absurd (cc h)
 no_message row.Unbind p h = absurd (cc h)
 no_message row.OtherRequest p h = absurd (cc h)
@@ -69,8 +70,8 @@ no_message row.Unanswered p h = absurd (cc h)
 no_message row.Unknown p h = absurd (cc h)
 
 binding_takes_none : (u : Upstream) (p : Pdu) → u.state ≡ Binding → act_on u p ≡ act.Mo → ⊥
-binding_takes_none u p b is = no_message (upstream_row p.command p.number) p
-    (subst (λ (s : UpstreamState). (upstream_decision (upstream_cell (upstream_row p.command p.number) s) s p).0 ≡ act.Mo) b is)
+binding_takes_none u p b is = no_message (upstream_row u.bind.kind p.command p.number) p
+    (subst (λ (s : UpstreamState). (upstream_decision (upstream_cell (upstream_row u.bind.kind p.command p.number) s) s p).0 ≡ act.Mo) b is)
 
 was_stopped : (s : UpstreamState) → state_after_stop s ≡ Binding → s ≡ Binding
 was_stopped Binding h = refl
@@ -96,7 +97,7 @@ module _ (s : Stand) where
   fate_none lane p a fate.LaneSpent t ss t' ss' w w' never b o = o
   fate_none lane p a fate.Unread t ss t' ss' w w' never b o = o
   fate_none lane p a (fate.Unrouted found) t ss t' ss' w w' never b o = o
-  fate_none lane p a (fate.Put place n given) t ss t' ss' w w' never b o = absurd (never b.0)
+  fate_none lane p a (fate.Put place n given full) t ss t' ss' w w' never b o = absurd (never b.0)
   fate_none lane p a (fate.Full place) t ss t' ss' w w' never b o = o
   fate_none lane p a (fate.Crowded place) t ss t' ss' w w' never b o = o.1
   fate_none lane p a (fate.BoxSpent place) t ss t' ss' w w' never b o = o
@@ -111,7 +112,7 @@ module _ (s : Stand) where
   step : (t : Stand) (e : Event) → Does s e t → t.session.state ≡ Binding → Passes e t
   step t (event.Began p) d b = same t (event.Began p) refl (ap (λ x. x.session.state) d.1) (ap (λ x. x.owed) d.1) b
   step t (event.Opened n) d b = same t (event.Opened n) refl (ap (λ x. x.session.state) d.1) (ap (λ x. x.owed) d.1) b
-  step t (event.Looked now due silent) d b = same t (event.Looked now due silent) refl (ap (λ x. x.session.state) d.2) (ap (λ x. x.owed) d.2) b
+  step t (event.Looked now due left silent) d b = same t (event.Looked now due left silent) refl (ap (λ x. x.session.state) d.2) (ap (λ x. x.owed) d.2) b
   step t (event.Judged silent) d b = same t (event.Judged silent) refl (ap (λ x. x.session.state) d.1) (ap (λ x. x.owed) d.1) b
   step t (event.Expired lane span r) d b = same t (event.Expired lane span r) refl (ap (λ x. x.session.state) d.3) (ap (λ x. x.owed) d.3) b
   step t (event.Shifted least r) d b = same t (event.Shifted least r) refl (ap (λ x. x.session.state) d.3) (ap (λ x. x.owed) d.3) b
@@ -121,6 +122,7 @@ module _ (s : Stand) where
       (was, λ none. (refl, subst HoldNone (sym (fate_none s.tap.lane p.value a.value f s.tap s.senders t.tap t.senders s.owed t.owed (λ is. binding_takes_none s.session p.value was (sym d.0 ∙ is)) d.1 d.2)) none))
   step t (event.Took r) d b = absurd (bound_no s.session.state (sym (ap (λ x. x.session.state) d.3) ∙ b) d.0)
   step t event.Broke d b = same t event.Broke refl (ap (λ x. x.session.state) d) (ap (λ x. x.owed) d) b
+  step t event.LinkEnded d b = same t event.LinkEnded refl (ap (λ x. x.session.state) d) (ap (λ x. x.owed) d) b
   step t (event.Unbound p) d b = (was_stopped s.session.state (sym (ap (λ x. x.session.state) d.1) ∙ b), λ none. (refl, subst HoldNone (sym (ap (λ x. x.owed) d.1)) none))
   step t (event.GaveUp given) d b = same t (event.GaveUp given) refl (ap (λ x. x.session.state) d.4) (ap (λ x. x.owed) d.4) b
 

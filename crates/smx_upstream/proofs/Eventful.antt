@@ -28,9 +28,11 @@ use Rattle.smx_upstream.specs.declared.event.Event.{Event}
 use Rattle.smx_upstream.specs.declared.event.Fate.{Fate}
 use Rattle.smx_turns.specs.Wires.{answers_end}
 use Rattle.smx_turns.specs.Worth.{those, ins, outs, has_broken}
-use Rattle.smx_turns.proofs.Worths.{any_push, heard_push, outs_push}
+use Rattle.smx_turns.proofs.Worths.{ending_push, heard_push, outs_push}
 use Rattle.smx_turns.proofs.Breaking.{BadKept, still_bad, unbroken}
-use Rattle.smx_upstream.specs.Events.{worth, unless_kept, kept_by, fate_worth, event_ends, has_ended}
+use Rattle.smx_turns.specs.declared.end.End.{End}
+use Rattle.smx_turns.specs.Endings.{or_end, ending_of}
+use Rattle.smx_upstream.specs.Events.{worth, unless_kept, kept_by, fate_worth}
 use Rattle.smx_upstream.specs.Standing.{Stand, Does, HoldNone, stand}
 use Rattle.smx_upstream.specs.Writing.{Writes, Marks, Sends, writing}
 use Rattle.smx_upstream.specs.Working.{Working, IsWorker, Scene, Changes, LeadsOn}
@@ -39,24 +41,25 @@ use Rattle.smx_upstream.specs.Working.{Working, IsWorker, Scene, Changes, LeadsO
 pub same_moment : (u : Upstream) → at u u.latest ≡ u
 same_moment u = let same : max u.latest u.latest ≡ u.latest = omega arith in ap (λ n. record u { latest = n }) same
 
-pub or_true : (b : Bool) → true ≡ (b || true)
-or_true true = refl
-or_true false = refl
-
 -- an event that ends nothing
-pub goes_on : (b : Bool) → b ≡ (b || false)
-goes_on b = sym (or-false b)
+pub goes_on : (o : Option End) → o ≡ or_end o None
+goes_on None = refl
+goes_on (Some end) = refl
+
+-- one that ends the work, where none had
+pub ends_so : (o end : Option End) → o ≡ None → end ≡ or_end o end
+ends_so o end none = sym (ap (λ x. or_end x end) none)
 
 -- a worker that did one thing more
 pub did : {L : Type 0} (w w' : Working L) (e : Event) → IsWorker w → w'.events ≡ w.events ++ e ∷ [] → w'.wire.heard ≡ w.wire.heard → (worth e).decided ++ those w'.held ≡ those w.held
-    → w'.wire.said ≡ w.wire.said ++ (worth e).said → w'.first ≡ w.first → Does w.stand e w'.stand → (w'.ending ≡ false → w'.wire.failed ≡ None) → w'.ending ≡ (w.ending || event_ends e) → BadKept (worth e).breaks w.wire w'.wire → w'.last ≡ last_after w.last e → IsWorker w'
-unfolding has_ended last_request
+    → w'.wire.said ≡ w.wire.said ++ (worth e).said → w'.first ≡ w.first → Does w.stand e w'.stand → (w'.ending ≡ None → w'.wire.failed ≡ None) → w'.ending ≡ or_end w.ending (worth e).ends → BadKept (worth e).breaks w.wire w'.wire → w'.last ≡ last_after w.last e → IsWorker w'
+unfolding last_request
 did w w' e was grown heard settled said first does on ends bad last = record {
   heard = heard_push worth w.wire.heard w'.wire.heard w.events w'.events e w.held w'.held grown was.heard heard settled;
   said = said ∙ ap (λ l. l ++ (worth e).said) was.said ∙ sym (outs_push worth w.events w'.events e grown);
   runs = chain_push Does w'.first w.stand w'.stand w.events w'.events e grown does (subst_first w.first w'.first (sym first) was.runs);
   none_owed = subst (λ (s : Stand). HoldNone s.owed) (sym first) was.none_owed;
-  over = ends ∙ ap (λ b. b || event_ends e) was.over ∙ sym (any_push event_ends w.events w'.events e grown);
+  over = ending_push worth w.events w'.events e w.ending w'.ending grown was.over ends;
   goes_on = on;
   broke = still_bad worth w.wire w'.wire w.events w'.events e grown was.broke bad;
   last = last ∙ sym (phase_push last_after None w.events w'.events e w.last (last_after w.last e) grown refl (sym was.last));
@@ -69,7 +72,7 @@ pub some_of : {A : Type 0} (P : A → Type 0) (o : Option A) (x : A) → o ≡ S
 some_of P o x is h = subst (λ y. IfSome y P) is h
 
 -- a worker that decides PDUs still, and did no more than read or hear
-pub on_hearing : {L : Type 0} (w w' : Working L) → IsWorker w → w.ending ≡ false → w' ≡ record w { wire = w'.wire; held = w'.held } → w'.wire.heard ≡ ins worth w.events ++ those w'.held
+pub on_hearing : {L : Type 0} (w w' : Working L) → IsWorker w → w.ending ≡ None → w' ≡ record w { wire = w'.wire; held = w'.held } → w'.wire.heard ≡ ins worth w.events ++ those w'.held
     → w'.wire.said ≡ w.wire.said → w'.wire.failed ≡ None → IsWorker w'
 on_hearing w w' was on same heard said fine = subst IsWorker (sym same) (record {
   heard = heard;
@@ -84,14 +87,14 @@ on_hearing w w' was on same heard said fine = subst IsWorker (sym same) (record 
 
 -- a new worker
 pub began : {L : Type 0} (w : Working L) (e : Event) (p : Pdu) → w.events ≡ e ∷ [] → w.wire.heard ≡ [] → w.held ≡ None → (worth e).decided ≡ [] → (worth e).said ≡ p ∷ [] → w.wire.said ≡ p ∷ []
-    → w.first ≡ w.stand → HoldNone w.first.owed → Does w.first e w.stand → w.wire.failed ≡ None → w.ending ≡ event_ends e → (worth e).breaks ≡ false → w.last ≡ last_after None e → IsWorker w
-unfolding ins outs has_ended has_broken last_request
+    → w.first ≡ w.stand → HoldNone w.first.owed → Does w.first e w.stand → w.wire.failed ≡ None → w.ending ≡ (worth e).ends → (worth e).breaks ≡ false → w.last ≡ last_after None e → IsWorker w
+unfolding ins outs ending_of has_broken last_request
 began w e p one heard held nothing sends said first none does on ends unbroken last = record {
   heard = heard ∙ sym (ap (λ l. flat_map (λ x. (worth x).decided) l ++ those w.held) one ∙ ap (λ l. (l ++ []) ++ those w.held) nothing ∙ ap those held);
   said = said ∙ sym (ap (flat_map (λ x. (worth x).said)) one ∙ ap (λ l. l ++ []) sends);
   runs = chain_first Does w.first w.first w.stand [] w.events e refl refl one does;
   none_owed = none;
-  over = ends ∙ goes_on (event_ends e) ∙ sym (ap (list_any event_ends) one);
+  over = ends ∙ sym (ap (phase_from (λ x y. or_end x (worth y).ends) None) one);
   last = last ∙ sym (ap (phase_from last_after None) one);
   goes_on = λ _. on;
   broke = λ h. absurd (true≢false (sym h ∙ ap (list_any (λ x. (worth x).breaks)) one ∙ or-false (worth e).breaks ∙ unbroken));

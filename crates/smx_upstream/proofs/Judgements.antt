@@ -5,7 +5,7 @@ use Rattle.smx_link.specs.declared.link.Polled.{Polled}
 use Rattle.smx_link.specs.declared.link.Polled.TheVariants.{Octets, Nothing, End}
 use Rattle.smx_turns.specs.declared.gate.Point.TheVariants.{Reading, Taking}
 use Rattle.smx_turns.specs.declared.end.TurnEnd.{TurnEnd}
-use Rattle.smx_turns.specs.declared.end.TurnEnd.TheVariants.{Worked, Idle, Done}
+use Rattle.smx_turns.specs.declared.end.TurnEnd.TheVariants.{Worked, Filled, Idle, Done}
 use Rattle.smx_turns.specs.declared.end.Fault.{Fault}
 use Rattle.smx_turns.specs.declared.end.Fault.TheVariants as fault
 use Rattle.smx_turns.specs.declared.step.Step.{Step}
@@ -14,15 +14,16 @@ use Rattle.smx_turns.specs.Steps.{phase_from}
 use Rattle.smx_upstream.specs.declared.mark.Mark.{Mark}
 use Rattle.smx_upstream.specs.declared.mark.Mark.TheVariants.{Offered, WriteFailed, Full, Part}
 use Rattle.smx_upstream.specs.declared.event.Event.{Event}
-use Rattle.smx_upstream.specs.declared.event.Event.TheVariants.{Opened, Looked, Judged, Expired, Shifted, Sought, Decided, Took, Broke}
+use Rattle.smx_upstream.specs.declared.event.Event.TheVariants.{Opened, Looked, Judged, Expired, Shifted, Sought, Decided, Took, Broke, LinkEnded}
 use Rattle.smx_upstream.specs.declared.event.Span.TheVariants.{Once, Twice}
-use Rattle.smx_upstream.specs.Events.{is_spent, event_ends}
+use Rattle.smx_upstream.specs.Events.{is_spent, event_ends, fills}
 use Rattle.smx_upstream.specs.Judging.{finds_no_more, judges, AreJudged}
-use Rattle.smx_upstream.specs.Phases.{Phase, Before, Opening, Ready, Written, Watched, Clear, Sated, MayRead, Deciding, Closing, CaughtUp, Sweeping, Settled, MayTake, Wrong, go, from_opening, from_ready, from_written, from_watched, from_sweeping, from_caught_up, from_clear, from_sated, from_may_read, from_deciding, from_closing, from_settled, from_may_take, phase_of, unless_spent, if_so, after_offer, unless_left, when_gone, when_kept, when_decided, when_part, when_full, when_may_read, when_may_take, IsTurn}
+use Rattle.smx_upstream.specs.Phases.{Phase, Before, Opening, Ready, Written, Watched, Clear, MayRead, Deciding, Closing, CaughtUp, Sweeping, Settled, MayTake, Wrong, go, from_opening, from_ready, from_written, from_watched, from_sweeping, from_caught_up, from_clear, from_may_read, from_deciding, from_closing, from_settled, from_may_take, phase_of, unless_spent, if_so, after_offer, unless_left, when_gone, when_kept, when_decided, when_part, when_full, when_may_read, when_may_take, IsTurn, Source, Emptied, Ebbed, from_emptied, from_ebbed, going_on, when_filled}
+use Rattle.smx_upstream.specs.Phases.Source.{Earlier, Behind}
 
 -- a turn stands so only behind a read that found that nothing more had come
 abbrev needs : Phase → Bool
-needs (Deciding Nothing) = true
+needs (Deciding (Behind Nothing)) = true
 needs CaughtUp = true
 needs (Sweeping Once p) = true
 needs (Sweeping Twice p) = needs p
@@ -62,23 +63,37 @@ no_may_read : (b : Bool) → needs (when_may_read b) ≡ false
 no_may_read true = refl
 no_may_read false = refl
 
-no_may_take : (b : Bool) → needs (when_may_take b) ≡ false
-no_may_take true = refl
-no_may_take false = refl
+no_may_take : (full b : Bool) → needs (when_may_take full b) ≡ false
+no_may_take full true = refl
+no_may_take full false = refl
 
-no_decided : (polled : Polled) (b : Bool) → needs (Deciding polled) ≡ false → needs (when_decided polled b) ≡ false
-no_decided polled true h = refl
-no_decided polled false h = h
+no_more : (s : Source) → needs (Deciding s) ≡ false → needs (Deciding (going_on s)) ≡ false
+no_more (Earlier some) h = refl
+no_more (Behind polled) h = h
 
-no_part : (polled : Polled) → needs (Deciding polled) ≡ false → needs (when_part polled) ≡ false
-no_part End h = refl
-no_part Nothing h = h
-no_part (Octets n) h = refl
+no_filled : (s : Source) → needs (when_filled s) ≡ false
+no_filled (Earlier some) = refl
+no_filled (Behind End) = refl
+no_filled (Behind Nothing) = refl
+no_filled (Behind (Octets n)) = refl
 
-no_full : (polled : Polled) → needs (when_full polled) ≡ false
-no_full End = refl
-no_full Nothing = refl
-no_full (Octets n) = refl
+no_decided : (s : Source) (b full : Bool) → needs (Deciding s) ≡ false → needs (when_decided s b full) ≡ false
+no_decided s true full h = refl
+no_decided s false true h = no_filled s
+no_decided s false false h = no_more s h
+
+no_part : (s : Source) → needs (Deciding s) ≡ false → needs (when_part s) ≡ false
+no_part (Earlier true) h = refl
+no_part (Earlier false) h = refl
+no_part (Behind End) h = refl
+no_part (Behind Nothing) h = h
+no_part (Behind (Octets n)) h = refl
+
+no_full : (s : Source) → needs (when_full s) ≡ false
+no_full (Earlier some) = refl
+no_full (Behind End) = refl
+no_full (Behind Nothing) = refl
+no_full (Behind (Octets n)) = refl
 
 -- what each phase but one leads to needs no such read, where it needs none itself
 opening_none : (s : Step Mark Event) → needs (from_opening s) ≡ false
@@ -94,7 +109,7 @@ ready_none t _ = refl
 
 written_none : (t : Before) (left : Bool) (s : Step Mark Event) → needs (from_written t left s) ≡ false
 unfolding from_written
-written_none t left (Did (Looked now due silent)) = no_if (now == t.now) _ (no_gone left (left && silent))
+written_none t left (Did (Looked now due some_left silent)) = no_if (now == t.now) _ (no_so some_left left _ (no_gone left (left && silent)))
 written_none t left _ = refl
 
 watched_none : (left : Bool) (s : Step Mark Event) → needs (from_watched left s) ≡ false
@@ -107,19 +122,23 @@ unfolding from_clear
 clear_none (Did (Sought r under)) = no_unless (is_spent (Sought r under)) _ refl
 clear_none _ = refl
 
-sated_none : (s : Step Mark Event) → needs (from_sated s) ≡ false
-unfolding from_sated
-sated_none (Marked Full) = refl
-sated_none (Asked Reading answer) = no_may_read answer
-sated_none _ = refl
+emptied_none : (s : Step Mark Event) → needs (from_emptied s) ≡ false
+unfolding from_emptied
+emptied_none (Asked Reading answer) = no_may_read answer
+emptied_none _ = refl
 
-deciding_none : (t : Before) (polled : Polled) (s : Step Mark Event) → needs (Deciding polled) ≡ false → needs (from_deciding t polled s) ≡ false
+deciding_none : (t : Before) (source : Source) (s : Step Mark Event) → needs (Deciding source) ≡ false → needs (from_deciding t source s) ≡ false
 unfolding from_deciding
-deciding_none t polled (Did (Decided p now a f)) h = no_if (now == t.now) _ (no_unless (is_spent (Decided p now a f)) _ (no_decided polled (event_ends (Decided p now a f)) h))
-deciding_none t polled (Did Broke) h = refl
-deciding_none t polled (Marked Part) h = no_part polled h
-deciding_none t polled (Marked Full) h = no_full polled
-deciding_none t polled _ h = refl
+deciding_none t source (Did (Decided p now a f)) h = no_if (now == t.now) _ (no_unless (is_spent (Decided p now a f)) _ (no_decided source (event_ends (Decided p now a f)) (fills f) h))
+deciding_none t source (Did Broke) h = refl
+deciding_none t source (Marked Part) h = no_part source h
+deciding_none t source (Marked Full) h = no_full source
+deciding_none t source _ h = refl
+
+ebbed_none : (s : Step Mark Event) → needs (from_ebbed s) ≡ false
+unfolding from_ebbed
+ebbed_none (Did LinkEnded) = refl
+ebbed_none _ = refl
 
 closing_none : (s : Step Mark Event) → needs (from_closing s) ≡ false
 unfolding from_closing
@@ -132,15 +151,15 @@ unfolding from_sweeping
 sweeping_none p (Did (Expired lane Twice r)) h = no_unless (is_spent (Expired lane Twice r)) p h
 sweeping_none p _ h = refl
 
-settled_none : (s : Step Mark Event) → needs (from_settled s) ≡ false
+settled_none : (full : Bool) (s : Step Mark Event) → needs (from_settled full s) ≡ false
 unfolding from_settled
-settled_none (Asked Taking answer) = no_may_take answer
-settled_none _ = refl
+settled_none full (Asked Taking answer) = no_may_take full answer
+settled_none full _ = refl
 
-may_take_none : (s : Step Mark Event) → needs (from_may_take s) ≡ false
+may_take_none : (full : Bool) (s : Step Mark Event) → needs (from_may_take full s) ≡ false
 unfolding from_may_take
-may_take_none (Did (Took r)) = no_unless (is_spent (Took r)) _ refl
-may_take_none _ = refl
+may_take_none full (Did (Took r)) = no_unless (is_spent (Took r)) _ refl
+may_take_none full _ = refl
 
 -- such a read is the one that leads there
 read_needs : (r : _) → needs (from_may_read (Read r)) ≡ finds_no_more (Read r)
@@ -165,27 +184,28 @@ next_needs t Ready s n h = absurd (true≢false (sym h ∙ ready_none t s))
 next_needs t (Written left) s n h = absurd (true≢false (sym h ∙ written_none t left s))
 next_needs t (Watched left) s n h = absurd (true≢false (sym h ∙ watched_none left s))
 next_needs t Clear s n h = absurd (true≢false (sym h ∙ clear_none s))
-next_needs t Sated s n h = absurd (true≢false (sym h ∙ sated_none s))
+next_needs t Emptied s n h = absurd (true≢false (sym h ∙ emptied_none s))
 next_needs t MayRead s n h = may_read_needs s h
-next_needs t (Deciding polled) s n h = absurd (true≢false (sym h ∙ deciding_none t polled s n))
+next_needs t (Deciding source) s n h = absurd (true≢false (sym h ∙ deciding_none t source s n))
+next_needs t Ebbed s n h = absurd (true≢false (sym h ∙ ebbed_none s))
 next_needs t Closing s n h = absurd (true≢false (sym h ∙ closing_none s))
 next_needs t CaughtUp s n h = absurd (true≢false n)
 next_needs t (Sweeping Once p) s n h = absurd (true≢false n)
 next_needs t (Sweeping Twice p) s n h = absurd (true≢false (sym h ∙ sweeping_none p s n))
-next_needs t Settled s n h = absurd (true≢false (sym h ∙ settled_none s))
-next_needs t MayTake s n h = absurd (true≢false (sym h ∙ may_take_none s))
+next_needs t (Settled full) s n h = absurd (true≢false (sym h ∙ settled_none full s))
+next_needs t (MayTake full) s n h = absurd (true≢false (sym h ∙ may_take_none full s))
 next_needs t _ s n h = absurd (true≢false (sym h))
 
 -- and a timer is judged nowhere else
 judged_wrong : (t : Before) (p : Phase) (silent : Bool) → needs p ≡ false → go t p (Did (Judged silent)) ≡ Wrong
-unfolding go from_opening from_ready from_written from_watched from_sweeping from_caught_up from_clear from_sated from_may_read from_deciding from_closing from_settled from_may_take
+unfolding go from_opening from_ready from_written from_watched from_sweeping from_caught_up from_clear from_emptied from_may_read from_deciding from_ebbed from_closing from_settled from_may_take
 judged_wrong t CaughtUp silent n = absurd (true≢false n)
 judged_wrong t (Sweeping Once p) silent n = refl
 judged_wrong t (Sweeping Twice p) silent n = refl
 judged_wrong t _ silent n = refl
 
 expired_wrong : (t : Before) (p : Phase) (lane : _) (r : _) → needs p ≡ false → go t p (Did (Expired lane Once r)) ≡ Wrong
-unfolding go from_opening from_ready from_written from_watched from_sweeping from_caught_up from_clear from_sated from_may_read from_deciding from_closing from_settled from_may_take
+unfolding go from_opening from_ready from_written from_watched from_sweeping from_caught_up from_clear from_emptied from_may_read from_deciding from_ebbed from_closing from_settled from_may_take
 expired_wrong t (Sweeping Once p) lane r n = absurd (true≢false n)
 expired_wrong t (Sweeping Twice p) lane r n = refl
 expired_wrong t _ lane r n = refl
@@ -224,6 +244,7 @@ never_wrong bound quiet r p turn wrong = at r (subst (λ (q : Phase). IsTurn bou
   where
     at : (x : Result TurnEnd Fault) → IsTurn bound quiet x Wrong → ⊥
     at (Ok Done) h = h
+    at (Ok Filled) h = h
     at (Ok Idle) h = h
     at (Ok Worked) h = h
     at (Err fault.Link) h = h

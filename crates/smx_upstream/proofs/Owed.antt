@@ -101,7 +101,7 @@ module _ (answer message : ℕ → ℕ → Bool) (suits : Suits answer message) 
   fate_owes lane p fate.LaneSpent w w' o = kept w w' o
   fate_owes lane p fate.Unread w w' o = kept w w' o
   fate_owes lane p (fate.Unrouted found) w w' o = kept w w' o
-  fate_owes lane p (fate.Put place n given) w w' o =
+  fate_owes lane p (fate.Put place n given full) w w' o =
       omega (
         arith,
         at_slot place.slot w w' o.0 o.1 o.2 o.3,
@@ -132,7 +132,7 @@ module _ (answer message : ℕ → ℕ → Bool) (suits : Suits answer message) 
   step : (s t : Stand) (e : Event) → Does s e t → sent (answer_by e) + all_owe t.owed ≤ asked (message_by e) + all_owe s.owed
   step s t (event.Began p) d = kept s.owed t.owed (ap (λ x. x.owed) d.1)
   step s t (event.Opened n) d = kept s.owed t.owed (ap (λ x. x.owed) d.1)
-  step s t (event.Looked now due silent) d = kept s.owed t.owed (ap (λ x. x.owed) d.2)
+  step s t (event.Looked now due left silent) d = kept s.owed t.owed (ap (λ x. x.owed) d.2)
   step s t (event.Judged silent) d = kept s.owed t.owed (ap (λ x. x.owed) d.1)
   step s t (event.Expired lane span r) d = kept s.owed t.owed (ap (λ x. x.owed) d.3)
   step s t (event.Shifted least r) d = kept s.owed t.owed (ap (λ x. x.owed) d.3)
@@ -140,6 +140,7 @@ module _ (answer message : ℕ → ℕ → Bool) (suits : Suits answer message) 
   step s t (event.Decided p now a f) d = fate_owes s.tap.lane p.value f s.owed t.owed d.2
   step s t (event.Took r) d = kept s.owed t.owed (ap (λ x. x.owed) d.3)
   step s t event.Broke d = kept s.owed t.owed (ap (λ x. x.owed) d)
+  step s t event.LinkEnded d = kept s.owed t.owed (ap (λ x. x.owed) d)
   step s t (event.Unbound p) d = kept s.owed t.owed (ap (λ x. x.owed) d.1)
   step s t (event.GaveUp given) d = kept s.owed t.owed (ap (λ x. x.owed) d.4)
 

@@ -1,6 +1,6 @@
 -- What an event is worth: what it decided and sends, whom it tells, what it asks the directory, whether nothing came of it, and what it ends.
-use Rattle.std.specs.Prelude.{ℕ, Bool, true, false, ◌||◌, List, [], ◌∷◌, ◌++◌, Option, Some, None, Result, Ok, Err, if◌then◌else◌}
-use Rattle.std.specs.List.{flat_map, list_any}
+use Rattle.std.specs.Prelude.{ℕ, Bool, true, false, ◌&&◌, is_some, List, [], ◌∷◌, ◌++◌, Option, Some, None, Result, Ok, Err, if◌then◌else◌}
+use Rattle.std.specs.List.{flat_map}
 use Rattle.std.specs.Result.{is_err}
 use Rattle.std.specs.declared.vec.Vec.{Vec}
 use Rattle.std.specs.declared.alloc.Global.{Global}
@@ -32,9 +32,12 @@ use Rattle.smx_turns.specs.declared.gate.Party.{Party}
 use Rattle.smx_turns.specs.declared.gate.Party.TheVariants.{Client, Slot}
 use Rattle.smx_turns.specs.declared.directory.Place.{Place}
 use Rattle.smx_turns.specs.Puts.{finds_nothing}
+use Rattle.smx_turns.specs.declared.end.End.{End}
+use Rattle.smx_turns.specs.declared.end.End.TheVariants as end
+use Rattle.smx_turns.specs.Endings.{or_end}
 use Rattle.smx_turns.specs.Worth.{Worth, no_worth, spent_worth, says}
 use Rattle.smx_upstream.specs.declared.event.Event.{Event}
-use Rattle.smx_upstream.specs.declared.event.Event.TheVariants.{Began, Opened, Looked, Judged, Expired, Shifted, Sought, Decided, Took, Broke, Unbound, GaveUp}
+use Rattle.smx_upstream.specs.declared.event.Event.TheVariants.{Began, Opened, Looked, Judged, Expired, Shifted, Sought, Decided, Took, Broke, LinkEnded, Unbound, GaveUp}
 use Rattle.smx_upstream.specs.declared.abandoning.Round.{Round}
 use Rattle.smx_upstream.specs.declared.losing.Lost.{Lost}
 use Rattle.smx_upstream.specs.declared.event.Fate.{Fate}
@@ -103,16 +106,26 @@ act_out act.Mo = []
 act_out act.Closed = []
 act_out act.Ignore = []
 
--- whether nothing is decided after this act
-abbrev pub ends : UpAct → Bool
-ends act.Up = false
-ends (act.Failed status) = true
-ends act.ToLane = false
-ends act.Mo = false
-ends (act.Answer p) = false
-ends (act.Leave p) = true
-ends act.Closed = true
-ends act.Ignore = false
+-- how this act ends the session's work, where nothing is decided after it
+abbrev pub ends : UpAct → Option End
+ends act.Up = None
+ends (act.Failed status) = Some (end.Refused status)
+ends act.ToLane = None
+ends act.Mo = None
+ends (act.Answer p) = None
+ends (act.Leave p) = Some end.Left
+ends act.Closed = Some end.Stopped
+ends act.Ignore = None
+
+-- how a lane ends it that stays down
+abbrev pub lane_end : Bool → Option End
+lane_end true = Some end.LaneDown
+lane_end false = None
+
+-- and a silence
+abbrev pub silent_end : Bool → Option End
+silent_end true = Some end.Silent
+silent_end false = None
 
 -- the destination that is read
 abbrev pub read_of : Result (List ℕ) BodyFault → List ℕ
@@ -136,12 +149,12 @@ refused_worth p status = says (Some (refusal p.command status p.number))
 -- what became of a PDU, beside what the session did; a lane that stays down ends the session's work
 abbrev pub fate_worth : Pdu → Fate → Worth
 fate_worth p fate.Own = no_worth
-fate_worth p (fate.Up rise) = record no_worth { ends = stays_down (said_last rise.value) }
+fate_worth p (fate.Up rise) = record no_worth { ends = lane_end (stays_down (said_last rise.value)) }
 fate_worth p (fate.Lane lane a) = record no_worth { tells = answer_tells lane a.value }
 fate_worth p fate.LaneSpent = spent_worth
 fate_worth p fate.Unread = refused_worth p ESME_RINVCMDLEN
 fate_worth p (fate.Unrouted found) = record (refused_worth p ESME_RX_T_APPN) { finds = finding p found }
-fate_worth p (fate.Put place n given) = record no_worth { finds = finding p (Some place); tells = Slot place.slot ∷ [] }
+fate_worth p (fate.Put place n given full) = record no_worth { finds = finding p (Some place); tells = Slot place.slot ∷ [] }
 fate_worth p (fate.Full place) = record (refused_worth p ESME_RMSGQFUL) { finds = finding p (Some place) }
 fate_worth p (fate.Crowded place) = record (refused_worth p ESME_RMSGQFUL) { finds = finding p (Some place) }
 fate_worth p (fate.BoxSpent place) = record spent_worth { finds = finding p (Some place) }
@@ -160,7 +173,7 @@ decided_worth p a f = record (fate_worth p f) {
   decided = unless_kept p (kept_by p f);
   said = act_out a ++ (fate_worth p f).said;
   quiet = false;
-  ends = ends a || (fate_worth p f).ends;
+  ends = or_end (ends a) (fate_worth p f).ends;
   breaks = false;
 }
 
@@ -168,26 +181,29 @@ decided_worth p a f = record (fate_worth p f) {
 abbrev pub worth : Event → Worth
 worth (Began p) = says (Some p.value)
 worth (Opened n) = no_worth
-worth (Looked now due silent) = says due.value
-worth (Judged silent) = no_worth
+worth (Looked now due left silent) = record (says due.value) { ends = silent_end (left && silent) }
+worth (Judged silent) = record no_worth { ends = silent_end silent }
 worth (Expired lane span r) = record no_worth { tells = expiry_tells lane r.value; quiet = is_err r.value; spent = is_spent_expiry r.value }
 worth (Shifted least r) = record no_worth { spent = is_spent_shift r.value }
 worth (Sought r under) = record no_worth { said = got_out r.value under; quiet = finds_nothing r.value; spent = is_err r.value }
 worth (Decided p now a f) = decided_worth p.value a.value f
 worth (Took r) = record (says (request_up r.value)) { spent = is_spent_take r.value }
-worth Broke = record (says (Some nack_of_undecoded)) { ends = true; breaks = true }
+worth Broke = record (says (Some nack_of_undecoded)) { ends = Some end.BadLength; breaks = true }
+worth LinkEnded = record no_worth { ends = Some end.LinkEnded }
 worth (Unbound p) = says p.value
 worth (GaveUp given) = record no_worth { tells = lost_tells given.lane given.lost.value ++ rounds_tells given.lane given.abandoned.value.rounds; quiet = false }
 
 abbrev pub is_quiet_event : Event → Bool
 is_quiet_event e = (worth e).quiet
 
+-- whether nothing is decided after it
 abbrev pub event_ends : Event → Bool
-event_ends e = (worth e).ends
+event_ends e = is_some (worth e).ends
 
 abbrev pub is_spent : Event → Bool
 is_spent e = (worth e).spent
 
--- whether one of them was the last that decides
-unfoldable pub has_ended : List Event → Bool
-has_ended es = list_any event_ends es
+-- whether a message filled its client's box
+abbrev pub fills : Fate → Bool
+fills (fate.Put place n given full) = full
+fills _ = false

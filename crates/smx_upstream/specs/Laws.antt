@@ -28,7 +28,7 @@ fate_known p (fate.Up rise) = []
 fate_known p fate.LaneSpent = []
 fate_known p fate.Unread = []
 fate_known p (fate.Unrouted found) = []
-fate_known p (fate.Put place n given) = []
+fate_known p (fate.Put place n given full) = []
 fate_known p (fate.Full place) = []
 fate_known p (fate.Crowded place) = []
 fate_known p (fate.BoxSpent place) = []
@@ -37,7 +37,7 @@ fate_known p (fate.BoxSpent place) = []
 abbrev pub known_by : Event → List Known
 known_by (event.Began p) = []
 known_by (event.Opened n) = []
-known_by (event.Looked now due silent) = []
+known_by (event.Looked now due left silent) = []
 known_by (event.Judged silent) = []
 known_by (event.Expired lane span r) = []
 known_by (event.Shifted least r) = []
@@ -45,6 +45,7 @@ known_by (event.Sought r under) = []
 known_by (event.Decided p now a f) = fate_known p.value f
 known_by (event.Took r) = known_by_take r.value
 known_by event.Broke = []
+known_by event.LinkEnded = []
 known_by (event.Unbound p) = []
 known_by (event.GaveUp given) = rounds_known given.abandoned.value.rounds
 
@@ -52,7 +53,7 @@ unfoldable pub knowns : List Event → List Known
 knowns es = flat_map known_by es
 
 abbrev pub fate_put : ℕ → ℕ → Pdu → Fate → List (Option MoItem)
-fate_put slot lane p (fate.Put place n given) = if place.slot == slot then Some (item_for lane place given p) ∷ [] else []
+fate_put slot lane p (fate.Put place n given full) = if place.slot == slot then Some (item_for lane place given p) ∷ [] else []
 fate_put slot lane p fate.Own = []
 fate_put slot lane p (fate.Up rise) = []
 fate_put slot lane p (fate.Lane at r) = []
@@ -67,7 +68,7 @@ fate_put slot lane p (fate.BoxSpent place) = []
 abbrev pub put_by : ℕ → ℕ → Event → List (Option MoItem)
 put_by slot lane (event.Began p) = []
 put_by slot lane (event.Opened n) = []
-put_by slot lane (event.Looked now due silent) = []
+put_by slot lane (event.Looked now due left silent) = []
 put_by slot lane (event.Judged silent) = []
 put_by slot lane (event.Expired at span r) = []
 put_by slot lane (event.Shifted least r) = []
@@ -75,6 +76,7 @@ put_by slot lane (event.Sought r under) = []
 put_by slot lane (event.Decided p now a f) = fate_put slot lane p.value f
 put_by slot lane (event.Took r) = []
 put_by slot lane event.Broke = []
+put_by slot lane event.LinkEnded = []
 put_by slot lane (event.Unbound p) = []
 put_by slot lane (event.GaveUp given) = []
 

@@ -15,7 +15,7 @@ answer_by (Sought r under) = (worth (Sought r under)).said
 answer_by _ = []
 
 abbrev pub put_message : Pdu → Fate → List Pdu
-put_message p (fate.Put place n given) = p ∷ []
+put_message p (fate.Put place n given full) = p ∷ []
 put_message p _ = []
 
 -- the message of the centre that was put into a box

@@ -2,10 +2,7 @@
 use Rattle.std.specs.Prelude.{Bool, true, ◌&&◌, nat_lt, ◌≡◌, ◌≢◌, ◌≤◌, ◌++◌, [], ◌∷◌, ℕ, List, length, slice_get, Option, Some, None, Result, Ok, Err, MatchResult}
 use Rattle.smx_pdu.specs.declared.pdu.Pdu.{Pdu}
 use Rattle.smx_pdu.specs.declared.body_fault.BodyFault.{BodyFault}
-use Rattle.smx_pdu.specs.declared.command.TheConstants.{BIND_TRANSCEIVER}
-use Rattle.smx_pdu.specs.declared.status.TheConstants.{ESME_ROK}
-use Rattle.smx_pdu.specs.Fields.{all_octets, bind_fields}
-use Rattle.smx_pdu.specs.Reading.{destination_at, in_order}
+use Rattle.smx_pdu.specs.Reading.{destination_at}
 use Rattle.std.specs.declared.vec.Vec.{Vec}
 use Rattle.std.specs.declared.alloc.Global.{Global}
 use Rattle.smx_lock.specs.Fronts.{Front, IsSpent}
@@ -18,9 +15,8 @@ use Rattle.smx_box.specs.declared.receiver.Got.{Got}
 use Rattle.smx_box.specs.declared.receiver.Got.TheVariants as got
 use Rattle.smx_routes.specs.Window.{Window, IsFirstFree, message_for, without}
 use Rattle.smx_routes.specs.declared.mo_window.Waiting.{Waiting}
-use Rattle.smx_box.specs.Boxes.{Sending, Receiving}
-use Rattle.smx_session.specs.Binds.{own_bind}
-use Rattle.smx_session.specs.UpstreamTable.{bind_number}
+use Rattle.smx_box.specs.Boxes.{Sending, Receiving, LookServes}
+use Rattle.smx_session.specs.UpstreamTable.{own_bind_pdu}
 use Rattle.smx_session.specs.Moments.{Upstream, act_on, after_pdu, is_bound, enquiry, after_moment, is_silent, farewell, state_after_stop}
 use Rattle.smx_session.specs.declared.up_act.UpAct.{UpAct}
 use Rattle.smx_session.specs.declared.up_act.UpAct.TheVariants as act
@@ -36,7 +32,7 @@ use Rattle.smx_turns.specs.declared.directory.Place.{Place}
 use Rattle.smx_turns.specs.declared.mo_item.MoItem.{MoItem}
 use Rattle.smx_turns.specs.Puts.{AtIndex, Puts, FindsFull, FindsSpent, Gets}
 use Rattle.smx_upstream.specs.declared.event.Event.{Event}
-use Rattle.smx_upstream.specs.declared.event.Event.TheVariants.{Began, Opened, Looked, Judged, Expired, Shifted, Sought, Decided, Took, Broke, Unbound, GaveUp}
+use Rattle.smx_upstream.specs.declared.event.Event.TheVariants.{Began, Opened, Looked, Judged, Expired, Shifted, Sought, Decided, Took, Broke, LinkEnded, Unbound, GaveUp}
 use Rattle.smx_upstream.specs.declared.event.Fate.{Fate}
 use Rattle.smx_upstream.specs.declared.event.Fate.TheVariants as fate
 
@@ -54,7 +50,7 @@ stand session tap answers senders owed age = record { session = session; tap = t
 
 -- the session's bind
 abbrev pub bind_of : Upstream → Pdu
-bind_of u = record { command = BIND_TRANSCEIVER; status = ESME_ROK; number = bind_number; body = all_octets bind_fields (in_order (own_bind u.system_id u.password)) }
+bind_of u = own_bind_pdu u.bind
 
 -- the message as an item for the client, under a number of this link's own
 abbrev pub item_for : ℕ → Place → ℕ → Pdu → MoItem
@@ -77,7 +73,7 @@ Keeps lane p given w w' = IsFirstFree w given × (w' ≡ record w { last = given
 
 -- a message that was put waits in its slot's window; for any other fate nothing changed
 abbrev pub Owes : ℕ → Pdu → Fate → List Window → List Window → Type 0
-Owes lane p (fate.Put place n given) ws ws' = AtIndex place.slot ws ws' (Keeps lane p given)
+Owes lane p (fate.Put place n given full) ws ws' = AtIndex place.slot ws ws' (Keeps lane p given)
 Owes lane p (fate.Crowded place) ws ws' = ((w : Window) → slice_get ws place.slot ≡ Some w → length w.waiting ≡ w.places) × (ws' ≡ ws)
 Owes lane p _ ws ws' = ws' ≡ ws
 
@@ -115,7 +111,7 @@ Becomes p a (fate.Lane lane r) t ss t' ss' = (a ≡ act.ToLane) × AnswerServes 
 Becomes p a fate.LaneSpent t ss t' ss' = (a ≡ act.ToLane) × IsSpent t.front t'.front × (t'.lane ≡ t.lane) × (ss' ≡ ss)
 Becomes p a fate.Unread t ss t' ss' = (a ≡ act.Mo) × ReadsNone p × (t' ≡ t) × (ss' ≡ ss)
 Becomes p a (fate.Unrouted found) t ss t' ss' = (a ≡ act.Mo) × Reads p × HasNoSender ss found × (t' ≡ t) × (ss' ≡ ss)
-Becomes p a (fate.Put place n given) t ss t' ss' = (a ≡ act.Mo) × Reads p × AtIndex place.slot ss ss' (Puts (item_for t.lane place given p) n) × (t' ≡ t)
+Becomes p a (fate.Put place n given full) t ss t' ss' = (a ≡ act.Mo) × Reads p × AtIndex place.slot ss ss' (λ x y. Puts (item_for t.lane place given p) n x y × LookServes y full) × (t' ≡ t)
 Becomes p a (fate.Full place) t ss t' ss' = (a ≡ act.Mo) × Reads p × AtIndex place.slot ss ss' FindsFull × (t' ≡ t)
 Becomes p a (fate.Crowded place) t ss t' ss' = (a ≡ act.Mo) × Reads p × (t' ≡ t) × (ss' ≡ ss)
 Becomes p a (fate.BoxSpent place) t ss t' ss' = (a ≡ act.Mo) × Reads p × AtIndex place.slot ss ss' FindsSpent × (t' ≡ t)
@@ -132,7 +128,7 @@ was_silent u now = nat_lt u.latest now && is_silent u u.latest
 abbrev pub Does : Stand → Event → Stand → Type 0
 Does s (Began p) t = (p.value ≡ bind_of s.session) × (t ≡ s)
 Does s (Opened n) t = (n ≡ (next_turn s.age).turns) × (t ≡ record s { age = next_turn s.age })
-Does s (Looked now due silent) t = (due.value ≡ enquiry s.session now) × (silent ≡ was_silent s.session now) × (t ≡ record s { session = after_moment s.session now })
+Does s (Looked now due left silent) t = (due.value ≡ enquiry s.session now) × (silent ≡ was_silent s.session now) × (t ≡ record s { session = after_moment s.session now })
 Does s (Judged silent) t = (silent ≡ is_silent s.session s.session.latest) × (t ≡ s)
 Does s (Expired lane span r) t = (lane ≡ s.tap.lane) × Expires s.tap.front t.tap.front s.session.latest (time_of span s.age) r.value × (t.tap.lane ≡ s.tap.lane)
     × (t ≡ record s { tap = t.tap })
@@ -142,6 +138,7 @@ Does s (Decided p now a f) t = (a.value ≡ act_on s.session p.value) × Becomes
     × (t ≡ record s { session = after_pdu s.session p.value now; tap = t.tap; senders = t.senders; owed = t.owed })
 Does s (Took r) t = (is_bound s.session.state ≡ true) × Takes s.tap.front t.tap.front s.session.latest r.value × (t.tap.lane ≡ s.tap.lane) × (t ≡ record s { tap = t.tap })
 Does s Broke t = t ≡ s
+Does s LinkEnded t = t ≡ s
 Does s (Unbound p) t = (p.value ≡ farewell s.session.state)
     × (t ≡ record s { session = record s.session { state = state_after_stop s.session.state } })
 Does s (GaveUp given) t = (given.lane ≡ s.tap.lane) × Loses s.tap.front given.between.value.front given.lost.value

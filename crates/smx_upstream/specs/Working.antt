@@ -1,5 +1,5 @@
 -- What contracts see of a worker.
-use Rattle.std.specs.Prelude.{◌≡◌, ℕ, Bool, true, false, List, ◌++◌, Option, None, Result}
+use Rattle.std.specs.Prelude.{◌≡◌, ℕ, Bool, true, is_some, List, ◌++◌, Option, None, Result}
 use Rattle.smx_pdu.specs.declared.pdu.Pdu.{Pdu}
 use Rattle.smx_link.specs.Wiring.{Wiring}
 use Rattle.smx_link.specs.declared.link.Polled.{Polled}
@@ -9,6 +9,8 @@ use Rattle.smx_turns.specs.declared.gate.Party.{Party}
 use Rattle.smx_turns.specs.declared.directory.Query.{Query}
 use Rattle.smx_turns.specs.declared.end.TurnEnd.{TurnEnd}
 use Rattle.smx_turns.specs.declared.end.Fault.{Fault}
+use Rattle.smx_turns.specs.declared.end.End.{End}
+use Rattle.smx_turns.specs.Endings.{ending_of}
 use Rattle.smx_turns.specs.declared.step.Step.{Step}
 use Rattle.smx_turns.specs.Runs.{Runs}
 use Rattle.smx_turns.specs.Steps.{Side, side, Turned}
@@ -16,7 +18,7 @@ use Rattle.smx_upstream.specs.declared.mark.Mark.{Mark}
 use Rattle.smx_upstream.specs.declared.event.Event.{Event}
 use Rattle.smx_turns.specs.Wires.{IsBad, has_ended as has_link_ended}
 use Rattle.smx_turns.specs.Worth.{those, ins, outs, has_broken}
-use Rattle.smx_upstream.specs.Events.{worth, has_ended}
+use Rattle.smx_upstream.specs.Events.{worth}
 use Rattle.smx_upstream.specs.declared.last.LastRequest.{LastRequest}
 use Rattle.smx_upstream.specs.Last.{last_request}
 use Rattle.smx_upstream.specs.Phases.{Before, before}
@@ -31,8 +33,8 @@ pub record Working (L : Type 0) : Type 0 where
   pub first : Stand
   -- a whole PDU that waits to be decided
   pub held : Option Pdu
-  -- whether nothing but writing is left to do
-  pub ending : Bool
+  -- how the work ended, where nothing but writing is left to do
+  pub ending : Option End
   -- all that it did
   pub events : List Event
   -- the request that was sent last
@@ -53,17 +55,17 @@ pub record IsWorker {L : Type 0} (w : Working L) : Type 0 where
   -- at first no client has a message of this link
   pub none_owed : HoldNone w.first.owed
   -- just an event of which that came left nothing but writing to do
-  pub over : w.ending ≡ has_ended w.events
+  pub over : w.ending ≡ ending_of worth w.events
   -- the request that was sent last is that of the events
   pub last : w.last ≡ last_request w.events
   -- no bad length was met, or all ends
-  pub goes_on : w.ending ≡ false → w.wire.failed ≡ None
+  pub goes_on : w.ending ≡ None → w.wire.failed ≡ None
   -- a bad length that was answered stands at the front of what is left
   pub broke : has_broken worth w.events ≡ true → IsBad w.wire
 
 -- what the order of a turn at this moment depends on
 abbrev pub before_turn : {L : Type 0} → ℕ → Working L → Before
-before_turn now w = before now w.ending w.wire.unsent
+before_turn now w = before now (is_some w.ending) w.wire.unsent
 
 abbrev pub writing_of : {L : Type 0} → (L → List (Result Polled LinkFault)) → (L → List ℕ) → Working L → Writing
 writing_of polls offered w = writing w.wire.unsent (offered w.wire.link) (has_link_ended (polls w.wire.link))

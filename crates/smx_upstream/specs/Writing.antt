@@ -1,12 +1,12 @@
 -- What a turn's steps do to the octets for the link.
-use Rattle.std.specs.Prelude.{◌≡◌, ◌≤◌, ◌<◌, ℕ, Bool, false, List, ◌++◌, length}
+use Rattle.std.specs.Prelude.{◌≡◌, ◌≤◌, ◌<◌, ℕ, Bool, true, false, List, ◌++◌, length}
 use Rattle.smx_link.specs.Wiring.{spellings}
 use Rattle.smx_turns.specs.declared.step.Step.{Step}
 use Rattle.smx_turns.specs.declared.step.Step.TheVariants.{Asked, Read, Marked, Did}
 use Rattle.smx_upstream.specs.declared.mark.Mark.{Mark}
 use Rattle.smx_upstream.specs.declared.mark.Mark.TheVariants.{Offered, WriteFailed, Full, Part}
 use Rattle.smx_upstream.specs.declared.event.Event.{Event}
-use Rattle.smx_upstream.specs.declared.event.Event.TheVariants.{Decided, Broke}
+use Rattle.smx_upstream.specs.declared.event.Event.TheVariants.{Decided, Broke, LinkEnded}
 use Rattle.smx_turns.specs.Wires.{answers_end, some_wait}
 use Rattle.smx_upstream.specs.Events.{worth}
 
@@ -36,10 +36,11 @@ Marks a WriteFailed b = b ≡ record a { unsent = b.unsent; offered = a.offered 
 Marks a Full b = (65536 ≤ length a.unsent) × (b ≡ a)
 Marks a Part b = MayDecide a × (b ≡ a)
 
--- a PDU is decided, or a bad length answered, only there
+-- a PDU is decided, or a bad length answered, only there; and the link has ended only where its last read said so
 abbrev pub Fits : Writing → Event → Type 0
 Fits a (Decided p now act f) = MayDecide a
 Fits a Broke = MayDecide a
+Fits a LinkEnded = a.ended ≡ true
 Fits a _ = Unit {0}
 
 -- what an event says waits behind what waited

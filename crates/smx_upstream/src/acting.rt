@@ -1,18 +1,20 @@
 //! What a worker does once: each of these is one event.
-ghost use Rattle.std.specs.Prelude.{◌≡◌, ◌≢◌, ◌≤◌, [], true, false, is_some, slice_get, Some, Err, OnErr, IsSome};
+ghost use Rattle.std.specs.Prelude.{◌≡◌, ◌≢◌, ◌≤◌, [], true, false, None, is_some, slice_get, Some, Err, OnErr, IsSome};
 ghost use Rattle.smx_session.specs.Moments.{is_bound};
 ghost use Rattle.smx_turns.specs.Worth.{those};
-ghost use Rattle.smx_upstream.specs.Events.{got_out, request_up};
+ghost use Rattle.smx_upstream.specs.Events.{got_out, request_up, silent_end};
 ghost use Rattle.smx_turns.specs.Puts.{finds_nothing};
 ghost use Rattle.smx_upstream.specs.Ages.{next_turn};
 ghost use Rattle.smx_upstream.specs.Standing.{Answers, Settles};
 ghost use Rattle.smx_upstream.specs.Working.{scene_of, writing_of, LeadsOn};
 ghost use Rattle.smx_upstream.specs.Writing.{MayDecide};
-ghost use Rattle.smx_upstream.specs.Phases.{phase_of, when_gone, when_kept, when_decided, unless_spent, Before, LeadsTo, Opening, Ready, Written, Watched, Clear, Sated, Deciding, MayTake, HasTried};
+ghost use Rattle.smx_upstream.specs.Phases.{phase_of, when_gone, when_kept, when_next, unless_spent, Before, LeadsTo, Opening, Ready, Written, Watched, Clear, Deciding, MayTake, HasTried};
+ghost use Rattle.smx_upstream.specs.Phases.Source.{Earlier};
 
 use crate::carry::carry;
-use crate::event::Event;
-use crate::judging::was_silent;
+use crate::deciding::{Next, next_of};
+use crate::event::{Event, fills};
+use crate::judging::{silent_end, was_silent};
 use crate::last::last_taken;
 use crate::mark::Mark;
 use crate::spent::{is_spent_shift, is_spent_take, unless_spent};
@@ -100,11 +102,13 @@ fn request_in(taken: Result<Sent, TakeFault>) -> Option<Pdu>
 
 impl<L: Link + Drop> UpstreamWorker<L> {
     // Hands in the moment. True where octets are left, and the session was silent at an earlier moment
-    // already.
+    // already, which ends the work.
     pub(crate) fn look(&mut self, left: bool, now: u64, log: &mut Log<Mark, Event>) -> bool
         requires room { 65536 ≤ self.old.wire.room }
+        requires goes_on { self.old.ending ≡ None }
         ensures phase { (t : Before) → t.now ≡ now → phase_of t log.old ≡ Written left
             → phase_of t log.new ≡ when_gone left result }
+        ensures ending { self.new.ending ≡ silent_end result }
         ensures left { self.old.wire.unsent ≢ [] → self.new.wire.unsent ≢ [] }
         ensures goes { (turn asked told queries : _) → LeadsOn turn
             (scene_of L.polls L.offered asked told queries self.old)
@@ -116,18 +120,22 @@ impl<L: Link + Drop> UpstreamWorker<L> {
             room = self.new.wire.room;
           };
           stand = record self.old.stand { session = self.new.stand.session };
+          ending = self.new.ending;
           events = self.new.events;
         } }
     {
         let silent = was_silent(&mut self.session, now);
         let due = self.session.on_moment(now);
-        let event = Event::Looked(now, Snapshot::of(&due), silent);
+        let event = Event::Looked(now, Snapshot::of(&due), left, silent);
+        let gone = left && silent;
+        let ends = silent_end(gone);
+        self.ending = ends;
         let outcome = Outcome {
             event,
             quiet: due.is_none(),
             sent: due,
-            ends: false,
-            answer: left && silent,
+            ends,
+            answer: gone,
         };
         note(outcome, &mut self.wire, &mut self.events, log)
     }
@@ -185,7 +193,7 @@ impl<L: Link + Drop> UpstreamWorker<L> {
     pub(crate) fn seek<R: Wait>(&mut self, rt: &R, log: &mut Log<Mark, Event>) -> Result<(), Fault>
         requires room { 65536 ≤ self.old.wire.room }
         ensures phase { (t : Before) → phase_of t log.old ≡ Clear
-            → LeadsTo result (λ _. Sated) (phase_of t log.new) }
+            → LeadsTo result (λ _. Deciding (Earlier false)) (phase_of t log.new) }
         ensures err { OnErr result (result ≡ Err Fault.Spent) }
         ensures goes { (turn asked told queries : _) → LeadsOn turn
             (scene_of L.polls L.offered asked told queries self.old)
@@ -208,7 +216,7 @@ impl<L: Link + Drop> UpstreamWorker<L> {
         let outcome = Outcome {
             event: Event::Sought(Snapshot::of(&found), under),
             quiet: finds_nothing(&found),
-            ends: false,
+            ends: None,
             answer: found.is_err(),
             sent: answer_in(found, under),
         };
@@ -228,8 +236,8 @@ impl<L: Link + Drop> UpstreamWorker<L> {
             ≡ Some self.old.stand.tap.front.lock }
         ensures lock { slice_get at.now self.new.stand.tap.lane
             ≡ Some self.new.stand.tap.front.lock }
-        ensures phase { (t : Before) → phase_of t log.old ≡ MayTake
-            → LeadsTo result (λ _. HasTried) (phase_of t log.new) }
+        ensures phase { (t : Before) (full : _) → phase_of t log.old ≡ MayTake full
+            → LeadsTo result (λ _. HasTried full) (phase_of t log.new) }
         ensures err { OnErr result (result ≡ Err Fault.Spent) }
         ensures goes { (turn asked told queries : _) → LeadsOn turn
             (scene_of L.polls L.offered asked told queries self.old)
@@ -254,14 +262,13 @@ impl<L: Link + Drop> UpstreamWorker<L> {
             event,
             quiet: sent.is_none(),
             sent,
-            ends: false,
+            ends: None,
             answer: spent,
         };
         unless_spent(note(outcome, &mut self.wire, &mut self.events, log))
     }
 
-    // Decides the PDU that waits, which waits still where a lane or a box is spent. True where nothing
-    // is decided after it.
+    // Decides the PDU that waits, which waits still where a lane or a box is spent.
     pub(crate) fn decide<R: Wait, G: Gate, D: Directory>(
         &mut self,
         at: &Exchange,
@@ -270,19 +277,22 @@ impl<L: Link + Drop> UpstreamWorker<L> {
         directory: &mut D,
         now: u64,
         log: &mut Log<Mark, Event>,
-    ) -> bool
+    ) -> Next
         requires room { 65536 ≤ self.old.wire.room }
         requires lock { slice_get at.now self.old.stand.tap.lane
             ≡ Some self.old.stand.tap.front.lock }
         requires some { IsSome self.old.held }
-        requires goes_on { self.old.ending ≡ false }
+        requires goes_on { self.old.ending ≡ None }
         requires may { MayDecide (writing_of L.polls L.offered self.old) }
         ensures lock { slice_get at.now self.new.stand.tap.lane
             ≡ Some self.new.stand.tap.front.lock }
-        ensures phase { (t : Before) (polled : _) → t.now ≡ now → phase_of t log.old ≡ Deciding polled
-            → phase_of t log.new
-            ≡ unless_spent (is_some self.new.held) (when_decided polled result) }
-        ensures over { self.new.ending ≡ result }
+        ensures phase { (t : Before) (source : _) → t.now ≡ now
+            → phase_of t log.old ≡ Deciding source → phase_of t log.new
+            ≡ unless_spent (is_some self.new.held) (when_next source result) }
+        ensures over { result ≡ Next.Over → IsSome self.new.ending }
+        ensures goes_on { result ≢ Next.Over → self.new.ending ≡ None }
+        ensures filled { result ≡ Next.Filled → self.new.wire.unsent ≡ self.old.wire.unsent }
+        ensures whole { result ≢ Next.Part }
         ensures goes { (turn : _) → LeadsOn turn
             (scene_of L.polls L.offered (G.asked gate.old) (G.told gate.old)
             (D.queries directory.old) self.old)
@@ -330,12 +340,13 @@ impl<L: Link + Drop> UpstreamWorker<L> {
         );
         self.held = answer;
         self.ending = ends;
+        let next = next_of(ends, fills(&fate));
         let outcome = Outcome {
             event: Event::Decided(read, now, chosen, fate),
             quiet: false,
             sent,
             ends,
-            answer: ends,
+            answer: next,
         };
         note(outcome, &mut self.wire, &mut self.events, log)
     }

@@ -4,7 +4,7 @@ ghost use Rattle.smx_session.specs.declared.up_act.UpAct.TheVariants as act;
 ghost use Rattle.smx_pdu.specs.Answers.{refusal};
 ghost use Rattle.smx_routes.specs.Window.{Window, IsFirstFree};
 ghost use Rattle.smx_turns.specs.Worth.{IsWorth};
-ghost use Rattle.smx_upstream.specs.Events.{fate_worth, decided_worth, kept_by, finding};
+ghost use Rattle.smx_upstream.specs.Events.{fate_worth, decided_worth, kept_by, finding, lane_end};
 ghost use Rattle.smx_turns.specs.Puts.{AtIndex};
 ghost use Rattle.smx_upstream.specs.Standing.{Becomes, Owes, Reads};
 
@@ -17,7 +17,7 @@ use smx_pdu::{Pdu, read_destination};
 use smx_routes::MoWindow;
 use smx_session::UpAct;
 use smx_shared::{Exchange, Tap};
-use smx_turns::{Directory, Gate, MoItem, Outcome, Party, Place, put_at};
+use smx_turns::{Directory, End, Gate, MoItem, Outcome, Party, Place, is_full_at, put_at};
 use std::alloc::Global;
 use std::snapshot::Snapshot;
 use std::sync::Wait;
@@ -25,7 +25,7 @@ use std::sync::Wait;
 // What became of a PDU, and the PDU itself where it waits.
 type Carried = Outcome<Fate, Option<Pdu>>;
 
-fn settled(fate: Fate, sent: Option<Pdu>, ends: bool) -> Carried
+fn settled(fate: Fate, sent: Option<Pdu>, ends: Option<End>) -> Carried
     ensures fate { result.event ≡ fate }
     ensures sent { result.sent ≡ sent }
     ensures ends { (result.ends ≡ ends) × (result.quiet ≡ false) }
@@ -44,15 +44,26 @@ fn settled(fate: Fate, sent: Option<Pdu>, ends: bool) -> Carried
 fn kept(fate: Fate, pdu: Pdu) -> Carried
     ensures fate { result.event ≡ fate }
     ensures sent { result.sent ≡ None }
-    ensures ends { (result.ends ≡ false) × (result.quiet ≡ false) }
+    ensures ends { (result.ends ≡ None) × (result.quiet ≡ false) }
     ensures back { result.answer ≡ Some pdu }
 {
     Outcome {
         event: fate,
         quiet: false,
         sent: None,
-        ends: false,
+        ends: None,
         answer: Some(pdu),
+    }
+}
+
+// How a lane ends the work that stays down.
+fn lane_end(stays_down: bool) -> Option<End>
+    ensures { result ≡ lane_end stays_down }
+{
+    if stays_down {
+        Some(End::LaneDown)
+    } else {
+        None
     }
 }
 
@@ -83,7 +94,7 @@ pub(crate) fn to_lane<R: Wait, G: Gate>(
                     lane,
                 });
             }
-            settled(Fate::Lane(lane, Snapshot::of(&answered)), None, false)
+            settled(Fate::Lane(lane, Snapshot::of(&answered)), None, None)
         }
         Err((pdu, _)) => kept(Fate::LaneSpent, pdu),
     }
@@ -93,11 +104,11 @@ pub(crate) fn to_lane<R: Wait, G: Gate>(
 fn refused(alloc: Global, pdu: &Pdu, fate: Fate, status: u32) -> Carried
     ensures fate { result.event ≡ fate }
     ensures sent { result.sent ≡ Some (refusal pdu.now.command status pdu.now.number) }
-    ensures ends { (result.ends ≡ false) × (result.quiet ≡ false) }
+    ensures ends { (result.ends ≡ None) × (result.quiet ≡ false) }
     ensures back { result.answer ≡ None }
 {
     let answer = Pdu::refusal(alloc, pdu.command, status, pdu.number);
-    settled(fate, Some(answer), false)
+    settled(fate, Some(answer), None)
 }
 
 // The number under which this slot's client is put the next message, where it may have one more.
@@ -175,7 +186,8 @@ pub(crate) fn to_box<R: Wait, G: Gate>(
         Ok(nth) => {
             keep_at(owed, place.slot, given, lane, number, command);
             gate.ready(Party::Slot(place.slot));
-            settled(Fate::Put(place, nth, given), None, false)
+            let full = is_full_at(rt, senders, place.slot);
+            settled(Fate::Put(place, nth, given, full), None, None)
         }
         Err((item, PutFault::Full)) => refused(alloc, &item.pdu, Fate::Full(place), ESME_RMSGQFUL),
         Err((item, PutFault::Spent)) => kept(Fate::BoxSpent(place), item.pdu),
@@ -244,11 +256,13 @@ pub(crate) fn carry<R: Wait, G: Gate, D: Directory>(
         UpAct::Mo => route(alloc, tap, senders, owed, rt, gate, directory, pdu),
         UpAct::Up => {
             let rise = raise(tap, at, rt);
-            settled(Fate::Up(Snapshot::of(&rise)), None, stays_down(&rise))
+            let ends = lane_end(stays_down(&rise));
+            settled(Fate::Up(Snapshot::of(&rise)), None, ends)
         }
-        UpAct::Answer(answer) => settled(Fate::Own, Some(answer), false),
-        UpAct::Leave(answer) => settled(Fate::Own, Some(answer), true),
-        UpAct::Failed(_) | UpAct::Closed => settled(Fate::Own, None, true),
-        UpAct::Ignore => settled(Fate::Own, None, false),
+        UpAct::Answer(answer) => settled(Fate::Own, Some(answer), None),
+        UpAct::Leave(answer) => settled(Fate::Own, Some(answer), Some(End::Left)),
+        UpAct::Failed(status) => settled(Fate::Own, None, Some(End::Refused(status))),
+        UpAct::Closed => settled(Fate::Own, None, Some(End::Stopped)),
+        UpAct::Ignore => settled(Fate::Own, None, None),
     }
 }

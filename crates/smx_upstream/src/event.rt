@@ -1,5 +1,6 @@
 //! What a worker did.
-ghost use Rattle.smx_upstream.specs.Events.{is_quiet_event};
+ghost use Rattle.std.specs.Prelude.{◌≡◌};
+ghost use Rattle.smx_upstream.specs.Events.{fills, is_quiet_event};
 
 use crate::abandoning::Abandoned;
 use crate::losing::Lost;
@@ -36,14 +37,22 @@ pub enum Fate {
     Unread,
     /// The directory said this, and there is no sender.
     Unrouted(Option<Place>),
-    /// That slot's sender put it, as its item of this number, under a number of this link's own.
-    Put(Place, u64, u32),
+    /// That slot's sender put it, as its item of this number, under a number of this link's own;
+    /// whether a look behind that found each place of the box taken.
+    Put(Place, u64, u32, bool),
     /// That slot's box is full.
     Full(Place),
     /// As many messages of this link wait for answers as there are places.
     Crowded(Place),
     /// That slot's box takes no more calls, and the PDU waits.
     BoxSpent(Place),
+}
+
+// Whether a message filled its client's box.
+pub(crate) fn fills(fate: &Fate) -> bool
+    ensures { result ≡ fills fate.now }
+{
+    matches!(fate, Fate::Put(_, _, _, true))
 }
 
 /// How long a request has waited that is given up.
@@ -77,9 +86,9 @@ pub enum Event {
     Began(Snapshot<Pdu>),
     /// A turn of this number began.
     Opened(u64),
-    /// The moment was handed in: the enquiry that was due, and whether the session was silent at an
-    /// earlier one already.
-    Looked(u64, Snapshot<Option<Pdu>>, bool),
+    /// The moment was handed in: the enquiry that was due, whether octets are left, and whether the
+    /// session was silent at an earlier one already.
+    Looked(u64, Snapshot<Option<Pdu>>, bool, bool),
     /// All that had come was read: whether the session is silent.
     Judged(bool),
     /// The lane of this number was to give up a request that has waited so long, and gave this.
@@ -95,6 +104,8 @@ pub enum Event {
     Took(Snapshot<Result<Sent, TakeFault>>),
     /// A bad length was answered.
     Broke,
+    /// The link has ended, and all that came over it is decided.
+    LinkEnded,
     /// The session was to end in order: its unbind, where it was bound.
     Unbound(Snapshot<Option<Pdu>>),
     /// All that the lane held was given up.

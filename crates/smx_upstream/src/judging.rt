@@ -1,18 +1,21 @@
 //! What the time says of a centre, once all that had come was read.
-ghost use Rattle.std.specs.Prelude.{◌≡◌, ◌≢◌, false, slice_get, Some, None, Ok, OnOk};
+ghost use Rattle.std.specs.Prelude.{◌≡◌, true, false, slice_get, Some, None, IfOk, OnOk};
 ghost use Rattle.smx_frame.specs.Stream.{HasNone};
-ghost use Rattle.smx_turns.specs.Wires.{is_end};
+ghost use Rattle.smx_turns.specs.Wires.{is_end, has_ended as has_link_ended};
+ghost use Rattle.smx_upstream.specs.Events.{silent_end};
 ghost use Rattle.smx_upstream.specs.Standing.{was_silent};
 ghost use Rattle.smx_upstream.specs.Working.{scene_of, LeadsOn};
-ghost use Rattle.smx_upstream.specs.Phases.{phase_of, link_faults, when_part, when_judged, Before, Waits, IsPart, CaughtUp, Settled};
+ghost use Rattle.smx_upstream.specs.Phases.{phase_of, link_faults, when_part, when_judged, Before, Waits, IsCourse, CaughtUp, Ebbed, Drained};
+ghost use Rattle.smx_upstream.specs.Phases.Source.{Behind};
 
 use crate::event::{Event, Span};
 use crate::mark::Mark;
+use crate::turning::Course;
 use crate::worker::{UpstreamWorker, jot};
 use smx_link::{Link, Polled};
 use smx_session::UpstreamSession;
 use smx_shared::Exchange;
-use smx_turns::{Fault, Gate, Log, TurnEnd};
+use smx_turns::{End, Fault, Gate, Log, TurnEnd};
 use std::sync::Wait;
 
 // Whether the session was silent at an earlier moment than this one already.
@@ -25,24 +28,53 @@ pub(crate) fn was_silent(session: &mut UpstreamSession, now: u64) -> bool
     last < now && silent
 }
 
+// How a silence ends the work.
+pub(crate) fn silent_end(silent: bool) -> Option<End>
+    ensures { result ≡ silent_end silent }
+{
+    if silent { Some(End::Silent) } else { None }
+}
+
 impl<L: Link + Drop> UpstreamWorker<L> {
-    // Whether the session is silent, as of the last moment that was handed in.
+    // Whether the session is silent, as of the last moment that was handed in, which ends the work.
     fn find_silent(&mut self, log: &mut Log<Mark, Event>) -> bool
+        requires goes_on { self.old.ending ≡ None }
         ensures phase { (t : Before) → phase_of t log.old ≡ CaughtUp
             → phase_of t log.new ≡ when_judged result }
+        ensures ending { self.new.ending ≡ silent_end result }
         ensures goes { (turn asked told queries : _) → LeadsOn turn
             (scene_of L.polls L.offered asked told queries self.old)
             (scene_of L.polls L.offered asked told queries self.new) log.old log.new }
-        ensures same { self.new ≡ record self.old { events = self.new.events } }
+        ensures same { self.new ≡ record self.old {
+          ending = self.new.ending;
+          events = self.new.events;
+        } }
     {
         let last = self.session.latest();
         let silent = self.session.is_silent(last);
+        self.ending = silent_end(silent);
         jot(Event::Judged(silent), true, &mut self.events, log);
         silent
     }
 
-    // Judges the timers once each whole PDU was decided that came, behind a read with this answer. `None`
-    // where the turn goes on.
+    // All that came over the link is decided, which has ended.
+    fn end_link(&mut self, log: &mut Log<Mark, Event>)
+        requires goes_on { self.old.ending ≡ None }
+        requires ended { has_link_ended (L.polls self.old.wire.link) ≡ true }
+        ensures phase { (t : Before) → phase_of t log.old ≡ Ebbed → phase_of t log.new ≡ Drained }
+        ensures goes { (turn asked told queries : _) → LeadsOn turn
+            (scene_of L.polls L.offered asked told queries self.old)
+            (scene_of L.polls L.offered asked told queries self.new) log.old log.new }
+        ensures same { self.new ≡ record self.old {
+          ending = Some End.LinkEnded;
+          events = self.new.events;
+        } }
+    {
+        self.ending = Some(End::LinkEnded);
+        jot(Event::LinkEnded, true, &mut self.events, log);
+    }
+
+    // Judges the timers once each whole PDU was decided that came, behind a read with this answer.
     pub(crate) fn judge<R: Wait, G: Gate>(
         &mut self,
         polled: Polled,
@@ -50,17 +82,20 @@ impl<L: Link + Drop> UpstreamWorker<L> {
         rt: &R,
         gate: &mut G,
         log: &mut Log<Mark, Event>,
-    ) -> Result<Option<TurnEnd>, Fault>
+    ) -> Result<Course, Fault>
         requires lock { slice_get at.now self.old.stand.tap.lane
             ≡ Some self.old.stand.tap.front.lock }
         requires part { HasNone 65536 self.old.wire.rest }
+        requires goes_on { self.old.ending ≡ None }
+        requires ended { is_end polled ≡ has_link_ended (L.polls self.old.wire.link) }
         ensures lock { slice_get at.now self.new.stand.tap.lane
             ≡ Some self.new.stand.tap.front.lock }
-        ensures phase { (t : Before) → phase_of t log.old ≡ when_part polled
-            → IsPart Settled result (phase_of t log.new) }
-        ensures waits { (t : Before) → phase_of t log.old ≡ when_part polled
+        ensures phase { (t : Before) → phase_of t log.old ≡ when_part (Behind polled)
+            → IsCourse result (phase_of t log.new) }
+        ensures waits { (t : Before) → phase_of t log.old ≡ when_part (Behind polled)
             → OnOk result (Waits (phase_of t log.new) self.new.wire.unsent self.new.wire.rest) }
-        ensures goes_on { result ≡ Ok None → is_end polled ≡ false }
+        ensures goes_on { IfOk result (λ course. (filled : _) → course ≡ Course.Goes filled
+            → (is_end polled ≡ false) × (filled ≡ false)) }
         ensures faults { link_faults result ≡ 0 }
         ensures goes { (turn queries : _) → LeadsOn turn
             (scene_of L.polls L.offered (G.asked gate.old) (G.told gate.old) queries self.old)
@@ -68,19 +103,23 @@ impl<L: Link + Drop> UpstreamWorker<L> {
             (G.told gate.new) queries self.new) log.old log.new }
         ensures same { self.new ≡ record self.old {
           stand = record self.old.stand { tap = self.new.stand.tap };
+          ending = self.new.ending;
           events = self.new.events;
         } }
     {
         match polled {
-            Polled::End => return Ok(Some(TurnEnd::Done)),
+            Polled::End => {
+                self.end_link(log);
+                return Ok(Course::Ends(TurnEnd::Done));
+            }
             Polled::Octets(_) => self.expire(Span::Twice, at, rt, gate, log)?,
             Polled::Nothing => {
                 if self.find_silent(log) {
-                    return Ok(Some(TurnEnd::Done));
+                    return Ok(Course::Ends(TurnEnd::Done));
                 }
                 self.expire(Span::Once, at, rt, gate, log)?;
             }
         }
-        Ok(None)
+        Ok(Course::Goes { filled: false })
     }
 }

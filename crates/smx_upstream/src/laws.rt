@@ -3,10 +3,11 @@ ghost use Rattle.std.specs.Prelude.{◌≡◌, ◌++◌, List, [], true};
 ghost use mathlib.Core.List.{IsPrefix};
 ghost use Rattle.smx_link.specs.Wiring.{spellings};
 ghost use Rattle.smx_session.specs.declared.upstream_state.UpstreamState.TheVariants.{Binding};
+ghost use Rattle.smx_turns.specs.Endings.{ending_of};
 ghost use Rattle.smx_turns.specs.Runs.{Runs};
 ghost use Rattle.smx_turns.specs.Wires.{IsBad};
 ghost use Rattle.smx_turns.specs.Worth.{those, ins, outs, has_broken};
-ghost use Rattle.smx_upstream.specs.Events.{worth, has_ended};
+ghost use Rattle.smx_upstream.specs.Events.{worth};
 ghost use Rattle.smx_upstream.specs.Standing.{Does};
 ghost use Rattle.smx_upstream.specs.Laws.{KeepsTokens};
 ghost use Rattle.smx_upstream.specs.Owing.{AreOwn, passed};
@@ -26,7 +27,7 @@ pub fn law<L: Link + Drop>(worker: &UpstreamWorker<L>)
     ensures taken { L.taken worker.now.wire.link ++ worker.now.wire.unsent
         ≡ L.taken worker.now.wire.start ++ spellings (outs worth worker.now.events) }
     ensures runs { ∥ Runs Does worker.now.first worker.now.events worker.now.stand ∥₁ }
-    ensures over { worker.now.ending ≡ has_ended worker.now.events }
+    ensures over { worker.now.ending ≡ ending_of worth worker.now.events }
 
     // A bad length is answered just where one stands behind the PDUs that were decided.
     ensures broke { has_broken worth worker.now.events ≡ true → IsBad worker.now.wire }

@@ -5,6 +5,7 @@ mod abandoning;
 mod acting;
 mod age;
 mod carry;
+mod deciding;
 mod event;
 mod expiring;
 mod giving_up;

@@ -43,7 +43,9 @@ pub struct Closed<L: Link + Drop> {
 impl<L: Link + Drop> UpstreamWorker<L> {
     /// One turn: it writes what waits, hands in the moment (in milliseconds), gets at most one
     /// answer from the return box, reads at most 4,096 octets, decides each whole PDU, judges the
-    /// timers and takes at most one request. After a fault only `close` is called.
+    /// timers and takes at most one request. Where an earlier turn left whole PDUs it decides these in
+    /// place of the read. Where a message fills its client's box it decides no more, and is `Filled`. After
+    /// a fault only `close` is called.
     pub fn turn<R: Wait, G: Gate, D: Directory>(
         &mut self,
         at: &Exchange,
@@ -73,6 +75,11 @@ impl<L: Link + Drop> UpstreamWorker<L> {
         ensures whole { OnOk result
             (is_all_decided (phase_of (before_turn now self.old) self.new.steps) ≡ true
             → HasNone 65536 self.new.wire.rest) }
+
+        // It reads only where each whole PDU that came before was decided.
+        ensures reads { L.polls self.new.wire.link ≢ L.polls self.old.wire.link
+            → HasNone 65536 self.old.wire.rest }
+
         ensures offered { IsPrefix (L.offered self.old.wire.link ++ self.old.wire.unsent)
             (L.offered self.new.wire.link) }
         ensures failures { L.failures self.new.wire.link
@@ -168,6 +175,7 @@ pub fn run_upstream<L: Link + Drop, R: Wait, G: Gate, D: Directory, C: FnMut() -
         match worker.turn(at, rt, gate, directory, now) {
             Ok(TurnEnd::Done) => return RunEnd::Left,
             Ok(TurnEnd::Idle) => return RunEnd::Idle,
+            Ok(TurnEnd::Filled) => return RunEnd::Filled,
             Ok(TurnEnd::Worked) => {}
             Err(fault) => return RunEnd::Fault(fault),
         }

@@ -1,24 +1,23 @@
 //! A turn of the upstream worker, part by part.
-ghost use Rattle.std.specs.Prelude.{◌≡◌, ◌≢◌, ◌+◌, ◌≤◌, ◌<◌, ◌++◌, [], true, false, length, slice_get, Some, None, Ok, Err, OnOk, OnErr, IfOk};
+ghost use Rattle.std.specs.Prelude.{◌≡◌, ◌≢◌, ◌+◌, ◌≤◌, ◌<◌, ◌++◌, [], true, false, length, slice_get, Some, None, Ok, OnOk, if◌then◌else◌};
 ghost use mathlib.Core.List.{IsPrefix};
 ghost use Rattle.smx_frame.specs.Stream.{HasNone};
 ghost use Rattle.smx_session.specs.Moments.{is_bound};
-ghost use Rattle.smx_turns.specs.Wires.{is_end, has_ended as has_link_ended};
 ghost use Rattle.smx_upstream.specs.Ages.{next_turn};
-ghost use Rattle.smx_upstream.specs.Working.{before_turn, scene_of, writing_of, LeadsOn};
-ghost use Rattle.smx_upstream.specs.Writing.{MayDecide};
+ghost use Rattle.smx_upstream.specs.Working.{before_turn, scene_of, LeadsOn};
 ghost use Rattle.smx_upstream.specs.Quiet.{are_all_quiet};
-ghost use Rattle.smx_upstream.specs.Phases.{phase_of, when_next, when_progress, is_all_decided, quiet_end, link_faults, Before, Waits, LeadsTo, IsPart, IsTurn, Opening, Ready, Sated, MayRead, Deciding, Settled};
+ghost use Rattle.smx_upstream.specs.Phases.{phase_of, when_progress, when_halted, is_all_decided, quiet_end, filled_or, link_faults, Before, Waits, IsPart, IsCourse, IsTurn, Opening, Ready, MayRead, Deciding, Settled};
+ghost use Rattle.smx_upstream.specs.Phases.Source.{Earlier};
 
+use crate::deciding::{Next, Progress};
 use crate::event::{Event, Span};
 use crate::mark::Mark;
-use crate::wiring::Front;
 use crate::worker::UpstreamWorker;
-use smx_link::{Link, Polled};
+use smx_link::Link;
 use smx_pdu::MAX_PDU;
 use smx_session::UpstreamState;
 use smx_shared::Exchange;
-use smx_turns::{Directory, Fault, Gate, Log, Point, Step, TurnEnd, ask, is_end, last_end};
+use smx_turns::{Directory, Fault, Gate, Log, Point, Step, TurnEnd, ask, last_end};
 use std::sync::Wait;
 
 // How a turn ends that did all that there was to do.
@@ -38,132 +37,41 @@ pub(crate) fn is_bound(state: UpstreamState) -> bool
     matches!(state, UpstreamState::Bound)
 }
 
-// What comes after a look at what was read.
-#[derive(Clone, Copy, Debug, PartialEq, Eq)]
-pub(crate) enum Next {
-    // A PDU was decided, and more may follow.
-    More,
-    // No whole PDU is there.
-    Part,
-    // Nothing more is decided in any turn.
-    Over,
+// A message that filled a box ends the turn so.
+fn filled_or(filled: bool, end: TurnEnd) -> TurnEnd
+    ensures { result ≡ filled_or filled end }
+{
+    if filled { TurnEnd::Filled } else { end }
 }
 
-// How far the PDUs that came were decided.
+// How a part of a turn leaves it.
 #[derive(Clone, Copy, Debug, PartialEq, Eq)]
-pub(crate) enum Progress {
-    // No whole PDU is left.
-    Part,
-    // Too many octets wait.
-    Brimming,
-    // Nothing more is decided in any turn.
-    Over,
+pub(crate) enum Course {
+    // The turn has ended so.
+    Ends(TurnEnd),
+    // No more is decided, and the turn goes on.
+    Goes {
+        // A message filled its client's box.
+        filled: bool,
+    },
+}
+
+// How the turn is left, but for what an end of the work leaves to write.
+fn course_of(progress: Progress) -> Course
+    requires { progress ≢ Progress.Over }
+    ensures phase { IsCourse (Ok result) (when_halted progress) }
+    ensures filled { (filled : _) → result ≡ Course.Goes filled
+        → progress ≡ (if filled then Progress.Filled else Progress.Part) }
+{
+    match progress {
+        Progress::Brimming => Course::Ends(TurnEnd::Worked),
+        Progress::Filled => Course::Goes { filled: true },
+        Progress::Part => Course::Goes { filled: false },
+        Progress::Over => unreachable!(),
+    }
 }
 
 impl<L: Link + Drop> UpstreamWorker<L> {
-    // Decides the next whole PDU, where there is one.
-    pub(crate) fn decide_next<R: Wait, G: Gate, D: Directory>(
-        &mut self,
-        at: &Exchange,
-        rt: &R,
-        gate: &mut G,
-        directory: &mut D,
-        now: u64,
-        log: &mut Log<Mark, Event>,
-    ) -> Result<Next, Fault>
-        requires lock { slice_get at.now self.old.stand.tap.lane
-            ≡ Some self.old.stand.tap.front.lock }
-        requires none { self.old.held ≡ None }
-        requires goes_on { self.old.ending ≡ false }
-        requires may { MayDecide (writing_of L.polls L.offered self.old) }
-        ensures lock { slice_get at.now self.new.stand.tap.lane
-            ≡ Some self.new.stand.tap.front.lock }
-        ensures phase { (t : Before) (polled : _) → t.now ≡ now → phase_of t log.old ≡ Deciding polled
-            → LeadsTo result (when_next polled) (phase_of t log.new) }
-        ensures held { OnOk result (self.new.held ≡ None) }
-        ensures more { result ≡ Ok Next.More
-            → (length self.new.wire.rest < length self.old.wire.rest) × (self.new.ending ≡ false) }
-        ensures part { result ≡ Ok Next.Part
-            → HasNone 65536 self.new.wire.rest × (self.new.ending ≡ false)
-            × (self.new.wire.unsent ≡ self.old.wire.unsent) }
-        ensures over { result ≡ Ok Next.Over → self.new.ending ≡ true }
-        ensures faults { link_faults result ≡ 0 }
-        ensures goes { (turn : _) → LeadsOn turn
-            (scene_of L.polls L.offered (G.asked gate.old) (G.told gate.old)
-            (D.queries directory.old) self.old)
-            (scene_of L.polls L.offered (G.asked gate.new) (G.told gate.new)
-            (D.queries directory.new) self.new)
-            log.old log.new }
-        ensures kept { (self.new.wire.link ≡ self.old.wire.link)
-            × (self.new.stand.age.turns ≡ self.old.stand.age.turns)
-            × (self.new.first ≡ self.old.first) × (self.new.ends ≡ self.old.ends) }
-    {
-        self.make_room()?;
-        match self.fetch(log)? {
-            Front::Part => return Ok(Next::Part),
-            Front::Broken => return Ok(Next::Over),
-            Front::Whole => {}
-        }
-        let last = self.decide(at, rt, gate, directory, now, log);
-        if self.held.is_some() {
-            return Err(Fault::Spent);
-        }
-        Ok(if last { Next::Over } else { Next::More })
-    }
-
-    // Decides each whole PDU, as far as what waits for the link allows it.
-    pub(crate) fn decide_all<R: Wait, G: Gate, D: Directory>(
-        &mut self,
-        polled: Polled,
-        at: &Exchange,
-        rt: &R,
-        gate: &mut G,
-        directory: &mut D,
-        now: u64,
-        log: &mut Log<Mark, Event>,
-    ) -> Result<Progress, Fault>
-        requires lock { slice_get at.now self.old.stand.tap.lane
-            ≡ Some self.old.stand.tap.front.lock }
-        requires none { self.old.held ≡ None }
-        requires goes_on { self.old.ending ≡ false }
-        requires ended { is_end polled ≡ has_link_ended (L.polls self.old.wire.link) }
-        ensures lock { slice_get at.now self.new.stand.tap.lane
-            ≡ Some self.new.stand.tap.front.lock }
-        ensures phase { (t : Before) → t.now ≡ now → phase_of t log.old ≡ Deciding polled
-            → LeadsTo result (when_progress polled) (phase_of t log.new) }
-        ensures held { OnOk result (self.new.held ≡ None) }
-        ensures part { result ≡ Ok Progress.Part
-            → HasNone 65536 self.new.wire.rest × (self.new.ending ≡ false) }
-        ensures few { result ≡ Ok Progress.Part → is_end polled ≡ false
-            → length self.new.wire.unsent < 65536 }
-        ensures brimming { result ≡ Ok Progress.Brimming
-            → (is_end polled ≡ false) × (65536 ≤ length self.new.wire.unsent) }
-        ensures over { result ≡ Ok Progress.Over → self.new.ending ≡ true }
-        ensures faults { link_faults result ≡ 0 }
-        ensures goes { (turn : _) → LeadsOn turn
-            (scene_of L.polls L.offered (G.asked gate.old) (G.told gate.old)
-            (D.queries directory.old) self.old)
-            (scene_of L.polls L.offered (G.asked gate.new) (G.told gate.new)
-            (D.queries directory.new) self.new)
-            log.old log.new }
-        ensures kept { (self.new.wire.link ≡ self.old.wire.link)
-            × (self.new.stand.age.turns ≡ self.old.stand.age.turns)
-            × (self.new.first ≡ self.old.first) × (self.new.ends ≡ self.old.ends) }
-    {
-        let ended = is_end(polled);
-        loop {
-            if !ended && self.wire.unsent() >= MAX_PDU {
-                log.push(&Step::Marked(Mark::Full), false);
-                return Ok(Progress::Brimming);
-            }
-            match self.decide_next(at, rt, gate, directory, now, log)? {
-                Next::More => {}
-                Next::Part => return Ok(Progress::Part),
-                Next::Over => return Ok(Progress::Over),
-            }
-        }
-    }
-
     // Writes what waits, hands in the moment, turns the lane over where it is time, and gets at most one
     // answer. Where octets are left it gives up at most one request that has waited for too long, and does
     // no more. `None` where the turn goes on.
@@ -180,10 +88,12 @@ impl<L: Link + Drop> UpstreamWorker<L> {
         ensures lock { slice_get at.now self.new.stand.tap.lane
             ≡ Some self.new.stand.tap.front.lock }
         ensures phase { (t : Before) → t ≡ before_turn now self.old → phase_of t log.old ≡ Ready
-            → IsPart Sated result (phase_of t log.new) }
+            → IsPart (Deciding (Earlier false)) result (phase_of t log.new) }
         ensures waits { (t : Before) → t ≡ before_turn now self.old → phase_of t log.old ≡ Ready
             → OnOk result (Waits (phase_of t log.new) self.new.wire.unsent self.new.wire.rest) }
-        ensures goes_on { result ≡ Ok None → self.new.ending ≡ false }
+        ensures goes_on { result ≡ Ok None → self.new.ending ≡ None }
+        ensures unread { (L.polls self.new.wire.link ≡ L.polls self.old.wire.link)
+            × (self.new.wire.rest ≡ self.old.wire.rest) }
         ensures offered { IsPrefix (L.offered self.old.wire.link ++ self.old.wire.unsent)
             (L.offered self.new.wire.link) }
         ensures failures { L.failures self.new.wire.link
@@ -197,7 +107,7 @@ impl<L: Link + Drop> UpstreamWorker<L> {
             × (self.new.first ≡ self.old.first) × (self.new.ends ≡ self.old.ends) }
     {
         let left = self.offer(log)?;
-        if self.ending {
+        if self.ending.is_some() {
             return Ok(Some(last_end(left)));
         }
         self.make_room()?;
@@ -214,7 +124,49 @@ impl<L: Link + Drop> UpstreamWorker<L> {
         Ok(None)
     }
 
-    // Reads once, decides what came, and judges the timers. `None` where the turn goes on.
+    // Ends the decisions of a turn that came so far, behind which no timer is judged.
+    pub(crate) fn halt<R: Wait, G: Gate>(
+        &mut self,
+        progress: Progress,
+        at: &Exchange,
+        rt: &R,
+        gate: &mut G,
+        log: &mut Log<Mark, Event>,
+    ) -> Result<Course, Fault>
+        requires lock { slice_get at.now self.old.stand.tap.lane
+            ≡ Some self.old.stand.tap.front.lock }
+        requires brimming { progress ≡ Progress.Brimming → 65536 ≤ length self.old.wire.unsent }
+        ensures lock { slice_get at.now self.new.stand.tap.lane
+            ≡ Some self.new.stand.tap.front.lock }
+        ensures phase { (t : Before) → phase_of t log.old ≡ when_progress (Earlier true) progress
+            → IsCourse result (phase_of t log.new) }
+        ensures waits { (t : Before) → phase_of t log.old ≡ when_progress (Earlier true) progress
+            → OnOk result (Waits (phase_of t log.new) self.new.wire.unsent self.new.wire.rest) }
+        ensures filled { (filled : _) → result ≡ Ok (Course.Goes filled)
+            → (progress ≡ (if filled then Progress.Filled else Progress.Part))
+            × (self.new.wire.unsent ≡ self.old.wire.unsent) }
+        ensures offers { IsPrefix (L.offered self.old.wire.link) (L.offered self.new.wire.link) }
+        ensures failures { L.failures self.new.wire.link
+            ≡ L.failures self.old.wire.link + link_faults result }
+        ensures goes { (turn queries : _) → LeadsOn turn
+            (scene_of L.polls L.offered (G.asked gate.old) (G.told gate.old) queries self.old)
+            (scene_of L.polls L.offered (G.asked gate.new)
+            (G.told gate.new) queries self.new) log.old log.new }
+        ensures unread { (L.polls self.new.wire.link ≡ L.polls self.old.wire.link)
+            × (self.new.wire.rest ≡ self.old.wire.rest) }
+        ensures kept { (self.new.held ≡ self.old.held)
+            × (self.new.stand.age.turns ≡ self.old.stand.age.turns)
+            × (self.new.first ≡ self.old.first) × (self.new.ends ≡ self.old.ends) }
+    {
+        if let Progress::Over = progress {
+            let left = self.offer(log)?;
+            return Ok(Course::Ends(last_end(left)));
+        }
+        self.expire(Span::Twice, at, rt, gate, log)?;
+        Ok(course_of(progress))
+    }
+
+    // Reads once, decides what came, and judges the timers.
     pub(crate) fn read_on<R: Wait, G: Gate, D: Directory>(
         &mut self,
         at: &Exchange,
@@ -223,20 +175,21 @@ impl<L: Link + Drop> UpstreamWorker<L> {
         directory: &mut D,
         now: u64,
         log: &mut Log<Mark, Event>,
-    ) -> Result<Option<TurnEnd>, Fault>
+    ) -> Result<Course, Fault>
         requires lock { slice_get at.now self.old.stand.tap.lane
             ≡ Some self.old.stand.tap.front.lock }
         requires none { self.old.held ≡ None }
-        requires goes_on { self.old.ending ≡ false }
+        requires goes_on { self.old.ending ≡ None }
         requires intake { 4096 ≤ self.old.wire.intake }
         ensures lock { slice_get at.now self.new.stand.tap.lane
             ≡ Some self.new.stand.tap.front.lock }
         ensures phase { (t : Before) → t.now ≡ now → phase_of t log.old ≡ MayRead
-            → IsPart Settled result (phase_of t log.new) }
+            → IsCourse result (phase_of t log.new) }
         ensures waits { (t : Before) → t.now ≡ now → phase_of t log.old ≡ MayRead
             → OnOk result (Waits (phase_of t log.new) self.new.wire.unsent self.new.wire.rest) }
-        ensures whole { result ≡ Ok None → HasNone 65536 self.new.wire.rest }
-        ensures few { result ≡ Ok None → length self.new.wire.unsent < 65536 }
+        ensures whole { result ≡ Ok (Course.Goes false) → HasNone 65536 self.new.wire.rest }
+        ensures few { (filled : _) → result ≡ Ok (Course.Goes filled)
+            → length self.new.wire.unsent < 65536 }
         ensures held { OnOk result (self.new.held ≡ None) }
         ensures offers { IsPrefix (L.offered self.old.wire.link) (L.offered self.new.wire.link) }
         ensures failures { L.failures self.new.wire.link
@@ -251,21 +204,15 @@ impl<L: Link + Drop> UpstreamWorker<L> {
             × (self.new.first ≡ self.old.first) × (self.new.ends ≡ self.old.ends) }
     {
         let polled = self.read(log)?;
-        match self.decide_all(polled, at, rt, gate, directory, now, log)? {
-            Progress::Brimming => {
-                self.expire(Span::Twice, at, rt, gate, log)?;
-                return Ok(Some(TurnEnd::Worked));
-            }
-            Progress::Over => {
-                let left = self.offer(log)?;
-                return Ok(Some(last_end(left)));
-            }
-            Progress::Part => {}
+        let behind = Some(polled);
+        match self.decide_all(behind, at, rt, gate, directory, now, log)? {
+            Progress::Part => self.judge(polled, at, rt, gate, log),
+            progress => self.halt(progress, at, rt, gate, log),
         }
-        self.judge(polled, at, rt, gate, log)
     }
 
-    // Asks for leave, reads once, decides what came, and judges the timers. `None` where the turn goes on.
+    // Decides what an earlier turn left, or else asks for leave, reads once, decides what came, and
+    // judges the timers.
     pub(crate) fn read_part<R: Wait, G: Gate, D: Directory>(
         &mut self,
         at: &Exchange,
@@ -275,19 +222,22 @@ impl<L: Link + Drop> UpstreamWorker<L> {
         now: u64,
         turn: u64,
         log: &mut Log<Mark, Event>,
-    ) -> Result<Option<TurnEnd>, Fault>
+    ) -> Result<Course, Fault>
         requires lock { slice_get at.now self.old.stand.tap.lane
             ≡ Some self.old.stand.tap.front.lock }
         requires none { self.old.held ≡ None }
-        requires goes_on { self.old.ending ≡ false }
+        requires goes_on { self.old.ending ≡ None }
         ensures lock { slice_get at.now self.new.stand.tap.lane
             ≡ Some self.new.stand.tap.front.lock }
-        ensures phase { (t : Before) → t.now ≡ now → phase_of t log.old ≡ Sated
-            → IsPart Settled result (phase_of t log.new) }
-        ensures waits { (t : Before) → t.now ≡ now → phase_of t log.old ≡ Sated
+        ensures phase { (t : Before) → t.now ≡ now → phase_of t log.old ≡ Deciding (Earlier false)
+            → IsCourse result (phase_of t log.new) }
+        ensures waits { (t : Before) → t.now ≡ now → phase_of t log.old ≡ Deciding (Earlier false)
             → OnOk result (Waits (phase_of t log.new) self.new.wire.unsent self.new.wire.rest) }
-        ensures whole { result ≡ Ok None → HasNone 65536 self.new.wire.rest }
-        ensures few { result ≡ Ok None → length self.new.wire.unsent < 65536 }
+        ensures whole { result ≡ Ok (Course.Goes false) → HasNone 65536 self.new.wire.rest }
+        ensures few { (filled : _) → result ≡ Ok (Course.Goes filled)
+            → length self.new.wire.unsent < 65536 }
+        ensures reads { L.polls self.new.wire.link ≢ L.polls self.old.wire.link
+            → HasNone 65536 self.old.wire.rest }
         ensures held { OnOk result (self.new.held ≡ None) }
         ensures offers { IsPrefix (L.offered self.old.wire.link) (L.offered self.new.wire.link) }
         ensures failures { L.failures self.new.wire.link
@@ -304,13 +254,19 @@ impl<L: Link + Drop> UpstreamWorker<L> {
         self.make_ready()?;
         if self.wire.unsent() >= MAX_PDU {
             log.push(&Step::Marked(Mark::Full), false);
-            self.expire(Span::Twice, at, rt, gate, log)?;
-            return Ok(Some(TurnEnd::Worked));
+            return self.halt(Progress::Brimming, at, rt, gate, log);
+        }
+        match self.decide_next(at, rt, gate, directory, now, log)? {
+            Next::Part => {}
+            next => {
+                let progress = self.decide_left(next, at, rt, gate, directory, now, log)?;
+                return self.halt(progress, at, rt, gate, log);
+            }
         }
         let may = ask(log, gate, Point::Reading, turn);
         if !may {
             self.expire(Span::Twice, at, rt, gate, log)?;
-            return Ok(Some(TurnEnd::Idle));
+            return Ok(Course::Ends(TurnEnd::Idle));
         }
         self.read_on(at, rt, gate, directory, now, log)
     }
@@ -318,6 +274,7 @@ impl<L: Link + Drop> UpstreamWorker<L> {
     // Asks for leave, and in `Bound` asks the lane for a request.
     pub(crate) fn take_part<R: Wait, G: Gate>(
         &mut self,
+        filled: bool,
         at: &Exchange,
         rt: &R,
         gate: &mut G,
@@ -329,10 +286,12 @@ impl<L: Link + Drop> UpstreamWorker<L> {
         requires few { length self.old.wire.unsent < 65536 }
         ensures lock { slice_get at.now self.new.stand.tap.lane
             ≡ Some self.new.stand.tap.front.lock }
-        ensures phase { (t : Before) → phase_of t log.old ≡ Settled
+        ensures phase { (t : Before) → phase_of t log.old ≡ Settled filled
             → IsTurn (is_bound self.new.stand.session.state) (are_all_quiet log.new) result
             (phase_of t log.new) }
-        ensures waits { (t : Before) → phase_of t log.old ≡ Settled
+        ensures decided { (t : Before) → phase_of t log.old ≡ Settled filled
+            → OnOk result (is_all_decided (phase_of t log.new) ≡ true → filled ≡ false) }
+        ensures waits { (t : Before) → phase_of t log.old ≡ Settled filled
             → OnOk result (Waits (phase_of t log.new) self.new.wire.unsent self.new.wire.rest) }
         ensures faults { link_faults result ≡ 0 }
         ensures goes { (queries : _) → LeadsOn turn
@@ -347,14 +306,14 @@ impl<L: Link + Drop> UpstreamWorker<L> {
         self.make_room()?;
         let may = ask(log, gate, Point::Taking, turn);
         if !may {
-            return Ok(TurnEnd::Idle);
+            return Ok(filled_or(filled, TurnEnd::Idle));
         }
         let bound = is_bound(self.session.state());
         if !bound {
-            return Ok(quiet_end(log.is_quiet()));
+            return Ok(filled_or(filled, quiet_end(log.is_quiet())));
         }
         self.take_one(at, rt, log)?;
-        Ok(quiet_end(log.is_quiet()))
+        Ok(filled_or(filled, quiet_end(log.is_quiet())))
     }
 
     // A turn, whose steps are written down.
@@ -379,6 +338,8 @@ impl<L: Link + Drop> UpstreamWorker<L> {
             self.new.wire.unsent self.new.wire.rest) }
         ensures whole { OnOk result (is_all_decided (phase_of (before_turn now self.old) log.new)
             ≡ true → HasNone 65536 self.new.wire.rest) }
+        ensures reads { L.polls self.new.wire.link ≢ L.polls self.old.wire.link
+            → HasNone 65536 self.old.wire.rest }
         ensures held { OnOk result (self.new.held ≡ None) }
         ensures offered { IsPrefix (L.offered self.old.wire.link ++ self.old.wire.unsent)
             (L.offered self.new.wire.link) }
@@ -400,10 +361,9 @@ impl<L: Link + Drop> UpstreamWorker<L> {
             Err(fault) => return Err(fault),
         }
         match self.read_part(at, rt, gate, directory, now, turn, log) {
-            Ok(None) => {}
-            Ok(Some(end)) => return Ok(end),
-            Err(fault) => return Err(fault),
+            Ok(Course::Goes { filled }) => self.take_part(filled, at, rt, gate, turn, log),
+            Ok(Course::Ends(end)) => Ok(end),
+            Err(fault) => Err(fault),
         }
-        self.take_part(at, rt, gate, turn, log)
     }
 }

@@ -10,6 +10,7 @@ ghost use Rattle.smx_link.specs.Wiring.{spellings};
 ghost use Rattle.smx_upstream.specs.Working.{scene_of, writing_of, LeadsOn};
 ghost use Rattle.smx_upstream.specs.Writing.{MayDecide};
 ghost use Rattle.smx_upstream.specs.Phases.{phase_of, after_offer, unless_left, when_front, Before, LeadsTo, link_faults, Ready, Closing, MayRead, Deciding};
+ghost use Rattle.smx_upstream.specs.Phases.Source.{Behind};
 
 use crate::event::Event;
 use crate::mark::Mark;
@@ -17,7 +18,7 @@ use crate::worker::{UpstreamWorker, note};
 use smx_link::{Link, Polled, Wire};
 use smx_pdu::Pdu;
 use smx_trace::Trace;
-use smx_turns::{Fault, Log, Outcome, Step, is_memory};
+use smx_turns::{End, Fault, Log, Outcome, Step, is_memory};
 use std::alloc::Global;
 
 // What stands at the front of what was read.
@@ -61,7 +62,7 @@ fn break_off<L: Link + Drop>(
         event: Event::Broke,
         quiet: false,
         sent: Some(nack),
-        ends: true,
+        ends: Some(End::BadLength),
         answer: (),
     };
     note(outcome, wire, events, log);
@@ -79,6 +80,7 @@ impl<L: Link + Drop> UpstreamWorker<L> {
             × (left ≡ false → self.new.wire.unsent ≡ [])) }
         ensures offered { L.offered self.new.wire.link
             ≡ L.offered self.old.wire.link ++ self.old.wire.unsent }
+        ensures unread { L.polls self.new.wire.link ≡ L.polls self.old.wire.link }
         ensures failures { L.failures self.new.wire.link
             ≡ L.failures self.old.wire.link + link_faults result }
         ensures err { OnErr result (result ≡ Err Fault.Link) }
@@ -131,9 +133,9 @@ impl<L: Link + Drop> UpstreamWorker<L> {
     // Reads once.
     pub(crate) fn read(&mut self, log: &mut Log<Mark, Event>) -> Result<Polled, Fault>
         requires intake { 4096 ≤ self.old.wire.intake }
-        requires goes_on { self.old.ending ≡ false }
+        requires goes_on { self.old.ending ≡ None }
         ensures phase { (t : Before) → phase_of t log.old ≡ MayRead
-            → LeadsTo result Deciding (phase_of t log.new) }
+            → LeadsTo result (λ polled. Deciding (Behind polled)) (phase_of t log.new) }
         ensures ended { IfOk result (λ polled. is_end polled
             ≡ has_link_ended (L.polls self.new.wire.link)) }
         ensures offered { L.offered self.new.wire.link ≡ L.offered self.old.wire.link }
@@ -166,18 +168,18 @@ impl<L: Link + Drop> UpstreamWorker<L> {
     pub(crate) fn fetch(&mut self, log: &mut Log<Mark, Event>) -> Result<Front, Fault>
         requires room { 65536 ≤ self.old.wire.room }
         requires none { self.old.held ≡ None }
-        requires goes_on { self.old.ending ≡ false }
+        requires goes_on { self.old.ending ≡ None }
         requires may { MayDecide (writing_of L.polls L.offered self.old) }
-        ensures phase { (t : Before) (polled : _) → phase_of t log.old ≡ Deciding polled
-            → LeadsTo result (when_front polled) (phase_of t log.new) }
+        ensures phase { (t : Before) (source : _) → phase_of t log.old ≡ Deciding source
+            → LeadsTo result (when_front source) (phase_of t log.new) }
         ensures whole { result ≡ Ok Front.Whole
             → IsSome self.new.held × (length self.new.wire.rest < length self.old.wire.rest)
-            × (self.new.ending ≡ false) × (65536 ≤ self.new.wire.room)
+            × (self.new.ending ≡ None) × (65536 ≤ self.new.wire.room)
             × (self.new.wire.unsent ≡ self.old.wire.unsent) }
         ensures part { result ≡ Ok Front.Part
             → HasNone 65536 self.new.wire.rest × (self.new ≡ self.old) }
         ensures broken { result ≡ Ok Front.Broken
-            → (self.new.held ≡ None) × (self.new.ending ≡ true) }
+            → (self.new.held ≡ None) × IsSome self.new.ending }
         ensures err { OnErr result
             ((result ≡ Err Fault.NoMemory) × (self.new ≡ self.old) × (log.new ≡ log.old)) }
         ensures goes { (turn asked told queries : _) → LeadsOn turn
@@ -203,7 +205,7 @@ impl<L: Link + Drop> UpstreamWorker<L> {
                 if is_memory(fault) {
                     return Err(Fault::NoMemory);
                 }
-                self.ending = true;
+                self.ending = Some(End::BadLength);
                 break_off(self.alloc, &mut self.wire, &mut self.events, log);
                 Ok(Front::Broken)
             }

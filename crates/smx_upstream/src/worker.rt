@@ -5,6 +5,7 @@ ghost use Rattle.smx_pdu.specs.Pdu.{spelling};
 ghost use Rattle.smx_session.specs.declared.upstream_state.UpstreamState.TheVariants.{Binding};
 ghost use Rattle.smx_turns.specs.declared.step.Step.TheVariants.{Did};
 ghost use Rattle.smx_upstream.specs.Ages.{new_age};
+ghost use Rattle.smx_turns.specs.Endings.{ending_of};
 ghost use Rattle.smx_turns.specs.Worth.{those, IsWorth};
 ghost use Rattle.smx_upstream.specs.Events.{worth, is_quiet_event};
 ghost use Rattle.smx_upstream.specs.Standing.{bind_of, stand, AreEmptied};
@@ -20,7 +21,7 @@ use smx_routes::MoWindow;
 use smx_session::{UpstreamSession, UpstreamState};
 use smx_shared::Tap;
 use smx_trace::Trace;
-use smx_turns::{Fault, Log, MoItem, Outcome, Step, TurnEnd};
+use smx_turns::{End, Fault, Log, MoItem, Outcome, Step, TurnEnd};
 use std::alloc::Global;
 use std::marker::Model;
 use std::snapshot::Snapshot;
@@ -92,8 +93,8 @@ pub struct UpstreamWorker<L: Link + Drop> {
     pub(crate) owed: Vec<MoWindow>,
     // A whole PDU that isn't decided yet.
     pub(crate) held: Option<Pdu>,
-    // Nothing but writing is left to do.
-    pub(crate) ending: bool,
+    // How the work ended, where nothing but writing is left to do.
+    pub(crate) ending: Option<End>,
     pub(crate) age: Age,
     pub(crate) origin: Origin,
     pub(crate) events: Trace<Event>,
@@ -219,7 +220,7 @@ impl<L: Link + Drop> UpstreamWorker<L> {
         ensures owed { IfOk result (λ w. AreEmptied parts.owed.items w.stand.owed) }
         ensures first { IfOk result (λ w. w.first ≡ w.stand) }
         ensures said { IfOk result (λ w. w.wire.said ≡ bind_of parts.session ∷ []) }
-        ensures ready { IfOk result (λ w. (w.held ≡ None) × (w.ending ≡ false)) }
+        ensures ready { IfOk result (λ w. (w.held ≡ None) × (w.ending ≡ None)) }
         ensures err { IfErr result (λ p. p ≡ parts) }
     {
         let Ok(bind) = parts.session.start() else {
@@ -259,7 +260,7 @@ impl<L: Link + Drop> UpstreamWorker<L> {
             senders,
             owed,
             held: None,
-            ending: false,
+            ending: None,
             age,
             origin,
             events: Trace::new().and(&event),
@@ -274,5 +275,13 @@ impl<L: Link + Drop> UpstreamWorker<L> {
         ensures { result ≡ self.now.stand.session.state }
     {
         self.session.state()
+    }
+
+    /// How its work ended, where nothing but writing is left to do. A turn that met a fault tells that
+    /// itself.
+    pub fn ending(&self) -> Option<End>
+        ensures { result ≡ ending_of worth self.now.events }
+    {
+        self.ending
     }
 }

@@ -12,9 +12,9 @@ use smx_lane::Lane;
 use smx_link::Link;
 use smx_memory_link::{MemoryLink, Script};
 use smx_pdu::Pdu;
-use smx_session::{Account, ClientState};
+use smx_session::{Account, ClientState, Rules};
 use smx_shared::{Door, Exchange, Port, Tap};
-use smx_turns::{Directory, Gate, MoItem, Party, Point, RunEnd};
+use smx_turns::{Directory, End, Gate, MoItem, Party, Point, RunEnd};
 use std::alloc::Global;
 use std::process::Abort;
 use std::sync::Wait;
@@ -37,6 +37,12 @@ enum Step<'s> {
     Runs(u64, RunEnd),
     // How client 1 is bound, and how many octets wait for its link.
     Stands(ClientState, usize),
+    // How its work ended.
+    Ended(Option<End>),
+    // The account by which it is bound.
+    Account(Option<usize>),
+    // The last bind of it that was refused, the status and the body.
+    Refused(Option<(u32, &'s [u8])>),
     // The gate says no at this point from now on.
     Shuts(Option<Point>),
     // The client is to be sent unbind: whether it was bound.
@@ -138,6 +144,18 @@ impl Stand<'_, '_> {
                 Some(seat) => seat.stands(state, unsent),
                 None => false,
             },
+            Step::Ended(want) => match &self.seat {
+                Some(seat) => seat.worker.ending() == want,
+                None => false,
+            },
+            Step::Account(want) => match &self.seat {
+                Some(seat) => seat.worker.account() == want,
+                None => false,
+            },
+            Step::Refused(want) => match &self.seat {
+                Some(seat) => was_refused(&seat.worker, want),
+                None => false,
+            },
             Step::Shuts(point) => {
                 self.world.gate.shut = point;
                 true
@@ -161,6 +179,14 @@ impl Stand<'_, '_> {
                 None => false,
             },
         }
+    }
+}
+
+// It is the last bind that was refused, with its status and its body.
+fn was_refused<L: Link + Drop>(worker: &ClientWorker<'_, L>, want: Option<(u32, &[u8])>) -> bool {
+    match worker.refused() {
+        Some(refusal) => want == Some((refusal.status, refusal.bind.body.as_slice())),
+        None => want.is_none(),
     }
 }
 
@@ -210,6 +236,7 @@ pub fn desk(rt: &impl Abort, alloc: Global) -> Desk {
     let account = Account {
         system_id: octets_in(rt, alloc, b"a"),
         password: octets_in(rt, alloc, b"p"),
+        rules: Rules::none(),
     };
     let mut own = Vec::new(alloc);
     for prefix in [&b"49"[..], &b"491"[..]] {

@@ -1,5 +1,6 @@
-//! Shared lanes, and the workers over links in memory, against answers and octets worked out by hand.
-//! It has tests alone, in a crate of their own, so that no lane or worker is proved twice.
+//! Shared lanes, the workers over links in memory and the tables of the loop, against answers and octets
+//! worked out by hand. It has tests alone, in a crate of their own, so that no lane or worker is proved
+//! twice.
 #![tactic(auto)]
 
 #[cfg(test)]
@@ -12,6 +13,8 @@ mod messages;
 mod shared;
 #[cfg(test)]
 mod stand;
+#[cfg(test)]
+mod tables;
 #[cfg(test)]
 mod threads;
 #[cfg(test)]

@@ -5,7 +5,7 @@ ghost use Rattle.smx_shared.specs.Making.{AreStarts};
 
 use crate::hall::{Brought, Client, Hall, Line, enter, hold, lanes_of, lines_of};
 use smx_history::{Failed, Limits};
-use smx_lane::{Entry, Lane, Sent};
+use smx_lane::{Entry, Lane, Load, Sent};
 use smx_lock::{Spent, TryFault};
 use smx_pdu::{Body, Pdu};
 use smx_shared::{
@@ -18,6 +18,7 @@ use std::sync::Wait;
 
 mod comparing;
 mod full;
+mod loads;
 mod making;
 mod scenes;
 mod threads;
@@ -34,6 +35,8 @@ enum Step {
     Serves(usize, Serve),
     // The client leaves, with no lane spent or with one, and those behind it move up.
     Leaves(usize, bool),
+    // So much is on the lane.
+    Weighs(usize, Load),
 }
 
 // A response is told by its status and its number.
@@ -151,6 +154,9 @@ impl<'a> Room<'a> {
                 Some(line) => line.holds(rt, alloc, serve),
                 None => false,
             },
+            Step::Weighs(lane, want) => {
+                lane < door.lanes() && door.load(at, rt, lane) == Ok(want)
+            }
             Step::Leaves(place, want) => {
                 place < self.clients.len() && self.clients.remove(place).leave(rt) == want
             }

@@ -77,7 +77,7 @@ fn guest<'a, R: Abort>(
 // Whether the worker has left. After a turn that did nothing it sleeps.
 fn has_left<R: Clock + Abort>(rt: &R, end: RunEnd) -> bool {
     match end {
-        RunEnd::Turns => {}
+        RunEnd::Turns | RunEnd::Filled => {}
         RunEnd::Idle => sleep(rt, Duration::from_millis(1)),
         RunEnd::Left => return true,
         RunEnd::Fault(fault) => panic!(rt; "a worker: {fault:?}"),

@@ -12,15 +12,16 @@ use smx_link::Link;
 use smx_memory_link::{MemoryLink, Script};
 use smx_pdu::{Bind, Pdu};
 use smx_routes::MoWindow;
-use smx_session::{UpstreamSession, UpstreamState};
+use smx_session::{UpstreamBind, UpstreamSession, UpstreamState};
 use smx_shared::{Door, Exchange, SubmitFault, Tap};
-use smx_turns::{MoItem, RunEnd};
+use smx_turns::{End, MoItem, RunEnd};
 use smx_upstream::{Closed, LastRequest, Parts, UpstreamWorker, run_upstream};
 use std::alloc::Global;
 use std::process::Abort;
 use std::sync::Wait;
 
 mod abandoned;
+mod burst;
 mod hostile;
 mod passing;
 mod rows;
@@ -95,11 +96,15 @@ enum Step<'s> {
     Gets(Option<(u32, &'s [u8])>),
     // The client answers the message of this number, with this status and a body of so many zeros.
     Answers(u32, u32, usize),
-    // The worker is turned at this moment, at most so often.
+    // The worker is turned at this moment, at most so often, and goes on where a message fills the box.
     Runs(u64, u64, RunEnd),
+    // The same, until a message fills the box.
+    Fills(u64, u64),
     // It is to end, and says whether it was bound.
     Stops(bool),
     Stands(UpstreamState),
+    // How its work ended.
+    Ended(Option<End>),
     // Whose request was sent last over the link, and its command.
     Last(Option<(u64, u32)>),
     // How often the gate was asked, and told.
@@ -181,7 +186,8 @@ pub fn session(rt: &impl Abort, alloc: Global) -> UpstreamSession
     assert!(rt; bind.fits());
     let system_id = Vec::from_slice(alloc, bind.system_id).expect(rt, "out of memory");
     let password = Vec::from_slice(alloc, bind.password).expect(rt, "out of memory");
-    UpstreamSession::new(alloc, system_id, password, 1_000, 0)
+    let bind = UpstreamBind::transceiver(alloc, system_id, password);
+    UpstreamSession::new(alloc, bind, 1_000, 0)
 }
 
 // A client, a worker until it is closed, what it is lent, what its messages come into, and where the
@@ -206,7 +212,11 @@ impl<'a> Stand<'a> {
                 self.outbox.put(rt, answer).is_ok()
             }
             Step::Runs(now, turns, want) => match &mut self.seat {
-                Some(seat) => seat.run(rt, &mut self.world, now, turns) == want,
+                Some(seat) => runs_on(rt, seat, &mut self.world, now, turns) == want,
+                None => false,
+            },
+            Step::Fills(now, turns) => match &mut self.seat {
+                Some(seat) => seat.run(rt, &mut self.world, now, turns) == RunEnd::Filled,
                 None => false,
             },
             Step::Stops(want) => match &mut self.seat {
@@ -219,6 +229,10 @@ impl<'a> Stand<'a> {
             },
             Step::Stands(want) => match &self.seat {
                 Some(seat) => seat.worker.state() == want,
+                None => false,
+            },
+            Step::Ended(want) => match &self.seat {
+                Some(seat) => seat.worker.ending() == want,
                 None => false,
             },
             Step::Last(want) => match &self.seat {
@@ -281,6 +295,23 @@ impl<'a> Stand<'a> {
     }
 }
 
+// Turns a worker, also where a message fills the box, since nobody takes it.
+fn runs_on<R: Wait + Abort>(
+    rt: &R,
+    seat: &mut Seat<MemoryLink<Script>>,
+    world: &mut World,
+    now: u64,
+    turns: u64,
+) -> RunEnd {
+    for _ in 0..turns {
+        let end = seat.run(rt, world, now, turns);
+        if end != RunEnd::Filled {
+            return end;
+        }
+    }
+    RunEnd::Turns
+}
+
 // Whose request a worker sent last, and its command.
 fn last_of<L: Link + Drop>(worker: &UpstreamWorker<L>) -> Option<(u64, u32)> {
     let LastRequest { client, command } = worker.last_request()?;
@@ -335,13 +366,15 @@ fn answer_to(rt: &impl Abort, alloc: Global, number: u32, status: u32, zeros: us
 }
 
 // What a worker is made with: the other end of its link, the answer that is in its return box before
-// the first turn, and how many entries its lane is said to keep. A failed step names the case.
+// the first turn, how many entries its lane is said to keep, and how many places the client's box has. A
+// failed step names the case.
 #[derive(Drop)]
 struct Setting {
     case: usize,
     script: Script,
     answer: Option<Pdu>,
     history: usize,
+    places: usize,
 }
 
 impl Setting {
@@ -351,6 +384,7 @@ impl Setting {
             script,
             answer: None,
             history: 1_000,
+            places: 1,
         }
     }
 }
@@ -370,15 +404,17 @@ fn return_box<R: Wait + Abort>(
     (answers, client)
 }
 
-// A window for the messages of the one slot.
-fn windows<R: Abort>(rt: &R, alloc: Global) -> Vec<MoWindow> {
-    let window = MoWindow::new(alloc, 2).ok().expect(rt, "out of memory");
+// A window of so many places for the messages of the one slot.
+fn windows<R: Abort>(rt: &R, alloc: Global, places: u32) -> Vec<MoWindow> {
+    let window = MoWindow::new(alloc, places)
+        .ok()
+        .expect(rt, "out of memory");
     let mut all = Vec::new(alloc);
     all.push(window).ok().expect(rt, "out of memory");
     all
 }
 
-// A client that enters, and a worker. Each box has one place.
+// A client that enters, and a worker. The return box has one place.
 fn stand_at<'a, R: Wait + Abort>(
     rt: &R,
     alloc: Global,
@@ -395,9 +431,10 @@ fn stand_at<'a, R: Wait + Abort>(
         script,
         answer,
         history,
+        places,
         ..
     } = setting;
-    let made = Boxed::new(rt, alloc, 1, 1).ok();
+    let made = Boxed::new(rt, alloc, 1, places).ok();
     let (inbox, senders) = made.expect(rt, "out of memory");
     let (answers, outbox) = return_box(rt, alloc, answer);
     let parts = Parts {
@@ -406,7 +443,7 @@ fn stand_at<'a, R: Wait + Abort>(
         session: session(rt, alloc),
         answers,
         senders,
-        owed: windows(rt, alloc),
+        owed: windows(rt, alloc, if places == 1 { 2 } else { 256 }),
     };
     Stand {
         client: enter(rt, at, door).expect(rt, "no client"),

@@ -44,7 +44,7 @@ def how_all_stands(program, _):
             links = [proxy.client() for _ in range(150)]
             proxy.asks("status")
             proxy.waits_for("of 200 slots are taken, ")
-            said = [it for it in proxy.said().splitlines() if it.startswith("status: ")]
+            said = [it for it in proxy.said().splitlines() if " info status: " in it]
             assert len([it for it in said if " alpha at " in it and ": transceiver, connected for " in it]) == 150, said
             assert len([it for it in said if " proxy at " in it and ": bound for " in it]) == 1, said
             for link in links:

@@ -1,6 +1,8 @@
 """Clients that come and go, and lanes that can't be had."""
 
 import signal
+import subprocess
+import tempfile
 
 from .peers import HOST, Answering, Centre, Proxy, free_port, one_lane, text_of
 from .smpp import (BIND_TRANSCEIVER, ENQUIRE_LINK, OK, RESPONSE, SUBMIT_FAILED, SUBMIT_SM, UNBIND, bind_of,
@@ -77,6 +79,17 @@ def unreachable(address):
     return case
 
 
+def no_address(address, words):
+    """A case: an upstream with this address is a fault of the configuration, which is said."""
+    def case(program, _):
+        with tempfile.NamedTemporaryFile("w", suffix=".toml") as file:
+            file.write(text_of(free_port(), [address]))
+            file.flush()
+            ended = subprocess.run([program, "serve", file.name], capture_output=True, text=True, timeout=20)
+        assert ended.returncode == 78 and words in ended.stderr, ended
+    return case
+
+
 def queued_requests_of_a_lost_lane(program, _):
     """What is queued on a lane that stays without a link is answered once the response timer ended."""
     with one_lane(program, keys="[timers]\nresponse = 5000", limits="window = 1") as (centre, proxy):
@@ -109,8 +122,8 @@ CASES = {
     "a door beside a lane that is down": door_beside(lambda: [f"{HOST}:{free_port()}"]),
     "a door beside a lane that is clogged": door_beside_a_lane_that_is_clogged,
     "an upstream of an unknown name": unreachable("nobody.invalid:2775"),
-    "an upstream without a port": unreachable(HOST),
-    "an upstream with port 70000": unreachable(f"{HOST}:70000"),
+    "an upstream without a port": no_address(HOST, "has no port"),
+    "an upstream with port 70000": no_address(f"{HOST}:70000", "above 65535"),
     "queued requests of a lost lane": queued_requests_of_a_lost_lane,
     "many connections at once": many_at_once,
 }

@@ -5,6 +5,7 @@ import fcntl
 import os
 import pathlib
 import pty
+import re
 import shutil
 import signal
 import tempfile
@@ -101,7 +102,7 @@ def lines_are_left_out(program, _):
             with proxy.client() as link:
                 assert link.ask(request(ENQUIRE_LINK, 2)).status == OK
                 for line in lines:
-                    if line.endswith(b" lines left out\n") and line.split()[0].isdigit() and b":" not in line:
+                    if re.fullmatch(rb"\S+ warn \d+ lines left out\n", line):
                         break
                 else:
                     raise AssertionError("no line says how many were left out")

@@ -51,7 +51,7 @@ def lines_for_a_service_manager(program, _):
                 assert proxy.stop() == 0
             told.reader.join(PATIENCE)
             assert "STOPPING=1" in [line for _, line in told.lines], told.lines
-            assert proxy.said().startswith("smx 0.2.0\n"), proxy.said()
+            assert proxy.said().partition("\n")[0].endswith(" info smx 0.2.0"), proxy.said()
 
 
 def no_lines_without_the_word(program, _):

@@ -1,7 +1,7 @@
 use crate::pdus::spelling::{copy, is_spelled, pdu_of};
 use crate::rows::check;
 use smx_pdu::Pdu;
-use smx_session::{Account, Act, Ask, ClientSession, ClientState, Enquiry, Kind};
+use smx_session::{Account, Act, Ask, ClientSession, ClientState, Enquiry, Kind, Rules};
 use std::alloc::Global;
 use std::process::Abort;
 use std::test::*;
@@ -11,6 +11,7 @@ fn account(rt: &impl Abort, alloc: Global, texts: [u8; 2]) -> Account {
     Account {
         system_id: copy(rt, alloc, &[system_id]),
         password: copy(rt, alloc, &[password]),
+        rules: Rules::none(),
     }
 }
 
@@ -151,6 +152,7 @@ fn refused_memory(rt: HostRuntime) {
     let accounts = [Account {
         system_id: Vec::new(rt.alloc()),
         password: Vec::new(rt.alloc()),
+        rules: Rules::none(),
     }];
     let Ok(body) = Vec::from_slice(rt.alloc(), b"\0\0\0\x34\0\0\0") else {
         return;

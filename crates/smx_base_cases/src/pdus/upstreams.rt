@@ -2,7 +2,7 @@ use self::Row::{Asks, Hears, Is, Silent, Starts, Stops};
 use crate::pdus::spelling::is_spelled;
 use crate::rows::check;
 use smx_pdu::{Bind, Pdu};
-use smx_session::{UpAct, UpstreamSession, UpstreamState};
+use smx_session::{UpAct, UpstreamBind, UpstreamSession, UpstreamState};
 use std::alloc::Global;
 use std::process::Abort;
 use std::test::*;
@@ -46,7 +46,8 @@ fn upstream(rt: &impl Abort, alloc: Global) -> UpstreamSession {
     assert!(rt; bind.fits());
     let system_id = Vec::from_slice(alloc, bind.system_id).expect(rt, "out of memory");
     let password = Vec::from_slice(alloc, bind.password).expect(rt, "out of memory");
-    UpstreamSession::new(alloc, system_id, password, 1000, 0)
+    let bind = UpstreamBind::transceiver(alloc, system_id, password);
+    UpstreamSession::new(alloc, bind, 1000, 0)
 }
 
 fn word(act: &UpAct) -> &'static str {

@@ -1,6 +1,6 @@
 //! Headers of the PROXY protocol, written by hand from section 2.2 of its specification.
 use crate::rows::{check, says};
-use smx_proxy_header::{Header, MAX_HEADER, Source, read_header};
+use smx_proxy_header::{MAX_HEADER, ProxyHeader, Source, read_proxy_header};
 use std::process::Abort;
 use std::test::*;
 
@@ -29,21 +29,21 @@ const OF_TCP6: Source = Source::V6 {
 
 // What these octets in place of those from the version on are, with as many zeros behind the length as
 // the last number says.
-fn with_fields(fields: [u8; 4], zeros: usize) -> Header {
+fn with_fields(fields: [u8; 4], zeros: usize) -> ProxyHeader {
     let mut octets = [0u8; 5_000];
     octets[..12].copy_from_slice(&TCP4[..12]);
     octets[12..16].copy_from_slice(&fields);
     match octets.get(..16 + zeros.min(4_900)) {
-        Some(front) => read_header(front),
-        None => Header::Wrong,
+        Some(front) => read_proxy_header(front),
+        None => ProxyHeader::Wrong,
     }
 }
 
-fn whole(length: usize, source: Source) -> Header {
-    Header::Whole { length, source }
+fn whole(length: usize, source: Source) -> ProxyHeader {
+    ProxyHeader::Whole { length, source }
 }
 
-fn local(length: usize) -> Header {
+fn local(length: usize) -> ProxyHeader {
     whole(length, Source::Local)
 }
 
@@ -52,22 +52,27 @@ fn local(length: usize) -> Header {
 fn each_front_is_a_part(rt: HostRuntime) {
     for count in 0..TCP4.len() {
         let wanted = if count < 28 {
-            Header::Part
+            ProxyHeader::Part
         } else {
             whole(28, OF_TCP4)
         };
-        check(&rt, read_header(&TCP4[..count]) == wanted, "TCP4", count);
+        check(
+            &rt,
+            read_proxy_header(&TCP4[..count]) == wanted,
+            "TCP4",
+            count,
+        );
     }
-    assert!(rt; read_header(&TCP4) == whole(28, OF_TCP4));
+    assert!(rt; read_proxy_header(&TCP4) == whole(28, OF_TCP4));
     for count in 0..TCP6.len() {
         check(
             &rt,
-            read_header(&TCP6[..count]) == Header::Part,
+            read_proxy_header(&TCP6[..count]) == ProxyHeader::Part,
             "TCP6",
             count,
         );
     }
-    assert!(rt; read_header(&TCP6) == whole(56, OF_TCP6));
+    assert!(rt; read_proxy_header(&TCP6) == whole(56, OF_TCP6));
 }
 
 // A signature that is wrong at one octet is no header from that octet on.
@@ -78,13 +83,13 @@ fn a_wrong_signature(rt: HostRuntime) {
         octets[place] ^= 0x80;
         for count in 0..octets.len() {
             let wanted = if count <= place {
-                Header::Part
+                ProxyHeader::Part
             } else {
-                Header::Wrong
+                ProxyHeader::Wrong
             };
             check(
                 &rt,
-                read_header(&octets[..count]) == wanted,
+                read_proxy_header(&octets[..count]) == wanted,
                 "signature",
                 place,
             );
@@ -95,11 +100,13 @@ fn a_wrong_signature(rt: HostRuntime) {
 // Version 1, which is a text, and an SMPP bind are no headers.
 #[test]
 fn other_beginnings(rt: HostRuntime) {
-    assert!(rt; read_header(b"PROXY TCP4 10.0.0.7 192.168.1.1 4711 2775\r\n") == Header::Wrong);
-    assert!(rt; read_header(b"P") == Header::Wrong);
-    assert!(rt; read_header(&[0, 0, 0, 0x20, 0, 0, 0, 9]) == Header::Wrong);
-    assert!(rt; read_header(&[0]) == Header::Wrong);
-    assert!(rt; read_header(&[]) == Header::Part);
+    assert!(rt;
+        read_proxy_header(b"PROXY TCP4 10.0.0.7 192.168.1.1 4711 2775\r\n") == ProxyHeader::Wrong
+    );
+    assert!(rt; read_proxy_header(b"P") == ProxyHeader::Wrong);
+    assert!(rt; read_proxy_header(&[0, 0, 0, 0x20, 0, 0, 0, 9]) == ProxyHeader::Wrong);
+    assert!(rt; read_proxy_header(&[0]) == ProxyHeader::Wrong);
+    assert!(rt; read_proxy_header(&[]) == ProxyHeader::Part);
 }
 
 // Of the version and the command only 0x20 and 0x21 are read.
@@ -107,7 +114,11 @@ fn other_beginnings(rt: HostRuntime) {
 fn versions_and_commands(rt: HostRuntime) {
     for octet in 0..=255u8 {
         let is_known = octet == 0x20 || octet == 0x21;
-        let wanted = if is_known { local(16) } else { Header::Wrong };
+        let wanted = if is_known {
+            local(16)
+        } else {
+            ProxyHeader::Wrong
+        };
         check(
             &rt,
             with_fields([octet, 0, 0, 0], 0) == wanted,
@@ -117,13 +128,13 @@ fn versions_and_commands(rt: HostRuntime) {
         let mut front = TCP4;
         front[12] = octet;
         let wanted = if is_known {
-            Header::Part
+            ProxyHeader::Part
         } else {
-            Header::Wrong
+            ProxyHeader::Wrong
         };
         check(
             &rt,
-            read_header(&front[..13]) == wanted,
+            read_proxy_header(&front[..13]) == wanted,
             "fronts",
             usize::from(octet),
         );
@@ -136,18 +147,18 @@ fn versions_and_commands(rt: HostRuntime) {
 fn no_address(rt: HostRuntime) {
     let mut octets = TCP4;
     octets[12] = 0x20;
-    assert!(rt; read_header(&octets) == local(28));
+    assert!(rt; read_proxy_header(&octets) == local(28));
     for family in [0x00u8, 0x10, 0x12, 0x20, 0x22, 0x31, 0x32, 0xFF] {
         octets = TCP4;
         octets[13] = family;
         check(
             &rt,
-            read_header(&octets) == local(28),
+            read_proxy_header(&octets) == local(28),
             "families",
             usize::from(family),
         );
     }
-    assert!(rt; with_fields([0x21, 0x31, 0, 216], 215) == Header::Part);
+    assert!(rt; with_fields([0x21, 0x31, 0, 216], 215) == ProxyHeader::Part);
     assert!(rt; with_fields([0x21, 0x31, 0, 216], 216) == local(232));
 }
 
@@ -158,19 +169,19 @@ fn lengths(rt: HostRuntime) {
         address: [0; 4],
         port: 0,
     };
-    assert!(rt; with_fields([0x21, 0x11, 0, 11], 100) == Header::Wrong);
+    assert!(rt; with_fields([0x21, 0x11, 0, 11], 100) == ProxyHeader::Wrong);
     assert!(rt; with_fields([0x21, 0x11, 0, 12], 100) == whole(28, nowhere));
-    assert!(rt; with_fields([0x21, 0x21, 0, 35], 100) == Header::Wrong);
-    assert!(rt; with_fields([0x21, 0x21, 0, 36], 35) == Header::Part);
-    assert!(rt; with_fields([0x21, 0x11, 0x10, 0], 4_095) == Header::Part);
+    assert!(rt; with_fields([0x21, 0x21, 0, 35], 100) == ProxyHeader::Wrong);
+    assert!(rt; with_fields([0x21, 0x21, 0, 36], 35) == ProxyHeader::Part);
+    assert!(rt; with_fields([0x21, 0x11, 0x10, 0], 4_095) == ProxyHeader::Part);
     assert!(rt; with_fields([0x21, 0x11, 0x10, 0], 4_096) == whole(MAX_HEADER, nowhere));
-    assert!(rt; with_fields([0x21, 0x11, 0x10, 1], 4_900) == Header::Wrong);
-    assert!(rt; with_fields([0x20, 0x00, 0xFF, 0xFF], 0) == Header::Wrong);
+    assert!(rt; with_fields([0x21, 0x11, 0x10, 1], 4_900) == ProxyHeader::Wrong);
+    assert!(rt; with_fields([0x20, 0x00, 0xFF, 0xFF], 0) == ProxyHeader::Wrong);
     let mut front = TCP4;
     front[14] = 0x10;
-    assert!(rt; read_header(&front[..15]) == Header::Part);
+    assert!(rt; read_proxy_header(&front[..15]) == ProxyHeader::Part);
     front[14] = 0x11;
-    assert!(rt; read_header(&front[..15]) == Header::Wrong);
+    assert!(rt; read_proxy_header(&front[..15]) == ProxyHeader::Wrong);
 }
 
 // The addresses as texts.

@@ -7,7 +7,7 @@ use crate::seats::Drawer;
 use crate::worker::hall::Worker;
 use smx_centre::{Centre, Mode};
 use smx_memory_link::{CentrePeer, FlagGate, MemoryLink, Nobody};
-use smx_session::UpstreamSession;
+use smx_session::{UpstreamBind, UpstreamSession};
 use smx_shared::Exchange;
 use smx_slots::LaneEnds;
 use smx_turns::RunEnd;
@@ -33,7 +33,8 @@ pub(crate) fn session(alloc: Global) -> Result<UpstreamSession, AllocError>
 {
     let system_id = Vec::from_slice(alloc, b"proxy")?;
     let password = Vec::from_slice(alloc, b"pw")?;
-    Ok(UpstreamSession::new(alloc, system_id, password, 30_000, 0))
+    let bind = UpstreamBind::transceiver(alloc, system_id, password);
+    Ok(UpstreamSession::new(alloc, bind, 30_000, 0))
 }
 
 impl<'a> Carrier<'a> {

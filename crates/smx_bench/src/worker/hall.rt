@@ -96,5 +96,5 @@ fn serve<R: Wait>(
 
 // Whether a worker may be turned again.
 fn goes_on(end: RunEnd) -> bool {
-    matches!(end, RunEnd::Idle | RunEnd::Turns)
+    matches!(end, RunEnd::Idle | RunEnd::Turns | RunEnd::Filled)
 }

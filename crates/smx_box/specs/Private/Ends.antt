@@ -3,9 +3,10 @@ use Rattle.std.specs.Prelude.{◌≡◌, ℕ, ◌+◌, ◌≤◌, zero, suc, Boo
 use Rattle.crossbeam_queue.specs.Passes.{Pass, view}
 use Rattle.smx_box.specs.declared.letter.Letter.{Letter}
 use Rattle.smx_box.specs.declared.letter.Known.{Known}
+use Rattle.smx_box.specs.declared.letter.Note.{Note}
 use Rattle.smx_box.specs.Letters.{of, is_open, Numbered}
 use Rattle.smx_box.specs.Private.Rule.{KnowsPlaces}
-use Rattle.smx_box.specs.Boxes.{most_items, pass_notes, puts, gets, BoxHistory, PassFront, Sending, Receiving, PutServes, FullPutServes}
+use Rattle.smx_box.specs.Boxes.{most_items, Stood, pass_notes, puts, gets, BoxHistory, PassFront, Sending, Receiving, PutServes, FullPutServes}
 
 -- counts a sender that is no longer open
 abbrev pub one_if_shut : Bool → ℕ
@@ -58,6 +59,10 @@ module _ {T : Type 0} where
 
   abbrev pub receiving : PassFront T → Receiving T
   receiving f = record { senders = f.known.senders; got = gets f.known.mine; front = f }
+
+  -- one step found so many letters
+  abbrev pub CountServes : PassFront T → ℕ → Type 0
+  CountServes f n = (found : List (Note T)) × (items : List (Letter T)) × Stood f.known found items × (length items ≡ n)
 
   abbrev pub PostServes : Sending T → PassFront T → Letter T → Result (Unit {0}) (Letter T) → Type 0
   PostServes s g m (Ok _) = PutServes s g m

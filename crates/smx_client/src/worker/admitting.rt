@@ -119,6 +119,8 @@ impl<'d, L: Link + Drop> ClientWorker<'d, L> {
           };
           held = self.new.held;
           parked = self.new.parked;
+          ending = self.new.ending;
+          refused = self.new.refused;
           events = self.new.events;
         } }
     {
@@ -229,6 +231,8 @@ impl<'d, L: Link + Drop> ClientWorker<'d, L> {
           };
           held = self.new.held;
           parked = self.new.parked;
+          ending = self.new.ending;
+          refused = self.new.refused;
           events = self.new.events;
         } }
     {

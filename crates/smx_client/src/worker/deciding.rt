@@ -13,6 +13,7 @@ ghost use Rattle.smx_client.specs.Table.{Before, Phase, phase_of, Deciding, MayS
 ghost use Rattle.smx_client.specs.Turns.{Leads};
 
 use super::ClientWorker;
+use crate::ending::{or_end, take_in};
 use crate::event::{Event, Fate, Front, Progress, Verdict};
 use crate::ledger::{mark, note};
 use crate::mark::{Mark, Stage};
@@ -21,23 +22,9 @@ use crate::saying::{offer_of, say_act, say_refusal, tell_accepted, verdict_of};
 use smx_link::Link;
 use smx_session::{Act, Ask, ClientState};
 use smx_shared::Exchange;
-use smx_turns::{Fault, Gate, Log, is_memory};
+use smx_turns::{End, Fault, Gate, Log, is_memory};
 use std::snapshot::Snapshot;
 use std::sync::Wait;
-
-// How far a turn comes where no whole PDU is left.
-fn part_end(ended: bool) -> Progress
-    ensures phase { (p : Phase) → p ≡ (if ended then Closing else Settled) → IsAt result p }
-    ensures closed { result ≡ Progress.Closed → ended ≡ true }
-    ensures which { (result ≢ Progress.Parked) × (result ≢ Progress.Clogged)
-        × (result ≢ Progress.Gone) }
-{
-    if ended {
-        Progress::Closed
-    } else {
-        Progress::Settled
-    }
-}
 
 impl<'d, L: Link + Drop> ClientWorker<'d, L> {
     // Sets the next whole PDU apart.
@@ -93,13 +80,39 @@ impl<'d, L: Link + Drop> ClientWorker<'d, L> {
             unsent = self.new.wire.unsent;
             room = self.new.wire.room;
           };
+          ending = self.new.ending;
           events = self.new.events;
         } }
     {
         let act = self.session.on_fault();
         say_act(&mut self.wire, &act);
+        self.ending = or_end(self.ending, Some(End::BadLength));
         let event = Event::Broke(Snapshot::of(&act));
         note(&mut self.events, log, event, false);
+    }
+
+    // No whole PDU is left: how far the turn comes.
+    fn rest(&mut self, ended: bool, log: &mut Log<Mark, Event>) -> Progress
+        requires below { length self.old.wire.unsent < 65536 }
+        requires going { self.old.stage ≢ Stage.Closed }
+        ensures moves { Moves L.offered L.polls L.failures self.old log.old self.new log.new }
+        ensures phase { (t : Before) → phase_of t log.old ≡ Deciding ended
+            → IsAt result (phase_of t log.new) }
+        ensures closed { result ≡ Progress.Closed → ended ≡ true }
+        ensures which { (result ≢ Progress.Parked) × (result ≢ Progress.Clogged)
+            × (result ≢ Progress.Gone) }
+        ensures same { self.new ≡ record self.old {
+          ending = self.new.ending;
+          events = self.new.events;
+        } }
+    {
+        if !ended {
+            mark(log, Mark::Part, true);
+            return Progress::Settled;
+        }
+        self.ending = or_end(self.ending, Some(End::LinkEnded));
+        note(&mut self.events, log, Event::LinkEnded, true);
+        Progress::Closed
     }
 
     // Sets the next whole PDU apart, unless one waits. `None` where one waits then.
@@ -135,6 +148,7 @@ impl<'d, L: Link + Drop> ClientWorker<'d, L> {
           wire = record self.new.wire { link = self.old.wire.link; start = self.old.wire.start };
           held = self.new.held;
           settled = self.new.settled;
+          ending = self.new.ending;
           events = self.new.events;
         } }
     {
@@ -146,8 +160,7 @@ impl<'d, L: Link + Drop> ClientWorker<'d, L> {
             Front::Whole => Ok(None),
             Front::Part => {
                 self.settled = true;
-                mark(log, Mark::Part, true);
-                Ok(Some(part_end(ended)))
+                Ok(Some(self.rest(ended, log)))
             }
             Front::Broken => {
                 self.make_room()?;
@@ -214,7 +227,8 @@ impl<'d, L: Link + Drop> ClientWorker<'d, L> {
         ensures over { result ≡ Ok Verdict.Over → self.new.session.state ≡ ClientState.Ended }
         ensures settle { result ≡ Ok Verdict.Settle
             → IfSome self.new.held (λ p.
-            client_decides self.new.desk.accounts.items self.new.session.state p
+            client_decides self.new.desk.accounts.items self.new.session.account
+            self.new.session.state p
             ≡ (Act.MoAnswer p.number, self.new.session.state)) }
         ensures waits { result ≡ Ok Verdict.Settle
             → IsSome self.new.held × (self.new.wire ≡ self.old.wire) }
@@ -226,6 +240,8 @@ impl<'d, L: Link + Drop> ClientWorker<'d, L> {
             room = self.new.wire.room;
           };
           held = self.new.held;
+          ending = self.new.ending;
+          refused = self.new.refused;
           events = self.new.events;
         } }
     {
@@ -245,6 +261,7 @@ impl<'d, L: Link + Drop> ClientWorker<'d, L> {
                 let verdict = verdict_of(&act);
                 say_act(&mut self.wire, &act);
                 let event = Event::Decided(Snapshot::of(&pdu), Snapshot::of(&act), Fate::Own);
+                take_in(&mut self.ending, &mut self.refused, act, pdu);
                 note(&mut self.events, log, event, false);
                 Ok(verdict)
             }
@@ -314,7 +331,8 @@ impl<'d, L: Link + Drop> ClientWorker<'d, L> {
         requires below { length self.old.wire.unsent < 65536 }
         requires none { self.old.parked ≡ None }
         requires held { IfSome self.old.held (λ p.
-            client_decides self.old.desk.accounts.items self.old.session.state p
+            client_decides self.old.desk.accounts.items self.old.session.account
+            self.old.session.state p
             ≡ (Act.MoAnswer p.number, self.old.session.state)) }
         requires some { IsSome self.old.held }
         requires undecided { self.old.settled ≡ false }

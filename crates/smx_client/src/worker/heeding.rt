@@ -7,6 +7,7 @@ ghost use Rattle.smx_client.specs.Turns.{Leads};
 ghost use Rattle.smx_client.specs.Table.{Before, Phase, phase_of, Hearing, Ageing, Looking, Gone, Deciding, IsRead, IsFront, IsPart, is_ageing, when_nothing, after_one, after_expired};
 
 use super::ClientWorker;
+use crate::ending::{or_end, silent_end};
 use crate::event::{Event, Progress};
 use crate::ledger::{mark, note};
 use crate::mark::{Mark, Stage};
@@ -101,6 +102,7 @@ impl<'d, L: Link + Drop> ClientWorker<'d, L> {
             unsent = self.new.wire.unsent;
             room = self.new.wire.room;
           };
+          ending = self.new.ending;
           events = self.new.events;
         } }
     {
@@ -135,6 +137,7 @@ impl<'d, L: Link + Drop> ClientWorker<'d, L> {
             unsent = self.new.wire.unsent;
             room = self.new.wire.room;
           };
+          ending = self.new.ending;
           events = self.new.events;
         } }
     {
@@ -143,6 +146,7 @@ impl<'d, L: Link + Drop> ClientWorker<'d, L> {
         let quiet = is_not_due(&enquiry);
         let silent = is_unanswered(&enquiry);
         let event = Event::Looked(now, Snapshot::of(&enquiry));
+        self.ending = or_end(self.ending, silent_end(silent));
         note(&mut self.events, log, event, quiet);
         front_of(silent)
     }
@@ -271,6 +275,7 @@ impl<'d, L: Link + Drop> ClientWorker<'d, L> {
             room = self.new.wire.room;
           };
           parked = self.new.parked;
+          ending = self.new.ending;
           events = self.new.events;
         } }
     {
@@ -317,6 +322,7 @@ impl<'d, L: Link + Drop> ClientWorker<'d, L> {
             room = self.new.wire.room;
           };
           parked = self.new.parked;
+          ending = self.new.ending;
           events = self.new.events;
         } }
     {

@@ -256,6 +256,7 @@ pub fn run_client<'d, L: Link + Drop, R: Wait, G: Gate, D: Directory>(
     requires locks { locks_of worker.old.port.fronts ≡ at.now }
     requires goes_on { worker.old.stage ≢ Stage.Closed → worker.old.wire.failed ≡ None }
     ensures ends { EndsSo turns result worker.old.ends worker.new.ends }
+    ensures never_filled { result ≢ RunEnd.Filled }
     ensures ran { RunsOn Does (parts_of worker.old) worker.old.events (parts_of worker.new)
         worker.new.events }
 
@@ -274,6 +275,7 @@ pub fn run_client<'d, L: Link + Drop, R: Wait, G: Gate, D: Directory>(
             Ok(TurnEnd::Worked) => {}
             Ok(TurnEnd::Idle) => return RunEnd::Idle,
             Ok(TurnEnd::Done) => return RunEnd::Left,
+            Ok(TurnEnd::Filled) => unreachable!(),
             Err(fault) => return RunEnd::Fault(fault),
         }
     }

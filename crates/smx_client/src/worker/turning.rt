@@ -133,6 +133,7 @@ impl<'d, L: Link + Drop> ClientWorker<'d, L> {
           parked = self.new.parked;
           settled = self.new.settled;
           stage = self.new.stage;
+          ending = self.new.ending;
           events = self.new.events;
         } }
     {
@@ -192,6 +193,8 @@ impl<'d, L: Link + Drop> ClientWorker<'d, L> {
           held = self.new.held;
           parked = self.new.parked;
           settled = self.new.settled;
+          ending = self.new.ending;
+          refused = self.new.refused;
           events = self.new.events;
         } }
     {

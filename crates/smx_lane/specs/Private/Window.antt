@@ -1,5 +1,5 @@
 -- What the fields of a window show, and what they keep. No clause of a public function cites these.
-use Rattle.std.specs.Prelude.{◌≡◌, ◌+◌, ◌<◌, ◌≤◌, ℕ, List, length, filter_map, vec_capacity, Option, Some, None, slice_get}
+use Rattle.std.specs.Prelude.{◌≡◌, ◌+◌, ◌<◌, ◌≤◌, min, ℕ, List, length, filter_map, vec_capacity, Option, Some, None, slice_get}
 use Rattle.smx_history.specs.declared.place.Place.{Place}
 use Rattle.smx_history.specs.Numbers.{place_in}
 use Rattle.smx_lane.specs.declared.window.Window.TheInside.{Inside}
@@ -11,6 +11,12 @@ places_in rows = filter_map (λ row. row) rows
 
 abbrev pub places_of : Inside → Places
 places_of a = record { most = length a.rows; taken = places_in a.rows; generations = a.generations.items; latest = a.ages.latest }
+
+-- the earlier one of a moment and that of a row's request, of those that there are
+abbrev pub earlier_of : Option ℕ → Option Place → Option ℕ
+earlier_of earliest None = earliest
+earlier_of None (Some q) = Some q.moment
+earlier_of (Some moment) (Some q) = Some (min moment q.moment)
 
 -- the numbers of the requests name their rows, counted from n
 abbrev pub NameTheirRows : ℕ → List (Option Place) → Type 0

@@ -1,15 +1,16 @@
 //! A proxy beside a centre, and what is tried there, each in threads of their own.
 use super::Trial;
 use super::playing::play;
-use crate::stage::{PATIENCE, server};
+use crate::stage::{PATIENCE, Running};
 use smx_config::{Config, read};
-use smx_serve::{Ended, Remote, Server};
+use smx_serve::Remote;
 use std::alloc::Global;
 use std::net::{Net, TcpListener, TcpStream};
 use std::process::Abort;
 use std::rt::Clock;
 use std::sync::Wait;
 use std::sync::atomic::{AtomicBool, Ordering};
+use std::test::Fail;
 use std::thread::{Threads, join, sleep};
 use std::time::Duration;
 
@@ -75,44 +76,34 @@ where
     play(rt, alloc, trial, address.as_str());
 }
 
-// Runs the proxy, and the peers beside it until they are done.
-fn serve_and_go<R>(
-    rt: &R,
-    alloc: Global,
-    trial: Trial,
-    server: Server,
-    remote: &Remote,
-    config: &Config,
-)
-where
-    R: Net<Listener = TcpListener, Stream = TcpStream> + Clock + Wait + Threads + Abort + Sync,
-{
-    let (_, ended) = join(
-        rt,
-        || {
-            go(rt, alloc, trial, remote);
-            remote.stop();
-        },
-        || server.serve(rt, alloc, config),
-    );
-    assert_eq!(rt; ended, Ended::Stopped);
-}
-
 // Runs a proxy beside a centre, and what is tried there.
-pub(crate) fn run<R>(rt: &R, alloc: Global, trial: Trial)
+pub(crate) fn run<R>(rt: R, alloc: Global, trial: Trial) -> Result<(), Fail>
 where
-    R: Net<Listener = TcpListener, Stream = TcpStream> + Clock + Wait + Threads + Abort + Sync,
+    R: Net<Listener = TcpListener, Stream = TcpStream>
+        + Clock
+        + Wait
+        + Threads
+        + Abort
+        + AllocGlobal
+        + Copy
+        + Drop
+        + Send
+        + Sync
+        + 'static,
 {
-    let listener = listen(rt);
-    let config = config_for(rt, alloc, trial.silence(), &listener);
-    let (server, remote) = server(rt, alloc);
+    let listener = listen(&rt);
+    let config = config_for(&rt, alloc, trial.silence(), &listener);
+    let proxy = Running::of(rt, config)?;
     let over = AtomicBool::new(false);
     join(
-        rt,
-        || trial.serve(rt, alloc, &listener, &over),
+        &rt,
+        || trial.serve(&rt, alloc, &listener, &over),
         || {
-            serve_and_go(rt, alloc, trial, server, &remote, &config);
+            go(&rt, alloc, trial, &proxy.remote);
+            proxy.remote.stop();
+            proxy.is_over(&rt);
             over.store(true, Ordering::SeqCst);
         },
     );
+    Ok(())
 }

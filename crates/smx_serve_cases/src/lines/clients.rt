@@ -203,9 +203,12 @@ fn refused_by<R: Abort + AllocGlobal>(rt: &R, told: &mut Told) -> (u64, bool) {
     if line.ends_with(": refused, no slot is free") {
         return (1, false);
     }
-    let count = line.strip_suffix(" more lines left out: connections refused");
-    let count = count.unwrap_or("").parse::<u64>();
-    (count.expect(rt, line), true)
+    let rest = line.strip_prefix("in the last second ").unwrap_or("");
+    let (count, kinds) = rest
+        .split_once(" lines were left out: ")
+        .unwrap_or(("", ""));
+    assert_eq!(rt; kinds.strip_suffix(" turned away"), Some(count));
+    (count.parse::<u64>().expect(rt, line), true)
 }
 
 // How many strangers connect, before and behind the honest clients.

@@ -100,7 +100,8 @@ fn binds_that_are_refused(rt: HostRuntime) -> Result<(), Fail> {
     Ok(())
 }
 
-// How all stands: an upstream that is bound, a client that is, and one that isn't.
+// How all stands: an upstream that is bound, a client that is, and one that isn't. The lane was lowered
+// and came up, and both clients were admitted.
 #[test]
 fn how_all_stands(rt: HostRuntime) -> Result<(), Fail> {
     let centre = TcpListener::bind(&rt, "127.0.0.1:0")?;
@@ -117,7 +118,11 @@ fn how_all_stands(rt: HostRuntime) -> Result<(), Fail> {
     let second = connected(&rt, rt.alloc(), &told.remote)?;
     told.client(&rt, "2", &second, "connected")?;
     told.remote.tell();
-    told.lines.says_time(&rt, up.as_str(), " ms");
+    told.lines.says_time(
+        &rt,
+        up.as_str(),
+        " ms, 0 queued, 0 under way, 4 entries of history",
+    );
     for (name, stream, kind) in [
         ("1 alpha", &first, "transceiver"),
         ("2", &second, "not bound"),
@@ -129,7 +134,7 @@ fn how_all_stands(rt: HostRuntime) -> Result<(), Fail> {
         told.lines.says_time(
             &rt,
             line.as_str(),
-            " ms, 0 requests under way, 0 octets wait",
+            " ms, 0 requests under way, 0 messages unanswered, 0 octets wait",
         );
     }
     told.lines

@@ -1,7 +1,7 @@
 //! A proxy whose lines are written to a connection, at whose other end they are asked for.
-use crate::stage::{patient, server};
+use crate::stage::{Running, patient};
 use smx_config::{Config, read};
-use smx_serve::{Ended, Log, Remote};
+use smx_serve::{Log, Remote, Server};
 use std::alloc::Global;
 use std::io::Read;
 use std::net::{Net, TcpListener, TcpStream};
@@ -9,7 +9,7 @@ use std::process::Abort;
 use std::rt::Clock;
 use std::sync::{Arc, Wait};
 use std::test::Fail;
-use std::thread::{JoinHandle, Threads, spawn};
+use std::thread::{Threads, spawn};
 
 // More octets than a line has.
 const MOST: usize = 300;
@@ -53,8 +53,22 @@ impl Lines {
         })
     }
 
-    // The next line without its end. None where none comes any more, or for half a minute.
+    // The words of the next line, behind its time and its level. None where none comes any more, or for
+    // half a minute.
     pub(crate) fn next(&mut self, alloc: Global) -> Option<String> {
+        let line = self.line(alloc)?;
+        let (time, rest) = line.as_str().split_once(' ')?;
+        let (level, words) = rest.split_once(' ')?;
+        let is_level = matches!(level, "info" | "warn" | "error");
+        let is_time = time.len() == 24 && time.ends_with('Z');
+        if !is_level || !is_time {
+            return None;
+        }
+        String::from_str(alloc, words).ok()
+    }
+
+    // The next line without its end.
+    fn line(&mut self, alloc: Global) -> Option<String> {
         let mut line = Vec::with_capacity(alloc, MOST).ok()?;
         for _ in 0..MOST {
             let mut octet = [0u8; 1];
@@ -102,7 +116,7 @@ pub(crate) struct Told {
     pub remote: Arc<Remote>,
     // The address of the upstream.
     centre: String,
-    proxy: JoinHandle<Ended>,
+    proxy: Running,
 }
 
 // A configuration with this address to listen at and this upstream, and these keys between them.
@@ -148,16 +162,13 @@ impl Told {
             + 'static,
     {
         let config = config_of(rt.alloc(), listen, keys, centre.as_str())?;
-        let (server, remote) = server(&rt, rt.alloc());
+        let server = Server::new(&rt, rt.alloc()).expect(&rt, "no server");
         let log = server.log().expect(&rt, "out of memory");
         let lines = Lines::of(rt, server.log().expect(&rt, "out of memory"))?;
         let lookups = server.lookups().expect(&rt, "out of memory");
         spawn(&rt, move || lookups.serve(&rt, 0))?;
-        let proxy = spawn(&rt, move || {
-            let ended = server.serve(&rt, rt.alloc(), &config);
-            log.finish(&rt);
-            ended
-        })?;
+        let proxy = Running::told(rt, server, config, Some(log))?;
+        let remote = Arc::try_clone(&proxy.remote)?;
         Ok(Told {
             lines,
             remote,
@@ -222,7 +233,7 @@ impl Told {
     // The proxy has ended, and said no more.
     pub(crate) fn is_over<R: Threads + Wait + Abort + AllocGlobal>(self, rt: &R) {
         let Told { lines, proxy, .. } = self;
-        assert_eq!(rt; proxy.join(rt), Ended::Stopped);
+        proxy.is_over(rt);
         lines.are_over(rt);
     }
 }

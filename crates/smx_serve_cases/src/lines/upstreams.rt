@@ -82,7 +82,7 @@ fn binds_that_fail(rt: HostRuntime) -> Result<(), Fail> {
     let mut told = Told::new(rt, LONG, address_of(&rt, &centre)?)?;
     let mut up = binding(&rt, &centre)?;
     up.write_all(REFUSAL)?;
-    let words = "bind refused with status 0x0D ESME_RBINDFAIL; 0 requests failed";
+    let words = "bind refused with 0x0D ESME_RBINDFAIL; 0 requests failed";
     waits_within(&rt, &mut told, words, PAUSE)?;
     told.stops(&rt);
     told.is_over(&rt);
@@ -129,8 +129,7 @@ fn a_link_that_is_silent(rt: HostRuntime) -> Result<(), Fail> {
     Ok(())
 }
 
-// An address where nobody listens: each pause is twice the one before, up to the longest; and a name
-// that has no address.
+// An address where nobody listens: each pause is twice the one before, up to the longest.
 #[test]
 fn an_upstream_that_is_nowhere(rt: HostRuntime) -> Result<(), Fail> {
     let centre = TcpListener::bind(&rt, "127.0.0.1:0")?;
@@ -138,21 +137,10 @@ fn an_upstream_that_is_nowhere(rt: HostRuntime) -> Result<(), Fail> {
     drop(centre);
     let keys = "[timers]\nreconnect = 100\nreconnect_most = 250";
     let mut told = Told::new(rt, keys, address)?;
-    let words = "can't be reached; 0 requests failed";
+    let words = "can't be reached: Connection refused (os error 111); 0 requests failed";
     for within in [(100, 110), (200, 220), (250, 275), (250, 275)] {
         waits_within(&rt, &mut told, words, within)?;
     }
-    told.stops(&rt);
-    told.is_over(&rt);
-    let name = String::from_str(rt.alloc(), "nowhere")?;
-    let mut told = Told::new(rt, LONG, name)?;
-    let words = "the name isn't known (invalid socket address)";
-    let wait = told.upstream_waits(&rt, words, "looked up")?;
-    let (least, most) = PAUSE;
-    assert!(rt;
-        least <= wait && wait <= most,
-        "it is looked up again in {wait} ms"
-    );
     told.stops(&rt);
     told.is_over(&rt);
     Ok(())
@@ -210,7 +198,7 @@ fn an_address_in_use(rt: HostRuntime) -> Result<(), Fail> {
     let other = TcpListener::bind(&rt, "127.0.0.1:0")?;
     let listen = address_of(&rt, &other)?;
     let words = format!(in rt.alloc();
-        "no connections can be awaited at {listen}: Address already in use (os error 98); it is tried again every 2 seconds"
+        "listen = \"{listen}\": Address already in use (os error 98); it is tried again every 2 seconds"
     )?;
     let mut told = Told::at(rt, listen.as_str(), LONG, address_of(&rt, &centre)?)?;
     told.lines.says(&rt, words.as_str());

@@ -78,7 +78,7 @@ impl<T: Transport + Drop> Connection<T> {
         }
         let outcome = self.read_now(buffer);
         if let Outcome::Moved(count) = outcome {
-            self.noted.came(&buffer[..count]);
+            self.traffic.add_came(count);
         }
         polled(outcome)
     }

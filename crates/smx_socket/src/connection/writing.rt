@@ -31,7 +31,7 @@ impl<T: Transport + Drop> Connection<T> {
     {
         let count = self.waiting.accept(octets);
         self.accepted.extend(&octets[..count]);
-        self.noted.went(&octets[..count]);
+        self.traffic.add_went(count);
         count
     }
 

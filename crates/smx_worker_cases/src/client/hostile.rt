@@ -1,5 +1,5 @@
 //! A client whose link ends, fails or takes little.
-use super::Step::{Closes, Runs};
+use super::Step::{Closes, Ended, Runs};
 use super::*;
 use crate::hall::is_of;
 use crate::stand::octet_by_octet;
@@ -18,7 +18,8 @@ const ANSWERS: [u8; 41] = *b"\0\0\0\x19\x80\0\0\x09\0\0\0\0\0\0\0\x01smx\0\x02\x
     \0\0\0\x10\x80\0\0\x06\0\0\0\0\0\0\0\x08";
 
 // A client over this link, of which so many octets were heard, and which took so many of the answers:
-// the request is accepted where it came whole, and the client retires once it is closed.
+// the request is accepted where it came whole, and the client retires once it is closed. Its work has
+// ended by its unbind, where that came whole, or with its link.
 fn meets<R: Wait + Abort>(
     rt: &R,
     alloc: Global,
@@ -27,8 +28,14 @@ fn meets<R: Wait + Abort>(
     heard: usize,
     taken: usize,
 ) {
+    let ending = match end {
+        RunEnd::Left if heard < 75 => Some(End::LinkEnded),
+        _ if heard < 75 => None,
+        _ => Some(End::Left),
+    };
     let steps = [
         Runs(1_000, end),
+        Ended(ending),
         Closes(&[&ANSWERS[..taken.min(41)]], false),
     ];
     let lanes = lanes_after(rt, alloc, Setting::new(heard, script), &steps);

@@ -1,5 +1,8 @@
 //! What passes between a client and its lanes.
-use super::Step::{At, Closes, Gets, Responds, Routes, Runs, Sends, Shuts, Stands, Stops, Told};
+use super::Step::{
+    Account, At, Closes, Ended, Gets, Refused, Responds, Routes, Runs, Sends, Shuts, Stands, Stops,
+    Told,
+};
 use super::*;
 use smx_turns::Fault;
 use std::cmp::Ord;
@@ -125,8 +128,14 @@ fn unbind_and_bad_length_end_it(rt: HostRuntime) {
     let unbound: &[u8] = b"\0\0\0\x10\x80\0\0\x06\0\0\0\0\0\0\0\x08";
     let short: &[u8] = b"\0\0\0\x0f\0\0\0\x15\0\0\0\0\0\0\0\x09\0\0\0\x10\0\0\0\x15";
     let nack: &[u8] = b"\0\0\0\x10\x80\0\0\0\0\0\0\x02\0\0\0\0";
-    for (octets, answer) in [(unbind, unbound), (short, nack)] {
-        let steps = [Runs(100, RunEnd::Left), Closes(&[&BOUND, answer], false)];
+    let cases = [(unbind, unbound, End::Left), (short, nack, End::BadLength)];
+    for (octets, answer, ending) in cases {
+        let steps = [
+            Ended(None),
+            Runs(100, RunEnd::Left),
+            Ended(Some(ending)),
+            Closes(&[&BOUND, answer], false),
+        ];
         let script = script(rt.alloc(), 7, &[(0, BIND), (25, octets)]);
         lanes_after(&rt, rt.alloc(), Setting::new(octets.len(), script), &steps);
     }
@@ -136,7 +145,7 @@ fn unbind_and_bad_length_end_it(rt: HostRuntime) {
 fn link_that_fails(rt: HostRuntime) {
     let mut script = script(rt.alloc(), 4_096, &[(0, BIND)]);
     script.failing_read = 2;
-    let steps = [Runs(100, RunEnd::Fault(Fault::Link))];
+    let steps = [Runs(100, RunEnd::Fault(Fault::Link)), Ended(None)];
     lanes_after(&rt, rt.alloc(), Setting::new(0, script), &steps);
 }
 
@@ -175,7 +184,7 @@ const ENQUIRED: &[u8] = b"\0\0\0\x10\x80\0\0\x15\0\0\0\0\x7f\xff\xff\xff";
 // After a second without an octet behind the next one it is silent, and the worker is done.
 const SILENT_PIECES: [Piece; 2] = [(0, BIND), (41, ENQUIRED)];
 
-const SILENT_STEPS: [Step; 18] = [
+const SILENT_STEPS: [Step; 19] = [
     Runs(100, RunEnd::Idle),
     At(999),
     Runs(100, RunEnd::Idle),
@@ -193,6 +202,7 @@ const SILENT_STEPS: [Step; 18] = [
     At(3_000),
     Runs(1, RunEnd::Left),
     Stands(ClientState::Ended, 0),
+    Ended(Some(End::Silent)),
     Closes(&[&BOUND, ENQUIRY, ENQUIRY], false),
 ];
 
@@ -290,9 +300,10 @@ fn gate_admits_no_request(rt: HostRuntime) {
 // stays open.
 const NOT_BOUND: &[u8] = b"\0\0\0\x10\x80\0\0\x09\0\0\0\x0d\0\0\0\x01";
 
-const NOT_BOUND_STEPS: [Step; 5] = [
+const NOT_BOUND_STEPS: [Step; 6] = [
     Shuts(Some(Point::Binding(0))),
     Runs(100, RunEnd::Idle),
+    Account(None),
     Stands(ClientState::Opened, 0),
     Closes(&[NOT_BOUND], false),
     Routes(0, 1),
@@ -304,23 +315,29 @@ fn gate_lets_no_more_bind(rt: HostRuntime) {
     lanes_after(&rt, rt.alloc(), setting, &NOT_BOUND_STEPS);
 }
 
-// A bind with a wrong password waits until the gate lets it be refused.
+// A bind with a wrong password waits until the gate lets it be refused. It is told as it came; the bind
+// behind it, by the account with the index 0, is granted.
 const WRONG: &[u8] = b"\0\0\0\x19\0\0\0\x09\0\0\0\0\0\0\0\x01a\0q\0\0\x34\0\0\0";
 
 const REFUSED: &[u8] = b"\0\0\0\x10\x80\0\0\x09\0\0\0\x0e\0\0\0\x01";
 
-const REFUSED_STEPS: [Step; 6] = [
+const REFUSED_STEPS: [Step; 11] = [
     Shuts(Some(Point::Refusing)),
     Runs(100, RunEnd::Idle),
     Stands(ClientState::Opened, 0),
+    Refused(None),
     Shuts(None),
     Runs(100, RunEnd::Idle),
-    Closes(&[REFUSED], false),
+    Refused(Some((0x0E, b"a\0q\0\0\x34\0\0\0"))),
+    Account(Some(0)),
+    Stands(ClientState::BoundTrx, 0),
+    Ended(None),
+    Closes(&[REFUSED, &BOUND], false),
 ];
 
 #[test]
 fn gate_paces_refusals(rt: HostRuntime) {
-    let setting = Setting::new(0, script(rt.alloc(), 4_096, &[(0, WRONG)]));
+    let setting = Setting::new(0, script(rt.alloc(), 4_096, &[(0, WRONG), (16, BIND)]));
     lanes_after(&rt, rt.alloc(), setting, &REFUSED_STEPS);
 }
 
@@ -332,7 +349,7 @@ const UNBOUND: &[u8] = b"\0\0\0\x10\x80\0\0\x06\0\0\0\0\x7f\xff\xff\xff";
 
 const STOPPED_PIECES: [Piece; 3] = [(0, BIND), (41, SUBMIT), (57, UNBOUND)];
 
-const STOPPED_STEPS: [Step; 10] = [
+const STOPPED_STEPS: [Step; 11] = [
     Stops(false),
     Runs(100, RunEnd::Idle),
     Stops(true),
@@ -340,6 +357,7 @@ const STOPPED_STEPS: [Step; 10] = [
     Stops(false),
     Stands(ClientState::Unbinding, 16),
     Runs(100, RunEnd::Left),
+    Ended(Some(End::Stopped)),
     Told(None),
     Stands(ClientState::Ended, 0),
     Closes(&[&BOUND, UNBIND, FULL], false),

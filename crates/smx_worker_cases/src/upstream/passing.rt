@@ -1,7 +1,7 @@
 //! What passes between a client's tokens and the centre.
 use super::Step::{
-    Answers, Asked, Closes, Collects, Gets, GivesUp, GoesOn, Last, Runs, Stands, Stops, Submits,
-    Told,
+    Answers, Asked, Closes, Collects, Ended, Gets, GivesUp, GoesOn, Last, Runs, Stands, Stops,
+    Submits, Told,
 };
 use super::*;
 use crate::hall::is_of;
@@ -35,6 +35,7 @@ fn lanes_of_one_each<R: Wait + Abort>(rt: &R, alloc: Global, history: usize) -> 
         script: script(alloc, 65_536, &ONE_EACH_PIECES),
         answer: Some(answer),
         history,
+        places: 1,
     };
     lanes_after(rt, alloc, setting, &ONE_EACH_STEPS)
 }
@@ -176,7 +177,7 @@ const STOPPED_PIECES: [Piece; 4] = [
     (96, &UNBOUND),
 ];
 
-const STOPPED_STEPS: [Step; 12] = [
+const STOPPED_STEPS: [Step; 13] = [
     Stops(false),
     Stands(UpstreamState::Binding),
     Submits(Ok(0)),
@@ -186,6 +187,7 @@ const STOPPED_STEPS: [Step; 12] = [
     Stands(UpstreamState::Unbinding),
     Submits(Ok(0)),
     Runs(0, 1_000, RunEnd::Left),
+    Ended(Some(End::Stopped)),
     Closes(&[&BIND, &SUBMIT, &UNBIND, &REFUSAL]),
     Collects(ANSWERED),
     Collects(None),

@@ -1,5 +1,5 @@
 //! What a centre gives, and what comes of it.
-use super::Step::{Closes, Runs};
+use super::Step::{Closes, Ended, Runs};
 use super::*;
 use smx_turns::Fault;
 use std::test::*;
@@ -42,12 +42,14 @@ const ENQUIRING: [Step; 5] = [
     Closes(&[&BIND, &ENQUIRY]),
 ];
 
-const ENDING: [Step; 6] = [
+const ENDING: [Step; 8] = [
     Runs(0, 1_000, RunEnd::Idle),
     Runs(999, 1_000, RunEnd::Idle),
     Runs(1_000, 1_000, RunEnd::Idle),
     Runs(1_999, 1_000, RunEnd::Idle),
+    Ended(None),
     Runs(2_000, 1_000, RunEnd::Left),
+    Ended(Some(End::Silent)),
     Closes(&[&BIND, &ENQUIRY]),
 ];
 
@@ -62,13 +64,17 @@ fn silence(rt: HostRuntime) {
 // A refused bind, a bad length, an unbind.
 #[test]
 fn ends(rt: HostRuntime) {
-    let cases: [([&[u8]; 2], &[u8]); 3] = [
-        ([&UNBOUND, &UNBIND], &[]),
-        ([&BOUND, &[0, 0, 0, 0x0F]], &NACK),
-        ([&BOUND, &UNBIND], &UNBIND_ANSWER),
+    let cases: [([&[u8]; 2], &[u8], End); 3] = [
+        ([&UNBOUND, &UNBIND], &[], End::Refused(0x0D)),
+        ([&BOUND, &[0, 0, 0, 0x0F]], &NACK, End::BadLength),
+        ([&BOUND, &UNBIND], &UNBIND_ANSWER, End::Left),
     ];
-    for (gives, takes) in cases {
-        let steps = [Runs(0, 1_000, RunEnd::Left), Closes(&[&BIND, takes])];
+    for (gives, takes, ending) in cases {
+        let steps = [
+            Runs(0, 1_000, RunEnd::Left),
+            Ended(Some(ending)),
+            Closes(&[&BIND, takes]),
+        ];
         goes_so(&rt, rt.alloc(), gives, &steps);
     }
 }
@@ -124,11 +130,15 @@ fn refused_messages(rt: HostRuntime) {
 fn lost_links(rt: HostRuntime) {
     let mut ending = script(rt.alloc(), 65_536, &[(0, &BOUND)]);
     ending.ends = true;
-    let left = [Runs(0, 1_000, RunEnd::Left), Closes(&[&BIND])];
+    let left = [
+        Runs(0, 1_000, RunEnd::Left),
+        Ended(Some(End::LinkEnded)),
+        Closes(&[&BIND]),
+    ];
     lanes_after(&rt, rt.alloc(), Setting::new(0, ending), &left);
     let mut failing = script(rt.alloc(), 65_536, &[]);
     failing.failing_read = 1;
     let fault = RunEnd::Fault(Fault::Link);
-    let failed = [Runs(0, 1_000, fault), Closes(&[&BIND])];
+    let failed = [Runs(0, 1_000, fault), Ended(None), Closes(&[&BIND])];
     lanes_after(&rt, rt.alloc(), Setting::new(1, failing), &failed);
 }

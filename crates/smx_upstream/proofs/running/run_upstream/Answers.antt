@@ -1,6 +1,6 @@
 use Rattle.std.proofs.Common.{rules, [], refl, ◌∙◌, sym, Ok, Err}
 use Rattle.std.proofs.lemmas.List.{append-nil}
-use Rattle.smx_turns.specs.declared.end.TurnEnd.TheVariants.{Idle, Done}
+use Rattle.smx_turns.specs.declared.end.TurnEnd.TheVariants.{Filled, Idle, Done}
 use denote.Param.Always.{mut_next}
 use Rattle.smx_turns.proofs.Chains.{ran_none, runs_none}
 use Rattle.smx_turns.proofs.Logged.{ran_turn}
@@ -72,3 +72,12 @@ returns-clause-clocked g c = clocked_out _ _ _ _ _ _ _ _ _ _ c.loop-turn.invaria
 
 pub returns-in-Ok-Done-clause-left : goal.returns-in-Ok-Done-clause-left
 returns-in-Ok-Done-clause-left g c = λ left. (before_turn c.clock-now.result c.loop-turn.worker, over_at (is_bound c.turn.new.self.stand.session.state) (are_all_quiet c.turn.new.self.steps) _ (phase_of (before_turn c.clock-now.result c.loop-turn.worker) c.turn.new.self.steps) c.in-Ok-Done.field-0-is c.in-Ok-Done.ensures.order)
+
+pub returns-in-Ok-Filled-clause-ran : goal.returns-in-Ok-Filled-clause-ran
+returns-in-Ok-Filled-clause-ran g c = ran_turn Does worth _ _ _ _ _ _ c.loop-turn.invariant.ran c.turn.ensures.turned.turned
+
+pub returns-in-Ok-Filled-clause-ends : goal.returns-in-Ok-Filled-clause-ends
+returns-in-Ok-Filled-clause-ends g c = (c.loop-turn._turn, (search rules), last_one _ _ _ _ (Ok Filled) (end_as _ _ _ _ c.in-Ok-Filled.field-0-is c.in-Ok-Filled.ensures.ends) c.loop-turn.invariant.ends)
+
+pub returns-in-Ok-Filled-clause-clocked : goal.returns-in-Ok-Filled-clause-clocked
+returns-in-Ok-Filled-clause-clocked g c = clocked_out _ _ _ _ _ _ _ _ _ _ (clocked_more _ _ _ _ _ _ _ _ c.turn.result c.loop-turn.invariant.clocked c.clock-now.ensures c.turn.ensures.order c.turn.ensures.turned c.turn.ensures.failures c.turn.ensures.ends)

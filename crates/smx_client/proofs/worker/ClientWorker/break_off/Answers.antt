@@ -16,7 +16,7 @@ use Rattle.smx_client.proofs.worker.ClientWorker.break_off.Goals as goal
 pub invariant_of-self : goal.invariant_of-self
 invariant_of-self g c =
     let e = c.say_act.ensures.same in
-    did g.L.Link.polls _ _ (Broke c.of.result) c.self.invariant (ap (λ w. w.link) e) (ap (λ w. w.start) e) refl refl c.note.ensures.events (ap (λ w. w.heard) e) refl
+    did g.L.Link.polls _ _ (Broke c.of.result) c.self.invariant (ap (λ w. w.link) e) (ap (λ w. w.start) e) refl refl c.note.ensures.events c.or_end-self-inside.ensures refl (ap (λ w. w.heard) e) refl
     (doing.broke _ _ _ _ _ _ _ _ _ _ _ c.of.result c.of.ensures c.on_fault-act.ensures.act c.on_fault-act.ensures.state c.say_act.ensures.said)
     (still _ _ _ _ (ap (λ (w : Wiring g.row.L.Denot). w.rest) e) c.self.invariant.settled)
     (record { stays = bad_as c.self.inside.wire c.say_act.new.wire (ap (λ (w : Wiring g.row.L.Denot). w.failed) e) (ap (λ (w : Wiring g.row.L.Denot). w.rest) e); met = λ _. bad_as c.self.inside.wire c.say_act.new.wire (ap (λ (w : Wiring g.row.L.Denot). w.failed) e) (ap (λ (w : Wiring g.row.L.Denot). w.rest) e) (subst (λ (w : Serving g.row.L.Denot). IsBad w.wire) (sym c.self.view_is) c.requires.bad) })

@@ -10,12 +10,13 @@ use Rattle.smx_client.proofs.Scenes.{happens}
 use Rattle.smx_turns.proofs.Breaking.{stays_bad}
 use Rattle.smx_client.proofs.Serving.{did, as_below, as_closed}
 use Rattle.smx_client.proofs.Settling.{still}
+use Rattle.smx_client.proofs.Bindings.{going}
 use Rattle.smx_client.proofs.worker.ClientWorker.collect_one.Goals as goal
 
 pub invariant_of-self : goal.invariant_of-self
 invariant_of-self g c =
     let e = c.say_found-none.ensures.spoke.same in
-    did g.L.Link.polls _ _ (Collected c.args.lane c.of.result) c.self.invariant (ap (λ w. w.link) e) (ap (λ w. w.start) e) refl refl c.note.ensures.events (ap (λ w. w.heard) e) refl
+    did g.L.Link.polls _ _ (Collected c.args.lane c.of.result) c.self.invariant (ap (λ w. w.link) e) (ap (λ w. w.start) e) refl refl c.note.ensures.events (going _ _ refl) refl (ap (λ w. w.heard) e) refl
     (collected _ _ _ _ _ _ _ _ _ _ _ _ c.of.result c.of.ensures c.say_found-none.ensures.spoke.said (c.collect-found.ensures.served, c.collect-found.ensures.same) c.collect-found.ensures.listed)
     (still _ _ _ _ (ap (λ (w : Wiring g.row.L.Denot). w.rest) e) c.self.invariant.settled)
     (stays_bad refl (ap (λ (w : Wiring g.row.L.Denot). w.failed) e) (ap (λ (w : Wiring g.row.L.Denot). w.rest) e))

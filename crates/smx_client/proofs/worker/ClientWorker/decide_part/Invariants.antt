@@ -21,6 +21,8 @@ invariant-loop-log g l = record {
     held = l.self.held;
     parked = l.self.parked;
     settled = l.self.settled;
+    ending = l.self.ending;
+    refused = l.self.refused;
     events = l.self.events;
   };
   phase : (t : Before) → phase_of t l.fn.log ≡ Deciding l.fn.ended → phase_of t l.log ≡ Deciding l.fn.ended;

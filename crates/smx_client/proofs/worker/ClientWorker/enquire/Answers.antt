@@ -2,7 +2,7 @@ use Rattle.std.proofs.Common.{◌++◌, refl, sym, ap, ◌∙◌}
 use Rattle.std.proofs.lemmas.List.{append-nil}
 use Rattle.smx_link.specs.Wiring.{Wiring, spellings}
 use Rattle.smx_client.specs.declared.event.Event.TheVariants.{Looked}
-use Rattle.smx_client.specs.Events.{enquiry_out}
+use Rattle.smx_client.specs.Events.{enquiry_out, silent_end, is_unanswered}
 use Rattle.smx_client.specs.Serving.{Serving}
 use Rattle.smx_client.proofs.Cells as cell
 use Rattle.smx_client.proofs.Doings as doing
@@ -11,12 +11,13 @@ use Rattle.smx_turns.proofs.Breaking.{stays_bad}
 use Rattle.smx_client.proofs.Serving.{did, as_below}
 use Rattle.smx_client.proofs.Settling.{still}
 use Rattle.smx_client.proofs.Looking.{silent_ends, looked_front}
+use Rattle.smx_client.proofs.Bindings.{ends_by}
 use Rattle.smx_client.proofs.worker.ClientWorker.enquire.Goals as goal
 
 pub invariant_of-self : goal.invariant_of-self
 invariant_of-self g c =
     let e = c.say_enquiry.ensures.same in
-    did g.L.Link.polls _ _ (Looked c.args.now c.of.result) c.self.invariant (ap (λ w. w.link) e) (ap (λ w. w.start) e) refl refl c.note.ensures.events (ap (λ w. w.heard) e) refl
+    did g.L.Link.polls _ _ (Looked c.args.now c.of.result) c.self.invariant (ap (λ w. w.link) e) (ap (λ w. w.start) e) refl refl c.note.ensures.events (ends_by _ _ _ _ c.or_end-self-inside.ensures (c.silent_end.ensures ∙ ap silent_end (c.is_unanswered-silent.ensures ∙ ap is_unanswered (sym c.of.ensures)))) refl (ap (λ w. w.heard) e) refl
     (doing.looked _ _ _ _ _ _ _ _ _ _ c.args.now _ c.of.result c.of.ensures c.on_moment-enquiry.ensures.enquiry c.on_moment-enquiry.ensures.session c.say_enquiry.ensures.said)
     (still _ _ _ _ (ap (λ (w : Wiring g.row.L.Denot). w.rest) e) c.self.invariant.settled)
     (stays_bad refl (ap (λ (w : Wiring g.row.L.Denot). w.failed) e) (ap (λ (w : Wiring g.row.L.Denot). w.rest) e))

@@ -8,13 +8,14 @@ use Rattle.smx_client.proofs.Looking.{expire_is, one_parks, one_clears, one_fewe
 use Rattle.smx_client.proofs.Scenes.{happens}
 use Rattle.smx_turns.proofs.Breaking.{stays_bad}
 use Rattle.smx_client.proofs.Serving.{did}
+use Rattle.smx_client.proofs.Bindings.{going}
 use Rattle.smx_client.proofs.worker.ClientWorker.expire_one.Goals as goal
 
 pub invariant_of-self : goal.invariant_of-self
 invariant_of-self g c =
     let e = c.answer_expired-reply.ensures in
     let s = c.self.inside in
-    did g.L.Link.polls _ _ (Expired c.args.until c.take_overdue-found.result c.answer_expired-reply.result) c.self.invariant refl refl refl refl c.note.ensures.events refl refl
+    did g.L.Link.polls _ _ (Expired c.args.until c.take_overdue-found.result c.answer_expired-reply.result) c.self.invariant refl refl refl refl c.note.ensures.events (going _ _ refl) refl refl refl
     (doing.expired _ _ _ _ _ _ _ _ _ _ _ _ c.args.until c.take_overdue-found.result c.answer_expired-reply.result refl (expire_is _ _ _ _ c.take_overdue-found.ensures.overdue c.take_overdue-found.ensures.none) e.so
     (ap (λ (w : Serving g.row.L.Denot). w.parked) c.self.view_is ∙ c.requires.none) e.parks e.count e.answer)
     c.self.invariant.settled (stays_bad refl refl refl)

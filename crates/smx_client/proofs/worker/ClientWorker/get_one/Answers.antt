@@ -12,6 +12,7 @@ use Rattle.smx_client.proofs.Scenes.{happens}
 use Rattle.smx_turns.proofs.Breaking.{stays_bad}
 use Rattle.smx_client.proofs.Serving.{did, as_below, as_closed}
 use Rattle.smx_client.proofs.Settling.{still}
+use Rattle.smx_client.proofs.Bindings.{going}
 use Rattle.smx_client.proofs.worker.ClientWorker.get_one.Goals as goal
 
 pub invariant_of-self : goal.invariant_of-self
@@ -22,7 +23,7 @@ invariant_of-self-in-Ok g c =
     let s = c.self.inside in
     let d = c.deliver-delivery.ensures in
     let e = d.says.same in
-    did g.L.Link.polls _ _ (Got c.of-seen.result c.deliver-delivery.result) c.self.invariant (ap (λ w. w.link) e) (ap (λ w. w.start) e) refl refl c.note-in-Ok.ensures.events (ap (λ w. w.heard) e) refl
+    did g.L.Link.polls _ _ (Got c.of-seen.result c.deliver-delivery.result) c.self.invariant (ap (λ w. w.link) e) (ap (λ w. w.start) e) refl refl c.note-in-Ok.ensures.events (going _ _ refl) refl (ap (λ w. w.heard) e) refl
     (doing.got _ _ _ _ _ _ _ _ _ _ _ _ _ (Ok c.in-Ok.got) c.of-seen.result c.deliver-delivery.result (c.of-seen.ensures ∙ c.in-Ok.is) d.says.said d.window (
       subst (λ r. IfOk r (λ f. GetServes s.inbox c.get-found.new.self.front f)) c.in-Ok.is c.get-found.ensures.served,
       subst (λ r. IfOk r (λ f. Hands s.inbox.got c.get-found.new.self.got f)) c.in-Ok.is c.get-found.ensures.got,

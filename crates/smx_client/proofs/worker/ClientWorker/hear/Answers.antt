@@ -7,11 +7,12 @@ use Rattle.smx_client.proofs.Doings as doing
 use Rattle.smx_client.proofs.Scenes.{happens}
 use Rattle.smx_turns.proofs.Breaking.{stays_bad}
 use Rattle.smx_client.proofs.Serving.{did}
+use Rattle.smx_client.proofs.Bindings.{going}
 use Rattle.smx_client.proofs.worker.ClientWorker.hear.Goals as goal
 
 pub invariant_of-self : goal.invariant_of-self
 invariant_of-self g c =
-    did g.L.Link.polls _ _ (Heard c.args.now) c.self.invariant refl refl refl refl c.note.ensures.events refl refl
+    did g.L.Link.polls _ _ (Heard c.args.now) c.self.invariant refl refl refl refl c.note.ensures.events (going _ _ refl) refl refl refl
     (doing.heard _ _ _ _ _ _ _ _ _ _ c.args.now refl c.on_octets.ensures)
     c.self.invariant.settled (stays_bad refl refl refl)
     (λ closed. absurd (c.requires.going (sym (ap (λ (w : Serving g.row.L.Denot). w.stage) c.self.view_is) ∙ closed)))

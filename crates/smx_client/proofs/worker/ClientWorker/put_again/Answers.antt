@@ -7,12 +7,13 @@ use Rattle.smx_client.proofs.Replying.{waits, clears, others}
 use Rattle.smx_client.proofs.Scenes.{happens}
 use Rattle.smx_turns.proofs.Breaking.{stays_bad}
 use Rattle.smx_client.proofs.Serving.{did, as_closed}
+use Rattle.smx_client.proofs.Bindings.{going}
 use Rattle.smx_client.proofs.worker.ClientWorker.put_again.Goals as goal
 
 pub invariant_of-self : goal.invariant_of-self
 invariant_of-self g c =
     let e = c.put_or_park-reply.ensures in
-    did g.L.Link.polls _ _ (PutAgain c.in-Some.field-0.lane c.put_or_park-reply.result) c.self.invariant refl refl refl refl c.note.ensures.events refl refl
+    did g.L.Link.polls _ _ (PutAgain c.in-Some.field-0.lane c.put_or_park-reply.result) c.self.invariant refl refl refl refl c.note.ensures.events (going _ _ refl) refl refl refl
     (doing.put_again _ _ _ _ _ _ _ c.self.inside.parked c.take.new.self _ _ c.in-Some.field-0 c.put_or_park-reply.result c.in-Some.ensures.value c.take.ensures.after e.so e.parks e.count e.answer)
     c.self.invariant.settled (stays_bad refl refl refl)
     (as_closed g.L.Link.polls _ _ _ _ _ refl c.self.invariant.closed)

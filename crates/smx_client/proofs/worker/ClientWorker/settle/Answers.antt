@@ -14,19 +14,21 @@ use Rattle.smx_client.proofs.Replying.{waits, clears, others}
 use Rattle.smx_client.proofs.Scenes.{happens}
 use Rattle.smx_turns.proofs.Breaking.{stays_bad}
 use Rattle.smx_client.proofs.Serving.{did, as_below, decides, undecided, as_closed}
+use Rattle.smx_client.specs.Events.{act_worth}
+use Rattle.smx_client.proofs.Bindings.{going}
 use Rattle.smx_client.proofs.worker.ClientWorker.settle.Goals as goal
 
 pub invariant_of-self : goal.invariant_of-self
 invariant_of-self g c =
     let s = c.self.inside in
     let e = c.answer_settled-reply.ensures in
-    did g.L.Link.polls _ _ (Decided c.of-read.result c.of.result (Settled c.settle-found.result c.answer_settled-reply.result)) c.self.invariant refl refl refl refl c.note.ensures.events refl
+    did g.L.Link.polls _ _ (Decided c.of-read.result c.of.result (Settled c.settle-found.result c.answer_settled-reply.result)) c.self.invariant refl refl refl refl c.note.ensures.events (going _ _ (ap (λ a. (act_worth a).ends) c.of.ensures)) refl refl
     (decides s.held c.take.new.self c.in-Some.pdu _ c.of-read.ensures c.in-Some.ensures.value c.take.ensures.after)
     (doing.settled _ _ _ _ _ _ _ _ _ _ _ _ c.in-Some.pdu c.of-read.result c.of.result c.settle-found.result c.answer_settled-reply.result c.of-read.ensures
     (sym (append-nil s.wire.said) ∙ ap (λ l. s.wire.said ++ l) (own_out (act.MoAnswer c.in-Some.pdu.number) _ c.of.ensures))
-    (stays _ _ s.held c.in-Some.pdu _ (act.MoAnswer c.in-Some.pdu.number) _ (Settled c.settle-found.result c.answer_settled-reply.result) c.in-Some.ensures.value c.of-read.ensures c.of.ensures tt
-    (settles _ _ s.held c.in-Some.pdu c.in-Some.ensures.value
-    (subst (λ (w : Serving g.row.L.Denot). IfSome w.held (λ p. client_decides w.desk.accounts.items w.session.state p ≡ (act.MoAnswer p.number, w.session.state))) (sym c.self.view_is) c.requires.held)))
+    (stays _ _ _ s.held c.in-Some.pdu _ (act.MoAnswer c.in-Some.pdu.number) _ (Settled c.settle-found.result c.answer_settled-reply.result) c.in-Some.ensures.value c.of-read.ensures c.of.ensures tt
+    (settles _ _ _ s.held c.in-Some.pdu c.in-Some.ensures.value
+    (subst (λ (w : Serving g.row.L.Denot). IfSome w.held (λ p. client_decides w.desk.accounts.items w.session.account w.session.state p ≡ (act.MoAnswer p.number, w.session.state))) (sym c.self.view_is) c.requires.held)))
     (settle_window c.in-Some.pdu _ c.settle-found.result _ _ c.of-read.ensures c.settle-found.ensures.settled c.settle-found.ensures.none)
     e.so (ap (λ (w : Serving g.row.L.Denot). w.parked) c.self.view_is ∙ c.requires.none) e.parks e.count e.answer)
     (undecided _ (ap (λ (w : Serving g.row.L.Denot). w.settled) c.self.view_is ∙ c.requires.undecided))
@@ -40,9 +42,9 @@ returns-clause-leads g c = rw (← c.self.view_is) (λ n queries base was.
     c.note.ensures.leads n _ _ (happens g.L.Link.offered g.L.Link.polls g.L.Link.failures _ _ _ _ queries _ _ _ _ _ _ _ _ (Decided c.of-read.result c.of.result (Settled c.settle-found.result c.answer_settled-reply.result)) (as_below _ _ c.self.view_is c.requires.below)
     (doing.settled _ _ _ _ _ _ _ _ _ _ _ _ c.in-Some.pdu c.of-read.result c.of.result c.settle-found.result c.answer_settled-reply.result c.of-read.ensures
     (sym (append-nil s.wire.said) ∙ ap (λ l. s.wire.said ++ l) (own_out (act.MoAnswer c.in-Some.pdu.number) _ c.of.ensures))
-    (stays _ _ s.held c.in-Some.pdu _ (act.MoAnswer c.in-Some.pdu.number) _ (Settled c.settle-found.result c.answer_settled-reply.result) c.in-Some.ensures.value c.of-read.ensures c.of.ensures tt
-    (settles _ _ s.held c.in-Some.pdu c.in-Some.ensures.value
-    (subst (λ (w : Serving g.row.L.Denot). IfSome w.held (λ p. client_decides w.desk.accounts.items w.session.state p ≡ (act.MoAnswer p.number, w.session.state))) (sym c.self.view_is) c.requires.held)))
+    (stays _ _ _ s.held c.in-Some.pdu _ (act.MoAnswer c.in-Some.pdu.number) _ (Settled c.settle-found.result c.answer_settled-reply.result) c.in-Some.ensures.value c.of-read.ensures c.of.ensures tt
+    (settles _ _ _ s.held c.in-Some.pdu c.in-Some.ensures.value
+    (subst (λ (w : Serving g.row.L.Denot). IfSome w.held (λ p. client_decides w.desk.accounts.items w.session.account w.session.state p ≡ (act.MoAnswer p.number, w.session.state))) (sym c.self.view_is) c.requires.held)))
     (settle_window c.in-Some.pdu _ c.settle-found.result _ _ c.of-read.ensures c.settle-found.ensures.settled c.settle-found.ensures.none)
     e.so (ap (λ (w : Serving g.row.L.Denot). w.parked) c.self.view_is ∙ c.requires.none) e.parks e.count e.answer)
     e.asked e.told c.note.ensures.events

@@ -11,7 +11,7 @@ invariant_of-result c =
     let unbound : c.in_ok-vec.field-0.items ≡ replicate count 0 = grind (arith, common_steps) in
     let idle : c.in_ok-vec-2.field-0.items ≡ replicate count 0 = grind (arith, common_steps) in
     record {
-      clients = λ q. rw (c.new-2.ensures, c.new.ensures q) (record { gone = refl; requests = refl });
+      clients = λ q. rw (c.new-2.ensures, c.in_ok-new.ensures q) (record { gone = refl; requests = refl });
       requests = λ key. rw c.new-2.ensures (none_counted count key _ idle);
       bound = λ key. rw c.new-2.ensures (none_counted count key _ unbound);
       total = rw c.new-2.ensures refl;

@@ -1,12 +1,13 @@
 use Rattle.std.proofs.Common.{sym, subst, arith}
 use Rattle.std.proofs.lemmas.List.{get_or_default}
+use Rattle.smx_slots.specs.Rolls.{Listing}
 use Rattle.smx_slots.specs.Private.Sorted.{IsRising}
 use Rattle.smx_slots.proofs.Pairs.{slot_at, no_slot}
 use Rattle.smx_slots.proofs.roll.Roll.slot.Goals as goal
 
 pub returns-in-Ok : goal.returns-in-Ok
 returns-in-Ok c =
-    let value = slot_at _ (subst IsRising c.self.view_is c.self.invariant) _ _ c.in-Ok.ensures.found in
+    let value = slot_at _ (subst (λ (l : Listing). IsRising l.rows) c.self.view_is c.self.invariant.rising) _ _ c.in-Ok.ensures.found in
     let read = get_or_default _ _ c.index.result.now (0, 0) c.in-Ok.ensures.found.within in
     grind (arith, c.self.view_is)
 

@@ -5,14 +5,14 @@ use Rattle.smx_session.specs.declared.up_act.UpAct.{UpAct}
 use Rattle.smx_turns.specs.declared.step.Step.TheVariants.{Did}
 use Rattle.smx_upstream.specs.declared.event.Event.TheVariants.{Decided}
 use Rattle.smx_turns.specs.Worth.{those}
-use Rattle.smx_upstream.specs.Events.{unless_kept, kept_by, fate_worth, decided_worth}
+use Rattle.smx_upstream.specs.Events.{unless_kept, kept_by, fate_worth, decided_worth, fills}
 use Rattle.smx_upstream.specs.Standing.{Becomes, Owes}
-use Rattle.smx_upstream.specs.Phases.{Deciding, when_decided, unless_spent}
+use Rattle.smx_upstream.specs.Phases.{Deciding, when_decided, when_next, unless_spent}
 use Rattle.smx_upstream.specs.Working.{writing_of}
 use Rattle.smx_turns.specs.Wires.{has_ended as has_link_ended}
 use Rattle.smx_upstream.specs.Writing.{MayDecide}
 use Rattle.smx_turns.proofs.Breaking.{stays_bad}
-use Rattle.smx_upstream.proofs.Eventful.{did, goes_did, kept_or_in, stands_same, writes_same}
+use Rattle.smx_upstream.proofs.Eventful.{did, ends_so, goes_did, kept_or_in, stands_same, writes_same}
 use Rattle.smx_upstream.proofs.Cells.{stepped, cell_decided, at_its_moment, kept_spent}
 use Rattle.smx_upstream.proofs.worker.UpstreamWorker.decide.Goals as goal
 
@@ -32,7 +32,7 @@ invariant_of-self g c =
     (λ h. ap (λ w. w.failed) c.note.ensures.same ∙ c.self.invariant.goes_on (ap (λ w. w.ending) c.self.view_is ∙ c.requires.goes_on))
     (c.carry-fate.ensures.worth.2 ∙ ap (λ (p : Pdu). (decided_worth p c.on_pdu-act.result c.carry-fate.result.event).ends) (sym c.of-read.ensures)
     ∙ ap (λ (a : UpAct). (decided_worth c.of-read.result.value a c.carry-fate.result.event).ends) (sym c.of-chosen.ensures)
-    ∙ ap (λ b. b || (decided_worth c.of-read.result.value c.of-chosen.result.value c.carry-fate.result.event).ends) (sym (ap (λ w. w.ending) c.self.view_is ∙ c.requires.goes_on))) (stays_bad refl (ap (λ w. w.failed) c.note.ensures.same) (ap (λ w. w.rest) c.note.ensures.same)) refl
+    ∙ ends_so _ _ (ap (λ w. w.ending) c.self.view_is ∙ c.requires.goes_on)) (stays_bad refl (ap (λ w. w.failed) c.note.ensures.same) (ap (λ w. w.rest) c.note.ensures.same)) refl
 
 pub returns-clause-goes : goal.returns-clause-goes
 returns-clause-goes g c = rw (← c.self.view_is)
@@ -47,10 +47,12 @@ returns-clause-goes g c = rw (← c.self.view_is)
     ) (ap (λ w. g.L.Link.polls w.link) c.note.ensures.same) (record { fits = (subst (λ w. MayDecide (writing_of g.L.Link.polls g.L.Link.offered w)) (sym c.self.view_is) c.requires.may); same = writes_same c.note.ensures.unsent (ap (λ w. g.L.Link.offered w.link) c.note.ensures.same) (ap (λ w. has_link_ended (g.L.Link.polls w.link)) c.note.ensures.same) }))
 
 pub returns-clause-phase : goal.returns-clause-phase
-returns-clause-phase g c = λ t ended same was.
-    stepped t _ _ (Did (Decided c.of-read.result c.args.now c.of-chosen.result c.carry-fate.result.event)) (Deciding ended) _ c.note.ensures.log (cell_decided t ended _ _ _ _ ∙ at_its_moment t _ _ same) was
-    ∙ ap (λ b. unless_spent b (when_decided ended (decided_worth c.of-read.result.value c.of-chosen.result.value c.carry-fate.result.event).ends))
+returns-clause-phase g c = λ t source same was.
+    stepped t _ _ (Did (Decided c.of-read.result c.args.now c.of-chosen.result c.carry-fate.result.event)) (Deciding source) _ c.note.ensures.log (cell_decided t source _ _ _ _ ∙ at_its_moment t _ _ same) was
+    ∙ ap (λ b. unless_spent b (when_decided source (is_some (decided_worth c.of-read.result.value c.of-chosen.result.value c.carry-fate.result.event).ends) (fills c.carry-fate.result.event)))
     (ap (λ (p : Pdu). (fate_worth p c.carry-fate.result.event).spent) c.of-read.ensures ∙ kept_spent c.in-Some.pdu c.carry-fate.result.event ∙ ap is_some (sym c.carry-fate.ensures.back))
-    ∙ ap (λ b. unless_spent (is_some c.carry-fate.result.answer) (when_decided ended b))
+    ∙ ap (λ o. unless_spent (is_some c.carry-fate.result.answer) (when_decided source (is_some o) (fills c.carry-fate.result.event)))
     (ap (λ (p : Pdu). (decided_worth p c.of-chosen.result.value c.carry-fate.result.event).ends) c.of-read.ensures
-    ∙ ap (λ (a : UpAct). (decided_worth c.in-Some.pdu a c.carry-fate.result.event).ends) c.of-chosen.ensures ∙ sym c.carry-fate.ensures.worth.2 ∙ sym c.note.ensures.answer)
+    ∙ ap (λ (a : UpAct). (decided_worth c.in-Some.pdu a c.carry-fate.result.event).ends) c.of-chosen.ensures ∙ sym c.carry-fate.ensures.worth.2)
+    ∙ ap (λ b. unless_spent (is_some c.carry-fate.result.answer) (when_decided source (is_some c.carry-fate.result.ends) b)) (sym c.fills.ensures)
+    ∙ ap (unless_spent (is_some c.carry-fate.result.answer)) (sym (c.next_of-next.ensures.phase source) ∙ ap (when_next source) (sym c.note.ensures.answer))

@@ -11,14 +11,14 @@ use Rattle.smx_link.specs.Wiring.{spellings}
 use Rattle.smx_upstream.specs.Working.{writing_of}
 use Rattle.smx_turns.specs.Wires.{has_ended as has_link_ended}
 use Rattle.smx_upstream.specs.Writing.{MayDecide}
-use Rattle.smx_upstream.proofs.Eventful.{did, goes_did, goes_mark, some_of, on_hearing, or_true, sides_same, writes_same}
+use Rattle.smx_upstream.proofs.Eventful.{did, goes_did, goes_mark, some_of, on_hearing, ends_so, sides_same, writes_same}
 use Rattle.smx_upstream.proofs.Cells.{stepped, cell_broke, cell_part}
 use Rattle.smx_upstream.proofs.worker.UpstreamWorker.fetch.Goals as goal
 
 pub invariant_of-self-in-Err : goal.invariant_of-self-in-Err
 invariant_of-self-in-Err g c =
     did _ _ Broke c.self.invariant c.break_off.ensures.events (ap (λ w. w.heard) c.break_off.ensures.same ∙ bad_heard _ _ _ c.in-Err.ensures.bad) refl
-    (c.break_off.ensures.said ∙ ap (λ w. w.said ++ (worth Broke).said) c.in-Err.ensures.same) refl refl (λ h. search rules) (or_true c.self.inside.ending)
+    (c.break_off.ensures.said ∙ ap (λ w. w.said ++ (worth Broke).said) c.in-Err.ensures.same) refl refl (λ h. search rules) (ends_so _ _ (ap (λ w. w.ending) c.self.view_is ∙ c.requires.goes_on))
     (record {
       stays = none_bad c.self.inside.wire (c.self.invariant.goes_on (ap (λ w. w.ending) c.self.view_is ∙ c.requires.goes_on));
       met = λ _. bad_as c.hear.new.self c.break_off.new.wire (ap (λ w. w.failed) c.break_off.ensures.same) (ap (λ w. w.rest) c.break_off.ensures.same) (bad_front _ _ _ c.in-Err.ensures.bad (c.is_memory.ensures.other c.if-is_memory.false));

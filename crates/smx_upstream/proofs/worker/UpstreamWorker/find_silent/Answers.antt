@@ -5,7 +5,7 @@ use Rattle.smx_turns.specs.declared.step.Step.TheVariants.{Did}
 use Rattle.smx_upstream.specs.declared.event.Event.TheVariants.{Judged}
 use Rattle.smx_upstream.specs.Phases.{CaughtUp}
 use Rattle.smx_turns.proofs.Breaking.{stays_bad}
-use Rattle.smx_upstream.proofs.Eventful.{did, goes_did, goes_on, stands_same, same_moment, writes_same}
+use Rattle.smx_upstream.proofs.Eventful.{did, goes_did, ends_so, stands_same, same_moment, writes_same}
 use Rattle.smx_upstream.proofs.Cells.{stepped, cell_judged}
 use Rattle.smx_upstream.proofs.worker.UpstreamWorker.find_silent.Goals as goal
 
@@ -13,7 +13,7 @@ pub invariant_of-self : goal.invariant_of-self
 invariant_of-self g c =
     did _ _ (Judged c.is_silent-silent.result) c.self.invariant c.jot.ensures.events refl refl (sym (append-nil _)) refl
     (c.is_silent-silent.ensures.silent ∙ ap (is_silent c.self.inside.session) c.latest-last.ensures, stands_same (c.is_silent-silent.ensures.session ∙ ap (at c.self.inside.session) c.latest-last.ensures ∙ same_moment c.self.inside.session) refl refl refl refl refl)
-    c.self.invariant.goes_on (goes_on c.self.inside.ending) (stays_bad refl refl refl) refl
+    (λ h. c.self.invariant.goes_on (ap (λ w. w.ending) c.self.view_is ∙ c.requires.goes_on)) (c.silent_end-self-inside.ensures ∙ ends_so _ _ (ap (λ w. w.ending) c.self.view_is ∙ c.requires.goes_on)) (stays_bad refl refl refl) refl
 
 pub returns-clause-goes : goal.returns-clause-goes
 returns-clause-goes g c = rw (← c.self.view_is)

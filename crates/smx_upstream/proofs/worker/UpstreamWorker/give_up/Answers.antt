@@ -52,3 +52,8 @@ pub returns-clause-settled : goal.returns-clause-settled
 returns-clause-settled g c = rw (← c.self.view_is)
     (let given : GivenUp = record { lane = c.lane-lane.result; now = c.args.now; lost = c.of.result; between = c.of-between.result; abandoned = c.of-2.result } in
     (given, c.and-self-inside.ensures, gave_settled _ c.lose-lost.new.tap c.give_up_queued-abandoned.result given c.of-between.ensures c.of-2.ensures c.give_up_queued-abandoned.ensures.settled))
+
+pub returns-clause-moment : goal.returns-clause-moment
+returns-clause-moment g c = rw (← c.self.view_is)
+    (let given : GivenUp = record { lane = c.lane-lane.result; now = c.args.now; lost = c.of.result; between = c.of-between.result; abandoned = c.of-2.result } in
+    (given, c.and-self-inside.ensures, refl))

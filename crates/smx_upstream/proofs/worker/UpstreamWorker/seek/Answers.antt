@@ -1,4 +1,4 @@
-use Rattle.std.proofs.Common.{refl, sym, ap, ◌∙◌, subst}
+use Rattle.std.proofs.Common.{false, refl, sym, ap, ◌∙◌, subst}
 use Rattle.std.proofs.lemmas.List.{append-nil}
 use Rattle.std.specs.Result.{is_err}
 use Rattle.smx_turns.specs.declared.step.Step.TheVariants.{Did}
@@ -6,7 +6,8 @@ use Rattle.smx_upstream.specs.declared.event.Event.TheVariants.{Sought}
 use Rattle.smx_turns.specs.Puts.{Gets}
 use Rattle.smx_turns.proofs.Putting.{gets_from}
 use Rattle.smx_upstream.specs.Standing.{Settles}
-use Rattle.smx_upstream.specs.Phases.{Clear, Sated, unless_spent}
+use Rattle.smx_upstream.specs.Phases.{Clear, Deciding, unless_spent}
+use Rattle.smx_upstream.specs.Phases.Source.{Earlier}
 use Rattle.smx_turns.specs.Wires.{has_ended as has_link_ended}
 use Rattle.smx_turns.proofs.Breaking.{stays_bad}
 use Rattle.smx_upstream.proofs.Eventful.{did, goes_did, goes_on, writes_same}
@@ -26,5 +27,5 @@ returns-clause-goes g c = rw (← c.self.view_is)
 
 pub returns-clause-phase : goal.returns-clause-phase
 returns-clause-phase g c = λ t was.
-    c.unless_spent.ensures.leads Sated _ (stepped t _ _ (Did (Sought c.of.result c.settle-under.result)) Clear _ c.note.ensures.log (cell_sought t _ _) was
-    ∙ ap (λ b. unless_spent b Sated) (ap is_err c.of.ensures ∙ sym c.is_err.ensures.value ∙ sym c.note.ensures.answer))
+    c.unless_spent.ensures.leads (Deciding (Earlier false)) _ (stepped t _ _ (Did (Sought c.of.result c.settle-under.result)) Clear _ c.note.ensures.log (cell_sought t _ _) was
+    ∙ ap (λ b. unless_spent b (Deciding (Earlier false))) (ap is_err c.of.ensures ∙ sym c.is_err.ensures.value ∙ sym c.note.ensures.answer))

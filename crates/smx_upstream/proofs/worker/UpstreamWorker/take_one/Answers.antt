@@ -25,6 +25,6 @@ returns-clause-goes g c = rw (← c.self.view_is)
     (ap (λ w. is_bound w.stand.session.state) c.self.view_is ∙ c.requires.bound, subst (λ r. Takes c.self.inside.tap.front c.take-taken.new.self.front c.self.inside.session.latest r) (sym c.of.ensures) (subst (λ n. Takes c.self.inside.tap.front c.take-taken.new.self.front n c.take-taken.result) c.latest.ensures c.take-taken.ensures.served), c.take-taken.ensures.same.0, refl) (ap (λ w. g.L.Link.polls w.link) c.note.ensures.same) (record { fits = tt; same = writes_same c.note.ensures.unsent (ap (λ w. g.L.Link.offered w.link) c.note.ensures.same) (ap (λ w. has_link_ended (g.L.Link.polls w.link)) c.note.ensures.same) }))
 
 pub returns-clause-phase : goal.returns-clause-phase
-returns-clause-phase g c = λ t was.
-    c.unless_spent.ensures.leads HasTried _ (stepped t _ _ (Did (Took c.of.result)) MayTake _ c.note.ensures.log (cell_took t _) was
-    ∙ ap (λ b. unless_spent b HasTried) (ap is_spent_take c.of.ensures ∙ sym c.is_spent_take-spent.ensures ∙ sym c.note.ensures.answer))
+returns-clause-phase g c = λ t full was.
+    c.unless_spent.ensures.leads (HasTried full) _ (stepped t _ _ (Did (Took c.of.result)) (MayTake full) _ c.note.ensures.log (cell_took t full _) was
+    ∙ ap (λ b. unless_spent b (HasTried full)) (ap is_spent_take c.of.ensures ∙ sym c.is_spent_take-spent.ensures ∙ sym c.note.ensures.answer))

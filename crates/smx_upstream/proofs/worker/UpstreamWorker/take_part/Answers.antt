@@ -2,10 +2,10 @@ use Rattle.std.proofs.Common.{refl, sym, ap, ◌∙◌}
 use Rattle.smx_session.specs.Moments.{is_bound}
 use Rattle.smx_turns.specs.declared.gate.Point.TheVariants.{Taking}
 use Rattle.smx_turns.specs.declared.step.Step.TheVariants.{Asked}
-use Rattle.smx_upstream.specs.Phases.{Settled, MayTake, HasTried, when_may_take, quiet_end, Refrained}
+use Rattle.smx_upstream.specs.Phases.{Settled, MayTake, HasTried, when_may_take, quiet_end, filled_or, Refrained}
 use Rattle.smx_turns.specs.Wires.{has_ended as has_link_ended}
 use Rattle.smx_upstream.proofs.Eventful.{goes_ask, goes_then, sides_same, writes_same}
-use Rattle.smx_upstream.proofs.Cells.{stepped, cell_taking, wanted, turn_err, waits_as, refrained, ends_unbound, ends_tried}
+use Rattle.smx_upstream.proofs.Cells.{stepped, cell_taking, wanted, turn_err, waits_as, decided_so, refrained, ends_unbound, ends_tried}
 use Rattle.smx_upstream.proofs.worker.UpstreamWorker.take_part.Goals as goal
 
 pub returns-then-not-may-clause-goes : goal.returns-then-not-may-clause-goes
@@ -22,34 +22,46 @@ returns-clause-goes g c = λ queries. goes_then c.args.turn _ _ _ _ _ _ (goes_as
 
 pub returns-then-not-may-clause-phase : goal.returns-then-not-may-clause-phase
 returns-then-not-may-clause-phase g c = λ t was.
-    refrained _ _ _ (stepped t _ _ (Asked Taking c.ask-may.result) Settled _ c.ask-may.ensures.log (cell_taking t c.ask-may.result) was ∙ ap when_may_take c.if-not-may.true)
+    refrained _ _ c.args.filled _ _ (stepped t _ _ (Asked Taking c.ask-may.result) (Settled c.args.filled) _ c.ask-may.ensures.log (cell_taking t c.args.filled c.ask-may.result) was ∙ ap (when_may_take c.args.filled) c.if-not-may.true) c.filled_or.ensures
 
 pub returns-then-not-may-clause-waits : goal.returns-then-not-may-clause-waits
 returns-then-not-may-clause-waits g c = λ t was.
-    waits_as _ Refrained _ _ (stepped t _ _ (Asked Taking c.ask-may.result) Settled _ c.ask-may.ensures.log (cell_taking t c.ask-may.result) was ∙ ap when_may_take c.if-not-may.true) tt
+    waits_as _ (Refrained c.args.filled) _ _ (stepped t _ _ (Asked Taking c.ask-may.result) (Settled c.args.filled) _ c.ask-may.ensures.log (cell_taking t c.args.filled c.ask-may.result) was ∙ ap (when_may_take c.args.filled) c.if-not-may.true) tt
 
 pub returns-then-not-bound-clause-phase : goal.returns-then-not-bound-clause-phase
 returns-then-not-bound-clause-phase g c = λ t was.
-    ends_unbound _ _ _ _ (stepped t _ _ (Asked Taking c.ask-may.result) Settled _ c.ask-may.ensures.log (cell_taking t c.ask-may.result) was ∙ ap when_may_take c.if-not-may.false) (ap (λ w. is_bound w.stand.session.state) (sym c.self.view_is) ∙ ap is_bound (sym c.state.ensures) ∙ sym c.is_bound-bound.ensures ∙ c.if-not-bound.true) (c.quiet_end.ensures ∙ ap quiet_end c.is_quiet.ensures)
+    ends_unbound _ _ c.args.filled _ _ (stepped t _ _ (Asked Taking c.ask-may.result) (Settled c.args.filled) _ c.ask-may.ensures.log (cell_taking t c.args.filled c.ask-may.result) was ∙ ap (when_may_take c.args.filled) c.if-not-may.false) (ap (λ w. is_bound w.stand.session.state) (sym c.self.view_is) ∙ ap is_bound (sym c.state.ensures) ∙ sym c.is_bound-bound.ensures ∙ c.if-not-bound.true) (c.filled_or-then-not-bound.ensures ∙ ap (filled_or c.args.filled) (c.quiet_end.ensures ∙ ap quiet_end c.is_quiet.ensures))
 
 pub returns-then-not-bound-clause-waits : goal.returns-then-not-bound-clause-waits
 returns-then-not-bound-clause-waits g c = λ t was.
-    waits_as _ MayTake _ _ (stepped t _ _ (Asked Taking c.ask-may.result) Settled _ c.ask-may.ensures.log (cell_taking t c.ask-may.result) was ∙ ap when_may_take c.if-not-may.false) tt
+    waits_as _ (MayTake c.args.filled) _ _ (stepped t _ _ (Asked Taking c.ask-may.result) (Settled c.args.filled) _ c.ask-may.ensures.log (cell_taking t c.args.filled c.ask-may.result) was ∙ ap (when_may_take c.args.filled) c.if-not-may.false) tt
 
 pub returns-in_err-take_one-clause-phase : goal.returns-in_err-take_one-clause-phase
 returns-in_err-take_one-clause-phase g c = λ t was.
-    turn_err _ _ _ _ _ c.from_residual-in_err-take_one.ensures.0 c.from_residual-in_err-take_one.ensures.1 (c.in_err-take_one.ensures.phase t (stepped t _ _ (Asked Taking c.ask-may.result) Settled _ c.ask-may.ensures.log (cell_taking t c.ask-may.result) was ∙ ap when_may_take c.if-not-may.false))
+    turn_err _ _ _ _ _ c.from_residual-in_err-take_one.ensures.0 c.from_residual-in_err-take_one.ensures.1 (c.in_err-take_one.ensures.phase t c.args.filled (stepped t _ _ (Asked Taking c.ask-may.result) (Settled c.args.filled) _ c.ask-may.ensures.log (cell_taking t c.args.filled c.ask-may.result) was ∙ ap (when_may_take c.args.filled) c.if-not-may.false))
 
 pub returns-in_err-make_room-clause-phase : goal.returns-in_err-make_room-clause-phase
 returns-in_err-make_room-clause-phase g c = λ t was.
-    turn_err _ _ _ _ _ c.from_residual.ensures.0 c.from_residual.ensures.1 (wanted _ _ _ Settled c.in_err-make_room.ensures.err refl was tt)
+    turn_err _ _ _ _ _ c.from_residual.ensures.0 c.from_residual.ensures.1 (wanted _ _ _ (Settled c.args.filled) c.in_err-make_room.ensures.err refl was tt)
 
 pub returns-clause-phase : goal.returns-clause-phase
 returns-clause-phase g c = λ t was.
-    ends_tried _ _ _ _ (c.in_ok-take_one.ensures.phase t (stepped t _ _ (Asked Taking c.ask-may.result) Settled _ c.ask-may.ensures.log (cell_taking t c.ask-may.result) was ∙ ap when_may_take c.if-not-may.false))
+    ends_tried _ _ c.args.filled _ _ (c.in_ok-take_one.ensures.phase t c.args.filled (stepped t _ _ (Asked Taking c.ask-may.result) (Settled c.args.filled) _ c.ask-may.ensures.log (cell_taking t c.args.filled c.ask-may.result) was ∙ ap (when_may_take c.args.filled) c.if-not-may.false))
     (ap (λ w. is_bound w.stand.session.state) c.take_one.ensures.same ∙ ap (λ w. is_bound w.stand.session.state) (sym c.self.view_is) ∙ ap is_bound (sym c.state.ensures) ∙ sym c.is_bound-bound.ensures ∙ c.if-not-bound.false)
-    (c.quiet_end-2.ensures ∙ ap quiet_end c.is_quiet-2.ensures)
+    (c.filled_or-2.ensures ∙ ap (filled_or c.args.filled) (c.quiet_end-2.ensures ∙ ap quiet_end c.is_quiet-2.ensures))
 
 pub returns-clause-waits : goal.returns-clause-waits
 returns-clause-waits g c = λ t was.
-    waits_as _ HasTried _ _ (c.in_ok-take_one.ensures.phase t (stepped t _ _ (Asked Taking c.ask-may.result) Settled _ c.ask-may.ensures.log (cell_taking t c.ask-may.result) was ∙ ap when_may_take c.if-not-may.false)) tt
+    waits_as _ (HasTried c.args.filled) _ _ (c.in_ok-take_one.ensures.phase t c.args.filled (stepped t _ _ (Asked Taking c.ask-may.result) (Settled c.args.filled) _ c.ask-may.ensures.log (cell_taking t c.args.filled c.ask-may.result) was ∙ ap (when_may_take c.args.filled) c.if-not-may.false)) tt
+
+pub returns-then-not-may-clause-decided : goal.returns-then-not-may-clause-decided
+returns-then-not-may-clause-decided g c = λ t was.
+    decided_so c.args.filled _ (Refrained c.args.filled) (stepped t _ _ (Asked Taking c.ask-may.result) (Settled c.args.filled) _ c.ask-may.ensures.log (cell_taking t c.args.filled c.ask-may.result) was ∙ ap (when_may_take c.args.filled) c.if-not-may.true) refl
+
+pub returns-then-not-bound-clause-decided : goal.returns-then-not-bound-clause-decided
+returns-then-not-bound-clause-decided g c = λ t was.
+    decided_so c.args.filled _ (MayTake c.args.filled) (stepped t _ _ (Asked Taking c.ask-may.result) (Settled c.args.filled) _ c.ask-may.ensures.log (cell_taking t c.args.filled c.ask-may.result) was ∙ ap (when_may_take c.args.filled) c.if-not-may.false) refl
+
+pub returns-clause-decided : goal.returns-clause-decided
+returns-clause-decided g c = λ t was.
+    decided_so c.args.filled _ (HasTried c.args.filled) (c.in_ok-take_one.ensures.phase t c.args.filled (stepped t _ _ (Asked Taking c.ask-may.result) (Settled c.args.filled) _ c.ask-may.ensures.log (cell_taking t c.args.filled c.ask-may.result) was ∙ ap (when_may_take c.args.filled) c.if-not-may.false)) refl

@@ -1,0 +1,7 @@
+use Rattle.std.proofs.Common.{arith}
+use Rattle.std.proofs.lemmas.Str.Pattern.{strip_prefix_char}
+use Rattle.smx_config.proofs.Addresses.{no_colon}
+use Rattle.smx_config.proofs.address.is_port_behind_colon.Goals as goal
+
+pub returns-in-None : goal.returns-in-None
+returns-in-None c = no_colon c.args.text.now (rw c.in-None.is at (strip_prefix_char 58 c.args.text.now c.strip_prefix.result c.strip_prefix.ensures.cases (omega arith)))

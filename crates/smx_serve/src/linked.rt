@@ -1,0 +1,187 @@
+//! A worker towards a centre, beside its socket.
+
+use crate::addresses::Addresses;
+use crate::mail::Counted;
+use crate::pace::Moment;
+use crate::queues::{Progress, Queues, TURNS, is_enough};
+use crate::seats::{Carrier, Drawer};
+use crate::upstreams::{connect, session_of};
+use mio::Registry;
+use smx_config::Upstream;
+use smx_notice::LinkLoss;
+use smx_session::UpstreamState;
+use smx_slots::{Guide, LaneBell, LaneEnds};
+use smx_socket::Socket;
+use smx_turns::{End, Fault, RunEnd};
+use std::io;
+use std::net::{Net, SocketAddr};
+use std::rc::Rc;
+use std::sync::Wait;
+
+/// How long a link has to be bound for the next pause to be the first again, in milliseconds.
+const HELD: u64 = 60_000;
+
+/// A worker beside its socket.
+#[derive(Drop)]
+pub(crate) struct Linked {
+    pub carrier: Carrier,
+    pub socket: Rc<Socket>,
+    // When it began to connect, and the moment of its last turn.
+    pub begun: u64,
+    pub turned: u64,
+    // Since when it was bound, where its session stood after the last turn, and whether its worker has
+    // ended.
+    pub bound: Option<u64>,
+    pub state: UpstreamState,
+    pub over: bool,
+}
+
+/// What a worker is made of, beside its link.
+#[derive(Drop)]
+pub(crate) struct Spare {
+    pub drawer: Drawer,
+    pub ends: LaneEnds,
+}
+
+/// What a turn of a worker did.
+#[derive(Clone, Copy)]
+pub(crate) struct Turned {
+    pub end: RunEnd,
+    // It is bound since.
+    pub newly_bound: bool,
+}
+
+impl Linked {
+    // Why its link was lost where a turn of its worker ended by this fault.
+    fn loss_by(&self, fault: Fault) -> LinkLoss {
+        if fault == Fault::Link && !self.socket.has_given() {
+            LinkLoss::Unreached(self.socket.failure())
+        } else {
+            LinkLoss::Fault(fault)
+        }
+    }
+
+    /// Why it has ended, where it wasn't told to.
+    pub fn farewell(&self, end: RunEnd) -> LinkLoss {
+        if let RunEnd::Fault(fault) = end {
+            return self.loss_by(fault);
+        }
+        match self.carrier.ending() {
+            Some(End::Refused(status)) => LinkLoss::Refused(status),
+            Some(End::BadLength) => LinkLoss::BadLength,
+            Some(End::Silent) => LinkLoss::Silent,
+            Some(End::LaneDown) => LinkLoss::LaneDown,
+            Some(End::Left | End::Stopped) => LinkLoss::Unbound,
+            Some(End::LinkEnded) | None => LinkLoss::Closed,
+        }
+    }
+
+    /// Whether it was bound for long.
+    pub fn has_held(&self, now: u64) -> bool {
+        match self.bound {
+            Some(bound) => now >= bound.saturating_add(HELD),
+            None => false,
+        }
+    }
+
+    // Runs the worker turn by turn, until it is idle, a client is to be turned first, or the party's turn
+    // is over: how that ended.
+    fn run<R: Wait>(
+        &mut self,
+        rt: &R,
+        gate: &mut Counted<'_, LaneBell<'_>>,
+        guide: &mut Guide<'_>,
+        now: u64,
+    ) -> RunEnd {
+        let before = self.socket.traffic();
+        for _ in 0..TURNS {
+            let (end, state) = self.carrier.run(rt, gate, guide, now, 1);
+            self.state = state;
+            if end != RunEnd::Turns || is_enough(before, self.socket.traffic()) {
+                return end;
+            }
+        }
+        RunEnd::Turns
+    }
+
+    /// Makes a turn of the lane; who is told of something is ready then.
+    pub fn turn<R: Wait>(
+        &mut self,
+        rt: &R,
+        queues: &mut Queues,
+        addresses: &mut Addresses,
+        lane: usize,
+        now: u64,
+    ) -> Turned {
+        let before = self.socket.traffic();
+        let bell = LaneBell::new(
+            queues.lanes,
+            &mut queues.schedule,
+            &addresses.roll,
+            &mut addresses.ledger,
+        );
+        let mut guide = Guide::new(&mut addresses.routes, &addresses.roll);
+        let mut gate = Counted {
+            gate: bell,
+            mail: &mut addresses.mail,
+            slot: None,
+        };
+        let end = self.run(rt, &mut gate, &mut guide, now);
+        self.over = matches!(end, RunEnd::Left | RunEnd::Fault(_));
+        self.turned = now;
+        let progress = Progress {
+            end,
+            moved: self.socket.traffic() != before,
+            rang: gate.gate.has_rung(),
+            writable: self.socket.is_writable(),
+        };
+        queues.was_turned(lane, progress);
+        if progress.moved {
+            queues.empty_boxes();
+        }
+        let newly_bound = self.state == UpstreamState::Bound && self.bound.is_none();
+        if newly_bound {
+            self.bound = Some(now);
+        }
+        Turned { end, newly_bound }
+    }
+}
+
+/// A worker over a new connection to this address, or what it would have been made of, and the system's
+/// reason, if it is one.
+pub(crate) fn link_to<R: Wait + Net>(
+    rt: &R,
+    registry: &Registry,
+    moment: Moment<'_>,
+    upstream: &Upstream,
+    spare: Spare,
+    address: SocketAddr,
+) -> Result<Linked, (Spare, Option<io::Error>)> {
+    let Moment {
+        alloc,
+        timers,
+        now,
+        ..
+    } = moment;
+    let lane = spare.drawer.tap.lane();
+    let Some(session) = session_of(alloc, upstream, timers.enquire, now) else {
+        return Err((spare, None));
+    };
+    let (socket, link) = match connect(rt, alloc, registry, address, lane) {
+        Ok(wired) => wired,
+        Err(reason) => return Err((spare, reason)),
+    };
+    let Spare { drawer, ends } = spare;
+    match Carrier::new(rt, alloc, drawer, session, ends, link, timers.response) {
+        Ok(carrier) => Ok(Linked {
+            carrier,
+            socket,
+            begun: now,
+            turned: now,
+            bound: None,
+            state: UpstreamState::Binding,
+            over: false,
+        }),
+        Err((drawer, ends)) => Err((Spare { drawer, ends }, None)),
+    }
+}
