@@ -25,8 +25,8 @@ use Rattle.smx_upstream.specs.declared.event.Event.TheVariants.{Opened, Looked, 
 use Rattle.smx_upstream.specs.declared.event.Span.{Span}
 use Rattle.smx_upstream.specs.declared.event.Span.TheVariants.{Once, Twice}
 use Rattle.smx_upstream.specs.declared.event.Fate.{Fate}
-use Rattle.smx_upstream.specs.Events.{kept_by, fate_worth, event_ends, fills, is_spent_expiry, is_spent_shift, is_spent_take}
-use Rattle.smx_upstream.specs.Phases.{Phase, Before, Opening, Ready, Written, Clogged, Watched, Clear, CaughtUp, Sweeping, Brimming, MayRead, Failed, Deciding, Closing, Settled, MayTake, HasTried, Stopped, Refrained, Gone, Drained, Wrong, go, from_opening, from_ready, from_written, from_watched, from_sweeping, from_caught_up, from_clear, from_may_read, from_deciding, from_closing, from_settled, from_may_take, phase_of, unless_spent, at_moment, if_so, after_offer, unless_left, when_looked, when_kept, when_judged, when_decided, when_part, when_full, when_read, when_may_read, when_may_take, quiet_end, Waits, IsOver, IsTurnEnd, IsTurn, EndsEarly, IsPart, LeadsTo, Faulted, MayWant, Source, Emptied, Ebbed, from_emptied, from_ebbed, going_on, when_filled, source_of, has_end, when_progress, when_halted, filled_or, IsCourse, is_all_decided}
+use Rattle.smx_upstream.specs.Events.{kept_by, fate_worth, event_ends, fills, gives, is_spent_expiry, is_spent_shift, is_spent_take}
+use Rattle.smx_upstream.specs.Phases.{Phase, Before, Opening, Ready, Written, Clogged, Watched, Clear, CaughtUp, Sweeping, Brimming, MayRead, Failed, Deciding, Closing, Settled, MayTake, HasTried, Stopped, Refrained, Gone, Drained, Wrong, go, from_opening, from_ready, from_written, from_watched, from_sweeping, from_caught_up, from_clear, from_may_read, from_deciding, from_closing, from_settled, from_may_take, phase_of, unless_spent, at_moment, if_so, after_offer, unless_left, when_looked, when_kept, when_judged, when_decided, when_part, when_full, when_read, when_may_read, when_may_take, when_taken, quiet_end, Waits, IsOver, IsTurnEnd, IsTurn, EndsEarly, IsPart, LeadsTo, Faulted, MayWant, Source, Emptied, Ebbed, from_emptied, from_ebbed, going_on, when_filled, source_of, has_end, when_progress, when_halted, filled_or, IsCourse, is_all_decided}
 use Rattle.smx_upstream.specs.Phases.Source.{Earlier, Behind}
 use Rattle.smx_upstream.specs.declared.turning.Course.{Course}
 use Rattle.smx_upstream.specs.declared.deciding.Progress.{Progress}
@@ -164,9 +164,9 @@ pub cell_taking : (t : Before) (full answer : Bool) → go t (Settled full) (Ask
 unfolding go from_settled
 cell_taking t full answer = refl
 
-pub cell_took : (t : Before) (full : Bool) (r : _) → go t (MayTake full) (Did (Took r)) ≡ unless_spent (is_spent_take r.value) (HasTried full)
+pub cell_took : (t : Before) (full gave : Bool) (r : _) → go t (MayTake full gave) (Did (Took r)) ≡ unless_spent (is_spent_take r.value) (when_taken full (gives r.value))
 unfolding go from_may_take
-cell_took t full r = refl
+cell_took t full gave r = refl
 
 -- a PDU waits just after an answer that is spent
 pub kept_spent : (p : Pdu) (f : Fate) → (fate_worth p f).spent ≡ is_some (kept_by p f)
@@ -259,7 +259,7 @@ refrained_end bound quiet false = tt
 pub refrained : (bound quiet full : Bool) (end : TurnEnd) (p : Phase) → p ≡ Refrained full → end ≡ filled_or full Idle → IsTurnEnd bound quiet end p
 refrained bound quiet full end p same e = subst (λ (x : Phase). IsTurnEnd bound quiet end x) (sym same) (subst (λ (x : TurnEnd). IsTurnEnd bound quiet x (Refrained full)) (sym e) (refrained_end bound quiet full))
 
-unbound_end : (quiet full : Bool) → IsTurnEnd false quiet (filled_or full (quiet_end quiet)) (MayTake full)
+unbound_end : (quiet full : Bool) → IsTurnEnd false quiet (filled_or full (quiet_end quiet)) (MayTake full false)
 unbound_end quiet true = refl
 unbound_end true false = (refl, refl)
 unbound_end false false = (refl, refl)
@@ -269,9 +269,18 @@ tried_end quiet true = refl
 tried_end true false = (refl, refl)
 tried_end false false = (refl, refl)
 
-pub ends_unbound : (bound quiet full : Bool) (end : TurnEnd) (p : Phase) → p ≡ MayTake full → bound ≡ false → end ≡ filled_or full (quiet_end quiet) → IsTurnEnd bound quiet end p
+pub ends_unbound : (bound quiet full : Bool) (end : TurnEnd) (p : Phase) → p ≡ MayTake full false → bound ≡ false → end ≡ filled_or full (quiet_end quiet) → IsTurnEnd bound quiet end p
 ends_unbound bound quiet full end p same b e = subst (λ (x : Phase). IsTurnEnd bound quiet end x) (sym same)
-    (subst (λ (x : Bool). IsTurnEnd x quiet end (MayTake full)) (sym b) (subst (λ (x : TurnEnd). IsTurnEnd false quiet x (MayTake full)) (sym e) (unbound_end quiet full)))
+    (subst (λ (x : Bool). IsTurnEnd x quiet end (MayTake full false)) (sym b) (subst (λ (x : TurnEnd). IsTurnEnd false quiet x (MayTake full false)) (sym e) (unbound_end quiet full)))
+
+taken_end : (quiet full : Bool) → IsTurnEnd true quiet (filled_or full Worked) (MayTake full true)
+taken_end quiet true = refl
+taken_end quiet false = refl
+
+-- the turn ends though the lane gave a request
+pub ends_taken : (bound quiet full : Bool) (end : TurnEnd) (p : Phase) → p ≡ MayTake full true → bound ≡ true → end ≡ filled_or full Worked → IsTurnEnd bound quiet end p
+ends_taken bound quiet full end p same b e = subst (λ (x : Phase). IsTurnEnd bound quiet end x) (sym same)
+    (subst (λ (x : Bool). IsTurnEnd x quiet end (MayTake full true)) (sym b) (subst (λ (x : TurnEnd). IsTurnEnd true quiet x (MayTake full true)) (sym e) (taken_end quiet full)))
 
 pub ends_tried : (bound quiet full : Bool) (end : TurnEnd) (p : Phase) → p ≡ HasTried full → bound ≡ true → end ≡ filled_or full (quiet_end quiet) → IsTurnEnd bound quiet end p
 ends_tried bound quiet full end p same b e = subst (λ (x : Phase). IsTurnEnd bound quiet end x) (sym same)

@@ -16,9 +16,9 @@ use Rattle.smx_upstream.specs.declared.mark.Mark.TheVariants.{Offered, WriteFail
 use Rattle.smx_upstream.specs.declared.event.Event.{Event}
 use Rattle.smx_upstream.specs.declared.event.Event.TheVariants.{Opened, Looked, Judged, Expired, Shifted, Sought, Decided, Took, Broke, LinkEnded}
 use Rattle.smx_upstream.specs.declared.event.Span.TheVariants.{Once, Twice}
-use Rattle.smx_upstream.specs.Events.{is_spent, event_ends, fills}
+use Rattle.smx_upstream.specs.Events.{is_spent, event_ends, fills, gives}
 use Rattle.smx_upstream.specs.Judging.{finds_no_more, judges, AreJudged}
-use Rattle.smx_upstream.specs.Phases.{Phase, Before, Opening, Ready, Written, Watched, Clear, MayRead, Deciding, Closing, CaughtUp, Sweeping, Settled, MayTake, Wrong, go, from_opening, from_ready, from_written, from_watched, from_sweeping, from_caught_up, from_clear, from_may_read, from_deciding, from_closing, from_settled, from_may_take, phase_of, unless_spent, if_so, after_offer, unless_left, when_gone, when_kept, when_decided, when_part, when_full, when_may_read, when_may_take, IsTurn, Source, Emptied, Ebbed, from_emptied, from_ebbed, going_on, when_filled}
+use Rattle.smx_upstream.specs.Phases.{Phase, Before, Opening, Ready, Written, Watched, Clear, MayRead, Deciding, Closing, CaughtUp, Sweeping, Settled, MayTake, Wrong, go, from_opening, from_ready, from_written, from_watched, from_sweeping, from_caught_up, from_clear, from_may_read, from_deciding, from_closing, from_settled, from_may_take, phase_of, unless_spent, if_so, after_offer, unless_left, when_gone, when_kept, when_decided, when_part, when_full, when_may_read, when_may_take, when_taken, IsTurn, Source, Emptied, Ebbed, from_emptied, from_ebbed, going_on, when_filled}
 use Rattle.smx_upstream.specs.Phases.Source.{Earlier, Behind}
 
 -- a turn stands so only behind a read that found that nothing more had come
@@ -156,9 +156,13 @@ unfolding from_settled
 settled_none full (Asked Taking answer) = no_may_take full answer
 settled_none full _ = refl
 
+taken_none : (full gave : Bool) → needs (when_taken full gave) ≡ false
+taken_none full true = refl
+taken_none full false = refl
+
 may_take_none : (full : Bool) (s : Step Mark Event) → needs (from_may_take full s) ≡ false
 unfolding from_may_take
-may_take_none full (Did (Took r)) = no_unless (is_spent (Took r)) _ refl
+may_take_none full (Did (Took r)) = no_unless (is_spent (Took r)) _ (taken_none full (gives r.value))
 may_take_none full _ = refl
 
 -- such a read is the one that leads there
@@ -193,7 +197,7 @@ next_needs t CaughtUp s n h = absurd (true≢false n)
 next_needs t (Sweeping Once p) s n h = absurd (true≢false n)
 next_needs t (Sweeping Twice p) s n h = absurd (true≢false (sym h ∙ sweeping_none p s n))
 next_needs t (Settled full) s n h = absurd (true≢false (sym h ∙ settled_none full s))
-next_needs t (MayTake full) s n h = absurd (true≢false (sym h ∙ may_take_none full s))
+next_needs t (MayTake full gave) s n h = absurd (true≢false (sym h ∙ may_take_none full s))
 next_needs t _ s n h = absurd (true≢false (sym h))
 
 -- and a timer is judged nowhere else

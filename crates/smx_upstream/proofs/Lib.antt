@@ -9,3 +9,4 @@ pub mod Owed
 pub mod Binding
 pub mod Emptied
 pub mod Telling
+pub mod Growing

@@ -57,6 +57,11 @@ is_spent_take (Ok s) = false
 is_spent_take (Err (takes.Refused e)) = false
 is_spent_take (Err takes.Spent) = true
 
+-- whether a take gave a request
+abbrev pub gives : Result Sent TakeFault → Bool
+gives (Ok s) = true
+gives (Err e) = false
+
 -- an answer of a client to a message of this link goes upstream under the centre's number, and any other is dropped
 abbrev pub answer_out : Pdu → Option ℕ → List Pdu
 answer_out p (Some number) = record p { number = number } ∷ []

@@ -13,7 +13,7 @@ use Rattle.smx_turns.specs.declared.step.Step.{Step}
 use Rattle.smx_turns.specs.declared.step.Step.TheVariants.{Asked, Read, Marked, Did}
 use Rattle.smx_turns.specs.Steps.{phase_from}
 use Rattle.smx_turns.specs.Wires.{is_end, some_wait}
-use Rattle.smx_upstream.specs.Events.{event_ends, fills, is_spent}
+use Rattle.smx_upstream.specs.Events.{event_ends, fills, gives, is_spent}
 use Rattle.smx_upstream.specs.declared.wiring.Front.{Front}
 use Rattle.smx_upstream.specs.declared.wiring.Front.TheVariants as front
 use Rattle.smx_upstream.specs.declared.turning.Course.{Course}
@@ -68,9 +68,9 @@ pub data Phase : Type 0 where
   Sweeping : Span → Phase → Phase
   -- no more is decided: no whole PDU is left, or a message filled its client's box
   Settled : Bool → Phase
-  -- the gate said yes to a take; whether a message filled a box
-  MayTake : Bool → Phase
-  -- the lane was asked; whether a message filled a box
+  -- the gate said yes to takes; whether a message filled a box, and whether the lane gave a request
+  MayTake : Bool → Bool → Phase
+  -- the lane had none to give; whether a message filled a box
   HasTried : Bool → Phase
   -- the gate said no to a read
   Stopped : Phase
@@ -176,7 +176,7 @@ when_may_read true = MayRead
 when_may_read false = Sweeping Twice Stopped
 
 abbrev pub when_may_take : Bool → Bool → Phase
-when_may_take full true = MayTake full
+when_may_take full true = MayTake full false
 when_may_take full false = Refrained full
 
 unfoldable pub from_opening : Step Mark Event → Phase
@@ -237,8 +237,13 @@ unfoldable pub from_settled : Bool → Step Mark Event → Phase
 from_settled full (Asked Taking answer) = when_may_take full answer
 from_settled full _ = Wrong
 
+-- a lane that gave a request may be asked for another
+abbrev pub when_taken : Bool → Bool → Phase
+when_taken full true = MayTake full true
+when_taken full false = HasTried full
+
 unfoldable pub from_may_take : Bool → Step Mark Event → Phase
-from_may_take full (Did (Took r)) = unless_spent (is_spent (Took r)) (HasTried full)
+from_may_take full (Did (Took r)) = unless_spent (is_spent (Took r)) (when_taken full (gives r.value))
 from_may_take full _ = Wrong
 
 -- the table of an upstream turn
@@ -256,7 +261,7 @@ go t Ebbed s = from_ebbed s
 go t CaughtUp s = from_caught_up s
 go t (Sweeping span p) s = from_sweeping span p s
 go t (Settled full) s = from_settled full s
-go t (MayTake full) s = from_may_take full s
+go t (MayTake full gave) s = from_may_take full s
 go t _ s = Wrong
 
 unfoldable pub phase_of : Before → List (Step Mark Event) → Phase
@@ -273,6 +278,7 @@ MayWant (Written left) = Unit {0}
 MayWant Clear = Unit {0}
 MayWant (Deciding source) = Unit {0}
 MayWant (Settled full) = Unit {0}
+MayWant (MayTake full true) = Unit {0}
 MayWant _ = ⊥
 
 -- where a turn stands that a fault ends
@@ -288,22 +294,23 @@ IsOver Gone = Unit {0}
 IsOver Drained = Unit {0}
 IsOver _ = ⊥
 
--- how a turn may end: whether the session is bound then, and whether nothing came of the turn
+-- how a turn may end: whether the session is bound then, and whether nothing came of the turn; where a lane gave a request and isn't asked for another, as many octets wait as a PDU can have
 abbrev pub IsTurnEnd : Bool → Bool → TurnEnd → Phase → Type 0
 IsTurnEnd bound quiet Done p = IsOver p
 IsTurnEnd bound quiet Filled (Refrained true) = Unit {0}
-IsTurnEnd bound quiet Filled (MayTake true) = bound ≡ false
+IsTurnEnd bound quiet Filled (MayTake true gave) = bound ≡ gave
 IsTurnEnd bound quiet Filled (HasTried true) = bound ≡ true
 IsTurnEnd bound quiet Filled _ = ⊥
 IsTurnEnd bound quiet Idle Stopped = Unit {0}
 IsTurnEnd bound quiet Idle (Refrained false) = Unit {0}
-IsTurnEnd bound quiet Idle (MayTake false) = (bound ≡ false) × (quiet ≡ true)
+IsTurnEnd bound quiet Idle (MayTake false false) = (bound ≡ false) × (quiet ≡ true)
 IsTurnEnd bound quiet Idle (HasTried false) = (bound ≡ true) × (quiet ≡ true)
 IsTurnEnd bound quiet Idle _ = ⊥
 IsTurnEnd bound quiet Worked Clogged = Unit {0}
 IsTurnEnd bound quiet Worked Brimming = Unit {0}
 IsTurnEnd bound quiet Worked Ending = Unit {0}
-IsTurnEnd bound quiet Worked (MayTake false) = (bound ≡ false) × (quiet ≡ false)
+IsTurnEnd bound quiet Worked (MayTake false true) = bound ≡ true
+IsTurnEnd bound quiet Worked (MayTake false false) = (bound ≡ false) × (quiet ≡ false)
 IsTurnEnd bound quiet Worked (HasTried false) = (bound ≡ true) × (quiet ≡ false)
 IsTurnEnd bound quiet Worked _ = ⊥
 
@@ -314,7 +321,7 @@ IsTurn bound quiet (Err e) p = Faulted e p
 -- every whole PDU was decided, and the link goes on
 abbrev pub is_all_decided : Phase → Bool
 is_all_decided (Settled full) = not full
-is_all_decided (MayTake full) = not full
+is_all_decided (MayTake full gave) = not full
 is_all_decided (HasTried full) = not full
 is_all_decided (Refrained full) = not full
 is_all_decided _ = false
@@ -392,6 +399,7 @@ abbrev pub Waits : Phase → List ℕ → List ℕ → Type 0
 Waits Clogged unsent rest = unsent ≢ []
 Waits Ending unsent rest = unsent ≢ []
 Waits Brimming unsent rest = 65536 ≤ length unsent
+Waits (MayTake full true) unsent rest = 65536 ≤ length unsent
 Waits Over unsent rest = unsent ≡ []
 Waits Drained unsent rest = HasNone 65536 rest
 Waits _ unsent rest = Unit {0}

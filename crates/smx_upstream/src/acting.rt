@@ -1,5 +1,5 @@
 //! What a worker does once: each of these is one event.
-ghost use Rattle.std.specs.Prelude.{◌≡◌, ◌≢◌, ◌≤◌, [], true, false, None, is_some, slice_get, Some, Err, OnErr, IsSome};
+ghost use Rattle.std.specs.Prelude.{◌≡◌, ◌≢◌, ◌≤◌, ◌<◌, [], length, Ok, true, false, None, is_some, slice_get, Some, Err, OnErr, IsSome};
 ghost use Rattle.smx_session.specs.Moments.{is_bound};
 ghost use Rattle.smx_turns.specs.Worth.{those};
 ghost use Rattle.smx_upstream.specs.Events.{got_out, request_up, silent_end};
@@ -8,7 +8,7 @@ ghost use Rattle.smx_upstream.specs.Ages.{next_turn};
 ghost use Rattle.smx_upstream.specs.Standing.{Answers, Settles};
 ghost use Rattle.smx_upstream.specs.Working.{scene_of, writing_of, LeadsOn};
 ghost use Rattle.smx_upstream.specs.Writing.{MayDecide};
-ghost use Rattle.smx_upstream.specs.Phases.{phase_of, when_gone, when_kept, when_next, unless_spent, Before, LeadsTo, Opening, Ready, Written, Watched, Clear, Deciding, MayTake, HasTried};
+ghost use Rattle.smx_upstream.specs.Phases.{phase_of, when_gone, when_kept, when_next, when_taken, unless_spent, Before, LeadsTo, Opening, Ready, Written, Watched, Clear, Deciding, MayTake};
 ghost use Rattle.smx_upstream.specs.Phases.Source.{Earlier};
 
 use crate::carry::carry;
@@ -17,7 +17,7 @@ use crate::event::{Event, fills};
 use crate::judging::{silent_end, was_silent};
 use crate::last::last_taken;
 use crate::mark::Mark;
-use crate::spent::{is_spent_shift, is_spent_take, unless_spent};
+use crate::spent::{gave_unless_spent, gives, is_spent_shift, is_spent_take, unless_spent};
 use crate::worker::{UpstreamWorker, jot, note};
 use smx_box::{Got, Spent};
 use smx_lane::Sent;
@@ -223,21 +223,23 @@ impl<L: Link + Drop> UpstreamWorker<L> {
         unless_spent(note(outcome, &mut self.wire, &mut self.events, log))
     }
 
-    // Takes at most one request, where the session is bound.
+    // Asks the lane for a request, where the session is bound. Whether it gave one.
     pub(crate) fn take_one<R: Wait>(
         &mut self,
         at: &Exchange,
         rt: &R,
         log: &mut Log<Mark, Event>,
-    ) -> Result<(), Fault>
+    ) -> Result<bool, Fault>
         requires room { 65536 ≤ self.old.wire.room }
         requires bound { is_bound self.old.stand.session.state ≡ true }
         requires lock { slice_get at.now self.old.stand.tap.lane
             ≡ Some self.old.stand.tap.front.lock }
         ensures lock { slice_get at.now self.new.stand.tap.lane
             ≡ Some self.new.stand.tap.front.lock }
-        ensures phase { (t : Before) (full : _) → phase_of t log.old ≡ MayTake full
-            → LeadsTo result (λ _. HasTried full) (phase_of t log.new) }
+        ensures phase { (t : Before) (full gave : _) → phase_of t log.old ≡ MayTake full gave
+            → LeadsTo result (when_taken full) (phase_of t log.new) }
+        ensures more { result ≡ Ok true
+            → length self.old.wire.unsent < length self.new.wire.unsent }
         ensures err { OnErr result (result ≡ Err Fault.Spent) }
         ensures goes { (turn asked told queries : _) → LeadsOn turn
             (scene_of L.polls L.offered asked told queries self.old)
@@ -256,6 +258,7 @@ impl<L: Link + Drop> UpstreamWorker<L> {
         let taken = self.tap.take(at, rt, self.session.latest());
         let event = Event::Took(Snapshot::of(&taken));
         let spent = is_spent_take(&taken);
+        let gave = gives(&taken);
         self.last = last_taken(&taken, self.last);
         let sent = request_in(taken);
         let outcome = Outcome {
@@ -265,7 +268,8 @@ impl<L: Link + Drop> UpstreamWorker<L> {
             ends: None,
             answer: spent,
         };
-        unless_spent(note(outcome, &mut self.wire, &mut self.events, log))
+        let spent = note(outcome, &mut self.wire, &mut self.events, log);
+        gave_unless_spent(gave, spent)
     }
 
     // Decides the PDU that waits, which waits still where a lane or a box is spent.

@@ -43,8 +43,8 @@ pub struct Closed<L: Link + Drop> {
 impl<L: Link + Drop> UpstreamWorker<L> {
     /// One turn: it writes what waits, hands in the moment (in milliseconds), gets at most one
     /// answer from the return box, reads at most 4,096 octets, decides each whole PDU, judges the
-    /// timers and takes at most one request. Where an earlier turn left whole PDUs it decides these in
-    /// place of the read. Where a message fills its client's box it decides no more, and is `Filled`. After
+    /// timers and takes requests, until the lane has none to give or as many octets wait as a PDU can
+    /// have. Where an earlier turn left whole PDUs it decides these in place of the read. Where a message fills its client's box it decides no more, and is `Filled`. After
     /// a fault only `close` is called.
     pub fn turn<R: Wait, G: Gate, D: Directory>(
         &mut self,

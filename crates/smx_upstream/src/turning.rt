@@ -6,7 +6,7 @@ ghost use Rattle.smx_session.specs.Moments.{is_bound};
 ghost use Rattle.smx_upstream.specs.Ages.{next_turn};
 ghost use Rattle.smx_upstream.specs.Working.{before_turn, scene_of, LeadsOn};
 ghost use Rattle.smx_upstream.specs.Quiet.{are_all_quiet};
-ghost use Rattle.smx_upstream.specs.Phases.{phase_of, when_progress, when_halted, is_all_decided, quiet_end, filled_or, link_faults, Before, Waits, IsPart, IsCourse, IsTurn, Opening, Ready, MayRead, Deciding, Settled};
+ghost use Rattle.smx_upstream.specs.Phases.{phase_of, when_progress, when_halted, is_all_decided, quiet_end, filled_or, link_faults, Before, Waits, IsPart, IsCourse, IsTurn, Opening, Ready, MayRead, MayTake, Deciding, Settled};
 ghost use Rattle.smx_upstream.specs.Phases.Source.{Earlier};
 
 use crate::deciding::{Next, Progress};
@@ -271,7 +271,53 @@ impl<L: Link + Drop> UpstreamWorker<L> {
         self.read_on(at, rt, gate, directory, now, log)
     }
 
-    // Asks for leave, and in `Bound` asks the lane for a request.
+    // Takes requests until the lane has none to give, or as many octets wait as a PDU can have.
+    fn take_on<R: Wait>(
+        &mut self,
+        filled: bool,
+        at: &Exchange,
+        rt: &R,
+        log: &mut Log<Mark, Event>,
+    ) -> Result<TurnEnd, Fault>
+        requires lock { slice_get at.now self.old.stand.tap.lane
+            ≡ Some self.old.stand.tap.front.lock }
+        requires room { 65536 ≤ self.old.wire.room }
+        requires bound { is_bound self.old.stand.session.state ≡ true }
+        ensures lock { slice_get at.now self.new.stand.tap.lane
+            ≡ Some self.new.stand.tap.front.lock }
+        ensures phase { (t : Before) → phase_of t log.old ≡ MayTake filled false
+            → IsTurn true (are_all_quiet log.new) result (phase_of t log.new) }
+        ensures decided { (t : Before) → phase_of t log.old ≡ MayTake filled false
+            → OnOk result (is_all_decided (phase_of t log.new) ≡ true → filled ≡ false) }
+        ensures waits { (t : Before) → phase_of t log.old ≡ MayTake filled false
+            → OnOk result (Waits (phase_of t log.new) self.new.wire.unsent self.new.wire.rest) }
+        ensures faults { link_faults result ≡ 0 }
+        ensures goes { (turn asked told queries : _) → LeadsOn turn
+            (scene_of L.polls L.offered asked told queries self.old)
+            (scene_of L.polls L.offered asked told queries self.new) log.old log.new }
+        ensures same { self.new ≡ record self.old {
+          wire = record self.old.wire {
+            said = self.new.wire.said;
+            unsent = self.new.wire.unsent;
+            room = self.new.wire.room;
+          };
+          stand = record self.old.stand { tap = self.new.stand.tap };
+          last = self.new.last;
+          events = self.new.events;
+        } }
+    {
+        let mut gave = self.take_one(at, rt, log)?;
+        while gave {
+            if self.wire.unsent() >= MAX_PDU {
+                return Ok(filled_or(filled, TurnEnd::Worked));
+            }
+            self.make_room()?;
+            gave = self.take_one(at, rt, log)?;
+        }
+        Ok(filled_or(filled, quiet_end(log.is_quiet())))
+    }
+
+    // Asks for leave, and in `Bound` asks the lane for requests.
     pub(crate) fn take_part<R: Wait, G: Gate>(
         &mut self,
         filled: bool,
@@ -312,8 +358,7 @@ impl<L: Link + Drop> UpstreamWorker<L> {
         if !bound {
             return Ok(filled_or(filled, quiet_end(log.is_quiet())));
         }
-        self.take_one(at, rt, log)?;
-        Ok(filled_or(filled, quiet_end(log.is_quiet())))
+        self.take_on(filled, at, rt, log)
     }
 
     // A turn, whose steps are written down.

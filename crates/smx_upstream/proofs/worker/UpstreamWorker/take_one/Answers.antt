@@ -1,30 +1,35 @@
-use Rattle.std.proofs.Common.{refl, sym, ap, ◌∙◌, subst}
+use Rattle.std.proofs.Common.{◌<◌, length, refl, sym, ap, ◌∙◌, subst}
 use Rattle.std.proofs.lemmas.List.{append-nil}
 use Rattle.smx_session.specs.Moments.{is_bound}
 use Rattle.smx_shared.specs.Serving.{Takes}
 use Rattle.smx_turns.specs.declared.step.Step.TheVariants.{Did}
 use Rattle.smx_upstream.specs.declared.event.Event.TheVariants.{Took}
-use Rattle.smx_upstream.specs.Phases.{MayTake, HasTried, unless_spent}
-use Rattle.smx_upstream.specs.Events.{is_spent_take}
+use Rattle.smx_upstream.specs.Phases.{MayTake, unless_spent, when_taken}
+use Rattle.smx_upstream.specs.Events.{gives, is_spent_take}
 use Rattle.smx_upstream.specs.Last.{last_taken}
 use Rattle.smx_turns.specs.Wires.{has_ended as has_link_ended}
 use Rattle.smx_turns.proofs.Breaking.{stays_bad}
 use Rattle.smx_upstream.proofs.Eventful.{did, goes_did, goes_on, writes_same}
 use Rattle.smx_upstream.proofs.Cells.{stepped, cell_took}
+use Rattle.smx_upstream.proofs.Growing.{grows}
 use Rattle.smx_upstream.proofs.worker.UpstreamWorker.take_one.Goals as goal
 
 pub invariant_of-self : goal.invariant_of-self
 invariant_of-self g c =
-    did _ _ (Took c.of.result) c.self.invariant c.note.ensures.events (ap (λ w. w.heard) c.note.ensures.same) refl c.note.ensures.said refl
+    did _ _ (Took c.of.result) c.self.invariant c.note-spent.ensures.events (ap (λ w. w.heard) c.note-spent.ensures.same) refl c.note-spent.ensures.said refl
     (ap (λ w. is_bound w.stand.session.state) c.self.view_is ∙ c.requires.bound, subst (λ r. Takes c.self.inside.tap.front c.take-taken.new.self.front c.self.inside.session.latest r) (sym c.of.ensures) (subst (λ n. Takes c.self.inside.tap.front c.take-taken.new.self.front n c.take-taken.result) c.latest.ensures c.take-taken.ensures.served), c.take-taken.ensures.same.0, refl)
-    (λ h. ap (λ w. w.failed) c.note.ensures.same ∙ c.self.invariant.goes_on h) (goes_on c.self.inside.ending) (stays_bad refl (ap (λ w. w.failed) c.note.ensures.same) (ap (λ w. w.rest) c.note.ensures.same)) (c.last_taken-self-inside.ensures ∙ ap (λ r. last_taken r c.self.inside.last) (sym c.of.ensures))
+    (λ h. ap (λ w. w.failed) c.note-spent.ensures.same ∙ c.self.invariant.goes_on h) (goes_on c.self.inside.ending) (stays_bad refl (ap (λ w. w.failed) c.note-spent.ensures.same) (ap (λ w. w.rest) c.note-spent.ensures.same)) (c.last_taken-self-inside.ensures ∙ ap (λ r. last_taken r c.self.inside.last) (sym c.of.ensures))
 
 pub returns-clause-goes : goal.returns-clause-goes
 returns-clause-goes g c = rw (← c.self.view_is)
-    (λ turn asked told queries. goes_did turn _ _ _ _ (Took c.of.result) c.note.ensures.log refl (sym (append-nil told)) (sym (append-nil queries)) c.note.ensures.events
-    (ap (λ w. is_bound w.stand.session.state) c.self.view_is ∙ c.requires.bound, subst (λ r. Takes c.self.inside.tap.front c.take-taken.new.self.front c.self.inside.session.latest r) (sym c.of.ensures) (subst (λ n. Takes c.self.inside.tap.front c.take-taken.new.self.front n c.take-taken.result) c.latest.ensures c.take-taken.ensures.served), c.take-taken.ensures.same.0, refl) (ap (λ w. g.L.Link.polls w.link) c.note.ensures.same) (record { fits = tt; same = writes_same c.note.ensures.unsent (ap (λ w. g.L.Link.offered w.link) c.note.ensures.same) (ap (λ w. has_link_ended (g.L.Link.polls w.link)) c.note.ensures.same) }))
+    (λ turn asked told queries. goes_did turn _ _ _ _ (Took c.of.result) c.note-spent.ensures.log refl (sym (append-nil told)) (sym (append-nil queries)) c.note-spent.ensures.events
+    (ap (λ w. is_bound w.stand.session.state) c.self.view_is ∙ c.requires.bound, subst (λ r. Takes c.self.inside.tap.front c.take-taken.new.self.front c.self.inside.session.latest r) (sym c.of.ensures) (subst (λ n. Takes c.self.inside.tap.front c.take-taken.new.self.front n c.take-taken.result) c.latest.ensures c.take-taken.ensures.served), c.take-taken.ensures.same.0, refl) (ap (λ w. g.L.Link.polls w.link) c.note-spent.ensures.same) (record { fits = tt; same = writes_same c.note-spent.ensures.unsent (ap (λ w. g.L.Link.offered w.link) c.note-spent.ensures.same) (ap (λ w. has_link_ended (g.L.Link.polls w.link)) c.note-spent.ensures.same) }))
 
 pub returns-clause-phase : goal.returns-clause-phase
-returns-clause-phase g c = λ t full was.
-    c.unless_spent.ensures.leads (HasTried full) _ (stepped t _ _ (Did (Took c.of.result)) (MayTake full) _ c.note.ensures.log (cell_took t full _) was
-    ∙ ap (λ b. unless_spent b (HasTried full)) (ap is_spent_take c.of.ensures ∙ sym c.is_spent_take-spent.ensures ∙ sym c.note.ensures.answer))
+returns-clause-phase g c = λ t full gave was.
+    c.gave_unless_spent.ensures.leads (when_taken full) _ (stepped t _ _ (Did (Took c.of.result)) (MayTake full gave) _ c.note-spent.ensures.log (cell_took t full gave _) was
+    ∙ ap (λ b. unless_spent b (when_taken full (gives c.of.result.value))) (ap is_spent_take c.of.ensures ∙ sym c.is_spent_take-spent.ensures ∙ sym c.note-spent.ensures.answer)
+    ∙ ap (λ b. unless_spent c.note-spent.result (when_taken full b)) (ap gives c.of.ensures ∙ sym c.gives-gave.ensures))
+
+pub returns-clause-more : goal.returns-clause-more
+returns-clause-more g c = rw (← c.self.view_is) (λ given. subst (λ us. length c.self.inside.wire.unsent < length us) (sym c.note-spent.ensures.unsent) (grows c.of.result.value _ (ap gives c.of.ensures ∙ sym c.gives-gave.ensures ∙ c.gave_unless_spent.ensures.ok given)))

@@ -1,11 +1,12 @@
-use Rattle.std.proofs.Common.{refl, sym, ap, ◌∙◌}
+use Rattle.std.proofs.Common.{false, refl, sym, ap, ◌∙◌, subst}
 use Rattle.smx_session.specs.Moments.{is_bound}
 use Rattle.smx_turns.specs.declared.gate.Point.TheVariants.{Taking}
 use Rattle.smx_turns.specs.declared.step.Step.TheVariants.{Asked}
-use Rattle.smx_upstream.specs.Phases.{Settled, MayTake, HasTried, when_may_take, quiet_end, filled_or, Refrained}
+use Rattle.smx_upstream.specs.Phases.{Settled, MayTake, IsTurn, phase_of, when_may_take, quiet_end, filled_or, Refrained}
+use Rattle.smx_upstream.specs.Quiet.{are_all_quiet}
 use Rattle.smx_turns.specs.Wires.{has_ended as has_link_ended}
 use Rattle.smx_upstream.proofs.Eventful.{goes_ask, goes_then, sides_same, writes_same}
-use Rattle.smx_upstream.proofs.Cells.{stepped, cell_taking, wanted, turn_err, waits_as, decided_so, refrained, ends_unbound, ends_tried}
+use Rattle.smx_upstream.proofs.Cells.{stepped, cell_taking, wanted, turn_err, waits_as, decided_so, refrained, ends_unbound}
 use Rattle.smx_upstream.proofs.worker.UpstreamWorker.take_part.Goals as goal
 
 pub returns-then-not-may-clause-goes : goal.returns-then-not-may-clause-goes
@@ -14,11 +15,8 @@ returns-then-not-may-clause-goes g c = λ queries. goes_ask c.args.turn _ _ _ _ 
 pub returns-then-not-bound-clause-goes : goal.returns-then-not-bound-clause-goes
 returns-then-not-bound-clause-goes g c = λ queries. goes_ask c.args.turn _ _ _ _ Taking c.ask-may.result c.ask-may.ensures.log (sides_same c.ask-may.ensures.asked c.ask-may.ensures.told refl (ap (λ w. w.events) c.make_room.ensures.same) (ap (λ w. w.stand) c.make_room.ensures.same) (ap (λ w. g.L.Link.polls w.wire.link) c.make_room.ensures.same)) c.requires.few (writes_same (ap (λ w. w.wire.unsent) c.make_room.ensures.same) (ap (λ w. g.L.Link.offered w.wire.link) c.make_room.ensures.same) (ap (λ w. has_link_ended (g.L.Link.polls w.wire.link)) c.make_room.ensures.same))
 
-pub returns-in_err-take_one-clause-goes : goal.returns-in_err-take_one-clause-goes
-returns-in_err-take_one-clause-goes g c = λ queries. goes_then c.args.turn _ _ _ _ _ _ (goes_ask c.args.turn _ _ _ _ Taking c.ask-may.result c.ask-may.ensures.log (sides_same c.ask-may.ensures.asked c.ask-may.ensures.told refl (ap (λ w. w.events) c.make_room.ensures.same) (ap (λ w. w.stand) c.make_room.ensures.same) (ap (λ w. g.L.Link.polls w.wire.link) c.make_room.ensures.same)) c.requires.few (writes_same (ap (λ w. w.wire.unsent) c.make_room.ensures.same) (ap (λ w. g.L.Link.offered w.wire.link) c.make_room.ensures.same) (ap (λ w. has_link_ended (g.L.Link.polls w.wire.link)) c.make_room.ensures.same))) (c.take_one.ensures.goes c.args.turn _ _ queries)
-
 pub returns-clause-goes : goal.returns-clause-goes
-returns-clause-goes g c = λ queries. goes_then c.args.turn _ _ _ _ _ _ (goes_ask c.args.turn _ _ _ _ Taking c.ask-may.result c.ask-may.ensures.log (sides_same c.ask-may.ensures.asked c.ask-may.ensures.told refl (ap (λ w. w.events) c.make_room.ensures.same) (ap (λ w. w.stand) c.make_room.ensures.same) (ap (λ w. g.L.Link.polls w.wire.link) c.make_room.ensures.same)) c.requires.few (writes_same (ap (λ w. w.wire.unsent) c.make_room.ensures.same) (ap (λ w. g.L.Link.offered w.wire.link) c.make_room.ensures.same) (ap (λ w. has_link_ended (g.L.Link.polls w.wire.link)) c.make_room.ensures.same))) (c.take_one.ensures.goes c.args.turn _ _ queries)
+returns-clause-goes g c = λ queries. goes_then c.args.turn _ _ _ _ _ _ (goes_ask c.args.turn _ _ _ _ Taking c.ask-may.result c.ask-may.ensures.log (sides_same c.ask-may.ensures.asked c.ask-may.ensures.told refl (ap (λ w. w.events) c.make_room.ensures.same) (ap (λ w. w.stand) c.make_room.ensures.same) (ap (λ w. g.L.Link.polls w.wire.link) c.make_room.ensures.same)) c.requires.few (writes_same (ap (λ w. w.wire.unsent) c.make_room.ensures.same) (ap (λ w. g.L.Link.offered w.wire.link) c.make_room.ensures.same) (ap (λ w. has_link_ended (g.L.Link.polls w.wire.link)) c.make_room.ensures.same))) (c.take_on.ensures.goes c.args.turn _ _ queries)
 
 pub returns-then-not-may-clause-phase : goal.returns-then-not-may-clause-phase
 returns-then-not-may-clause-phase g c = λ t was.
@@ -34,11 +32,7 @@ returns-then-not-bound-clause-phase g c = λ t was.
 
 pub returns-then-not-bound-clause-waits : goal.returns-then-not-bound-clause-waits
 returns-then-not-bound-clause-waits g c = λ t was.
-    waits_as _ (MayTake c.args.filled) _ _ (stepped t _ _ (Asked Taking c.ask-may.result) (Settled c.args.filled) _ c.ask-may.ensures.log (cell_taking t c.args.filled c.ask-may.result) was ∙ ap (when_may_take c.args.filled) c.if-not-may.false) tt
-
-pub returns-in_err-take_one-clause-phase : goal.returns-in_err-take_one-clause-phase
-returns-in_err-take_one-clause-phase g c = λ t was.
-    turn_err _ _ _ _ _ c.from_residual-in_err-take_one.ensures.0 c.from_residual-in_err-take_one.ensures.1 (c.in_err-take_one.ensures.phase t c.args.filled (stepped t _ _ (Asked Taking c.ask-may.result) (Settled c.args.filled) _ c.ask-may.ensures.log (cell_taking t c.args.filled c.ask-may.result) was ∙ ap (when_may_take c.args.filled) c.if-not-may.false))
+    waits_as _ (MayTake c.args.filled false) _ _ (stepped t _ _ (Asked Taking c.ask-may.result) (Settled c.args.filled) _ c.ask-may.ensures.log (cell_taking t c.args.filled c.ask-may.result) was ∙ ap (when_may_take c.args.filled) c.if-not-may.false) tt
 
 pub returns-in_err-make_room-clause-phase : goal.returns-in_err-make_room-clause-phase
 returns-in_err-make_room-clause-phase g c = λ t was.
@@ -46,13 +40,13 @@ returns-in_err-make_room-clause-phase g c = λ t was.
 
 pub returns-clause-phase : goal.returns-clause-phase
 returns-clause-phase g c = λ t was.
-    ends_tried _ _ c.args.filled _ _ (c.in_ok-take_one.ensures.phase t c.args.filled (stepped t _ _ (Asked Taking c.ask-may.result) (Settled c.args.filled) _ c.ask-may.ensures.log (cell_taking t c.args.filled c.ask-may.result) was ∙ ap (when_may_take c.args.filled) c.if-not-may.false))
-    (ap (λ w. is_bound w.stand.session.state) c.take_one.ensures.same ∙ ap (λ w. is_bound w.stand.session.state) (sym c.self.view_is) ∙ ap is_bound (sym c.state.ensures) ∙ sym c.is_bound-bound.ensures ∙ c.if-not-bound.false)
-    (c.filled_or-2.ensures ∙ ap (filled_or c.args.filled) (c.quiet_end-2.ensures ∙ ap quiet_end c.is_quiet-2.ensures))
+    subst (λ b. IsTurn b (are_all_quiet c.take_on.new.log) c.take_on.result (phase_of t c.take_on.new.log))
+    (sym (ap (λ w. is_bound w.stand.session.state) c.take_on.ensures.same ∙ ap (λ w. is_bound w.stand.session.state) (sym c.self.view_is) ∙ ap is_bound (sym c.state.ensures) ∙ sym c.is_bound-bound.ensures ∙ c.if-not-bound.false))
+    (c.take_on.ensures.phase t (stepped t _ _ (Asked Taking c.ask-may.result) (Settled c.args.filled) _ c.ask-may.ensures.log (cell_taking t c.args.filled c.ask-may.result) was ∙ ap (when_may_take c.args.filled) c.if-not-may.false))
 
 pub returns-clause-waits : goal.returns-clause-waits
 returns-clause-waits g c = λ t was.
-    waits_as _ (HasTried c.args.filled) _ _ (c.in_ok-take_one.ensures.phase t c.args.filled (stepped t _ _ (Asked Taking c.ask-may.result) (Settled c.args.filled) _ c.ask-may.ensures.log (cell_taking t c.args.filled c.ask-may.result) was ∙ ap (when_may_take c.args.filled) c.if-not-may.false)) tt
+    c.take_on.ensures.waits t (stepped t _ _ (Asked Taking c.ask-may.result) (Settled c.args.filled) _ c.ask-may.ensures.log (cell_taking t c.args.filled c.ask-may.result) was ∙ ap (when_may_take c.args.filled) c.if-not-may.false)
 
 pub returns-then-not-may-clause-decided : goal.returns-then-not-may-clause-decided
 returns-then-not-may-clause-decided g c = λ t was.
@@ -60,8 +54,8 @@ returns-then-not-may-clause-decided g c = λ t was.
 
 pub returns-then-not-bound-clause-decided : goal.returns-then-not-bound-clause-decided
 returns-then-not-bound-clause-decided g c = λ t was.
-    decided_so c.args.filled _ (MayTake c.args.filled) (stepped t _ _ (Asked Taking c.ask-may.result) (Settled c.args.filled) _ c.ask-may.ensures.log (cell_taking t c.args.filled c.ask-may.result) was ∙ ap (when_may_take c.args.filled) c.if-not-may.false) refl
+    decided_so c.args.filled _ (MayTake c.args.filled false) (stepped t _ _ (Asked Taking c.ask-may.result) (Settled c.args.filled) _ c.ask-may.ensures.log (cell_taking t c.args.filled c.ask-may.result) was ∙ ap (when_may_take c.args.filled) c.if-not-may.false) refl
 
 pub returns-clause-decided : goal.returns-clause-decided
 returns-clause-decided g c = λ t was.
-    decided_so c.args.filled _ (HasTried c.args.filled) (c.in_ok-take_one.ensures.phase t c.args.filled (stepped t _ _ (Asked Taking c.ask-may.result) (Settled c.args.filled) _ c.ask-may.ensures.log (cell_taking t c.args.filled c.ask-may.result) was ∙ ap (when_may_take c.args.filled) c.if-not-may.false)) refl
+    c.take_on.ensures.decided t (stepped t _ _ (Asked Taking c.ask-may.result) (Settled c.args.filled) _ c.ask-may.ensures.log (cell_taking t c.args.filled c.ask-may.result) was ∙ ap (when_may_take c.args.filled) c.if-not-may.false)
