@@ -5,6 +5,9 @@ ghost use Rattle.smx_upstream.specs.Ages.{new_age, next_turn, least_shift, time_
 use crate::event::Span;
 use std::cmp::Ord;
 
+// The most entries that a lane is turned over for.
+const MOST_ENTRIES: usize = 1_500;
+
 /// A worker's turns, how much its lane may store, and its response timer.
 #[derive(Clone, Copy, Debug, PartialEq, Eq)]
 pub(crate) struct Age {
@@ -48,10 +51,10 @@ impl Age {
         }
     }
 
-    // How many entries the lane is turned over for.
+    // How many entries the lane is turned over for: so few that they stay in the processor's cache.
     pub(crate) fn least_shift(self) -> usize
         ensures { result ≡ least_shift self }
     {
-        (self.history / 8).max(1)
+        (self.history / 8).min(MOST_ENTRIES).max(1)
     }
 }
