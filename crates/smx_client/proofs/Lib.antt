@@ -15,3 +15,4 @@ pub mod Entering
 pub mod Coursing
 pub mod Serving
 pub mod Faults
+pub mod Lengthening

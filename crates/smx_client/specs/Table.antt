@@ -50,7 +50,7 @@ pub data Phase : Type 0 where
   Written : Phase
   -- octets are left
   Left : Phase
-  -- the lanes below this one were held
+  -- the lanes below this one were asked for responses until they had none
   MayCollect : ℕ → Phase
   -- no answer waits
   Clear : Phase
@@ -186,8 +186,10 @@ from_boxing now false (Did (Fetched r d)) = if is_given_at now d then after_got 
 from_boxing now false (Marked NoRoom) = Clear
 from_boxing now false _ = Wrong
 
-abbrev pub after_collect : ℕ → {A : Type 0} → Result A Spent → Phase
-after_collect n (Ok found) = MayCollect (n + 1)
+-- a lane that gave a response may be asked again
+abbrev pub after_collect : ℕ → Result (Option Pdu) Spent → Phase
+after_collect n (Ok (Some p)) = MayCollect n
+after_collect n (Ok None) = MayCollect (n + 1)
 after_collect n (Err e) = Exhausted
 
 unfoldable pub from_collecting : Before → ℕ → step_of → Phase
@@ -411,9 +413,17 @@ abbrev pub IsOffered : Before → Phase → Result Bool Fault → Phase → Type
 IsOffered t p (Ok left) q = (wrote : Bool) × (q ≡ go t p (Marked (Offered wrote left)))
 IsOffered t p (Err e) q = (e ≡ fault.Link) × (q ≡ go t p (Marked WriteFailed))
 
-abbrev pub IsCollectedFrom : ℕ → Result (Unit {0}) Fault → Phase → Type 0
-IsCollectedFrom n (Ok _) p = p ≡ MayCollect (n + 1)
+-- a lane gave a response, or has none
+abbrev pub IsCollectedFrom : ℕ → Result Bool Fault → Phase → Type 0
+IsCollectedFrom n (Ok true) p = p ≡ MayCollect n
+IsCollectedFrom n (Ok false) p = p ≡ MayCollect (n + 1)
 IsCollectedFrom n (Err e) p = Faulted e p
+
+-- a lane was asked until as many octets wait as a PDU can have, or until it has none
+abbrev pub IsGathered : ℕ → Result Bool Fault → Phase → Type 0
+IsGathered n (Ok true) p = p ≡ Clogged
+IsGathered n (Ok false) p = p ≡ MayCollect (n + 1)
+IsGathered n (Err e) p = Faulted e p
 
 abbrev pub IsAt : Progress → Phase → Type 0
 IsAt progress.Settled p = p ≡ Settled

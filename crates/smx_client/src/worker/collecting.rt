@@ -1,9 +1,10 @@
-//! The first part of a turn: what waits is offered, and each lane is asked for a response.
+//! The first part of a turn: what waits is offered, and each lane is asked for its responses.
 ghost use Rattle.std.specs.Prelude.{◌≡◌, ◌≢◌, ◌≤◌, ◌<◌, ℕ, List, [], length, true, false, not, ◌==◌, None, Some, Ok, IfOk, OnOk, OnErr};
 ghost use Rattle.smx_shared.specs.Views.{locks_of};
 ghost use Rattle.smx_turns.specs.declared.directory.Query.{Query};
 ghost use Rattle.smx_client.specs.Scenes.{scene_of, Moves};
-ghost use Rattle.smx_client.specs.Table.{Before, Phase, phase_of, Written, MayCollect, after_collect, IsOffered, IsCollectedFrom, IsPart};
+ghost use Rattle.smx_client.specs.Events.{response_out};
+ghost use Rattle.smx_client.specs.Table.{Before, Phase, phase_of, Written, MayCollect, after_collect, IsOffered, IsCollectedFrom, IsGathered, IsPart};
 ghost use Rattle.smx_client.specs.Turns.{Leads};
 ghost use Rattle.smx_turns.specs.Wires.{some_wait};
 
@@ -35,12 +36,14 @@ fn differ(a: usize, b: usize) -> bool
     a != b
 }
 
-// How far a turn comes by what a lane gave.
-fn unless_spent(found: &Result<Option<Pdu>, Spent>) -> Result<(), Fault>
-    ensures { (lane : ℕ) → IsCollectedFrom lane result (after_collect lane found.now) }
+// How far a turn comes by what a lane gave: whether it gave a response.
+fn gave_unless_spent(found: &Result<Option<Pdu>, Spent>) -> Result<bool, Fault>
+    ensures phase { (lane : ℕ) → IsCollectedFrom lane result (after_collect lane found.now) }
+    ensures some { result ≡ Ok true → response_out found.now ≢ [] }
 {
     match found {
-        Ok(_) => Ok(()),
+        Ok(Some(_)) => Ok(true),
+        Ok(None) => Ok(false),
         Err(_) => Err(Fault::Spent),
     }
 }
@@ -90,14 +93,14 @@ impl<'d, L: Link + Drop> ClientWorker<'d, L> {
         self.wire.unsent() >= MAX_PDU
     }
 
-    // Asks a lane for the client's oldest response.
+    // Asks a lane for the client's oldest response. Whether it gave one.
     fn collect_one<R: Wait>(
         &mut self,
         at: &Exchange,
         rt: &R,
         lane: usize,
         log: &mut Log<Mark, Event>,
-    ) -> Result<(), Fault>
+    ) -> Result<bool, Fault>
         requires locks { locks_of self.old.port.fronts ≡ at.now }
         requires lane { lane < length self.old.port.fronts }
         requires room { 65536 ≤ self.old.wire.room }
@@ -105,6 +108,8 @@ impl<'d, L: Link + Drop> ClientWorker<'d, L> {
         ensures moves { Moves L.offered L.polls L.failures self.old log.old self.new log.new }
         ensures phase { (t : Before) → phase_of t log.old ≡ MayCollect lane
             → IsCollectedFrom lane result (phase_of t log.new) }
+        ensures more { result ≡ Ok true
+            → length self.old.wire.unsent < length self.new.wire.unsent }
         ensures locks { locks_of self.new.port.fronts ≡ locks_of self.old.port.fronts }
         ensures same { self.new ≡ record self.old {
           port = self.new.port;
@@ -120,10 +125,48 @@ impl<'d, L: Link + Drop> ClientWorker<'d, L> {
         let event = Event::Collected(lane, Snapshot::of(&found));
         let none = say_found(&mut self.wire, &found);
         note(&mut self.events, log, event, none);
-        unless_spent(&found)
+        gave_unless_spent(&found)
     }
 
-    // Asks for leave to collect, and asks each lane. `None` where the turn goes on.
+    // Asks a lane for the client's responses until it has none. True where as many octets wait as
+    // a PDU can have.
+    fn collect_lane<R: Wait>(
+        &mut self,
+        at: &Exchange,
+        rt: &R,
+        lane: usize,
+        log: &mut Log<Mark, Event>,
+    ) -> Result<bool, Fault>
+        requires locks { locks_of self.old.port.fronts ≡ at.now }
+        requires lane { lane < length self.old.port.fronts }
+        ensures moves { Moves L.offered L.polls L.failures self.old log.old self.new log.new }
+        ensures phase { (t : Before) → phase_of t log.old ≡ MayCollect lane
+            → IsGathered lane result (phase_of t log.new) }
+        ensures clogged { result ≡ Ok true → 65536 ≤ length self.new.wire.unsent }
+        ensures locks { locks_of self.new.port.fronts ≡ locks_of self.old.port.fronts }
+        ensures same { self.new ≡ record self.old {
+          port = self.new.port;
+          wire = record self.old.wire {
+            said = self.new.wire.said;
+            unsent = self.new.wire.unsent;
+            room = self.new.wire.room;
+          };
+          events = self.new.events;
+        } }
+    {
+        loop {
+            if self.is_clogged() {
+                mark(log, Mark::Full, true);
+                return Ok(true);
+            }
+            self.make_room()?;
+            if !self.collect_one(at, rt, lane, log)? {
+                return Ok(false);
+            }
+        }
+    }
+
+    // Asks for leave to collect, and collects from each lane. `None` where the turn goes on.
     pub(super) fn collect_part<R: Wait, G: Gate>(
         &mut self,
         at: &Exchange,
@@ -163,12 +206,9 @@ impl<'d, L: Link + Drop> ClientWorker<'d, L> {
         }
         let lanes = self.port.lanes();
         for lane in 0..lanes {
-            if self.is_clogged() {
-                mark(log, Mark::Full, true);
+            if self.collect_lane(at, rt, lane, log)? {
                 return Ok(Some(Progress::Clogged));
             }
-            self.make_room()?;
-            self.collect_one(at, rt, lane, log)?;
         }
         Ok(None)
     }

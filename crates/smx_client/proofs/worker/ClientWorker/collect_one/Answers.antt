@@ -1,4 +1,4 @@
-use Rattle.std.proofs.Common.{◌++◌, refl, sym, ap, ◌∙◌, subst}
+use Rattle.std.proofs.Common.{◌<◌, ◌++◌, length, refl, sym, ap, ◌∙◌, subst}
 use Rattle.std.proofs.lemmas.List.{append-nil}
 use Rattle.smx_link.specs.Wiring.{Wiring, spellings}
 use Rattle.smx_client.specs.declared.event.Event.TheVariants.{Collected}
@@ -6,6 +6,7 @@ use Rattle.smx_client.specs.Events.{response_out}
 use Rattle.smx_client.specs.Table.{IsCollectedFrom}
 use Rattle.smx_client.proofs.Cells.{collects}
 use Rattle.smx_client.proofs.Doings.{collected}
+use Rattle.smx_client.proofs.Lengthening.{lengthens}
 use Rattle.smx_client.proofs.Scenes.{happens}
 use Rattle.smx_turns.proofs.Breaking.{stays_bad}
 use Rattle.smx_client.proofs.Serving.{did, as_below, as_closed}
@@ -32,4 +33,8 @@ returns-clause-moves g c = rw (← c.self.view_is) (λ n asked told queries base
 
 pub returns-clause-phase : goal.returns-clause-phase
 returns-clause-phase g c = λ t was.
-    subst (λ p. IsCollectedFrom c.args.lane c.unless_spent.result p) (sym (c.note.ensures.phase t _ was ∙ collects t c.args.lane c.of.result _ c.of.ensures)) (c.unless_spent.ensures c.args.lane)
+    subst (λ p. IsCollectedFrom c.args.lane c.gave_unless_spent.result p) (sym (c.note.ensures.phase t _ was ∙ collects t c.args.lane c.of.result _ c.of.ensures)) (c.gave_unless_spent.ensures.phase c.args.lane)
+
+pub returns-clause-more : goal.returns-clause-more
+returns-clause-more g c = rw (← c.self.view_is) (λ gave.
+    subst (λ us. length c.self.inside.wire.unsent < length us) (sym c.say_found-none.ensures.spoke.unsent) (lengthens _ _ (c.gave_unless_spent.ensures.some gave)))
