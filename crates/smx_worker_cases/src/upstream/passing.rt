@@ -106,17 +106,17 @@ fn late_response_reaches_nobody(rt: HostRuntime) {
     lanes_after(&rt, rt.alloc(), setting, &LATE_STEPS);
 }
 
-// Two requests are queued. The first is taken, and fails with the link at its second read; nothing is
-// accepted while the lane is down. The next worker takes the second, and nothing again. Each tells of
-// the submit_sm that it sent itself.
+// A request is taken, and fails with the link at its second read; another is queued before the lane goes
+// down, and nothing is accepted while it is. The next worker takes the second, and nothing again. Each
+// tells of the submit_sm that it sent itself.
 const ANSWERING: [Piece; 2] = [(30, &BOUND), (64, &SECOND_RESPONSE)];
 
 const ANEW_STEPS: [Step; 13] = [
     Submits(Ok(0)),
-    Submits(Ok(0)),
     Last(None),
     Runs(0, 1_000, RunEnd::Fault(Fault::Link)),
     Last(Some((1, 4))),
+    Submits(Ok(0)),
     GoesOn(1, &[&BIND, &SUBMIT], &ANSWERING),
     Last(None),
     Collects(FAILED),
