@@ -1,8 +1,9 @@
 //! A stream of PDUs, as far as it has come.
 
-use crate::buffer::compact;
+use crate::buffer::{append, compact_within, lengthen, settle, widen};
 use crate::fault::FrameFault;
 use crate::front::{Front, front_of};
+use crate::spares::Spares;
 use crate::whole::decode_whole;
 use smx_pdu::Pdu;
 use std::alloc::{AllocError, Global};
@@ -14,14 +15,16 @@ use std::marker::Model;
 pub struct Framer {
     alloc: Global,
     octets: Vec<u8>,
-    // How many of the octets were handed out.
+    // How many of the octets were handed out, and how many were fed. Those behind are none of the stream.
     start: usize,
+    end: usize,
     max: u32,
     failed: Option<FrameFault>,
+    spares: Spares,
 }
 
 impl Model for Framer {
-    ghost use Rattle.std.specs.Prelude.{◌-◌, drop, vec_len, vec_capacity};
+    ghost use Rattle.std.specs.Prelude.{◌-◌, drop, take, vec_capacity};
     ghost use Rattle.smx_frame.specs.Stream.{Framing};
     ghost use Rattle.smx_frame.specs.Private.Fields.{IsFramer};
 
@@ -31,17 +34,17 @@ impl Model for Framer {
         record {
           stream = record {
             max = f.max;
-            rest = drop f.start f.octets.items;
+            rest = drop f.start (take f.end f.octets.items);
             failed = f.failed;
           };
-          room = vec_capacity f.octets - vec_len f.octets;
+          room = vec_capacity f.octets - f.end;
         } };
 
     ghost invariant = { IsFramer };
 }
 
 impl Framer {
-    ghost use Rattle.std.specs.Prelude.{◌≡◌, ◌+◌, ◌≤◌, ◌<◌, ◌++◌, ◌⊎◌, [], OnOk, OnErr, IfOk, IfErr, IfSome, IsOk, IsErrOf, is_some, length};
+    ghost use Rattle.std.specs.Prelude.{◌≡◌, ◌+◌, ◌≤◌, ◌<◌, ◌++◌, ◌⊎◌, [], None, OnOk, OnErr, IfOk, IfErr, IfSome, IsOk, IsErrOf, is_some, length, take, vec_len};
     ghost use Rattle.smx_frame.specs.Stream.{TakesFirst, BeginsFrame, HasNone, fault_at};
 
     /// A framer of PDUs with at most `max` octets each, their headers included. It takes no memory.
@@ -54,9 +57,26 @@ impl Framer {
             alloc,
             octets: Vec::new(alloc),
             start: 0,
+            end: 0,
             max,
             failed: None,
+            spares: Spares::new(alloc),
         }
+    }
+
+    /// From now on lists of so many bodies are kept that are given back, 16 where nothing is said.
+    pub fn keep(&mut self, most: usize)
+        ensures { self.new ≡ self.old }
+    {
+        self.spares.keep(most);
+    }
+
+    /// Gives a PDU back that is done with: where its list is kept, the body of a later one takes no
+    /// memory.
+    pub fn give_back(&mut self, pdu: Pdu)
+        ensures { self.new ≡ self.old }
+    {
+        self.spares.add(pdu.body.into_octets());
     }
 
     /// What was fed and not handed out: less than a PDU once [`Framer::next_pdu`] has answered
@@ -64,7 +84,7 @@ impl Framer {
     pub fn rest(&self) -> &[u8]
         ensures { result.now ≡ self.now.stream.rest }
     {
-        &self.octets[self.start..]
+        &self.octets[self.start..self.end]
     }
 
     /// Whether [`Framer::next_pdu`] has answered a bad length, which ends the stream.
@@ -82,8 +102,35 @@ impl Framer {
         ensures room { self.old.room ≤ self.new.room }
         ensures succeeds { octets ≤ self.old.room → IsOk result }
     {
-        compact(&mut self.octets, &mut self.start);
-        self.octets.reserve(octets)
+        compact_within(&mut self.octets, &mut self.start, &mut self.end);
+        widen(&mut self.octets, self.end, octets)
+    }
+
+    /// Lends the list of its octets, of which so many are those that are left; at least 4,096 more follow,
+    /// so that as many can be read there. Nothing is left here until the list is taken back.
+    pub fn lend(&mut self) -> (Vec<u8>, usize)
+        requires goes_on { self.old.stream.failed ≡ None }
+        requires room { 4096 ≤ self.old.room }
+        ensures rest { take result.1 result.0.items ≡ self.old.stream.rest }
+        ensures room { result.1 + 4096 ≤ vec_len result.0 }
+        ensures left { self.new.stream ≡ record self.old.stream { rest = [] } }
+    {
+        settle(&mut self.octets, &mut self.start, &mut self.end);
+        let end = std::mem::take(&mut self.end);
+        let mut octets = std::mem::replace(&mut self.octets, Vec::new(self.alloc));
+        lengthen(&mut octets, end);
+        (octets, end)
+    }
+
+    /// Takes a list of octets for its own, of which so many are left.
+    pub fn take_back(&mut self, octets: Vec<u8>, end: usize)
+        requires goes_on { self.old.stream.failed ≡ None }
+        requires within { end ≤ vec_len octets }
+        ensures { self.new.stream ≡ record self.old.stream { rest = take end octets.items } }
+    {
+        self.octets = octets;
+        self.start = 0;
+        self.end = end;
     }
 
     /// Takes the next piece of the stream. The fault is that which [`Framer::next_pdu`] has
@@ -103,14 +150,14 @@ impl Framer {
         if let Some(fault) = self.failed {
             return Err(fault);
         }
-        compact(&mut self.octets, &mut self.start);
-        match self.octets.extend_from_slice(piece) {
+        compact_within(&mut self.octets, &mut self.start, &mut self.end);
+        match append(&mut self.octets, &mut self.end, piece) {
             Ok(()) => Ok(()),
             Err(_) => Err(FrameFault::NoMemory),
         }
     }
 
-    /// The next whole PDU, where there is one. It allocates once, for the PDU's body. The first
+    /// The next whole PDU, where there is one. It allocates at most once, for the PDU's body. The first
     /// bad length is answered once the PDUs before it are out, as soon as its four octets stand
     /// there; from then on it is the answer of each call.
     pub fn next_pdu(&mut self) -> Result<Option<Pdu>, FrameFault>
@@ -137,8 +184,9 @@ impl Framer {
                 Err(fault)
             }
             Front::Whole(length) => {
+                let list = self.spares.list(self.alloc);
                 let (octets, _) = self.rest().split_at(length);
-                let Ok(pdu) = decode_whole(self.alloc, octets) else {
+                let Ok(pdu) = decode_whole(list, octets) else {
                     return Err(FrameFault::NoMemory);
                 };
                 self.start += length;

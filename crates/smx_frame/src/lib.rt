@@ -6,6 +6,7 @@ mod fault;
 mod framer;
 mod front;
 mod law;
+mod spares;
 mod whole;
 
 pub use buffer::compact;

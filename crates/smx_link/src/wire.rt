@@ -1,5 +1,5 @@
 //! PDUs over a link.
-ghost use Rattle.std.specs.Prelude.{◌≡◌, ℕ, ◌+◌, ◌<◌, ◌≤◌, ◌++◌, ◌⊎◌, [], ◌∷◌, length, IfOk, IfErr, IfSome, OnOk, IsTrue, ◌↔◌, Some, None, Ok, Err};
+ghost use Rattle.std.specs.Prelude.{◌≡◌, ℕ, ◌+◌, ◌<◌, ◌≤◌, ◌++◌, ◌⊎◌, [], ◌∷◌, length, IfOk, IfErr, IfSome, OnOk, IsTrue, ◌↔◌, Some, None, Ok, Err, drop, take, vec_len};
 ghost use Rattle.smx_pdu.specs.Pdu.{spelling};
 ghost use Rattle.smx_frame.specs.Stream.{TakesFirst, HasNone, fault_at};
 ghost use Rattle.smx_link.specs.Links.{fault_count};
@@ -61,6 +61,28 @@ impl<L: Link + Drop> Model for Wire<L> {
           intake = w.framer.room;
           room = vec_capacity w.waiting - vec_len w.waiting;
         }) };
+}
+
+// Reads once behind the first `end` octets, at most 4,096: the answer, and where the octets end then.
+fn read_behind<L: Link + Drop>(
+    link: &mut L,
+    octets: &mut Vec<u8>,
+    end: usize,
+) -> (Result<Polled, LinkFault>, usize)
+    requires room { end + MOST ≤ vec_len octets.old }
+    ensures within { result.1 ≤ vec_len octets.new }
+    ensures given { L.given link.new
+        ≡ L.given link.old ++ drop end (take result.1 octets.new.items) }
+    ensures kept { take end (take result.1 octets.new.items) ≡ take end octets.old.items }
+    ensures taken { L.taken link.new ≡ L.taken link.old }
+    ensures offered { L.offered link.new ≡ L.offered link.old }
+    ensures polls { L.polls link.new ≡ L.polls link.old ++ result.0 ∷ [] }
+    ensures failures { L.failures link.new ≡ L.failures link.old + fault_count result.0 }
+{
+    match link.poll_read(&mut octets[end..end + MOST]) {
+        Ok(Polled::Octets(count)) => (Ok(Polled::Octets(count)), end + count),
+        answer => (answer, end),
+    }
 }
 
 impl<L: Link + Drop> Wire<L> {
@@ -173,15 +195,10 @@ impl<L: Link + Drop> Wire<L> {
           intake = self.new.intake;
         } }
     {
-        let mut buffer = [0u8; MOST];
-        match self.link.poll_read(&mut buffer) {
-            Ok(Polled::Octets(count)) => match self.framer.feed(&buffer[..count]) {
-                Ok(()) => Ok(Polled::Octets(count)),
-                Err(_) => unreachable!(),
-            },
-            Ok(polled) => Ok(polled),
-            Err(fault) => Err(fault),
-        }
+        let (mut octets, end) = self.framer.lend();
+        let (answer, end) = read_behind(&mut self.link, &mut octets, end);
+        self.framer.take_back(octets, end);
+        answer
     }
 
     /// Hears the next whole PDU, where there is one. The fault is that of a bad length, which ends
@@ -211,6 +228,21 @@ impl<L: Link + Drop> Wire<L> {
             Ok(None) => Ok(None),
             Err(fault) => Err(fault),
         }
+    }
+
+    /// From now on the lists of so many bodies are kept that are given back, 16 where nothing is said.
+    pub fn keep(&mut self, most: usize)
+        ensures { self.new ≡ self.old }
+    {
+        self.framer.keep(most);
+    }
+
+    /// Gives a PDU back that is done with: where its list is kept, the body of a later one that is heard
+    /// takes no memory.
+    pub fn give_back(&mut self, pdu: Pdu)
+        ensures { self.new ≡ self.old }
+    {
+        self.framer.give_back(pdu);
     }
 
     /// What a wire keeps at every call.

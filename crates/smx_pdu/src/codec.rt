@@ -11,8 +11,40 @@ use std::alloc::{AllocError, Global};
 /// The most octets that a PDU has, its header included.
 pub const MAX_PDU: usize = 65_536;
 
+// The list with these octets alone.
+fn refilled(mut list: Vec<u8>, octets: &[u8]) -> Result<Vec<u8>, AllocError>
+    ensures items { IfOk result (λ list. list.items ≡ octets.now) }
+{
+    list.clear();
+    list.extend_from_slice(octets)?;
+    Ok(list)
+}
+
 /// Reads the one PDU that the octets spell (SMPP 3.4, section 3.2). It allocates once, for the body.
 pub fn decode(alloc: Global, octets: &[u8]) -> Result<Pdu, PduFault>
+    ensures found { IfOk result (λ p. Spells p octets.now) }
+    ensures short { IsErrOf result (PduFault.Short (length octets.now)) ↔ (length octets.now < 16) }
+    ensures length { IsErrOf result (PduFault.Length (length_field octets.now) (length octets.now))
+        ↔ ((16 ≤ length octets.now)
+        × ((length_field octets.now < 16) ⊎ (length_field octets.now ≢ length octets.now))) }
+    ensures too_long { IsErrOf result (PduFault.TooLong (length octets.now))
+        ↔ ((length_field octets.now ≡ length octets.now) × (65536 < length octets.now)) }
+
+    // What is spelled is read, unless memory runs out, which is said of nothing else.
+    ensures only { (p : _) → Spells p octets.now → (result ≡ Ok p)
+        ⊎ IsErrOf result PduFault.NoMemory }
+    ensures memory { IsErrOf result PduFault.NoMemory → IsSome (pdu_of octets.now) }
+
+    // The same, said by the function that reads octets.
+    ensures read { IfOk result (λ p. pdu_of octets.now ≡ Some p) }
+    ensures none { IfErr result (λ e. (e ≢ PduFault.NoMemory) → pdu_of octets.now ≡ None) }
+{
+    decode_into(Vec::new(alloc), octets)
+}
+
+/// The same, with the body in a list that is used again, whose octets go. It allocates only where the
+/// body has no room there.
+pub fn decode_into(list: Vec<u8>, octets: &[u8]) -> Result<Pdu, PduFault>
     ensures found { IfOk result (λ p. Spells p octets.now) }
     ensures short { IsErrOf result (PduFault.Short (length octets.now)) ↔ (length octets.now < 16) }
     ensures length { IsErrOf result (PduFault.Length (length_field octets.now) (length octets.now))
@@ -46,7 +78,7 @@ pub fn decode(alloc: Global, octets: &[u8]) -> Result<Pdu, PduFault>
     if length > MAX_PDU {
         return Err(PduFault::TooLong { octets: length });
     }
-    let Ok(body) = Vec::from_slice(alloc, &octets[16..]) else {
+    let Ok(body) = refilled(list, &octets[16..]) else {
         return Err(PduFault::NoMemory);
     };
     let Ok(body) = Body::new(body) else {

@@ -200,6 +200,27 @@ fn compacted(rt: HostRuntime) {
     }
 }
 
+// The end of a PDU is read into the list that is lent. The body of the next one, which is shorter, takes the
+// list that was given back.
+#[test]
+fn lent_and_given_back(rt: HostRuntime) {
+    let mut framer = Framer::new(rt.alloc(), 65_536);
+    framer.keep(1);
+    framer.feed(&SUBMIT[..20]).expect(&rt, "no fault is known");
+    framer.reserve(4_096).expect(&rt, "out of memory");
+    let (mut octets, end) = framer.lend();
+    assert_eq!(rt; framer.rest().len(), 0);
+    octets[end..end + 14].copy_from_slice(&SUBMIT[20..]);
+    framer.take_back(octets, end + 14);
+    let found = framer.next_pdu().expect(&rt, "out of memory");
+    let pdu = found.expect(&rt, "it is whole");
+    assert!(rt; pdu.body.as_slice() == &SUBMIT[16..]);
+    framer.give_back(pdu);
+    let nack = [0, 0, 0, 17, 0x80, 0, 0, 0, 0, 0, 0, 3, 0, 0, 0, 5, 9];
+    let rows = [Feed(&nack), Gives(0x8000_0000, 3, 5, &[9]), Waits(&[])];
+    play(&rt, &mut framer, &rows);
+}
+
 const FAULTS: [(FrameFault, &str); 3] = [
     (
         FrameFault::Below16,

@@ -1,5 +1,5 @@
 use Rattle.std.proofs.Common.{◌≡◌, ℕ, ◌+◌, List, length, drop, take, Option, Some, Err, refl, sym, ap, subst, ◌∙◌, arith, inr}
-use Rattle.std.proofs.lemmas.List.{length-drop, drop-drop}
+use Rattle.std.proofs.lemmas.List.{length-drop, length-take, drop-drop}
 use Rattle.smx_frame.specs.declared.fault.FrameFault.{FrameFault}
 use Rattle.smx_frame.specs.declared.front.Front.TheVariants.{Part, Bad, Whole}
 use Rattle.smx_pdu.specs.declared.pdu.Pdu.{Pdu}
@@ -15,9 +15,9 @@ made m r f = record { max = m; rest = r; failed = f }
 pub invariant_of-self : goal.invariant_of-self
 invariant_of-self c =
     let kept = c.self.invariant in
-    let rest : c.rest.result.now ≡ drop c.self.inside.start c.self.inside.octets.items = c.rest.ensures ∙ sym (ap (λ (s : Framing). s.stream.rest) c.self.view_is) in
+    let rest : c.rest.result.now ≡ drop c.self.inside.start (take c.self.inside.end c.self.inside.octets.items) = c.rest.ensures ∙ sym (ap (λ (s : Framing). s.stream.rest) c.self.view_is) in
     let bad = fault_front _ _ (Bad c.in-Bad.fault) (at c.in-Bad.ensures refl rest) in
-    record { within = kept.within; least = kept.least; most = kept.most; failed = λ e h. bad ∙ h }
+    record { order = kept.order; within = kept.within; least = kept.least; most = kept.most; failed = λ e h. bad ∙ h }
 
 pub returns-in-Part-clause-none : goal.returns-in-Part-clause-none
 returns-in-Part-clause-none c = λ _.
@@ -42,34 +42,35 @@ pub returns-in-Bad-clause-memory : goal.returns-in-Bad-clause-memory
 returns-in-Bad-clause-memory c = λ h. absurd (not_memory _ _ c.in-Bad.fault c.in-Bad.ensures cc)
 
 pub split_at-requires : goal.split_at-requires
-split_at-requires c = (whole_front _ _ _ (at (sym c.in-Whole.is ∙ c.front_of.ensures) refl (c.rest.ensures ∙ sym c.rest-in-Whole.ensures))).here
+split_at-requires c = (whole_front _ _ _ (at (sym c.in-Whole.is ∙ c.front_of.ensures) refl (c.rest.ensures ∙ sym (ap (λ (s : Framing). s.stream.rest) c.self.view_is) ∙ sym c.rest-in-Whole.ensures))).here
 
 pub decode_whole-requires-clause-least : goal.decode_whole-requires-clause-least
 decode_whole-requires-clause-least c =
-    let whole = whole_front _ _ _ (at (sym c.in-Whole.is ∙ c.front_of.ensures) refl (c.rest.ensures ∙ sym c.rest-in-Whole.ensures)) in
+    let whole = whole_front _ _ _ (at (sym c.in-Whole.is ∙ c.front_of.ensures) refl (c.rest.ensures ∙ sym (ap (λ (s : Framing). s.stream.rest) c.self.view_is) ∙ sym c.rest-in-Whole.ensures)) in
     let least = whole.least in
     omega (arith, c.split_at.ensures.front_len)
 
 pub decode_whole-requires-clause-most : goal.decode_whole-requires-clause-most
 decode_whole-requires-clause-most c =
-    let whole = whole_front _ _ _ (at (sym c.in-Whole.is ∙ c.front_of.ensures) refl (c.rest.ensures ∙ sym c.rest-in-Whole.ensures)) in
+    let whole = whole_front _ _ _ (at (sym c.in-Whole.is ∙ c.front_of.ensures) refl (c.rest.ensures ∙ sym (ap (λ (s : Framing). s.stream.rest) c.self.view_is) ∙ sym c.rest-in-Whole.ensures)) in
     let most = whole.most in
     omega (arith, c.split_at.ensures.front_len, c.self.invariant.most)
 
 pub decode_whole-requires-clause-field : goal.decode_whole-requires-clause-field
 decode_whole-requires-clause-field c =
-    let whole = whole_front _ _ _ (at (sym c.in-Whole.is ∙ c.front_of.ensures) refl (c.rest.ensures ∙ sym c.rest-in-Whole.ensures)) in
+    let whole = whole_front _ _ _ (at (sym c.in-Whole.is ∙ c.front_of.ensures) refl (c.rest.ensures ∙ sym (ap (λ (s : Framing). s.stream.rest) c.self.view_is) ∙ sym c.rest-in-Whole.ensures)) in
     subst (λ (bs : List ℕ). length_field bs ≡ length bs) (sym c.split_at.ensures.front) (whole_field _ _ _ whole)
 
-pub invariant_of-self-in-Whole : goal.invariant_of-self-in-Whole
-invariant_of-self-in-Whole c =
+pub invariant_of-self-in-Whole-2 : goal.invariant_of-self-in-Whole-2
+invariant_of-self-in-Whole-2 c =
     let kept = c.self.invariant in
-    let rest : c.rest.result.now ≡ drop c.self.inside.start c.self.inside.octets.items = c.rest.ensures ∙ sym (ap (λ (s : Framing). s.stream.rest) c.self.view_is) in
-    let e : Whole c.in-Whole.length ≡ front_of c.self.inside.max (drop c.self.inside.start c.self.inside.octets.items) = at (sym c.in-Whole.is ∙ c.front_of.ensures) refl rest in
+    let rest : c.rest.result.now ≡ drop c.self.inside.start (take c.self.inside.end c.self.inside.octets.items) = c.rest.ensures ∙ sym (ap (λ (s : Framing). s.stream.rest) c.self.view_is) in
+    let e : Whole c.in-Whole.length ≡ front_of c.self.inside.max (drop c.self.inside.start (take c.self.inside.end c.self.inside.octets.items)) = at (sym c.in-Whole.is ∙ c.front_of.ensures) refl rest in
     let here = (whole_front _ _ _ e).here in
     let within = kept.within in
+    let order = kept.order in
     let none = not_failed c.self.inside.failed _ kept.failed (fault_front _ _ (Whole c.in-Whole.length) e) in
-    record { within = omega (arith, length-drop c.self.inside.start c.self.inside.octets.items); least = kept.least; most = kept.most; failed = λ f h. absurd cc }
+    record { order = omega (arith, length-drop c.self.inside.start (take c.self.inside.end c.self.inside.octets.items), length-take c.self.inside.end c.self.inside.octets.items); within = within; least = kept.least; most = kept.most; failed = λ f h. absurd cc }
 
 pub returns-in-Ok-clause-some : goal.returns-in-Ok-clause-some
 returns-in-Ok-clause-some c =
@@ -77,13 +78,13 @@ returns-in-Ok-clause-some c =
     let rests = ap (λ (s : Framing). s.stream.rest) c.self.view_is in
     let fails = ap (λ (s : Framing). s.stream.failed) c.self.view_is in
     let e : Whole c.in-Whole.length ≡ front_of c.args.self.now.stream.max c.args.self.now.stream.rest = at (sym c.in-Whole.is ∙ c.front_of.ensures) most c.rest.ensures in
-    let inner : Whole c.in-Whole.length ≡ front_of c.self.inside.max (drop c.self.inside.start c.self.inside.octets.items) = at e (sym most) (sym rests) in
+    let inner : Whole c.in-Whole.length ≡ front_of c.self.inside.max (drop c.self.inside.start (take c.self.inside.end c.self.inside.octets.items)) = at e (sym most) (sym rests) in
     let none = not_failed c.self.inside.failed _ c.self.invariant.failed (fault_front _ _ (Whole c.in-Whole.length) inner) in
-    let text : c.split_at.result.0.now ≡ take c.in-Whole.length c.args.self.now.stream.rest = c.split_at.ensures.front ∙ ap (take c.in-Whole.length) c.rest-in-Whole.ensures in
+    let text : c.split_at.result.0.now ≡ take c.in-Whole.length c.args.self.now.stream.rest = c.split_at.ensures.front ∙ ap (take c.in-Whole.length) (c.rest-in-Whole.ensures ∙ ap (λ (s : Framing). s.stream.rest) c.self.view_is) in
     let spells = subst (λ (o : List ℕ). Spells c.in-Ok.pdu o) text c.in-Ok.ensures.ok in
-    let after : drop (c.self.inside.start + c.in-Whole.length) c.self.inside.octets.items ≡ drop c.in-Whole.length c.args.self.now.stream.rest = sym (drop-drop c.in-Whole.length c.self.inside.start c.self.inside.octets.items) ∙ ap (drop c.in-Whole.length) rests in (
+    let after : drop (c.self.inside.start + c.in-Whole.length) (take c.self.inside.end c.self.inside.octets.items) ≡ drop c.in-Whole.length c.args.self.now.stream.rest = sym (drop-drop c.in-Whole.length c.self.inside.start (take c.self.inside.end c.self.inside.octets.items)) ∙ ap (drop c.in-Whole.length) rests in (
       taken c.args.self.now.stream.max c.args.self.now.stream.rest c.in-Whole.length c.in-Ok.pdu _ (whole_front _ _ _ e) spells after,
-      ap (λ (m : ℕ). made m (drop (c.self.inside.start + c.in-Whole.length) c.self.inside.octets.items) c.self.inside.failed) most ∙ ap (made c.args.self.now.stream.max (drop (c.self.inside.start + c.in-Whole.length) c.self.inside.octets.items)) none,
+      ap (λ (m : ℕ). made m (drop (c.self.inside.start + c.in-Whole.length) (take c.self.inside.end c.self.inside.octets.items)) c.self.inside.failed) most ∙ ap (made c.args.self.now.stream.max (drop (c.self.inside.start + c.in-Whole.length) (take c.self.inside.end c.self.inside.octets.items))) none,
     )
 
 pub returns-in-Ok-clause-faults : goal.returns-in-Ok-clause-faults
@@ -99,5 +100,5 @@ returns-in_default-clause-faults c = λ f h.
 pub returns-in_default-clause-memory : goal.returns-in_default-clause-memory
 returns-in_default-clause-memory c = λ _.
     let e : Whole c.in-Whole.length ≡ front_of c.args.self.now.stream.max c.args.self.now.stream.rest = at (sym c.in-Whole.is ∙ c.front_of.ensures) (ap (λ (s : Framing). s.stream.max) c.self.view_is) c.rest.ensures in
-    let text : c.split_at.result.0.now ≡ take c.in-Whole.length c.args.self.now.stream.rest = c.split_at.ensures.front ∙ ap (take c.in-Whole.length) c.rest-in-Whole.ensures in
-    (begins _ _ _ (whole_front _ _ _ e) (subst (λ (o : List ℕ). (p : Pdu) × Spells p o) text c.in_default.ensures.err), refl)
+    let text : c.split_at.result.0.now ≡ take c.in-Whole.length c.args.self.now.stream.rest = c.split_at.ensures.front ∙ ap (take c.in-Whole.length) (c.rest-in-Whole.ensures ∙ ap (λ (s : Framing). s.stream.rest) c.self.view_is) in
+    (begins _ _ _ (whole_front _ _ _ e) (subst (λ (o : List ℕ). (p : Pdu) × Spells p o) text c.in_default.ensures.err), c.self.view_is)
