@@ -38,7 +38,7 @@ use Rattle.smx_frame.specs.Stream.{HasNone}
 use Rattle.smx_shared.specs.Views.{PortView}
 use Rattle.smx_turns.specs.Rounds.{last_end}
 use Rattle.smx_turns.proofs.Logged.{phase_push}
-use Rattle.smx_client.specs.Table.{Before, Phase, Opening, Written, MayCollect, Clear, Draining, MayRead, Hearing, Ageing, Looking, Gone, Deciding, MayBind, MayRefuse, Admitted, Barring, MaySubmit, Unentered, Settled, Stopped, Clogged, Closing, Ending, Over, Failed, Wrong, step_of, phase_of, go, from_opening, when_offered, when_written, halts, from_written, from_boxing, from_collecting, from_draining, from_clear, from_may_read, from_hearing, from_ageing, from_looking, from_deciding, from_admitted, from_barring, from_may_submit, from_entering, from_closing, is_same_leave, after_reply, after_got, after_collect, after_read, after_expired, is_given_at, after_look, after_bind, Faulted, EndsIn, Stands, IsAt}
+use Rattle.smx_client.specs.Table.{Before, Phase, Opening, AtLane, MayCollect, Clear, Draining, MayRead, Hearing, Ageing, Looking, Gone, Deciding, MayBind, MayRefuse, Admitted, Barring, MaySubmit, Unentered, Settled, Stopped, Clogged, Closing, Ending, Over, Failed, Wrong, step_of, phase_of, go, from_opening, when_offered, when_written, halts, from_lane, when_may_collect, from_boxing, from_collecting, from_draining, from_clear, from_may_read, from_hearing, from_ageing, from_looking, from_deciding, from_admitted, from_barring, from_may_submit, from_entering, from_closing, is_same_leave, after_reply, after_got, after_collect, after_read, after_expired, is_given_at, after_look, after_bind, Faulted, EndsIn, Stands, IsAt}
 
 -- one step more
 pub phase_more : (t : Before) (ss ss' : List step_of) (s : step_of) (p : Phase) → ss' ≡ ss ++ s ∷ [] → phase_of t ss ≡ p → phase_of t ss' ≡ go t p s
@@ -58,13 +58,9 @@ module _ (t : Before) where
   unfolding go from_opening
   unopened = refl
 
-  pub yes_collect : go t Written (Asked Collecting true) ≡ MayCollect 0
-  unfolding go from_written
-  yes_collect = refl
-
-  pub no_collect : go t Written (Asked Collecting false) ≡ Stopped
-  unfolding go from_written
-  no_collect = refl
+  pub asks_lane : (n : ℕ) (answer : Bool) → go t (AtLane n) (Asked (Collecting n) answer) ≡ when_may_collect n answer
+  unfolding go from_lane
+  asks_lane n answer = ap (λ b. if b then when_may_collect n answer else Wrong) (eq-eqb n n refl)
 
   pub clogs_collect : (n : ℕ) → go t (MayCollect n) (Marked Clogs) ≡ Clogged
   unfolding go from_collecting
@@ -79,8 +75,8 @@ module _ (t : Before) where
   puts_again b lane reply waits =
       ap (λ c. if c then from_boxing t.now b (Did (PutAgain lane reply)) else Wrong) (eq-eqb t.lanes t.lanes refl) ∙ ap (λ c. from_boxing t.now c (Did (PutAgain lane reply))) waits
 
-  pub boxed_again : (lane : ℕ) (reply : Reply) → t.parked ≡ true → go t (MayCollect t.lanes) (Did (PutAgain lane reply)) ≡ after_reply Clear reply
-  unfolding go from_collecting
+  pub boxed_again : (lane : ℕ) (reply : Reply) → t.parked ≡ true → go t (AtLane t.lanes) (Did (PutAgain lane reply)) ≡ after_reply Clear reply
+  unfolding go from_lane
   boxed_again lane reply waits = puts_again t.parked lane reply waits
 
   gets : (b : Bool) (r : Snapshot (Result (Got MoItem) BoxSpent)) (d : Delivery) → b ≡ false → is_given_at t.now d ≡ true → (if t.lanes == t.lanes then from_boxing t.now b (Did (Fetched r d)) else Wrong) ≡ after_got r.value d
@@ -89,17 +85,25 @@ module _ (t : Before) where
       ap (λ c. if c then from_boxing t.now b (Did (Fetched r d)) else Wrong) (eq-eqb t.lanes t.lanes refl) ∙ ap (λ c. from_boxing t.now c (Did (Fetched r d))) none
       ∙ ap (λ c. if c then after_got r.value d else Wrong) given
 
-  pub boxed_got : (r : Snapshot (Result (Got MoItem) BoxSpent)) (d : Delivery) → t.parked ≡ false → is_given_at t.now d ≡ true → go t (MayCollect t.lanes) (Did (Fetched r d)) ≡ after_got r.value d
-  unfolding go from_collecting
+  pub boxed_got : (r : Snapshot (Result (Got MoItem) BoxSpent)) (d : Delivery) → t.parked ≡ false → is_given_at t.now d ≡ true → go t (AtLane t.lanes) (Did (Fetched r d)) ≡ after_got r.value d
+  unfolding go from_lane
   boxed_got r d none given = gets t.parked r d none given
 
   full : (b : Bool) → b ≡ false → (if t.lanes == t.lanes then from_boxing t.now b (Marked NoRoom) else Wrong) ≡ Clear
   unfolding from_boxing
   full b none = ap (λ c. if c then from_boxing t.now b (Marked NoRoom) else Wrong) (eq-eqb t.lanes t.lanes refl) ∙ ap (λ c. from_boxing t.now c (Marked NoRoom)) none
 
-  pub boxed_full : t.parked ≡ false → go t (MayCollect t.lanes) (Marked NoRoom) ≡ Clear
-  unfolding go from_collecting
+  pub boxed_full : t.parked ≡ false → go t (AtLane t.lanes) (Marked NoRoom) ≡ Clear
+  unfolding go from_lane
   boxed_full none = full t.parked none
+
+  clogged : (b : Bool) → b ≡ false → (if t.lanes == t.lanes then from_boxing t.now b (Marked Clogs) else Wrong) ≡ Clogged
+  unfolding from_boxing
+  clogged b none = ap (λ c. if c then from_boxing t.now b (Marked Clogs) else Wrong) (eq-eqb t.lanes t.lanes refl) ∙ ap (λ c. from_boxing t.now c (Marked Clogs)) none
+
+  pub boxed_clogged : t.parked ≡ false → go t (AtLane t.lanes) (Marked Clogs) ≡ Clogged
+  unfolding go from_lane
+  boxed_clogged none = clogged t.parked none
 
   pub drained_again : (lane : ℕ) (reply : Reply) → go t Draining (Did (PutAgain lane reply)) ≡ after_reply (Deciding true) reply
   unfolding go from_draining

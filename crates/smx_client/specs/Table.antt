@@ -46,11 +46,11 @@ use Rattle.smx_client.specs.Events.{act_worth, is_unanswered}
 pub data Phase : Type 0 where
   -- nothing was done yet
   Opening : Phase
-  -- what waited was written
-  Written : Phase
   -- octets are left
   Left : Phase
-  -- the lanes below this one were asked for responses until they had none
+  -- what waited was written, and each lane below this one was asked for responses until it had none, or passed over
+  AtLane : ℕ → Phase
+  -- the gate said yes to responses of this lane
   MayCollect : ℕ → Phase
   -- no answer waits
   Clear : Phase
@@ -121,7 +121,7 @@ when_drained false = Deciding true
 
 -- where a turn stands once what waited was written
 abbrev pub when_written : Before → Stage → Phase
-when_written t Open = Written
+when_written t Open = AtLane 0
 when_written t Drained = when_drained t.parked
 when_written t Closed = Over
 
@@ -139,11 +139,6 @@ unfoldable pub from_opening : Before → step_of → Phase
 from_opening t (Marked (Offered wrote left)) = when_offered t left
 from_opening t (Marked WriteFailed) = Failed
 from_opening t _ = Wrong
-
-unfoldable pub from_written : step_of → Phase
-from_written (Asked Collecting true) = MayCollect 0
-from_written (Asked Collecting false) = Stopped
-from_written _ = Wrong
 
 -- what becomes of a turn by an answer to a message
 abbrev pub after_reply : Phase → Reply → Phase
@@ -184,18 +179,28 @@ from_boxing now true (Did (PutAgain lane reply)) = after_reply Clear reply
 from_boxing now true _ = Wrong
 from_boxing now false (Did (Fetched r d)) = if is_given_at now d then after_got r.value d else Wrong
 from_boxing now false (Marked NoRoom) = Clear
+from_boxing now false (Marked Clogs) = Clogged
 from_boxing now false _ = Wrong
+
+-- a lane to which the gate says no is passed over
+abbrev pub when_may_collect : ℕ → Bool → Phase
+when_may_collect n true = MayCollect n
+when_may_collect n false = AtLane (n + 1)
+
+unfoldable pub from_lane : Before → ℕ → step_of → Phase
+from_lane t n (Asked (Collecting k) answer) = if k == n then when_may_collect n answer else Wrong
+from_lane t n s = if n == t.lanes then from_boxing t.now t.parked s else Wrong
 
 -- a lane that gave a response may be asked again
 abbrev pub after_collect : ℕ → Result (Option Pdu) Spent → Phase
 after_collect n (Ok (Some p)) = MayCollect n
-after_collect n (Ok None) = MayCollect (n + 1)
+after_collect n (Ok None) = AtLane (n + 1)
 after_collect n (Err e) = Exhausted
 
-unfoldable pub from_collecting : Before → ℕ → step_of → Phase
-from_collecting t n (Marked Clogs) = Clogged
-from_collecting t n (Did (Collected k r)) = if k == n then after_collect n r.value else Wrong
-from_collecting t n s = if n == t.lanes then from_boxing t.now t.parked s else Wrong
+unfoldable pub from_collecting : ℕ → step_of → Phase
+from_collecting n (Marked Clogs) = Clogged
+from_collecting n (Did (Collected k r)) = if k == n then after_collect n r.value else Wrong
+from_collecting n _ = Wrong
 
 unfoldable pub from_draining : step_of → Phase
 from_draining (Did (PutAgain lane reply)) = after_reply (Deciding true) reply
@@ -340,8 +345,8 @@ from_closing _ = Wrong
 -- the table of a client's turn
 unfoldable pub go : Before → Phase → step_of → Phase
 go t Opening s = from_opening t s
-go t Written s = from_written s
-go t (MayCollect n) s = from_collecting t n s
+go t (AtLane n) s = from_lane t n s
+go t (MayCollect n) s = from_collecting n s
 go t Clear s = from_clear s
 go t Draining s = from_draining s
 go t MayRead s = from_may_read t t.settled s
@@ -416,13 +421,13 @@ IsOffered t p (Err e) q = (e ≡ fault.Link) × (q ≡ go t p (Marked WriteFaile
 -- a lane gave a response, or has none
 abbrev pub IsCollectedFrom : ℕ → Result Bool Fault → Phase → Type 0
 IsCollectedFrom n (Ok true) p = p ≡ MayCollect n
-IsCollectedFrom n (Ok false) p = p ≡ MayCollect (n + 1)
+IsCollectedFrom n (Ok false) p = p ≡ AtLane (n + 1)
 IsCollectedFrom n (Err e) p = Faulted e p
 
--- a lane was asked until as many octets wait as a PDU can have, or until it has none
+-- a lane was asked until as many octets wait as a PDU can have, or until it has none, or passed over
 abbrev pub IsGathered : ℕ → Result Bool Fault → Phase → Type 0
 IsGathered n (Ok true) p = p ≡ Clogged
-IsGathered n (Ok false) p = p ≡ MayCollect (n + 1)
+IsGathered n (Ok false) p = p ≡ AtLane (n + 1)
 IsGathered n (Err e) p = Faulted e p
 
 abbrev pub IsAt : Progress → Phase → Type 0

@@ -44,17 +44,18 @@ pub(crate) fn say_some<L: Link + Drop>(wire: &mut Wire<L>, said: &Option<Pdu>)
     }
 }
 
-// Says the response that was found, where there is one. True where there is none.
+// Says the response that was found, where there is one, and gives it back. True where there is none.
 pub(crate) fn say_found<L: Link + Drop>(
     wire: &mut Wire<L>,
-    found: &Result<Option<Pdu>, Spent>,
+    found: Result<Option<Pdu>, Spent>,
 ) -> bool
     requires room { 65536 ≤ wire.old.room }
-    ensures spoke { Spoke wire.old wire.new (response_out found.now) }
-    ensures none { result ≡ is_none_found found.now }
+    ensures spoke { Spoke wire.old wire.new (response_out found) }
+    ensures none { result ≡ is_none_found found }
 {
     if let Ok(Some(response)) = found {
-        say_one(wire, response);
+        say_one(wire, &response);
+        wire.give_back(response);
         return false;
     }
     say_none(wire);

@@ -80,9 +80,10 @@ impl<'d> Guest<'d> {
     }
 
     // What a turn of its worker may do.
-    fn allowed(&self, now: u64) -> ClientTurn {
+    fn allowed(&self, now: u64, slot: usize) -> ClientTurn {
         ClientTurn {
             client: self.client,
+            slot,
             may_read: !self.refusals.is_over(),
             may_refuse: self.refusals.may_refuse(now),
         }
@@ -116,7 +117,8 @@ impl<'d> Guest<'d> {
             &mut queues.schedule,
             &addresses.roll,
             &mut addresses.ledger,
-            self.allowed(now),
+            &mut addresses.hints,
+            self.allowed(now, slot),
         );
         let mut guide = Guide::new(&mut addresses.routes, &addresses.roll);
         let mut gate = Counted {

@@ -56,6 +56,7 @@ fn lane_bell<'a>(queues: &'a mut Queues, addresses: &'a mut Addresses) -> LaneBe
         &mut queues.schedule,
         &addresses.roll,
         &mut addresses.ledger,
+        &mut addresses.hints,
     )
 }
 

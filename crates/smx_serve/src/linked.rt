@@ -119,6 +119,7 @@ impl Linked {
             &mut queues.schedule,
             &addresses.roll,
             &mut addresses.ledger,
+            &mut addresses.hints,
         );
         let mut guide = Guide::new(&mut addresses.routes, &addresses.roll);
         let mut gate = Counted {

@@ -106,7 +106,7 @@ fn tables_of(
     let events = Events::with_capacity(alloc, 512)?;
     let queues = Queues::new(alloc, lanes, slots)?;
     let limits = limits_of(alloc, config)?;
-    let addresses = Addresses::new(alloc, slots, limits.as_slice())?;
+    let addresses = Addresses::new(alloc, slots, lanes, limits.as_slice())?;
     Ok(Tables {
         events,
         queues,

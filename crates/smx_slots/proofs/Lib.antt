@@ -1,4 +1,5 @@
 pub mod Counting
+pub mod Hinting
 pub mod Joining
 pub mod Moving
 pub mod Pairs

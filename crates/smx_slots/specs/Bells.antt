@@ -39,7 +39,7 @@ Answers turn (point.Binding index) old answer new = Binds turn.client index old 
 Answers turn point.Refusing old answer new = (answer ≡ (turn.may_refuse && not old.refused)) × (new ≡ record old { refused = old.refused || answer })
 Answers turn point.Admitting old answer new = (answer ≡ may_request turn.client (account_of turn.client old.book.movements) old.book) × (new ≡ old)
 Answers turn point.Submitting old answer new = (answer ≡ true) × (new ≡ old)
-Answers turn point.Collecting old answer new = (answer ≡ true) × (new ≡ old)
+Answers turn (point.Collecting lane) old answer new = new ≡ old
 Answers turn point.Taking old answer new = (answer ≡ true) × (new ≡ old)
 
 -- the ledger after a party was told in a turn of a lane's worker: a request of the party is settled

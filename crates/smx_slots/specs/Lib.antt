@@ -1,4 +1,5 @@
 pub mod Bells
+pub mod Hints
 pub mod Ledger
 pub mod Lines
 pub mod Rolls

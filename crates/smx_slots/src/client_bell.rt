@@ -1,9 +1,12 @@
 //! What a turn of a client's worker asks and tells the loop.
-ghost use Rattle.std.specs.Prelude.{◌≡◌, ◌++◌, ◌∷◌, [], ◌&&◌, ◌||◌, Some, None, true, false, not};
+ghost use Rattle.std.specs.Prelude.{◌≡◌, ◌++◌, ◌∷◌, [], ◌&&◌, ◌||◌, ℕ, Some, None, true, false, not};
+ghost use Rattle.smx_turns.specs.declared.gate.Point.TheVariants.{Collecting};
 ghost use Rattle.smx_slots.specs.Schedules.{with_ready};
+ghost use Rattle.smx_slots.specs.Hints.{has_hint, with_hint, hinted_by, emptied_by, leave_by};
 ghost use Rattle.smx_slots.specs.Rolls.{slot_of};
 ghost use Rattle.smx_slots.specs.Bells.{visit, may_bind_at, bound_at, Answers, book_after, party_number, has_told};
 
+use crate::hints::Hints;
 use crate::ledger::Ledger;
 use crate::parties::party_number;
 use crate::roll::Roll;
@@ -11,24 +14,30 @@ use crate::schedule::Schedule;
 use smx_trace::Trace;
 use smx_turns::{Gate, Party, Point, Question};
 
-/// A turn of a client's worker: whose it is, whether it may read, and whether a bind of it may be refused.
+/// A turn of a client's worker: whose it is, which slot that has, whether it may read, and whether a bind of
+/// it may be refused.
 #[derive(Clone, Copy, Debug, PartialEq, Eq)]
 pub struct ClientTurn {
     pub client: u64,
+    pub slot: usize,
     pub may_read: bool,
     pub may_refuse: bool,
 }
 
 /// Lets a client's worker go on, and notes who has something to do, and which requests are under way.
 /// Parties are numbered: the lanes, then the clients' slots. It asks the ledger whether the client may be
-/// bound and may have one more request under way, and it refuses one bind in a turn at most.
+/// bound and may have one more request under way, it refuses one bind in a turn at most, and it lets the
+/// worker collect from the lanes of which its client was told since that found them empty.
 #[derive(Drop)]
 pub struct ClientBell<'a> {
     lanes: usize,
     schedule: &'a mut Schedule,
     roll: &'a Roll,
     ledger: &'a mut Ledger,
+    hints: &'a mut Hints,
     turn: ClientTurn,
+    // From which lane the worker has leave to collect, and in which of its turns.
+    leave: Option<(usize, u64)>,
     account: Option<usize>,
     refused: bool,
     lacked: bool,
@@ -44,9 +53,11 @@ impl<'a> ClientBell<'a> {
         schedule: &'a mut Schedule,
         roll: &'a Roll,
         ledger: &'a mut Ledger,
+        hints: &'a mut Hints,
         turn: ClientTurn,
     ) -> ClientBell<'a>
         ensures turn { (result.turn ≡ turn) × (result.lanes ≡ lanes) }
+        ensures hints { (result.hints.now ≡ hints.old) × (result.leave ≡ None) }
         ensures begins { visit result.ledger.now result.account result.refused result.lacked
             ≡ visit ledger.old None false false }
         ensures parties { (result.schedule.now ≡ schedule.old) × (result.roll.now ≡ roll.now) }
@@ -57,7 +68,9 @@ impl<'a> ClientBell<'a> {
             schedule,
             roll,
             ledger,
+            hints,
             turn,
+            leave: None,
             account: None,
             refused: false,
             lacked: false,
@@ -147,6 +160,27 @@ fn refuse(refused: &mut bool, may_refuse: bool) -> bool
     true
 }
 
+// Of the lane from which the worker had leave to collect there is no hint, where this turn goes on.
+fn empty(hints: &mut Hints, leave: Option<(usize, u64)>, slot: usize, turn: u64)
+    ensures { hints.new ≡ emptied_by slot turn leave hints.old }
+{
+    if let Some((lane, then_turn)) = leave {
+        if then_turn == turn {
+            hints.set(slot, lane, false);
+        }
+    }
+}
+
+// From which lane the worker has leave to collect, where this is the answer at this point.
+fn leave_by(turn: u64, point: Point, answer: bool) -> Option<(usize, u64)>
+    ensures { result ≡ leave_by turn point answer }
+{
+    match point {
+        Point::Collecting(lane) if answer => Some((lane, turn)),
+        _ => None,
+    }
+}
+
 impl Gate for ClientBell<'_> {
     ghost asked = { λ b. b.asked };
 
@@ -163,15 +197,24 @@ impl Gate for ClientBell<'_> {
             (visit self.old.ledger.now self.old.account self.old.refused self.old.lacked)
             result
             (visit self.new.ledger.now self.new.account self.new.refused self.new.lacked) }
+
+        // A lane is collected from just where there is a hint, which goes once the turn asks again.
+        ensures hinted { (lane : ℕ) → point ≡ Collecting lane
+            → result ≡ has_hint self.old.turn.slot lane self.new.hints.now }
+        ensures hints { self.new.hints.now
+            ≡ emptied_by self.old.turn.slot turn self.old.leave self.old.hints.now }
+        ensures leave { self.new.leave ≡ leave_by turn point result }
         ensures turn { (self.new.turn ≡ self.old.turn) × (self.new.lanes ≡ self.old.lanes) }
         ensures parties { (self.new.schedule.now ≡ self.old.schedule.now)
             × (self.new.roll.now ≡ self.old.roll.now) }
     {
         let ClientTurn {
             client,
+            slot,
             may_read,
             may_refuse,
         } = self.turn;
+        empty(self.hints, self.leave, slot, turn);
         let answer = match point {
             Point::Reading => may_read,
             Point::Binding(account) => bind(
@@ -183,8 +226,10 @@ impl Gate for ClientBell<'_> {
             ),
             Point::Refusing => refuse(&mut self.refused, may_refuse),
             Point::Admitting => self.ledger.admits(client),
-            Point::Submitting | Point::Collecting | Point::Taking => true,
+            Point::Collecting(lane) => self.hints.has(slot, lane),
+            Point::Submitting | Point::Taking => true,
         };
+        self.leave = leave_by(turn, point, answer);
         self.asked = self.asked.and(&Question {
             point,
             turn,
@@ -202,11 +247,13 @@ impl Gate for ClientBell<'_> {
         ensures counts { self.new.ledger.now
             ≡ book_after self.old.turn.client party self.old.ledger.now }
         ensures turn { (self.new.turn ≡ self.old.turn) × (self.new.lanes ≡ self.old.lanes) }
-        ensures roll { self.new.roll.now ≡ self.old.roll.now }
+        ensures hints { self.new.hints.now
+            ≡ hinted_by (slot_of self.old.roll.now.rows) party self.old.hints.now }
+        ensures roll { (self.new.roll.now ≡ self.old.roll.now) × (self.new.leave ≡ self.old.leave) }
         ensures answers { (self.new.account ≡ self.old.account)
             × (self.new.refused ≡ self.old.refused) × (self.new.lacked ≡ self.old.lacked) }
     {
-        let number = party_number(self.lanes, self.roll, party);
+        let number = party_number(self.lanes, self.roll, self.hints, party);
         self.schedule.add(number);
         count(self.ledger, self.turn.client, party);
         self.told = self.told.and(&party);

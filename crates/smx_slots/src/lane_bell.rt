@@ -1,9 +1,11 @@
 //! What a turn of a lane's worker asks and tells the loop.
 ghost use Rattle.std.specs.Prelude.{◌≡◌, ◌++◌, ◌∷◌, [], true};
 ghost use Rattle.smx_slots.specs.Schedules.{with_ready};
+ghost use Rattle.smx_slots.specs.Hints.{hinted_by};
 ghost use Rattle.smx_slots.specs.Rolls.{slot_of};
 ghost use Rattle.smx_slots.specs.Bells.{settled_by, party_number, has_told};
 
+use crate::hints::Hints;
 use crate::ledger::Ledger;
 use crate::parties::party_number;
 use crate::roll::Roll;
@@ -11,14 +13,15 @@ use crate::schedule::Schedule;
 use smx_trace::Trace;
 use smx_turns::{Gate, Party, Point, Question};
 
-/// Lets a lane's worker go on at each point, and notes who has something to do, and which requests are
-/// settled. Parties are numbered: the lanes, then the clients' slots.
+/// Lets a lane's worker go on at each point, and notes who has something to do, on which lanes something
+/// waits for a client, and which requests are settled. Parties are numbered: the lanes, then the clients' slots.
 #[derive(Drop)]
 pub struct LaneBell<'a> {
     lanes: usize,
     schedule: &'a mut Schedule,
     roll: &'a Roll,
     ledger: &'a mut Ledger,
+    hints: &'a mut Hints,
     asked: Trace<Question>,
     told: Trace<Party>,
     rang: bool,
@@ -31,8 +34,10 @@ impl<'a> LaneBell<'a> {
         schedule: &'a mut Schedule,
         roll: &'a Roll,
         ledger: &'a mut Ledger,
+        hints: &'a mut Hints,
     ) -> LaneBell<'a>
         ensures lanes { result.lanes ≡ lanes }
+        ensures hints { result.hints.now ≡ hints.old }
         ensures ledger { result.ledger.now ≡ ledger.old }
         ensures parties { (result.schedule.now ≡ schedule.old) × (result.roll.now ≡ roll.now) }
         ensures traces { (result.asked ≡ []) × (result.told ≡ []) }
@@ -42,6 +47,7 @@ impl<'a> LaneBell<'a> {
             schedule,
             roll,
             ledger,
+            hints,
             asked: Trace::new(),
             told: Trace::new(),
             rang: false,
@@ -80,6 +86,7 @@ impl Gate for LaneBell<'_> {
         ensures told { self.new.told ≡ self.old.told }
         ensures answer { result ≡ true }
         ensures counts { self.new.ledger.now ≡ self.old.ledger.now }
+        ensures hints { self.new.hints.now ≡ self.old.hints.now }
         ensures lanes { self.new.lanes ≡ self.old.lanes }
         ensures parties { (self.new.schedule.now ≡ self.old.schedule.now)
             × (self.new.roll.now ≡ self.old.roll.now) }
@@ -99,10 +106,12 @@ impl Gate for LaneBell<'_> {
             ≡ with_ready (party_number self.old.lanes (slot_of self.old.roll.now.rows) party)
             self.old.schedule.now }
         ensures counts { self.new.ledger.now ≡ settled_by party self.old.ledger.now }
+        ensures hints { self.new.hints.now
+            ≡ hinted_by (slot_of self.old.roll.now.rows) party self.old.hints.now }
         ensures lanes { self.new.lanes ≡ self.old.lanes }
         ensures roll { self.new.roll.now ≡ self.old.roll.now }
     {
-        let number = party_number(self.lanes, self.roll, party);
+        let number = party_number(self.lanes, self.roll, self.hints, party);
         self.schedule.add(number);
         count(self.ledger, party);
         self.told = self.told.and(&party);

@@ -16,8 +16,9 @@ pub enum Point {
     Admitting,
     /// Before it submits a request to a lane.
     Submitting,
-    /// Before it collects responses from the lanes.
-    Collecting,
+    /// Before it collects responses from the lane with this index, until that has none to give. Where the
+    /// answer is no it passes the lane over.
+    Collecting(usize),
     /// Before it takes a request from a lane.
     Taking,
 }

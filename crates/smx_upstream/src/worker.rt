@@ -139,6 +139,9 @@ impl<L: Link + Drop> Model for UpstreamWorker<L> {
     }) };
 }
 
+/// How many lists of bodies are kept to be used again: as many as requests can be unanswered.
+const LISTS: usize = 1_024;
+
 // Writes down an event that sends nothing.
 pub(crate) fn jot(event: Event, quiet: bool, events: &mut Trace<Event>, log: &mut Log<Mark, Event>)
     requires quiet { quiet ≡ is_quiet_event event }
@@ -165,6 +168,15 @@ pub(crate) fn send<L: Link + Drop>(sent: &Option<Pdu>, wire: &mut Wire<L>)
     }
 }
 
+// Gives a PDU back that was said, where there is one.
+fn give_back<L: Link + Drop>(sent: Option<Pdu>, wire: &mut Wire<L>)
+    ensures { wire.new ≡ wire.old }
+{
+    if let Some(pdu) = sent {
+        wire.give_back(pdu);
+    }
+}
+
 // Writes down an event, says what it sends, and hands back what its caller learns.
 pub(crate) fn note<L: Link + Drop, A: Drop>(
     outcome: Outcome<Event, A>,
@@ -188,7 +200,20 @@ pub(crate) fn note<L: Link + Drop, A: Drop>(
 {
     send(&outcome.sent, wire);
     jot(outcome.event, outcome.quiet, events, log);
+    give_back(outcome.sent, wire);
     outcome.answer
+}
+
+// A wire over a link that keeps so many lists.
+fn wire_over<L: Link + Drop>(alloc: Global, link: L) -> Wire<L>
+    ensures link { (result.link ≡ link) × (result.start ≡ link) }
+    ensures none { (result.heard ≡ []) × (result.said ≡ []) }
+    ensures octets { (result.rest ≡ []) × (result.unsent ≡ []) }
+    ensures failed { result.failed ≡ None }
+{
+    let mut wire = Wire::new(alloc, link);
+    wire.keep(LISTS);
+    wire
 }
 
 // Lets all that waits go.
@@ -234,7 +259,7 @@ impl<L: Link + Drop> UpstreamWorker<L> {
             senders,
             mut owed,
         } = parts;
-        let mut wire = Wire::new(alloc, link);
+        let mut wire = wire_over(alloc, link);
         if wire.make_room().is_err() {
             let link = wire.into_link();
             return Err(Parts {

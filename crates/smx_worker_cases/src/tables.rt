@@ -2,8 +2,8 @@
 
 use smx_routes::{RouteFault, Routes};
 use smx_slots::{
-    AccountLimits, ClientBell, ClientEnds, ClientTurn, Guide, LaneBell, Ledger, Roll, Schedule,
-    Slots, ends_of,
+    AccountLimits, ClientBell, ClientEnds, ClientTurn, Guide, Hints, LaneBell, Ledger, Roll,
+    Schedule, Slots, ends_of,
 };
 use smx_turns::{Directory, Gate, Party, Place, Point};
 use std::sync::Wait;
@@ -81,10 +81,11 @@ fn a_bell_names_parties(rt: HostRuntime) -> Result<(), Fail> {
     let mut schedule = Schedule::new(rt.alloc(), 8)?;
     let mut roll = Roll::new(rt.alloc(), 4)?;
     let mut ledger = Ledger::new(rt.alloc(), TWO.as_slice())?;
+    let mut hints = Hints::new(rt.alloc(), 4, 3)?;
     assert!(rt; ledger.bind(7, 0)?);
     ledger.accepted(7);
     roll.add(7, 2);
-    let mut bell = LaneBell::new(3, &mut schedule, &roll, &mut ledger);
+    let mut bell = LaneBell::new(3, &mut schedule, &roll, &mut ledger, &mut hints);
     assert!(rt; bell.at(Point::Reading, 1));
     assert!(rt; bell.at(Point::Taking, 1));
     assert!(rt; !bell.has_rung());
@@ -99,6 +100,42 @@ fn a_bell_names_parties(rt: HostRuntime) -> Result<(), Fail> {
     }
     assert!(rt; schedule.is_empty());
     assert_eq!(rt; ledger.under_way(), 0);
+    assert_eq!(rt; [hints.has(2, 0), hints.has(2, 1), hints.has(0, 0)], [true, false, false]);
+    Ok(())
+}
+
+// The client of slot 2 is told of something on lane 1. A turn that collects there and goes on found it empty;
+// one that ended there has leave again.
+#[test]
+fn a_bell_hints_at_lanes(rt: HostRuntime) -> Result<(), Fail> {
+    let mut schedule = Schedule::new(rt.alloc(), 8)?;
+    let mut roll = Roll::new(rt.alloc(), 4)?;
+    let mut ledger = Ledger::new(rt.alloc(), TWO.as_slice())?;
+    let mut hints = Hints::new(rt.alloc(), 4, 3)?;
+    roll.add(7, 2);
+    LaneBell::new(3, &mut schedule, &roll, &mut ledger, &mut hints)
+        .ready(Party::Client { client: 7, lane: 1 });
+    let turn = ClientTurn {
+        client: 7,
+        slot: 2,
+        may_read: true,
+        may_refuse: true,
+    };
+    let mut bell = ClientBell::new(3, &mut schedule, &roll, &mut ledger, &mut hints, turn);
+    let mut ask = [false; 9];
+    for turn in 0..3usize {
+        for lane in 0..3usize {
+            if turn == 0 && lane == 2 {
+                continue;
+            }
+            ask[3 * turn + lane] = bell.at(Point::Collecting(lane), turn as u64);
+        }
+    }
+    assert_eq!(rt; ask, [false, true, false, false, true, false, false, false, false]);
+    assert!(rt; !hints.has(2, 1));
+    hints.set(4, 0, true);
+    hints.set(0, 3, true);
+    assert!(rt; !hints.has(4, 0) && !hints.has(0, 3));
     Ok(())
 }
 
@@ -109,12 +146,14 @@ fn a_bell_asks_the_ledger(rt: HostRuntime) -> Result<(), Fail> {
     let mut schedule = Schedule::new(rt.alloc(), 8)?;
     let roll = Roll::new(rt.alloc(), 4)?;
     let mut ledger = Ledger::new(rt.alloc(), TWO.as_slice())?;
+    let mut hints = Hints::new(rt.alloc(), 4, 3)?;
     let turn = ClientTurn {
         client: 7,
+        slot: 2,
         may_read: false,
         may_refuse: true,
     };
-    let mut bell = ClientBell::new(3, &mut schedule, &roll, &mut ledger, turn);
+    let mut bell = ClientBell::new(3, &mut schedule, &roll, &mut ledger, &mut hints, turn);
     assert!(rt; !bell.at(Point::Reading, 1));
     assert!(rt; bell.at(Point::Refusing, 1));
     assert!(rt; !bell.at(Point::Refusing, 2));
@@ -208,13 +247,15 @@ fn a_bind_without_memory_is_noted(rt: HostRuntime) -> Result<(), Fail> {
     let mut schedule = Schedule::new(rt.alloc(), 8)?;
     let roll = Roll::new(rt.alloc(), 4)?;
     let mut ledger = Ledger::new(rt.alloc(), TWO.as_slice())?;
+    let mut hints = Hints::new(rt.alloc(), 4, 3)?;
     assert!(rt; ledger.bind(1, 1)?);
     let turn = ClientTurn {
         client: 1_025,
+        slot: 0,
         may_read: true,
         may_refuse: true,
     };
-    let mut bell = ClientBell::new(3, &mut schedule, &roll, &mut ledger, turn);
+    let mut bell = ClientBell::new(3, &mut schedule, &roll, &mut ledger, &mut hints, turn);
     let is_bound = bell.at(Point::Binding(1), 1);
     assert_eq!(rt; bell.has_lacked_memory(), !is_bound);
     assert_eq!(rt; bell.account().is_some(), is_bound);

@@ -5,7 +5,7 @@ ghost use Rattle.smx_turns.specs.declared.step.Step.TheVariants as step;
 ghost use Rattle.smx_client.specs.declared.event.Event.TheVariants as event;
 ghost use Rattle.smx_client.specs.declared.reply.Reply.{Reply};
 ghost use Rattle.smx_client.specs.Scenes.{scene_of};
-ghost use Rattle.smx_client.specs.Table.{Before, Phase, phase_of, go, after_reply, MayCollect, Clear, Draining, Deciding, IsPart};
+ghost use Rattle.smx_client.specs.Table.{Before, Phase, phase_of, go, after_reply, AtLane, Clear, Draining, Deciding, IsPart};
 ghost use Rattle.smx_client.specs.Turns.{Leads};
 
 use super::ClientWorker;
@@ -91,7 +91,7 @@ impl<'d, L: Link + Drop> ClientWorker<'d, L> {
             (scene_of L.offered L.polls L.failures (G.asked gate.new) (G.told gate.new) queries
             self.new)
             log.new }
-        ensures phase { (t : Before) → phase_of t log.old ≡ MayCollect t.lanes
+        ensures phase { (t : Before) → phase_of t log.old ≡ AtLane t.lanes
             → t.parked ≡ is_some self.old.parked → t.now ≡ now
             → IsPart Clear result (phase_of t log.new) }
         ensures parked { result ≡ Ok (Some Progress.Parked) → IsSome self.new.parked }
@@ -160,7 +160,7 @@ impl<'d, L: Link + Drop> ClientWorker<'d, L> {
             (scene_of L.offered L.polls L.failures (G.asked gate.new) (G.told gate.new) queries
             self.new)
             log.new }
-        ensures phase { (t : Before) → phase_of t log.old ≡ MayCollect t.lanes
+        ensures phase { (t : Before) → phase_of t log.old ≡ AtLane t.lanes
             → t.parked ≡ is_some self.old.parked → t.now ≡ now
             → IsPart Clear result (phase_of t log.new) }
         ensures parked { result ≡ Ok (Some Progress.Parked) → IsSome self.new.parked }

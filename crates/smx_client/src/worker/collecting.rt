@@ -4,7 +4,7 @@ ghost use Rattle.smx_shared.specs.Views.{locks_of};
 ghost use Rattle.smx_turns.specs.declared.directory.Query.{Query};
 ghost use Rattle.smx_client.specs.Scenes.{scene_of, Moves};
 ghost use Rattle.smx_client.specs.Events.{response_out};
-ghost use Rattle.smx_client.specs.Table.{Before, Phase, phase_of, Written, MayCollect, after_collect, IsOffered, IsCollectedFrom, IsGathered, IsPart};
+ghost use Rattle.smx_client.specs.Table.{Before, Phase, phase_of, AtLane, MayCollect, after_collect, IsOffered, IsCollectedFrom, IsGathered, IsPart};
 ghost use Rattle.smx_client.specs.Turns.{Leads};
 ghost use Rattle.smx_turns.specs.Wires.{some_wait};
 
@@ -123,9 +123,10 @@ impl<'d, L: Link + Drop> ClientWorker<'d, L> {
     {
         let found = self.port.collect(at, rt, lane);
         let event = Event::Collected(lane, Snapshot::of(&found));
-        let none = say_found(&mut self.wire, &found);
+        let gave = gave_unless_spent(&found);
+        let none = say_found(&mut self.wire, found);
         note(&mut self.events, log, event, none);
-        gave_unless_spent(&found)
+        gave
     }
 
     // Asks a lane for the client's responses until it has none. True where as many octets wait as
@@ -166,7 +167,47 @@ impl<'d, L: Link + Drop> ClientWorker<'d, L> {
         }
     }
 
-    // Asks for leave to collect, and collects from each lane. `None` where the turn goes on.
+    // Asks for leave to collect from a lane, and does so until it has none. True where as many octets wait
+    // as a PDU can have.
+    fn visit_lane<R: Wait, G: Gate>(
+        &mut self,
+        at: &Exchange,
+        rt: &R,
+        gate: &mut G,
+        turn: u64,
+        lane: usize,
+        log: &mut Log<Mark, Event>,
+    ) -> Result<bool, Fault>
+        requires locks { locks_of self.old.port.fronts ≡ at.now }
+        requires lane { lane < length self.old.port.fronts }
+        ensures leads { (queries : List Query) → Leads turn
+            (scene_of L.offered L.polls L.failures (G.asked gate.old) (G.told gate.old) queries
+            self.old)
+            log.old
+            (scene_of L.offered L.polls L.failures (G.asked gate.new) (G.told gate.new) queries
+            self.new)
+            log.new }
+        ensures phase { (t : Before) → phase_of t log.old ≡ AtLane lane
+            → IsGathered lane result (phase_of t log.new) }
+        ensures clogged { result ≡ Ok true → 65536 ≤ length self.new.wire.unsent }
+        ensures locks { locks_of self.new.port.fronts ≡ locks_of self.old.port.fronts }
+        ensures same { self.new ≡ record self.old {
+          port = self.new.port;
+          wire = record self.old.wire {
+            said = self.new.wire.said;
+            unsent = self.new.wire.unsent;
+            room = self.new.wire.room;
+          };
+          events = self.new.events;
+        } }
+    {
+        if !ask(log, gate, Point::Collecting(lane), turn) {
+            return Ok(false);
+        }
+        self.collect_lane(at, rt, lane, log)
+    }
+
+    // Asks for leave to collect from each lane, and collects. `None` where the turn goes on.
     pub(super) fn collect_part<R: Wait, G: Gate>(
         &mut self,
         at: &Exchange,
@@ -183,12 +224,12 @@ impl<'d, L: Link + Drop> ClientWorker<'d, L> {
             (scene_of L.offered L.polls L.failures (G.asked gate.new) (G.told gate.new) queries
             self.new)
             log.new }
-        ensures phase { (t : Before) → phase_of t log.old ≡ Written
-            → IsPart (MayCollect (length self.old.port.fronts)) result (phase_of t log.new) }
+        ensures phase { (t : Before) → phase_of t log.old ≡ AtLane 0
+            → IsPart (AtLane (length self.old.port.fronts)) result (phase_of t log.new) }
         ensures clogged { result ≡ Ok (Some Progress.Clogged)
             → 65536 ≤ length self.new.wire.unsent }
         ensures which { (result ≢ Ok (Some Progress.Settled)) × (result ≢ Ok (Some Progress.Closed))
-            × (result ≢ Ok (Some Progress.Parked))
+            × (result ≢ Ok (Some Progress.Parked)) × (result ≢ Ok (Some Progress.Stopped))
             × (result ≢ Ok (Some Progress.Gone)) }
         ensures locks { locks_of self.new.port.fronts ≡ locks_of self.old.port.fronts }
         ensures same { self.new ≡ record self.old {
@@ -201,12 +242,9 @@ impl<'d, L: Link + Drop> ClientWorker<'d, L> {
           events = self.new.events;
         } }
     {
-        if !ask(log, gate, Point::Collecting, turn) {
-            return Ok(Some(Progress::Stopped));
-        }
         let lanes = self.port.lanes();
         for lane in 0..lanes {
-            if self.collect_lane(at, rt, lane, log)? {
+            if self.visit_lane(at, rt, gate, turn, lane, log)? {
                 return Ok(Some(Progress::Clogged));
             }
         }

@@ -6,7 +6,7 @@ ghost use Rattle.smx_turns.specs.declared.gate.Question.{Question};
 ghost use Rattle.smx_turns.specs.declared.gate.Party.{Party};
 ghost use Rattle.smx_turns.specs.declared.directory.Query.{Query};
 ghost use Rattle.smx_client.specs.Scenes.{scene_of, before};
-ghost use Rattle.smx_client.specs.Table.{Before, Phase, phase_of, Written, Clear, Deciding, when_drained, IsRead, IsFront, IsPart, ComesTo, when_written};
+ghost use Rattle.smx_client.specs.Table.{Before, Phase, phase_of, AtLane, Clear, Deciding, when_drained, IsRead, IsFront, IsPart, ComesTo, when_written};
 ghost use Rattle.smx_client.specs.Turns.{Leads};
 
 use super::ClientWorker;
@@ -106,7 +106,7 @@ impl<'d, L: Link + Drop> ClientWorker<'d, L> {
             (scene_of L.offered L.polls L.failures (G.asked gate.new) (G.told gate.new) queries
             self.new)
             log.new }
-        ensures phase { (t : Before) → phase_of t log.old ≡ Written
+        ensures phase { (t : Before) → phase_of t log.old ≡ AtLane 0
             → t.lanes ≡ length self.old.port.fronts → t.settled ≡ self.old.settled
             → t.parked ≡ is_some self.old.parked → t.now ≡ now
             → t.message_time ≡ self.old.message_time → IsFront result (phase_of t log.new) }

@@ -17,4 +17,4 @@ pub returns-then-is_clogged-clause-leads : goal.returns-then-is_clogged-clause-l
 returns-then-is_clogged-clause-leads g c = λ n queries base was. c.mark-then-is_clogged.ensures.leads n _ _ (c.if-is_clogged.ensures.clogged refl, refl) base was
 
 pub returns-then-is_clogged-clause-phase : goal.returns-then-is_clogged-clause-phase
-returns-then-is_clogged-clause-phase g c = λ t at parked is. c.mark-then-is_clogged.ensures.phase t _ at ∙ cell.clogs_collect t _
+returns-then-is_clogged-clause-phase g c = λ t at parked is. c.mark-then-is_clogged.ensures.phase t _ at ∙ cell.boxed_clogged t (parked ∙ ap (λ w. is_some w.parked) (sym c.self.view_is) ∙ sym c.if-is_waiting.ensures.there)

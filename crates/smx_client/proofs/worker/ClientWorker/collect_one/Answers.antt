@@ -33,8 +33,8 @@ returns-clause-moves g c = rw (← c.self.view_is) (λ n asked told queries base
 
 pub returns-clause-phase : goal.returns-clause-phase
 returns-clause-phase g c = λ t was.
-    subst (λ p. IsCollectedFrom c.args.lane c.gave_unless_spent.result p) (sym (c.note.ensures.phase t _ was ∙ collects t c.args.lane c.of.result _ c.of.ensures)) (c.gave_unless_spent.ensures.phase c.args.lane)
+    subst (λ p. IsCollectedFrom c.args.lane c.gave_unless_spent-gave.result p) (sym (c.note.ensures.phase t _ was ∙ collects t c.args.lane c.of.result _ c.of.ensures)) (c.gave_unless_spent-gave.ensures.phase c.args.lane)
 
 pub returns-clause-more : goal.returns-clause-more
 returns-clause-more g c = rw (← c.self.view_is) (λ gave.
-    subst (λ us. length c.self.inside.wire.unsent < length us) (sym c.say_found-none.ensures.spoke.unsent) (lengthens _ _ (c.gave_unless_spent.ensures.some gave)))
+    subst (λ us. length c.self.inside.wire.unsent < length us) (sym c.say_found-none.ensures.spoke.unsent) (lengthens _ _ (c.gave_unless_spent-gave.ensures.some gave)))
