@@ -100,7 +100,10 @@ fn a_bell_names_parties(rt: HostRuntime) -> Result<(), Fail> {
     }
     assert!(rt; schedule.is_empty());
     assert_eq!(rt; ledger.under_way(), 0);
-    assert_eq!(rt; [hints.has(2, 0), hints.has(2, 1), hints.has(0, 0)], [true, false, false]);
+    assert_eq!(rt;
+        [hints.has(2, 0), hints.has(2, 1), hints.has(0, 0)],
+        [true, false, false]
+    );
     Ok(())
 }
 
@@ -113,8 +116,10 @@ fn a_bell_hints_at_lanes(rt: HostRuntime) -> Result<(), Fail> {
     let mut ledger = Ledger::new(rt.alloc(), TWO.as_slice())?;
     let mut hints = Hints::new(rt.alloc(), 4, 3)?;
     roll.add(7, 2);
-    LaneBell::new(3, &mut schedule, &roll, &mut ledger, &mut hints)
-        .ready(Party::Client { client: 7, lane: 1 });
+    LaneBell::new(3, &mut schedule, &roll, &mut ledger, &mut hints).ready(Party::Client {
+        client: 7,
+        lane: 1,
+    });
     let turn = ClientTurn {
         client: 7,
         slot: 2,
@@ -131,7 +136,10 @@ fn a_bell_hints_at_lanes(rt: HostRuntime) -> Result<(), Fail> {
             ask[3 * turn + lane] = bell.at(Point::Collecting(lane), turn as u64);
         }
     }
-    assert_eq!(rt; ask, [false, true, false, false, true, false, false, false, false]);
+    assert_eq!(rt;
+        ask,
+        [false, true, false, false, true, false, false, false, false]
+    );
     assert!(rt; !hints.has(2, 1));
     hints.set(4, 0, true);
     hints.set(0, 3, true);
