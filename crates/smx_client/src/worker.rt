@@ -1,7 +1,8 @@
 //! A client's worker, and what it keeps at every call.
-ghost use Rattle.std.specs.Prelude.{◌≡◌, ◌≢◌, ◌++◌, ◌<◌, ℕ, List, [], length, None, IfOk, IfErr, true, All};
+ghost use Rattle.std.specs.Prelude.{◌≡◌, ◌≢◌, ◌+◌, ◌++◌, ◌<◌, ℕ, List, [], length, None, IfOk, IfErr, true, All};
 ghost use Rattle.smx_frame.specs.Stream.{HasNone};
 ghost use Rattle.smx_link.specs.Wiring.{spellings};
+ghost use Rattle.smx_link.specs.Links.{fault_count};
 ghost use Rattle.smx_routes.specs.Window.{IsSize};
 ghost use Rattle.smx_session.specs.ClientMoments.{client_at};
 ghost use Rattle.smx_session.specs.ClientTable.{client_enquiry_number};
@@ -21,7 +22,7 @@ use crate::event::Event;
 use crate::mark::{Mark, Stage};
 use crate::reply::Parked;
 use smx_box::{Receiver, Sender};
-use smx_link::{Link, Wire};
+use smx_link::{Link, LinkFault, Wire};
 use smx_pdu::Pdu;
 use smx_routes::MoWindow;
 use smx_session::{ClientSession, ClientState};
@@ -283,5 +284,20 @@ impl<'d, L: Link + Drop> ClientWorker<'d, L> {
         ensures { result ≡ length self.now.wire.unsent }
     {
         self.wire.unsent()
+    }
+
+    /// Offers the link what waits, between two turns: so no turn is wanted for that alone. The next turn offers
+    /// what the link doesn't take, and meets the fault of a link that has failed.
+    pub fn offer_rest(&mut self) -> Result<(), LinkFault>
+        ensures offered { L.offered self.new.wire.link
+            ≡ L.offered self.old.wire.link ++ self.old.wire.unsent }
+        ensures unread { L.polls self.new.wire.link ≡ L.polls self.old.wire.link }
+        ensures failures { L.failures self.new.wire.link
+            ≡ L.failures self.old.wire.link + fault_count result }
+        ensures same { self.new ≡ record self.old {
+          wire = record self.old.wire { link = self.new.wire.link; unsent = self.new.wire.unsent };
+        } }
+    {
+        self.wire.offer()
     }
 }

@@ -1,7 +1,8 @@
 //! The upstream worker.
-ghost use Rattle.std.specs.Prelude.{◌≡◌, ◌≤◌, ◌++◌, [], ◌∷◌, false, None, IfOk, IfErr};
+ghost use Rattle.std.specs.Prelude.{◌≡◌, ◌≤◌, ◌+◌, ◌++◌, [], ◌∷◌, false, None, IfOk, IfErr, length};
 ghost use Rattle.std.specs.List.{flat_map};
 ghost use Rattle.smx_pdu.specs.Pdu.{spelling};
+ghost use Rattle.smx_link.specs.Links.{fault_count};
 ghost use Rattle.smx_session.specs.declared.upstream_state.UpstreamState.TheVariants.{Binding};
 ghost use Rattle.smx_turns.specs.declared.step.Step.TheVariants.{Did};
 ghost use Rattle.smx_upstream.specs.Ages.{new_age};
@@ -15,7 +16,7 @@ use crate::event::Event;
 use crate::last::LastRequest;
 use crate::mark::Mark;
 use smx_box::{Receiver, Sender};
-use smx_link::{Link, Wire};
+use smx_link::{Link, LinkFault, Wire};
 use smx_pdu::Pdu;
 use smx_routes::MoWindow;
 use smx_session::{UpstreamSession, UpstreamState};
@@ -308,5 +309,27 @@ impl<L: Link + Drop> UpstreamWorker<L> {
         ensures { result ≡ ending_of worth self.now.events }
     {
         self.ending
+    }
+
+    /// How many octets wait to be written.
+    pub fn unsent(&self) -> usize
+        ensures { result ≡ length self.now.wire.unsent }
+    {
+        self.wire.unsent()
+    }
+
+    /// Offers the link what waits, between two turns: so no turn is wanted for that alone. The next turn offers
+    /// what the link doesn't take, and meets the fault of a link that has failed.
+    pub fn offer_rest(&mut self) -> Result<(), LinkFault>
+        ensures offered { L.offered self.new.wire.link
+            ≡ L.offered self.old.wire.link ++ self.old.wire.unsent }
+        ensures unread { L.polls self.new.wire.link ≡ L.polls self.old.wire.link }
+        ensures failures { L.failures self.new.wire.link
+            ≡ L.failures self.old.wire.link + fault_count result }
+        ensures same { self.new ≡ record self.old {
+          wire = record self.old.wire { link = self.new.wire.link; unsent = self.new.wire.unsent };
+        } }
+    {
+        self.wire.offer()
     }
 }
