@@ -6,7 +6,8 @@ use smx_slots::{AccountLimits, Hints, Ledger, Roll};
 use std::alloc::{AllocError, Global};
 
 /// Which client has which slot, which prefixes go to whom, whose requests are under way, whose messages
-/// aren't answered, and on which lanes something waits for whom. It takes the memory for all slots at once; the routes grow, and the ledger may.
+/// aren't answered, and on which lanes something waits for whom. It takes the memory for all slots at
+/// once; the routes grow, and the ledger may.
 #[derive(Drop)]
 pub(crate) struct Addresses {
     pub roll: Roll,
@@ -28,7 +29,7 @@ impl Addresses {
             roll: Roll::new(alloc, slots)?,
             routes: Routes::new(alloc),
             ledger: Ledger::new(alloc, limits)?,
-            mail: Mail::new(alloc, slots)?,
+            mail: Mail::new(alloc, lanes, slots)?,
             hints: Hints::new(alloc, slots, lanes)?,
         })
     }

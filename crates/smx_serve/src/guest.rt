@@ -5,7 +5,7 @@ use crate::desk::{change_of, prefixes_of};
 use crate::mail::Counted;
 use crate::pace::Moment;
 use crate::preface::{Preface, Prefaced};
-use crate::queues::{Progress, Queues, TURNS, is_enough};
+use crate::queues::{Progress, Queues, TURNS, is_enough, is_read_out};
 use crate::refusals::Refusals;
 use crate::seats::Member;
 use crate::stillness::Stillness;
@@ -59,6 +59,17 @@ fn kind_of(state: ClientState) -> Option<Kind> {
 }
 
 impl<'d> Guest<'d> {
+    // Whether a turn that did something left nothing to do, as another one would only find: all that came is
+    // decided, of so many messages none waits, and what was said is taken now. What comes from now on makes
+    // the party ready.
+    fn is_through(&mut self, state: ClientState, messages: u64) -> bool {
+        kind_of(state).is_some()
+            && messages == 0
+            && !self.refusals.is_over()
+            && is_read_out(&self.socket)
+            && self.member.offer_rest()
+    }
+
     // Runs the worker turn by turn, until it is idle or the party's turn is over: how that ended, and
     // where its session stands.
     fn run<R: Wait>(
@@ -71,7 +82,14 @@ impl<'d> Guest<'d> {
         let before = self.socket.traffic();
         let mut ran = self.member.run(rt, gate, guide, now, 1);
         for _ in 1..TURNS {
-            if ran.0 != RunEnd::Turns || is_enough(before, self.socket.traffic()) {
+            let (end, state) = ran;
+            if end != RunEnd::Turns {
+                break;
+            }
+            if self.is_through(state, gate.messages()) {
+                return (RunEnd::Idle, state);
+            }
+            if is_enough(before, self.socket.traffic()) {
                 break;
             }
             ran = self.member.run(rt, gate, guide, now, 1);
@@ -231,6 +249,7 @@ impl<'d> Guest<'d> {
         addresses.roll.remove(client);
         addresses.ledger.leave(client);
         if answered {
+            addresses.mail.mark_all();
             queues.add_lanes();
         }
         (socket, ends)

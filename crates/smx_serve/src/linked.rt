@@ -3,7 +3,7 @@
 use crate::addresses::Addresses;
 use crate::mail::Counted;
 use crate::pace::Moment;
-use crate::queues::{Progress, Queues, TURNS, is_enough};
+use crate::queues::{Progress, Queues, TURNS, is_enough, is_read_out};
 use crate::seats::{Carrier, Drawer};
 use crate::upstreams::{connect, session_of};
 use mio::Registry;
@@ -84,6 +84,17 @@ impl Linked {
         }
     }
 
+    // Whether a turn that did something left nothing to do, as another one would only find: all that came is
+    // decided, no answer waits in the return box, and what was said is taken now. What comes from now on
+    // makes the lane ready. Where octets moved, requests that are overdue may be left for a tick.
+    fn is_through(&mut self, may_wait: bool, rang: bool, before: u64) -> bool {
+        self.state == UpstreamState::Bound
+            && !may_wait
+            && is_read_out(&self.socket)
+            && self.carrier.offer_rest()
+            && (!rang || self.socket.traffic() != before)
+    }
+
     // Runs the worker turn by turn, until it is idle, a client is to be turned first, or the party's turn
     // is over: how that ended.
     fn run<R: Wait>(
@@ -91,13 +102,20 @@ impl Linked {
         rt: &R,
         gate: &mut Counted<'_, LaneBell<'_>>,
         guide: &mut Guide<'_>,
+        lane: usize,
         now: u64,
     ) -> RunEnd {
         let before = self.socket.traffic();
         for _ in 0..TURNS {
             let (end, state) = self.carrier.run(rt, gate, guide, now, 1);
             self.state = state;
-            if end != RunEnd::Turns || is_enough(before, self.socket.traffic()) {
+            if end != RunEnd::Turns {
+                return end;
+            }
+            if self.is_through(gate.mail.may_wait(lane), gate.gate.has_rung(), before) {
+                return RunEnd::Idle;
+            }
+            if is_enough(before, self.socket.traffic()) {
                 return end;
             }
         }
@@ -127,7 +145,7 @@ impl Linked {
             mail: &mut addresses.mail,
             slot: None,
         };
-        let end = self.run(rt, &mut gate, &mut guide, now);
+        let end = self.run(rt, &mut gate, &mut guide, lane, now);
         self.over = matches!(end, RunEnd::Left | RunEnd::Fault(_));
         self.turned = now;
         let progress = Progress {
@@ -136,6 +154,9 @@ impl Linked {
             rang: gate.gate.has_rung(),
             writable: self.socket.is_writable(),
         };
+        if end == RunEnd::Idle && self.state == UpstreamState::Bound {
+            addresses.mail.mark(lane, false);
+        }
         queues.was_turned(lane, progress);
         if progress.moved {
             queues.empty_boxes();

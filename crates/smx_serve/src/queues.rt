@@ -1,6 +1,7 @@
 //! Who has something to do.
 
 use smx_slots::{Line, Schedule};
+use smx_socket::Socket;
 use smx_turns::RunEnd;
 use std::alloc::{AllocError, Global};
 
@@ -16,6 +17,11 @@ const SHARE: usize = 10;
 /// Whether a party's turn is over, where its socket's traffic was that and is this.
 pub(crate) fn is_enough(before: u64, traffic: u64) -> bool {
     traffic.wrapping_sub(before) >= OCTETS
+}
+
+/// Whether an event tells of whatever is to be read from a socket next.
+pub(crate) fn is_read_out(socket: &Socket) -> bool {
+    !socket.is_readable() && !socket.has_ended() && !socket.has_failed()
 }
 
 /// Who has something to do. Parties are numbered: the lanes, then the slots.

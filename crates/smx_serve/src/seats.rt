@@ -10,7 +10,7 @@ use smx_box::{Got, Receiver};
 use smx_client::{ClientWorker, Closed, Desk, Refusal, run_client};
 use smx_config::Timers;
 use smx_lane::Load;
-use smx_pdu::Pdu;
+use smx_pdu::{MAX_PDU, Pdu};
 use smx_session::{ClientState, UpstreamSession, UpstreamState};
 use smx_shared::{Door, EnterFault, Exchange, Port, Tap};
 use smx_slots::{ClientEnds, LaneEnds};
@@ -224,6 +224,13 @@ impl<'d> Member<'d> {
         self.worker.unsent()
     }
 
+    // Offers its socket what it said, where no turn ended as that is much: whether all of it was taken.
+    pub fn offer_rest(&mut self) -> bool {
+        self.worker.unsent() < MAX_PDU
+            && self.worker.offer_rest().is_ok()
+            && self.worker.unsent() == 0
+    }
+
     // Sends its client unbind. False where it isn't bound, or there was no memory.
     pub fn stop(&mut self) -> bool {
         !self.over && self.worker.stop() == Ok(true)
@@ -327,6 +334,13 @@ impl Carrier {
     // Why its session has ended, where it has.
     pub fn ending(&self) -> Option<End> {
         self.worker.ending()
+    }
+
+    // Offers its socket what it said, where no turn ended as that is much: whether all of it was taken.
+    pub fn offer_rest(&mut self) -> bool {
+        self.worker.unsent() < MAX_PDU
+            && self.worker.offer_rest().is_ok()
+            && self.worker.unsent() == 0
     }
 
     // The request that went out last over its link.

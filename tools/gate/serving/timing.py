@@ -6,7 +6,8 @@ import signal
 import time
 
 from .peers import Centre, one_lane
-from .smpp import ENQUIRE_LINK, OK, PATIENCE, SUBMIT_SM, UNBIND, Gone, message, octets_of, request, response
+from .smpp import (DELIVER_SM, ENQUIRE_LINK, OK, PATIENCE, RESPONSE, SUBMIT_SM, UNBIND, Gone, message, octets_of,
+                   request, response)
 
 # A centre that is back is bound again within these seconds.
 BACK = 3
@@ -99,7 +100,31 @@ def stood_still_for_longer_than_it_waits(program, _):
                 assert {it.status for it in answers} == {OK}, answers
 
 
+def nothing_waits_for_a_tick(program, _):
+    """Of 1,200 exchanges one after another each goes on at once, though what is left lying would be found at a tick,
+    within a second: requests, messages, both at once, several of each, enquiries and what answers nothing."""
+    with one_lane(program) as (centre, proxy), centre.bound() as up, proxy.client() as link:
+        began = time.monotonic()
+        for number in range(1, 301):
+            link.say(message(SUBMIT_SM, number, "49"), request(ENQUIRE_LINK, number))
+            assert link.hear().command == ENQUIRE_LINK | RESPONSE
+            asked = up.hear_but_enquiries()
+            up.say(message(DELIVER_SM, number, "49"), response(asked, body=NAME))
+            told = next(it for it in (link.hear(), link.hear()) if it.command == DELIVER_SM)
+            link.say(response(told, body=b"\0"), message(SUBMIT_SM, number, "49"), message(SUBMIT_SM, number, "49"))
+            found = [up.hear_but_enquiries() for _ in range(3)]
+            up.say(*(response(it, body=NAME) for it in found if it.command == SUBMIT_SM))
+            assert [link.hear()[1:3] for _ in range(2)] == [(OK, number)] * 2
+            up.say(response(asked, body=NAME), *(message(DELIVER_SM, 1_000 * it + number, "49") for it in (1, 2, 3)))
+            link.say(*(response(it, body=b"\0") for it in [link.hear() for _ in range(3)]))
+            answers = [up.hear_but_enquiries()[1:3] for _ in range(3)]
+            assert answers == [(OK, 1_000 * it + number) for it in (1, 2, 3)], answers
+        took = time.monotonic() - began
+        assert took < 5, f"it took {took:.1f} seconds"
+
+
 CASES = {
+    "nothing waits for a tick": nothing_waits_for_a_tick,
     "a centre that was away for a second": centre_away_for_a_second,
     "connections without a bind": connections_without_a_bind,
     "slots of those that stay": slots_of_those_that_stay,
