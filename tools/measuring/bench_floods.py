@@ -5,8 +5,10 @@ and beside it peers flood. Each trial has its own proxy, centres and addresses; 
 kind and program, come in drawn order. The peers are tools/measuring/bench_floods.c. A submit_sm of a client
 that floods isn't answered by the centre, so its share of the lane fills, and all further ones are answered 0x14
 ESME_RMSGQFUL. Where a centre floods there is another beside it. What it answers waits behind its own flood in
-the sockets, megabytes where it writes all that they take; with 32k it has two blocks of 16 KB ahead at most. A
-peer that is silent has enquired once, or until the answers wait in the proxy.
+the sockets, megabytes where it writes all that they take; with 32k it has two blocks of 16 KB ahead at most. By
+the default limits, which hold there, a client's requests then fill its share of that lane, and the others go over
+the other; with wide the limits are so wide that half of all wait. A peer that is silent has enquired once, or
+until the answers wait in the proxy.
 
 The table has medians of the rounds, the greatest latency of all, and the sums of what was bad or missing; what is
 missing counts as that late. The ratio is the processor time a message to that without a flood. Links are closed
@@ -27,7 +29,9 @@ import time
 
 from bench_running import Running, started
 
-PROXY, CENTRE, SHARE, EACH = 17775, 17001, 50, 40
+PROXY, CENTRE, EACH = 17775, 17001, 40
+# Limits by which whoever floods keeps nobody's requests out.
+WIDE = "queue = 4000\nwindow = 1000\nclient = 50\n"
 STRANGERS = ("enquire_link", "unknown", "deliver_sm_resp", "generic_nack", "bind", "submit_sm", "large", "octets")
 COUNTS = (1, 16, 64, 250)
 BOUND = ("submit_sm", "deliver_sm_resp", "large")
@@ -40,6 +44,7 @@ KINDS = {
     **{f"bound-16-{what}": ("flood", 16, what, "bound") for what in BOUND},
     **{f"centre-{what}": ("centre", 1, what) for what in CENTRES},
     **{f"centre-32k-{what}": ("centre", 1, what, 2) for what in CENTRES},
+    **{f"centre-wide-{what}": ("centre", 1, what) for what in CENTRES},
     "silent-240-once": ("silent", 240, 1),
     "silent-240-clogged": ("silent", 240, 30000),
     "silent-240-bound": ("silent", 240, 30000, "bound"),
@@ -48,6 +53,7 @@ KINDS = {
 GOALS = {
     "strangers-250-": (2, 25, None),
     "bound-16-": (5, 50, None),
+    "centre-wide-": None,
     "centre-": (2, None, None),
     "silent-240-": (None, None, 1.3),
 }
@@ -94,8 +100,8 @@ def own_network():
     raise SystemExit("bench-serve: no loopback addresses are free")
 
 
-def config_of(folder, host, lanes):
-    """The file of a proxy with so many lanes and 256 clients, the honest one and those that flood."""
+def config_of(folder, host, lanes, limits):
+    """The file of a proxy with so many lanes, 256 clients, the honest one and those that flood, and these limits."""
     upstreams = "".join(
         f'[[upstream]]\naddress = "{host}.1:{CENTRE + at}"\nsystem_id = "proxy"\npassword = "pw"\n'
         for at in range(lanes)
@@ -104,7 +110,7 @@ def config_of(folder, host, lanes):
     with open(path, "w") as file:
         file.write(
             f'listen = "{host}.1:{PROXY}"\nclients = 256\n'
-            f"[limits]\nqueue = 4000\nwindow = 1000\nclient = {SHARE}\n{upstreams}"
+            f"[limits]\n{limits}{upstreams}"
             '[[account]]\nsystem_id = "alpha"\npassword = "a1"\nprefixes = ["49"]\n'
             '[[account]]\nsystem_id = "flood"\npassword = "f1"\n'
         )
@@ -147,7 +153,9 @@ def trial(program, tool, folder, host, kind, seconds):
     with contextlib.ExitStack() as stack:
         enter = stack.enter_context
         centres = [enter(Peer(tool, "centre", f"{host}.1", CENTRE + at, *words)) for at, words in enumerate(lanes)]
-        proxy = enter(Running(program, "serve", config_of(folder, host, len(lanes)), listens="listening"))
+        limits = "" if role == "centre" and "-wide-" not in kind else WIDE
+        file = config_of(folder, host, len(lanes), limits)
+        proxy = enter(Running(program, "serve", file, listens="listening"))
         time.sleep(0.2)
         honest = enter(Peer(tool, "honest", f"{host}.2", f"{host}.1", PROXY, EACH, seconds))
         floods = begin(tool, host, kind, centres, enter) if role else []
