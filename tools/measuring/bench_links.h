@@ -24,6 +24,7 @@ struct link {
     unsigned char read[ROOM], write[ROOM];
     uint32_t next, waiting;
     double sent[MOST_WINDOW]; // by sequence number, 0 where nothing waits
+    double rests_until;       // nothing is sent before
 };
 
 static const unsigned char message[] = {0, 0, 0, '1', 0, 0, 0, '4', '9', '1', 0, 0, 0, 0, 0, 0, 0, 0, 0, 0, 20,

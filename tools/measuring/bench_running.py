@@ -9,6 +9,7 @@ import threading
 import time
 
 TICKS = os.sysconf("SC_CLK_TCK")
+CENTRE, PROXY = 17001, 17775
 LIBC = ctypes.CDLL(None)
 PR_SET_PDEATHSIG = 1
 
@@ -22,15 +23,22 @@ def started(words, **pipes):
 class Running:
     """A program of ours, ended with the block."""
 
-    def __init__(self, *words, listens=None):
+    def __init__(self, *words, listens=None, heed=None):
+        self.heed = heed
         self.child = started(words, stdout=subprocess.DEVNULL, stderr=subprocess.PIPE)
         if listens:
             for line in self.child.stderr:
                 if listens in line.decode():
-                    threading.Thread(target=self.child.stderr.read, daemon=True).start()
+                    threading.Thread(target=self.drain, daemon=True).start()
                     return
             raise SystemExit(f"bench-serve: {words[0]} doesn't serve")
         time.sleep(0.3)
+
+    def drain(self):
+        """Reads what it says from now on, and hands over each line where somebody wants it."""
+        for line in self.child.stderr:
+            if self.heed:
+                self.heed(line)
 
     def __enter__(self):
         return self
@@ -43,6 +51,9 @@ class Running:
         with open(f"/proc/{self.child.pid}/stat") as file:
             fields = file.read().rsplit(")", 1)[1].split()
         return (int(fields[11]) + int(fields[12])) / TICKS
+
+    def descriptors(self):
+        return len(os.listdir(f"/proc/{self.child.pid}/fd"))
 
     def megabytes(self):
         with open(f"/proc/{self.child.pid}/status") as file:

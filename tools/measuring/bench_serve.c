@@ -7,13 +7,18 @@
 // Each client binds as `alpha`, keeps WINDOW requests without an answer, and sends the next when an
 // answer comes. An answer with another status, or to no request of that client, is bad; a request
 // without an answer a second after the end is missing. FLAG `idle` binds and sends nothing; `mute`
-// has one client more, which never reads and sends until nobody takes its octets any more.
+// has one client more, which never reads and sends until nobody takes its octets any more; with `rough`
+// an answer with another status is refused, not bad, its client sends the next request a little later,
+// answers are waited for longer, as a lane's queue waits for its link, and the line ends with how many were
+// refused.
 #include "bench_links.h"
 
 enum { BUCKETS = 1 << 16 };
 
-static unsigned long answered, bad, missing, late[BUCKETS];
-static int is_mute;
+static unsigned long answered, bad, missing, refused, late[BUCKETS];
+static int is_mute, is_rough;
+static const double tail = 10; // how long the answers of a rough load are waited for, in seconds
+static const double rest = 0.05; // how long a refused client of a rough load sends nothing, in seconds
 
 static void answer(struct link *l, const unsigned char *pdu, size_t size) {
     (void)size;
@@ -51,7 +56,7 @@ static int window, is_idle;
 static double ends;
 
 static void submit(struct link *l) {
-    while (l->bound && !is_idle && (int)l->waiting < window && now() < ends) {
+    while (l->bound && !is_idle && (int)l->waiting < window && now() < ends && now() >= l->rests_until) {
         double *at = &l->sent[l->next % MOST_WINDOW];
         if (*at != 0 || !say(l, SUBMIT_SM, l->next, message, sizeof message)) return;
         *at = now();
@@ -81,8 +86,13 @@ static void settle(struct link *l, const unsigned char *pdu, size_t size) {
         return;
     }
     double *at = &l->sent[number % MOST_WINDOW];
-    if (command != (RESPONSE | SUBMIT_SM) || number_at(pdu + 8) || *at == 0) {
+    int is_refused = number_at(pdu + 8) != 0;
+    if (command != (RESPONSE | SUBMIT_SM) || *at == 0 || (is_refused && !is_rough)) {
         bad++;
+        return;
+    }
+    if (is_refused) {
+        *at = 0, l->waiting--, l->rests_until = now() + rest, refused++;
         return;
     }
     unsigned long took = (now() - *at) * 1e6;
@@ -107,10 +117,31 @@ static unsigned long part(double share) {
     return 0;
 }
 
+// Those that rested send again.
+static void resume(void) {
+    for (int i = 0; i < count; i++) {
+        struct link *l = links[i];
+        if (l->socket < 0) continue;
+        submit(l);
+        flush(l);
+    }
+}
+
+// Whether no link that is there waits for an answer.
+static int is_settled(void) {
+    for (int i = 0; i < count; i++)
+        if (links[i]->socket >= 0 && links[i]->waiting) return 0;
+    return 1;
+}
+
 static void turn_until(double end) {
     struct epoll_event events[64];
+    double resumed = now();
     for (double left; (left = end - now()) > 0;) {
+        if (is_rough && now() > ends && is_settled()) return;
+        if (is_rough && left > rest) left = rest;
         int ready = epoll_wait(poller, events, 64, left * 1000 + 1);
+        if (is_rough && now() > resumed + rest) resumed = now(), resume();
         for (int i = 0; i < ready; i++) {
             struct link *l = links[events[i].data.u32];
             if (l->socket < 0 || l->mute) continue;
@@ -124,8 +155,10 @@ static void turn_until(double end) {
 
 static void load(int port, int clients, double seconds, const char *flag) {
     is_idle = !strcmp(flag, "idle");
+    is_rough = !strcmp(flag, "rough");
     for (int i = 0; i < clients; i++) client(port);
     if (!strcmp(flag, "mute")) client(port)->mute = 1;
+    ends = now() + 0.3 + seconds;
     turn_until(now() + 0.3); // all are bound
     answered = 0, memset(late, 0, sizeof late);
     double begins = now();
@@ -137,11 +170,13 @@ static void load(int port, int clients, double seconds, const char *flag) {
     }
     turn_until(ends);
     unsigned long inside = answered;
-    turn_until(ends + 1);
+    turn_until(ends + (is_rough ? tail : 1));
     for (int i = 0; i < count; i++)
         if (!links[i]->mute) missing += links[i]->waiting;
-    printf("%.0f messages/s p50 %lu us p99 %lu us answered %lu bad %lu missing %lu\n", inside / seconds, part(0.5),
+    printf("%.0f messages/s p50 %lu us p99 %lu us answered %lu bad %lu missing %lu", inside / seconds, part(0.5),
         part(0.99), answered, bad, missing);
+    if (is_rough) printf(" refused %lu", refused);
+    printf("\n");
 }
 
 int main(int words, char **word) {

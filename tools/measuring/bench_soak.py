@@ -1,0 +1,129 @@
+"""`bench-serve soak`: full load for long, with clients that come and go, and, if rough, that are killed."""
+
+import random
+import re
+import subprocess
+import threading
+import time
+
+from bench_running import CENTRE, PROXY, Running, started
+
+# A rough soak's clients: so many processes of so many clients, each with so many requests.
+GROUPS, CLIENTS, REQUESTS = 8, 32, 4
+# A second of a rough soak kills a group with this chance, whose clients come back a second later.
+KILLS = 0.2
+# How a line of the program begins.
+LINE = re.compile(rb"\d{4}-\d\d-\d\dT\d\d:\d\d:\d\d\.\d{3}Z (debug|info|warn|error) [ -~]+\n")
+
+
+def watch_memory(proxy, ended):
+    """Says the proxy's memory after ten seconds, and then each minute, until that is so."""
+    seconds = 10
+    while not ended.wait(seconds):
+        print(f"{proxy.megabytes():.1f} MB", flush=True)
+        seconds = 60
+
+
+def soak(program, tool, config, seconds, whole, timed):
+    with Running(tool, "centre", str(CENTRE)), Running(program, "serve", config, listens="listening") as proxy:
+        until = time.time() + seconds
+        while time.time() < until:
+            part = min(whole, max(until - time.time(), 1))
+            ended = threading.Event()
+            watch = threading.Thread(target=watch_memory, args=(proxy, ended))
+            watch.start()
+            rate, p50, p99, answered, bad, missing, cpu = timed(proxy, tool, PROXY, 256, 4, part)
+            ended.set()
+            watch.join()
+            print(
+                f"{rate:,} messages/s, answered {answered:,}, bad {bad}, missing {missing}, p50 {p50} us, "
+                f"{cpu:.1f} us of processor a message, {proxy.megabytes():.1f} MB",
+                flush=True,
+            )
+
+
+class Group:
+    """Clients of one process, which come anew after a part, or a second after they were killed."""
+
+    def __init__(self, tool, part):
+        self.words = [tool, "load", str(PROXY), str(CLIENTS), str(REQUESTS), str(part), "rough"]
+        self.sums = {"answered": 0, "bad": 0, "missing": 0, "refused": 0}
+        self.child, self.begins, self.kills = None, time.time(), 0
+
+    def look(self, goes_on):
+        """Counts what it said where it has ended, and begins it anew where it goes on."""
+        if self.child and self.child.poll() is not None:
+            said = self.child.stdout.read().decode()
+            for name in self.sums:
+                found = re.search(rf"{name} (\d+)", said)
+                self.sums[name] += int(found[1]) if found else 0
+            self.child, self.begins = None, time.time() + 1
+        if not self.child and goes_on and time.time() >= self.begins:
+            self.child = started(self.words, stdout=subprocess.PIPE, stderr=subprocess.DEVNULL)
+        return self.child is not None
+
+    def kill(self):
+        if self.child:
+            self.child.kill()
+            self.kills += 1
+
+
+class Lines:
+    """How many lines the program said, and the first that can't be read."""
+
+    def __init__(self):
+        self.count, self.strange = 0, None
+
+    def heed(self, line):
+        self.count += 1
+        if not self.strange and not LINE.fullmatch(line):
+            self.strange = line
+
+
+def sum_of(groups, name):
+    return sum(it.sums[name] for it in groups)
+
+
+def rough_soak(program, tool, config, seconds, part, restart):
+    """Whether something went wrong, each line of which it says."""
+    lines, begun = Lines(), time.time()
+    groups = [Group(tool, part) for _ in range(GROUPS)]
+    centre, restarts, said, early = Running(tool, "centre", str(CENTRE)), 0, 0, None
+    with Running(program, "serve", config, listens="listening", heed=lines.heed) as proxy:
+        time.sleep(3)
+        at_first = proxy.descriptors()
+        while True:
+            passed = time.time() - begun
+            at_work = [it.look(passed < seconds) for it in groups]
+            if not any(at_work) and passed >= seconds:
+                break
+            if passed < seconds and random.random() < KILLS:
+                random.choice(groups).kill()
+            if passed >= (restarts + 1) * restart and passed < seconds:
+                centre.__exit__()
+                time.sleep(1)
+                centre, restarts = Running(tool, "centre", str(CENTRE)), restarts + 1
+            if passed >= (said + 1) * 60:
+                said += 1
+                early = early or (proxy.megabytes() if said >= 5 else None)
+                print(
+                    f"minute {said}: {proxy.megabytes():.1f} MB, {proxy.descriptors()} descriptors, "
+                    f"answered {sum_of(groups, 'answered'):,}, refused {sum_of(groups, 'refused'):,}",
+                    flush=True,
+                )
+            time.sleep(1)
+        last = proxy.megabytes()
+        time.sleep(5)
+        left = proxy.descriptors() - at_first
+    centre.__exit__()
+    bad, missing = sum_of(groups, "bad"), sum_of(groups, "missing")
+    print(
+        f"answered {sum_of(groups, 'answered'):,}, refused {sum_of(groups, 'refused'):,}, bad {bad}, missing {missing}; "
+        f"{sum(it.kills for it in groups)} groups of {CLIENTS} clients killed, the centre {restarts} times; "
+        f"{last:.1f} MB at the end, {left} descriptors left, {lines.count:,} lines"
+    )
+    if lines.strange:
+        print(f"a line that can't be read: {lines.strange!r}")
+    if early and last > 1.1 * early:
+        print(f"memory rose from {early:.1f} MB at the fifth minute to {last:.1f} MB")
+    return bool(bad or missing or left > 0 or lines.strange or (early and last > 1.1 * early))
