@@ -1,13 +1,14 @@
 -- Rows by their clients, as the members show them.
-use Rattle.std.proofs.Common.{◌≡◌, ◌<◌, ◌≤◌, ◌+◌, ◌==◌, ℕ, Bool, true, false, not, List, [], ◌∷◌, ◌++◌, length, map, drop, refl, sym, ◌∙◌, ap, arith, Option, Some, None, MatchOption, is_some, subst, slice_get, sum_by, inl, inr}
+use Rattle.std.proofs.Common.{◌≡◌, ◌<◌, ◌≤◌, ◌+◌, ◌==◌, ℕ, Bool, true, false, not, List, [], ◌∷◌, ◌++◌, length, map, drop, refl, sym, ◌∙◌, ap, arith, Option, Some, None, MatchOption, is_some, subst, slice_get, inl, inr}
 use Rattle.std.specs.List.{AllByRecursion}
-use Rattle.std.specs.Bool.{then_some}
-use Rattle.std.specs.Option.{IsSome}
+use Rattle.std.specs.Option.{IsSome, option_copied}
+use denote.Ref.{Bor}
 use Rattle.std.specs.Map.{lookup, set_value, remove_entry}
 use Rattle.std.specs.Ordering.{nat_cmp, match_ordering}
 use Rattle.std.specs.Cmp.{unsigned_tied}
 use Rattle.std.specs.BTreeMap.{insert_entry, is_at}
-use Rattle.std.proofs.lemmas.Bool.{cases_Bool, ne_eqb, eq-eqb, eqb-true, eqb-false}
+use Rattle.std.proofs.lemmas.Bool.{cases_Bool, le-leb, lt-leb, ne_eqb, eqb-true}
+use Rattle.std.proofs.lemmas.Map.Steps.{set_value_same}
 use Rattle.std.proofs.lemmas.Bool.Decides.{nat_tests}
 use Rattle.std.proofs.lemmas.List.Sums.{sum_by-cons}
 use Rattle.std.proofs.lemmas.List.{map-append}
@@ -19,7 +20,9 @@ use Rattle.smx_history.proofs.Keeping.{map-with_row}
 use Rattle.smx_history.proofs.RetireAgrees.{rise_part}
 use Rattle.smx_lane.specs.declared.roster.Row.{Row}
 use Rattle.smx_lane.specs.declared.roster.Roster.TheInside.{Inside}
-use Rattle.smx_lane.specs.Members.{waiting_of, IsRowOf}
+use Rattle.smx_lane.specs.Members.{refusal_by, waiting_of}
+use Rattle.smx_history.specs.declared.reply.Refusal.{Refusal}
+use Rattle.smx_history.specs.declared.reply.Refusal.TheVariants.{ClientFull}
 use Rattle.smx_lane.specs.Roster.{member_in, KeepsRows}
 
 abbrev pub Entries : Type 0
@@ -59,28 +62,6 @@ row_missing c (e ∷ es) missing = elim (cases_Bool (is_client c e.0)) [
       let test : (e.0 == c) ≡ false = same_client c e.0 ∙ other in
       rw test (row_missing c es (rw other at missing))
 ]
-
--- a member has its row
-pub row_there : (c : ℕ) (es : Entries) (m : Member) → member_with c (map member_in es) ≡ Some m → (r : Row) × (lookup (is_client c) es ≡ Some r) × (member_in (c, r) ≡ m)
-row_there c es m is = (elim (lookup (is_client c) es) as (λ o. lookup (is_client c) es ≡ o → (r : Row) × (lookup (is_client c) es ≡ Some r) × (member_in (c, r) ≡ m)) [
-  | None ↦ λ e. let missing = row_missing c es e in absurd cc
-  | Some r ↦ λ e. let found = row_found c es r e in (r, e, cc)
-]) refl
-
--- the row that a look-up finds is this member's
-pub row_shows : (c : ℕ) (es : Entries) (r : Row) (m : Member) → lookup (is_client c) es ≡ Some r → member_with c (map member_in es) ≡ Some m → member_in (c, r) ≡ m
-row_shows c es r m found is = let shown = row_found c es r found in cc
-
--- so the look-up finds it
-pub is_there : (c : ℕ) (es : Entries) (m : Member) → member_with c (map member_in es) ≡ Some m → IsSome (lookup (is_client c) es)
-is_there c es m is = ap is_some (row_there c es m is).1
-
-pub not_missing : (c : ℕ) (es : Entries) (m : Member) → member_with c (map member_in es) ≡ Some m → lookup (is_client c) es ≡ None → ⊥
-not_missing c es m is missing = let none = row_missing c es missing in cc
-
--- the member that is found has the number
-pub client_is : (c : ℕ) (es : Entries) (m : Member) → member_with c (map member_in es) ≡ Some m → m.client ≡ c
-client_is c es m is = let row = row_there c es m is in sym (ap (λ (x : Member). x.client) row.2)
 
 -- numbers above c stay as they are
 with_row-above : (f : Member → Member) (ms : List Member) (c low : ℕ) → c ≤ low → RiseAbove low (map (λ m. m.client) ms) → with_row c f ms ≡ ms
@@ -180,6 +161,17 @@ KeepsRows-changed a b f c r new keeps same found change places same_places entri
       waiting = rw entries (omega (arith, sums, count, keeps.waiting));
     }
 
+-- a row that is written back as it was found
+pub unchanged : (c : ℕ) (es written : Entries) (r new : Row) → lookup (is_client c) es ≡ Some r → new ≡ r → written ≡ set_value (is_client c) es new → written ≡ es
+unchanged c es written r new found same is = is ∙ ap (set_value (is_client c) es) same ∙ set_value_same (is_client c) es r found
+
+pub KeepsRows-unchanged : (a b : Inside) → KeepsRows a → b.places ≡ a.places → b.rows.entries ≡ a.rows.entries → b.waiting ≡ a.waiting → KeepsRows b
+KeepsRows-unchanged a b keeps places entries count = record {
+  boxes = rw (entries, places) keeps.boxes;
+  clients = rw entries keeps.clients;
+  waiting = rw entries (count ∙ keeps.waiting);
+}
+
 -- numbers above c leave all rows
 without-above : (ms : List Member) (c low : ℕ) → c ≤ low → RiseAbove low (map (λ m. m.client) ms) → without c ms ≡ ms
 without-above [] c low h rise = refl
@@ -266,13 +258,6 @@ KeepsRows-added a b by c r keeps rise is places same_places entries count =
       waiting = rw (entries, shows) (omega (arith, waiting-added by c (map member_in es), count, keeps.waiting));
     }
 
-pub some_waits : (n : ℕ) → (n == 0) ≡ false → 0 < n
-some_waits n none = grind (arith, nat_tests)
-
-pub first_there : {X : Type 0} (xs : List X) → 0 < length xs → IsSome (slice_get xs 0)
-first_there [] lt = absurd (omega arith)
-first_there (x ∷ xs) lt = refl
-
 -- the box has its places
 pub box_places : (a : Inside) (c : ℕ) (r : Row) → KeepsRows a → lookup (is_client c) a.rows.entries ≡ Some r → r.waiting.capacity ≡ a.places
 box_places a c r keeps found = (All-row (λ (e : ℕ × Row). e.1.waiting.capacity ≡ a.places) c a.rows.entries r keeps.boxes found).1
@@ -282,10 +267,26 @@ pub front_is : {X : Type 0} (xs : List X) (x : X) → slice_get xs 0 ≡ Some x 
 front_is [] x h = cc
 front_is (y ∷ xs) x h = let same : y ≡ x = cc in ap (λ z. z ∷ xs) same
 
-key_of : (c : ℕ) (es : Entries) (o : Option Row) → lookup (is_client c) es ≡ o → MatchOption (then_some (is_some o) c) (member_with c (map member_in es) ≡ None) (λ k. (m : Member) × IsRowOf (map member_in es) c k m)
-key_of c es None found = row_missing c es found
-key_of c es (Some r) found = (member_in (c, r), record { at = row_found c es r found; found = row_found c es r found; client_is = refl })
+-- the row that a look-up finds, where it finds one
+pub found_row : (c : ℕ) (es : Entries) (o : Option (Bor Row)) → option_copied o ≡ lookup (is_client c) es → MatchOption o (member_with c (map member_in es) ≡ None) (λ row. member_with c (map member_in es) ≡ Some (member_in (c, row.now)))
+found_row c es None is = row_missing c es (sym is)
+found_row c es (Some row) is = row_found c es row.now (sym is)
 
--- the client's key, where it has a row
-pub found_key : (c : ℕ) (es : Entries) → MatchOption (then_some (is_some (lookup (is_client c) es)) c) (member_with c (map member_in es) ≡ None) (λ k. (m : Member) × IsRowOf (map member_in es) c k m)
-found_key c es = key_of c es (lookup (is_client c) es) refl
+-- which refusal it is, from what the code tests
+pub refused_row : (places : ℕ) (by_lane : Option Refusal) (m : Member) → places ≤ m.pending → refusal_by places by_lane (Some m) ≡ Some ClientFull
+refused_row places by_lane m h = rw (le-leb places m.pending h) refl
+
+pub refused_by_lane : (places : ℕ) (by_lane : Option Refusal) (m : Member) → m.pending < places → refusal_by places by_lane (Some m) ≡ by_lane
+refused_by_lane places by_lane m h = rw (lt-leb places m.pending h) refl
+
+-- where nothing stands first there is nothing to drop
+pub none_dropped : {X : Type 0} (xs : List X) → slice_get xs 0 ≡ None → drop 1 xs ≡ xs
+none_dropped [] h = refl
+none_dropped (x ∷ xs) h = cc
+
+-- a look-up finds the row of each member
+pub has_row : (c : ℕ) (es : Entries) → IsSome (member_with c (map member_in es)) → IsSome (lookup (is_client c) es)
+has_row c es there = (elim (lookup (is_client c) es) as (λ o. lookup (is_client c) es ≡ o → IsSome o) [
+  | None ↦ λ e. let missing = row_missing c es e in let no : false ≡ true = sym (ap is_some missing) ∙ there in cc
+  | Some r ↦ λ e. refl
+]) refl

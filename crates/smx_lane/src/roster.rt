@@ -1,23 +1,25 @@
 //! The clients that are admitted, and the boxes of their responses.
-ghost use Rattle.std.specs.Prelude.{◌≡◌, ◌≤◌, ◌<◌, ◌+◌, ◌-◌, ◌==◌, [], ◌∷◌, ◌++◌, length, map, drop, OnOk, OnErr, MatchOption, Some, None};
+ghost use Rattle.std.specs.Prelude.{◌≡◌, ◌≤◌, ◌<◌, ◌+◌, ◌-◌, [], ◌∷◌, ◌++◌, length, map, drop, IsTrue, IsFalse, IsSome, IfNone, OnSome, OnOk, OnErr, MatchOption, MatchResult, Some, None};
 ghost use Rattle.smx_history.specs.Contents.{Member};
 ghost use Rattle.smx_history.specs.Prefixes.{RiseAbove};
 ghost use Rattle.smx_history.specs.Replies.{member_with};
+ghost use Rattle.smx_history.specs.Answering.{oldest_in};
 ghost use Rattle.smx_history.proofs.Updates.{with_row, new_row, without};
-ghost use Rattle.smx_lane.specs.Members.{IsRowOf, waiting_of};
+ghost use Rattle.smx_lane.specs.Members.{row_refusal, waiting_of};
+ghost use Rattle.smx_lane.specs.Roster.{member_in};
 
 use circular_buffer::HeapCircularBuffer;
-use smx_history::Response;
+use smx_history::{Refusal, Response};
 use std::alloc::{AllocError, Global};
 use std::collections::BTreeMap;
 use std::marker::Model;
 
 // What a client has, and the box of its responses.
 #[derive(Drop)]
-struct Row {
-    by: u64,
+pub(crate) struct Row {
+    pub(crate) by: u64,
     // The ordinal of its last accept, or 0.
-    last: u64,
+    pub(crate) last: u64,
     // How many of its requests were accepted and not collected.
     pending: u32,
     waiting: HeapCircularBuffer<Response, Global>,
@@ -77,45 +79,12 @@ impl Roster {
         self.waiting
     }
 
-    // The number of the client, under which it has a row.
-    pub(crate) fn find(&self, client: u64) -> Option<u64>
+    // The row of the client.
+    pub(crate) fn find(&self, client: u64) -> Option<&Row>
         ensures { MatchOption result (member_with client self.now.members ≡ None)
-            (λ i. (m : Member) × IsRowOf self.now.members client i m) }
+            (λ row. member_with client self.now.members ≡ Some (member_in (client, row.now))) }
     {
-        self.rows.contains_key(&client).then_some(client)
-    }
-
-    // How many requests of the client were accepted and not collected.
-    pub(crate) fn pending(&self, at: u64) -> u32
-        requires { (m : Member) × (member_with at self.now.members ≡ Some m) }
-        ensures { (m : Member) → member_with at self.now.members ≡ Some m → result ≡ m.pending }
-    {
-        self.rows[&at].pending
-    }
-
-    // Who admitted the client at the index.
-    pub(crate) fn by(&self, at: u64) -> u64
-        requires { (m : Member) × (member_with at self.now.members ≡ Some m) }
-        ensures { (m : Member) → member_with at self.now.members ≡ Some m → result ≡ m.by }
-    {
-        self.rows[&at].by
-    }
-
-    // The ordinal of the last accept of the client, or 0.
-    pub(crate) fn last(&self, at: u64) -> u64
-        requires { (m : Member) × (member_with at self.now.members ≡ Some m) }
-        ensures { (m : Member) → member_with at self.now.members ≡ Some m → result ≡ m.last }
-    {
-        self.rows[&at].last
-    }
-
-    // Whether the box of the client is empty.
-    pub(crate) fn is_box_empty(&self, at: u64) -> bool
-        requires { (m : Member) × (member_with at self.now.members ≡ Some m) }
-        ensures { (m : Member) → member_with at self.now.members ≡ Some m
-            → result ≡ (length m.waiting == 0) }
-    {
-        self.rows[&at].waiting.is_empty()
+        self.rows.get(&client)
     }
 
     // Adds a client above all others, with an empty box.
@@ -136,72 +105,89 @@ impl Roster {
         Ok(())
     }
 
-    // Notes that a request of the client was accepted.
-    pub(crate) fn note_accept(&mut self, at: u64, ordinal: u64)
-        requires { (m : Member) × (member_with at self.old.members ≡ Some m) × (m.pending < 1000) }
-        ensures members { (m : Member) → member_with at self.old.members ≡ Some m →
-            self.new.members ≡ with_row m.client
-            (λ n. record n { last = ordinal; pending = n.pending + 1 }) self.old.members }
-        ensures places { self.new.places ≡ self.old.places }
+    // Notes that a request of the client is accepted, unless the client is not there, has as many pending as its box has
+    // places, or the lane refuses.
+    pub(crate) fn accept(
+        &mut self,
+        client: u64,
+        ordinal: u64,
+        by_lane: Option<Refusal>,
+    ) -> Result<(), Refusal>
+        ensures reply { MatchResult result
+            (λ _. row_refusal self.old by_lane client ≡ None)
+            (λ e. row_refusal self.old by_lane client ≡ Some e) }
+        ensures ok { OnOk result (self.new ≡ record self.old {
+          members = with_row client
+              (λ n. record n { last = ordinal; pending = n.pending + 1 }) self.old.members;
+        }) }
+        ensures err { OnErr result (self.new ≡ self.old) }
     {
-        let Some(row) = self.rows.get_mut(&at) else {
-            unreachable!()
+        let Some(row) = self.rows.get_mut(&client) else {
+            return Err(Refusal::NotAdmitted);
         };
+        if row.pending >= self.places {
+            return Err(Refusal::ClientFull);
+        }
+        if let Some(refusal) = by_lane {
+            return Err(refusal);
+        }
         row.last = ordinal;
         row.pending += 1;
+        Ok(())
     }
 
-    // Puts a response into the box of the client.
-    pub(crate) fn put(&mut self, at: u64, response: Response)
-        requires room { (m : Member) × (member_with at self.old.members ≡ Some m)
-            × (length m.waiting < self.old.places) }
+    // Puts a response into the box of the client, and tells whether the client is there. Where it is not, the response
+    // is let go.
+    pub(crate) fn put(&mut self, client: u64, response: Response) -> bool
+        requires room { (m : Member) → member_with client self.old.members ≡ Some m
+            → length m.waiting < self.old.places }
         requires few { waiting_of self.old.members ≤ 1000000 }
-        ensures members { (m : Member) → member_with at self.old.members ≡ Some m →
-            self.new.members ≡ with_row m.client
-            (λ n. record n { waiting = n.waiting ++ response ∷ [] }) self.old.members }
-        ensures places { self.new.places ≡ self.old.places }
+        ensures there { IsTrue result → IsSome (member_with client self.old.members)
+            × (self.new ≡ record self.old {
+              members = with_row client
+                  (λ n. record n { waiting = n.waiting ++ response ∷ [] }) self.old.members;
+            }) }
+        ensures absent { IsFalse result → member_with client self.old.members ≡ None }
+        ensures same { IsFalse result → self.new ≡ self.old }
     {
-        let Some(row) = self.rows.get_mut(&at) else {
-            unreachable!()
+        let Some(row) = self.rows.get_mut(&client) else {
+            return false;
         };
         match row.waiting.try_push_back(response) {
             Ok(()) => {}
             Err(_) => unreachable!(),
         }
         self.waiting += 1;
+        true
     }
 
-    // Takes the oldest response out of the box of the client.
-    pub(crate) fn get(&mut self, at: u64) -> Response
-        requires { (m : Member) × (member_with at self.old.members ≡ Some m)
-            × (0 < length m.waiting) × (1 ≤ m.pending) }
-        ensures oldest { (m : Member) → member_with at self.old.members ≡ Some m
-            → m.waiting ≡ result ∷ drop 1 m.waiting }
-        ensures members { (m : Member) → member_with at self.old.members ≡ Some m →
-            self.new.members ≡ with_row m.client
-            (λ n. record n {
-              pending = n.pending - 1;
-              waiting = drop 1 n.waiting;
-            }) self.old.members }
-        ensures places { self.new.places ≡ self.old.places }
+    // Takes the oldest response out of the box of the client, where the client is there and has one.
+    pub(crate) fn get(&mut self, client: u64) -> Option<Response>
+        requires { (m : Member) → member_with client self.old.members ≡ Some m
+            → length m.waiting ≤ m.pending }
+        ensures oldest { result ≡ oldest_in (member_with client self.old.members) }
+        ensures some { OnSome result (self.new ≡ record self.old {
+          members = with_row client
+              (λ n. record n {
+                pending = n.pending - 1;
+                waiting = drop 1 n.waiting;
+              }) self.old.members;
+        }) }
+        ensures none { IfNone result (self.new ≡ self.old) }
     {
-        let Some(row) = self.rows.get_mut(&at) else {
-            unreachable!()
-        };
-        let response = row.waiting.pop_front().unwrap();
+        let row = self.rows.get_mut(&client)?;
+        let response = row.waiting.pop_front()?;
         row.pending -= 1;
         self.waiting -= 1;
-        response
+        Some(response)
     }
 
     // Drops the row and the box of the client.
-    pub(crate) fn remove(&mut self, at: u64)
-        requires { (m : Member) × (member_with at self.old.members ≡ Some m) }
-        ensures members { (m : Member) → member_with at self.old.members ≡ Some m
-            → self.new.members ≡ without m.client self.old.members }
-        ensures places { self.new.places ≡ self.old.places }
+    pub(crate) fn remove(&mut self, client: u64)
+        requires { IsSome (member_with client self.old.members) }
+        ensures { self.new ≡ record self.old { members = without client self.old.members } }
     {
-        let row = self.rows.remove(&at).unwrap();
+        let row = self.rows.remove(&client).unwrap();
         self.waiting -= row.waiting.len();
     }
 }

@@ -19,7 +19,7 @@ impl Lane {
         ensures { IsTrue result ↔ IsOwn self.now by client }
     {
         match self.roster.find(client) {
-            Some(at) => self.roster.by(at) == by,
+            Some(row) => row.by == by,
             None => true,
         }
     }
@@ -30,7 +30,7 @@ impl Lane {
         ensures { IsTrue result ↔ IsNext self.now by client ordinal }
     {
         match self.roster.find(client) {
-            Some(at) => self.roster.by(at) == by && self.roster.last(at) < ordinal,
+            Some(row) => row.by == by && row.last < ordinal,
             None => true,
         }
     }
@@ -77,10 +77,10 @@ impl Lane {
         ensures err { OnErr result (self.new ≡ self.old) }
         ensures limits { self.new.limits ≡ self.old.limits }
     {
-        let Some(at) = self.roster.find(client) else {
+        if self.roster.find(client).is_none() {
             return Err(NotAdmitted);
-        };
-        self.roster.remove(at);
+        }
+        self.roster.remove(client);
         self.entries.push_reserved(Entry {
             kind: Kind::Retire,
             by,

@@ -19,10 +19,9 @@ impl Lane {
         let entry = settling(Kind::Fail, by, place, &response);
         self.entries.push_reserved(entry);
         let client = place.client;
-        let Some(row) = self.roster.find(client) else {
+        if !self.roster.put(client, facing(place, response)) {
             return Failed::Late { client };
-        };
-        self.roster.put(row, facing(place, response));
+        }
         Failed::Queued { client }
     }
 

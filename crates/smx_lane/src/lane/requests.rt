@@ -1,11 +1,11 @@
 //! Requests on their way upstream.
-ghost use Rattle.std.specs.Prelude.{◌≡◌, List, [], ◌∷◌, ◌++◌, slice_get, IfOk, IfErr, OnOk, OnErr, MatchResult, Some, None};
-ghost use Rattle.smx_history.specs.Contents.{AgreesWith, Member};
+ghost use Rattle.std.specs.Prelude.{◌≡◌, List, [], ◌∷◌, ◌++◌, slice_get, IfOk, OnOk, OnErr, MatchResult, Some, None};
+ghost use Rattle.smx_history.specs.Contents.{AgreesWith};
 ghost use Rattle.smx_history.specs.History.{note};
 ghost use Rattle.smx_history.specs.declared.note.Note.{Note};
 ghost use Rattle.smx_history.specs.Replies.{accept_refusal, take_refusal};
 ghost use Rattle.smx_lane.specs.Conditions.{IsNext};
-ghost use Rattle.smx_lane.specs.Members.{IsRowOf};
+ghost use Rattle.smx_lane.specs.Members.{lane_refusal};
 ghost use Rattle.smx_history.specs.declared.note.Event.TheVariants.{Accept};
 ghost use Rattle.smx_lane.specs.Taking.{taking};
 
@@ -14,28 +14,20 @@ use crate::sent::Sent;
 use smx_history::{Entry, Kind, Refusal, Request, TakeRefusal};
 
 impl Lane {
-    // The number under which a client has its row, whose request may be accepted.
-    fn row_for_accept(&self, client: u64) -> Result<u64, Refusal>
-        ensures ok { IfOk result (λ i. (accept_refusal self.now client ≡ None)
-            × ((m : Member) × IsRowOf self.now.members client i m)) }
-        ensures err { IfErr result (λ e. accept_refusal self.now client ≡ Some e) }
+    // The first reason for which no client's request may be accepted, where there is one.
+    fn refusal(&self) -> Option<Refusal>
+        ensures { result ≡ lane_refusal self.now }
     {
-        let Some(at) = self.roster.find(client) else {
-            return Err(Refusal::NotAdmitted);
-        };
-        if self.roster.pending(at) >= self.limits.client {
-            return Err(Refusal::ClientFull);
-        }
         if self.queue.len() >= self.limits.queue as usize {
-            return Err(Refusal::QueueFull);
+            return Some(Refusal::QueueFull);
         }
         if !self.has_room() {
-            return Err(Refusal::HistoryFull);
+            return Some(Refusal::HistoryFull);
         }
         if !self.up {
-            return Err(Refusal::Down);
+            return Some(Refusal::Down);
         }
-        Ok(at)
+        None
     }
 
     /// Accepts a request into the queue, or hands it back.
@@ -49,11 +41,11 @@ impl Lane {
         ensures err { OnErr result (self.new ≡ self.old) }
         ensures limits { self.new.limits ≡ self.old.limits }
     {
-        let at = match self.row_for_accept(request.client) {
-            Ok(at) => at,
+        let by_lane = self.refusal();
+        match self.roster.accept(request.client, request.ordinal, by_lane) {
+            Ok(()) => {}
             Err(refusal) => return Err((request, refusal)),
-        };
-        self.roster.note_accept(at, request.ordinal);
+        }
         self.entries.push_reserved(Entry {
             kind: Kind::Accept,
             by,

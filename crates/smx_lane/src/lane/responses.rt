@@ -62,14 +62,15 @@ impl Lane {
         };
         self.window.remove(response.number);
         let client = place.client;
-        let Some(row) = self.roster.find(client) else {
-            self.entries
-                .push_reserved(settling(Kind::Late, by, &place, &response));
+        let entry = settling(Kind::Answer, by, &place, &response);
+        if !self.roster.put(client, facing(&place, response)) {
+            self.entries.push_reserved(Entry {
+                kind: Kind::Late,
+                ..entry
+            });
             return Answered::Late { client };
-        };
-        self.entries
-            .push_reserved(settling(Kind::Answer, by, &place, &response));
-        self.roster.put(row, facing(&place, response));
+        }
+        self.entries.push_reserved(entry);
         Answered::Queued { client }
     }
 
@@ -79,11 +80,7 @@ impl Lane {
         ensures collected { IsCollected self.old by client result self.new }
         ensures limits { self.new.limits ≡ self.old.limits }
     {
-        let at = self.roster.find(client)?;
-        if self.roster.is_box_empty(at) {
-            return None;
-        }
-        let response = self.roster.get(at);
+        let response = self.roster.get(client)?;
         self.entries.push_reserved(Entry {
             kind: Kind::Collect,
             by,

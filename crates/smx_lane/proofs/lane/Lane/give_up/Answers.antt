@@ -2,14 +2,14 @@ use Rattle.std.proofs.Common.{arith, ℕ, Some, ◌≡◌, get_or, refl, sym, �
 use Rattle.std.proofs.lemmas.Option.{slice_get_within, get_or_from_slice_get}
 use Rattle.smx_history.specs.declared.place.Place.{Place}
 use Rattle.smx_lane.specs.Private.Places.{IsPlaceOf, Places}
-use Rattle.smx_history.specs.Contents.{Content, Member}
+use Rattle.smx_history.specs.Contents.{Content}
 use Rattle.smx_history.specs.Failures.{failure_command, failure}
 use Rattle.smx_lane.specs.Inside.{content_of}
 use Rattle.smx_history.specs.Replies.{member_with}
 use Rattle.smx_history.proofs.Updates.{failing_entry}
 use Rattle.smx_history.proofs.Settled.{KeepsRoom-settled, KeepsRoom-settled_late, box_has_room}
 use Rattle.smx_history.proofs.FailAgrees.{AgreesWith-failed, AgreesWith-failed_late}
-use Rattle.smx_lane.specs.Members.{IsRowOf}
+use Rattle.smx_lane.proofs.Refusing.{some_row}
 use Rattle.smx_lane.proofs.lane.Lane.give_up.Goals as goal
 
 -- the place is in the window
@@ -20,14 +20,13 @@ pub remove-requires : goal.remove-requires
 remove-requires c = (c.args.place.now, in_window (content_of c.self.inside) c.args.self.now c.args.place.now c.self.view_is c.requires)
 
 pub put-requires-clause-room : goal.put-requires-clause-room
-put-requires-clause-room c =
+put-requires-clause-room c = λ m found.
     let v = content_of c.self.inside in
     let q = c.args.place.now in
     let removed = c.remove.ensures.taken q (in_window v c.args.self.now q c.self.view_is c.requires) in
     let within = slice_get_within v.window removed.0 q removed.1 in
     let is : q ≡ get_or v.window removed.0 q = sym (get_or_from_slice_get v.window removed.0 q q removed.1) in
-    let row : (m : Member) × IsRowOf v.members q.client c.in-Some.row m = c.in-Some.ensures in
-    (row.0, row.1.at, omega (arith, box_has_room v q removed.0 row.0 c.self.invariant.room within is row.1.found, c.self.invariant.places))
+    omega (arith, box_has_room v q removed.0 m c.self.invariant.room within is found, c.self.invariant.places)
 
 pub invariant_of-self : goal.invariant_of-self
 invariant_of-self c =
@@ -36,44 +35,49 @@ invariant_of-self c =
     let removed = c.remove.ensures.taken q (in_window v c.args.self.now q c.self.view_is c.requires) in
     let within = slice_get_within v.window removed.0 q removed.1 in
     let is : q ≡ get_or v.window removed.0 q = sym (get_or_from_slice_get v.window removed.0 q q removed.1) in
+    let room = KeepsRoom-settled_late v (failing_entry c.args.by q) q removed.0 c.self.invariant.room within is in
+    let same = c.if-not-put.ensures.same refl in
     record {
-      room = rw (removed.2, c.push_reserved.ensures.items) (KeepsRoom-settled_late v _ q removed.0 c.self.invariant.room within is);
+      room = rw (removed.2, c.push_reserved.ensures.items, c.settling-entry.ensures, c.failure-response.ensures, same) room;
       queue = c.self.invariant.queue;
       window = ap (λ (p : Places). p.most) removed.2 ∙ c.self.invariant.window;
       entries = omega (arith, c.push_reserved.ensures.capacity, c.self.invariant.entries);
-      places = c.self.invariant.places;
+      places = rw same c.self.invariant.places;
     }
 
 pub invariant_of-self-2 : goal.invariant_of-self-2
 invariant_of-self-2 c =
     let v = content_of c.self.inside in
     let q = c.args.place.now in
-    let p = failure (failure_command q.command) q.upstream in
     let removed = c.remove.ensures.taken q (in_window v c.args.self.now q c.self.view_is c.requires) in
     let within = slice_get_within v.window removed.0 q removed.1 in
     let is : q ≡ get_or v.window removed.0 q = sym (get_or_from_slice_get v.window removed.0 q q removed.1) in
-    let row : (m : Member) × IsRowOf v.members q.client c.in-Some.row m = c.in-Some.ensures in
-    let ms = rw (row.1.client_is, c.facing.ensures, c.failure-response.ensures) at (c.put.ensures.members row.0 row.1.at) in
+    let p = failure (failure_command q.command) q.upstream in
+    let put = c.if-not-put.ensures.there refl in
+    let row = some_row (member_with q.client v.members) put.0 in
+    let ms = rw (c.facing.ensures, c.failure-response.ensures) at put.1 in
+    let room = KeepsRoom-settled v (failing_entry c.args.by q) p q removed.0 row.0 c.self.invariant.room within is row.1 in
     record {
-      room = rw (removed.2, c.push_reserved.ensures.items, c.settling-entry.ensures, c.failure-response.ensures, ms) (KeepsRoom-settled v (failing_entry c.args.by q) p q removed.0 row.0 c.self.invariant.room within is row.1.found);
+      room = rw (removed.2, c.push_reserved.ensures.items, c.settling-entry.ensures, c.failure-response.ensures, ms) room;
       queue = c.self.invariant.queue;
-      window = ap (λ (x : Places). x.most) removed.2 ∙ c.self.invariant.window;
+      window = ap (λ (p : Places). p.most) removed.2 ∙ c.self.invariant.window;
       entries = omega (arith, c.push_reserved.ensures.capacity, c.self.invariant.entries);
-      places = c.put.ensures.places ∙ c.self.invariant.places;
+      places = rw ms c.self.invariant.places;
     }
 
-pub returns-in_default-clause-given_up : goal.returns-in_default-clause-given_up
-returns-in_default-clause-given_up c =
+pub returns-then-not-put-clause-given_up : goal.returns-then-not-put-clause-given_up
+returns-then-not-put-clause-given_up c =
     let v = content_of c.self.inside in
     let q = c.args.place.now in
     let removed = c.remove.ensures.taken q (in_window v c.args.self.now q c.self.view_is c.requires) in
     let within = slice_get_within v.window removed.0 q removed.1 in
     let is : q ≡ get_or v.window removed.0 q = sym (get_or_from_slice_get v.window removed.0 q q removed.1) in
-    let gone : member_with q.client v.members ≡ None = c.in_default.ensures in
-    let room = KeepsRoom-settled_late v (failing_entry c.args.by q) q removed.0 c.self.invariant.room within is in (
+    let room = KeepsRoom-settled_late v (failing_entry c.args.by q) q removed.0 c.self.invariant.room within is in
+    let same = c.if-not-put.ensures.same refl in
+    let gone : member_with q.client v.members ≡ None = c.if-not-put.ensures.absent refl in (
       refl,
       ap (λ (x : Content). member_with q.client x.members) (sym c.self.view_is) ∙ gone,
-      λ h was. rw (removed.2, c.push_reserved.ensures.items, c.settling-entry.ensures, c.failure-response.ensures)
+      λ h was. rw (removed.2, c.push_reserved.ensures.items, c.settling-entry.ensures, c.failure-response.ensures, same)
           (AgreesWith-failed_late h v c.args.by q removed.0 (rw c.self.view_is was) within is gone room),
     )
 
@@ -81,15 +85,16 @@ pub returns-clause-given_up : goal.returns-clause-given_up
 returns-clause-given_up c =
     let v = content_of c.self.inside in
     let q = c.args.place.now in
-    let p = failure (failure_command q.command) q.upstream in
     let removed = c.remove.ensures.taken q (in_window v c.args.self.now q c.self.view_is c.requires) in
     let within = slice_get_within v.window removed.0 q removed.1 in
     let is : q ≡ get_or v.window removed.0 q = sym (get_or_from_slice_get v.window removed.0 q q removed.1) in
-    let row : (m : Member) × IsRowOf v.members q.client c.in-Some.row m = c.in-Some.ensures in
-    let ms = rw (row.1.client_is, c.facing.ensures, c.failure-response.ensures) at (c.put.ensures.members row.0 row.1.at) in
-    let room = KeepsRoom-settled v (failing_entry c.args.by q) p q removed.0 row.0 c.self.invariant.room within is row.1.found in (
+    let p = failure (failure_command q.command) q.upstream in
+    let put = c.if-not-put.ensures.there refl in
+    let row = some_row (member_with q.client v.members) put.0 in
+    let ms = rw (c.facing.ensures, c.failure-response.ensures) at put.1 in
+    let room = KeepsRoom-settled v (failing_entry c.args.by q) p q removed.0 row.0 c.self.invariant.room within is row.1 in (
       refl,
-      ap is_some (ap (λ (x : Content). member_with q.client x.members) (sym c.self.view_is) ∙ row.1.found),
+      ap is_some (ap (λ (x : Content). member_with q.client x.members) (sym c.self.view_is) ∙ row.1),
       λ h was. rw (removed.2, c.push_reserved.ensures.items, c.settling-entry.ensures, c.failure-response.ensures, ms)
           (AgreesWith-failed h v c.args.by q removed.0 (rw c.self.view_is was) within is room),
     )

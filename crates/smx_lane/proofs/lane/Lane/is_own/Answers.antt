@@ -1,21 +1,22 @@
-use Rattle.std.proofs.Common.{◌≡◌, ◌∙◌, sym, refl}
+use Rattle.std.proofs.Common.{◌≡◌, Some, refl}
 use Rattle.std.proofs.lemmas.Bool.{eqb-true, eq-eqb}
 use Rattle.smx_history.specs.Contents.{Member}
+use Rattle.smx_history.specs.Replies.{member_with}
 use Rattle.smx_history.proofs.Keeping.{found_meets}
 use Rattle.smx_lane.specs.Inside.{content_of}
-use Rattle.smx_lane.specs.Members.{IsRowOf}
+use Rattle.smx_lane.specs.Roster.{member_in}
 use Rattle.smx_lane.proofs.Owning.{all_of_one, all_of_none}
 use Rattle.smx_lane.proofs.lane.Lane.is_own.Goals as goal
 
 pub returns-in-Some : goal.returns-in-Some
 returns-in-Some c =
     let v = content_of c.self.inside in
-    let row : (m : Member) × IsRowOf v.members c.args.client c.in-Some.at m = c.in-Some.ensures in
+    let m = member_in (c.args.client, c.in-Some.row.now) in
+    let found : member_with c.args.client v.members ≡ Some m = c.in-Some.ensures in
     let own = λ (m : Member). m.by ≡ c.args.by in
-    let same : c.by.result ≡ row.0.by = c.by.ensures row.0 row.1.at in
     rw (← c.self.view_is) (
-      (λ t. all_of_one own v.members c.args.client row.0 c.self.invariant.room.clients row.1.found (sym same ∙ eqb-true _ _ t)),
-      (λ all. eq-eqb _ _ (same ∙ found_meets own c.args.client row.0 v.members all row.1.found)),
+      (λ t. all_of_one own v.members c.args.client m c.self.invariant.room.clients found (eqb-true _ _ t)),
+      (λ all. eq-eqb _ _ (found_meets own c.args.client m v.members all found)),
     )
 
 pub returns-in-None : goal.returns-in-None

@@ -1,69 +1,91 @@
-use Rattle.std.proofs.Common.{◌≡◌, ◌<◌, ◌+◌, ◌-◌, length, drop, refl, sym, ◌∙◌, ap, arith}
+use Rattle.std.proofs.Common.{◌≡◌, ◌+◌, ◌-◌, length, drop, refl, sym, ◌∙◌, ap, arith}
 use Rattle.std.specs.Option.{option_copied_mut}
 use Rattle.smx_history.specs.Contents.{Member}
+use Rattle.smx_history.specs.Answering.{oldest_in}
 use Rattle.smx_lane.specs.declared.roster.Row.{Row}
 use Rattle.smx_lane.specs.Roster.{member_in}
-use Rattle.smx_lane.proofs.ClientRows.{not_missing, first_there, row_shows, changed_row, client_is, row_waits, row_missing, KeepsRows-changed, front_is}
+use Rattle.smx_lane.proofs.ClientRows.{row_found, row_missing, row_waits, changed_row, unchanged, none_dropped, front_is, KeepsRows-changed, KeepsRows-unchanged}
 use Rattle.smx_lane.proofs.roster.Roster.get.Goals as goal
 
-pub overflow_sub-self : goal.overflow_sub-self
-overflow_sub-self c =
-    let found = sym c.get_mut.ensures.value ∙ ap option_copied_mut c.in-Some.is in
-    let row = c.in-Some.row.now in
-    let h = rw (← c.self.view_is) at c.requires in
-    let some : length row.waiting.items ≡ length h.0.waiting = ap (λ (m : Member). length m.waiting) (row_shows c.args.at c.self.inside.rows.entries row h.0 found h.1) in
-    omega (arith, row_waits c.args.at c.self.inside.rows.entries row found, some, h.2, c.self.invariant.waiting)
+pub returns-in_err-row-clause-oldest : goal.returns-in_err-row-clause-oldest
+returns-in_err-row-clause-oldest c =
+    let missing = row_missing c.args.client c.self.inside.rows.entries (sym c.get_mut.ensures.value ∙ ap option_copied_mut c.in_err-row.was) in
+    rw (← c.self.view_is) (c.from_residual.ensures ∙ sym (ap oldest_in missing))
 
-pub invariant_of-self : goal.invariant_of-self
-invariant_of-self c =
-    let found = sym c.get_mut.ensures.value ∙ ap option_copied_mut c.in-Some.is in
-    let row = c.in-Some.row.now in
-    let h = rw (← c.self.view_is) at c.requires in
-    let f : Member → Member = λ n. record n { pending = n.pending - 1; waiting = drop 1 n.waiting } in
-    let new : Row = record row { pending = row.pending - 1; waiting = c.pop_front.new.self } in
-    let popped = c.pop_front.ensures.items in
-    let change : member_in (c.args.at, new) ≡ f (member_in (c.args.at, row)) = rw popped refl in
-    let front = front_is row.waiting.items c.unwrap-response.result (sym c.pop_front.ensures.value ∙ c.unwrap-response.ensures) in
-    let count : length row.waiting.items ≡ length c.pop_front.new.self.items + 1 = rw popped (omega (arith, ap length front)) in
-    let some = row_waits c.args.at c.self.inside.rows.entries row found in
-    KeepsRows-changed c.self.inside _ f c.args.at row new c.self.invariant (λ _. refl) found change (rw popped refl) refl (c.get_mut.follows.holds new).0 (omega (arith, count, some, c.self.invariant.waiting))
+pub invariant_of-self-in_err-response : goal.invariant_of-self-in_err-response
+invariant_of-self-in_err-response c =
+    let es = c.self.inside.rows.entries in
+    let found = sym c.get_mut.ensures.value ∙ ap option_copied_mut c.in_ok-row.was in
+    let row = c.in_ok-row.row.now in
+    let new : Row = record row { waiting = c.pop_front.new.self } in
+    let none = none_dropped row.waiting.items (sym c.pop_front.ensures.value ∙ c.in_err-response.was) in
+    let same : new ≡ row = rw (c.pop_front.ensures.items, none) refl in
+    let entries = unchanged c.args.client es _ row new found same (c.get_mut.follows.holds new).0 in
+    KeepsRows-unchanged c.self.inside _ c.self.invariant refl entries refl
 
-pub returns-clause-oldest : goal.returns-clause-oldest
-returns-clause-oldest c = λ m is.
-    let found = sym c.get_mut.ensures.value ∙ ap option_copied_mut c.in-Some.is in
-    let row = c.in-Some.row.now in
-    let there = rw (← c.self.view_is) at is in
-    let shows = ap (λ (x : Member). x.waiting) (row_shows c.args.at c.self.inside.rows.entries row m found there) in
-    let front = front_is row.waiting.items c.unwrap-response.result (sym c.pop_front.ensures.value ∙ c.unwrap-response.ensures) in
-    rw (← shows) front
+pub returns-in_err-response-clause-oldest : goal.returns-in_err-response-clause-oldest
+returns-in_err-response-clause-oldest c =
+    let es = c.self.inside.rows.entries in
+    let found = sym c.get_mut.ensures.value ∙ ap option_copied_mut c.in_ok-row.was in
+    let row = c.in_ok-row.row.now in
+    rw (← c.self.view_is) (c.from_residual-in_err-response.ensures ∙ sym (ap oldest_in (row_found c.args.client es row found) ∙ sym c.pop_front.ensures.value ∙ c.in_err-response.was))
 
-pub returns-clause-members : goal.returns-clause-members
-returns-clause-members c = λ m is.
-    let found = sym c.get_mut.ensures.value ∙ ap option_copied_mut c.in-Some.is in
-    let row = c.in-Some.row.now in
-    let f : Member → Member = λ n. record n { pending = n.pending - 1; waiting = drop 1 n.waiting } in
-    let new : Row = record row { pending = row.pending - 1; waiting = c.pop_front.new.self } in
-    let there = rw (← c.self.view_is) at is in
-    let change : member_in (c.args.at, new) ≡ f (member_in (c.args.at, row)) = rw c.pop_front.ensures.items refl in
-    rw (← c.self.view_is, (c.get_mut.follows.holds new).0, client_is c.args.at c.self.inside.rows.entries m there) (changed_row f c.args.at 0 c.self.inside.rows.entries row new found c.self.invariant.clients change)
-
-pub unreachable-requires : goal.unreachable-requires
-unreachable-requires c =
-    let h = rw (← c.self.view_is) at c.requires in
-    not_missing c.args.at c.self.inside.rows.entries h.0 h.1 (sym c.get_mut.ensures.value ∙ ap option_copied_mut c.in_default.is)
-
-pub unwrap-response-requires : goal.unwrap-response-requires
-unwrap-response-requires c =
-    let h = rw (← c.self.view_is) at c.requires in
-    let found = sym c.get_mut.ensures.value ∙ ap option_copied_mut c.in-Some.is in
-    let row = c.in-Some.row.now in
-    let same : length row.waiting.items ≡ length h.0.waiting = ap (λ (m : Member). length m.waiting) (row_shows c.args.at c.self.inside.rows.entries row h.0 found h.1) in
-    rw c.pop_front.ensures.value (first_there row.waiting.items (omega (arith, same, h.2)))
+pub returns-in_err-response-clause-none : goal.returns-in_err-response-clause-none
+returns-in_err-response-clause-none c =
+    let es = c.self.inside.rows.entries in
+    let found = sym c.get_mut.ensures.value ∙ ap option_copied_mut c.in_ok-row.was in
+    let row = c.in_ok-row.row.now in
+    let new : Row = record row { waiting = c.pop_front.new.self } in
+    let none = none_dropped row.waiting.items (sym c.pop_front.ensures.value ∙ c.in_err-response.was) in
+    let same : new ≡ row = rw (c.pop_front.ensures.items, none) refl in
+    let entries = unchanged c.args.client es _ row new found same (c.get_mut.follows.holds new).0 in
+    rw (c.from_residual-in_err-response.ensures, ← c.self.view_is, entries) refl
 
 pub overflow_sub-row : goal.overflow_sub-row
 overflow_sub-row c =
-    let h = rw (← c.self.view_is) at c.requires in
-    let found = sym c.get_mut.ensures.value ∙ ap option_copied_mut c.in-Some.is in
-    let row = c.in-Some.row.now in
-    let same : row.pending ≡ h.0.pending = ap (λ (m : Member). m.pending) (row_shows c.args.at c.self.inside.rows.entries row h.0 found h.1) in
-    omega (arith, same, h.3)
+    let es = c.self.inside.rows.entries in
+    let found = sym c.get_mut.ensures.value ∙ ap option_copied_mut c.in_ok-row.was in
+    let row = c.in_ok-row.row.now in
+    let front = front_is row.waiting.items c.in_ok-response.response (sym c.pop_front.ensures.value ∙ c.in_ok-response.was) in
+    let few = rw (← c.self.view_is) at (c.requires (member_in (c.args.client, row))) in
+    omega (arith, ap length front, few (row_found c.args.client es row found))
+
+pub overflow_sub-self : goal.overflow_sub-self
+overflow_sub-self c =
+    let es = c.self.inside.rows.entries in
+    let found = sym c.get_mut.ensures.value ∙ ap option_copied_mut c.in_ok-row.was in
+    let row = c.in_ok-row.row.now in
+    let front = front_is row.waiting.items c.in_ok-response.response (sym c.pop_front.ensures.value ∙ c.in_ok-response.was) in
+    omega (arith, row_waits c.args.client es row found, ap length front, c.self.invariant.waiting)
+
+pub invariant_of-self-2 : goal.invariant_of-self-2
+invariant_of-self-2 c =
+    let es = c.self.inside.rows.entries in
+    let found = sym c.get_mut.ensures.value ∙ ap option_copied_mut c.in_ok-row.was in
+    let row = c.in_ok-row.row.now in
+    let front = front_is row.waiting.items c.in_ok-response.response (sym c.pop_front.ensures.value ∙ c.in_ok-response.was) in
+    let f : Member → Member = λ n. record n { pending = n.pending - 1; waiting = drop 1 n.waiting } in
+    let new : Row = record row { pending = row.pending - 1; waiting = c.pop_front.new.self } in
+    let popped = c.pop_front.ensures.items in
+    let change : member_in (c.args.client, new) ≡ f (member_in (c.args.client, row)) = rw popped refl in
+    let count : length row.waiting.items ≡ length c.pop_front.new.self.items + 1 = rw popped (omega (arith, ap length front)) in
+    let some = row_waits c.args.client es row found in
+    KeepsRows-changed c.self.inside _ f c.args.client row new c.self.invariant (λ _. refl) found change (rw popped refl) refl (c.get_mut.follows.holds new).0 (omega (arith, count, some, c.self.invariant.waiting))
+
+pub returns-clause-oldest : goal.returns-clause-oldest
+returns-clause-oldest c =
+    let es = c.self.inside.rows.entries in
+    let found = sym c.get_mut.ensures.value ∙ ap option_copied_mut c.in_ok-row.was in
+    let row = c.in_ok-row.row.now in
+    rw (← c.self.view_is) (sym (ap oldest_in (row_found c.args.client es row found) ∙ sym c.pop_front.ensures.value ∙ c.in_ok-response.was))
+
+pub returns-clause-some : goal.returns-clause-some
+returns-clause-some c =
+    let es = c.self.inside.rows.entries in
+    let found = sym c.get_mut.ensures.value ∙ ap option_copied_mut c.in_ok-row.was in
+    let row = c.in_ok-row.row.now in
+    let f : Member → Member = λ n. record n { pending = n.pending - 1; waiting = drop 1 n.waiting } in
+    let new : Row = record row { pending = row.pending - 1; waiting = c.pop_front.new.self } in
+    let popped = c.pop_front.ensures.items in
+    let change : member_in (c.args.client, new) ≡ f (member_in (c.args.client, row)) = rw popped refl in
+    rw (← c.self.view_is, (c.get_mut.follows.holds new).0, changed_row f c.args.client 0 es row new found c.self.invariant.clients change) refl

@@ -1,43 +1,47 @@
-use Rattle.std.proofs.Common.{true, false, ◌≡◌, ◌+◌, [], ◌∷◌, ◌++◌, length, length-append, refl, sym, ◌∙◌, ap, arith}
+use Rattle.std.proofs.Common.{true, false, ◌≡◌, ◌+◌, [], ◌∷◌, ◌++◌, length, length-append, is_some, refl, sym, ◌∙◌, ap, arith}
 use Rattle.std.specs.Option.{option_copied_mut}
 use Rattle.smx_history.specs.Contents.{Member}
 use Rattle.smx_lane.specs.declared.roster.Row.{Row}
 use Rattle.smx_lane.specs.Roster.{member_in}
-use Rattle.smx_lane.proofs.ClientRows.{not_missing, row_shows, box_places, changed_row, client_is, row_missing, KeepsRows-changed}
+use Rattle.smx_lane.proofs.ClientRows.{row_found, row_missing, box_places, changed_row, KeepsRows-changed}
 use Rattle.smx_lane.proofs.roster.Roster.put.Goals as goal
 
-pub invariant_of-self : goal.invariant_of-self
-invariant_of-self c =
+pub invariant_of-self-2 : goal.invariant_of-self-2
+invariant_of-self-2 c =
+    let es = c.self.inside.rows.entries in
     let found = sym c.get_mut.ensures.value ∙ ap option_copied_mut c.in-Some.is in
     let row = c.in-Some.row.now in
     let f : Member → Member = λ n. record n { waiting = n.waiting ++ c.args.response ∷ [] } in
     let new : Row = record row { waiting = c.try_push_back.new.self } in
     let pushed = c.in-Ok.ensures.ok in
-    let change : member_in (c.args.at, new) ≡ f (member_in (c.args.at, row)) = rw pushed refl in
+    let change : member_in (c.args.client, new) ≡ f (member_in (c.args.client, row)) = rw pushed refl in
     let count : length c.try_push_back.new.self.items ≡ length row.waiting.items + 1 = rw pushed (length-append row.waiting.items (c.args.response ∷ [])) in
-    KeepsRows-changed c.self.inside _ f c.args.at row new c.self.invariant (λ _. refl) found change (rw pushed refl) refl (c.get_mut.follows.holds new).0 (omega (arith, count))
+    KeepsRows-changed c.self.inside _ f c.args.client row new c.self.invariant (λ _. refl) found change (rw pushed refl) refl (c.get_mut.follows.holds new).0 (omega (arith, count))
 
-pub returns-clause-members : goal.returns-clause-members
-returns-clause-members c = λ m is.
+pub returns-in_default-clause-absent : goal.returns-in_default-clause-absent
+returns-in_default-clause-absent c = λ _.
+    let missing = row_missing c.args.client c.self.inside.rows.entries (sym c.get_mut.ensures.value ∙ ap option_copied_mut c.in_default.is) in
+    rw (← c.self.view_is) missing
+
+pub returns-clause-there : goal.returns-clause-there
+returns-clause-there c = λ _.
+    let es = c.self.inside.rows.entries in
     let found = sym c.get_mut.ensures.value ∙ ap option_copied_mut c.in-Some.is in
     let row = c.in-Some.row.now in
     let f : Member → Member = λ n. record n { waiting = n.waiting ++ c.args.response ∷ [] } in
     let new : Row = record row { waiting = c.try_push_back.new.self } in
-    let there = rw (← c.self.view_is) at is in
-    let change : member_in (c.args.at, new) ≡ f (member_in (c.args.at, row)) = rw c.in-Ok.ensures.ok refl in
-    rw (← c.self.view_is, (c.get_mut.follows.holds new).0, client_is c.args.at c.self.inside.rows.entries m there) (changed_row f c.args.at 0 c.self.inside.rows.entries row new found c.self.invariant.clients change)
+    let pushed = c.in-Ok.ensures.ok in
+    let change : member_in (c.args.client, new) ≡ f (member_in (c.args.client, row)) = rw pushed refl in
+    rw (← c.self.view_is, (c.get_mut.follows.holds new).0, changed_row f c.args.client 0 es row new found c.self.invariant.clients change)
+    (ap is_some (row_found c.args.client es row found), refl)
 
 pub unreachable-requires : goal.unreachable-requires
 unreachable-requires c =
-    let h = rw (← c.self.view_is) at c.requires.room in
-    not_missing c.args.at c.self.inside.rows.entries h.0 h.1 (sym c.get_mut.ensures.value ∙ ap option_copied_mut c.in_default.is)
-
-pub unreachable-requires-in-Err : goal.unreachable-requires-in-Err
-unreachable-requires-in-Err c =
-    let h = rw (← c.self.view_is) at c.requires.room in
+    let es = c.self.inside.rows.entries in
     let found = sym c.get_mut.ensures.value ∙ ap option_copied_mut c.in-Some.is in
     let row = c.in-Some.row.now in
-    let same : length row.waiting.items ≡ length h.0.waiting = ap (λ (m : Member). length m.waiting) (row_shows c.args.at c.self.inside.rows.entries row h.0 found h.1) in
-    let places = box_places c.self.inside c.args.at row c.self.invariant found in
-    let bad : false ≡ true = c.in-Err.ensures.variant.1 (omega (arith, same, places, h.2)) in
+    let room = rw (← c.self.view_is) at (c.requires.room (member_in (c.args.client, row))) in
+    let free = room (row_found c.args.client es row found) in
+    let places = box_places c.self.inside c.args.client row c.self.invariant found in
+    let bad : false ≡ true = c.in-Err.ensures.variant.1 (omega (arith, places, free)) in
     cc
