@@ -84,46 +84,58 @@ def sum_of(groups, name):
     return sum(it.sums[name] for it in groups)
 
 
-def rough_soak(program, tool, config, seconds, part, restart):
-    """Whether something went wrong, each line of which it says."""
-    lines, begun = Lines(), time.time()
-    groups = [Group(tool, part) for _ in range(GROUPS)]
-    centre, restarts, said, early = Running(tool, "centre", str(CENTRE)), 0, 0, None
-    with Running(program, "serve", config, listens="listening", heed=lines.heed) as proxy:
-        time.sleep(3)
-        at_first = proxy.descriptors()
-        while True:
-            passed = time.time() - begun
-            at_work = [it.look(passed < seconds) for it in groups]
-            if not any(at_work) and passed >= seconds:
-                break
-            if passed < seconds and random.random() < KILLS:
-                random.choice(groups).kill()
-            if passed >= (restarts + 1) * restart and passed < seconds:
-                centre.__exit__()
-                time.sleep(1)
-                centre, restarts = Running(tool, "centre", str(CENTRE)), restarts + 1
-            if passed >= (said + 1) * 60:
-                said += 1
-                early = early or (proxy.megabytes() if said >= 5 else None)
-                print(
-                    f"minute {said}: {proxy.megabytes():.1f} MB, {proxy.descriptors()} descriptors, "
-                    f"answered {sum_of(groups, 'answered'):,}, refused {sum_of(groups, 'refused'):,}",
-                    flush=True,
-                )
-            time.sleep(1)
-        last = proxy.megabytes()
-        time.sleep(5)
-        left = proxy.descriptors() - at_first
-    centre.__exit__()
+def minute(number, proxy, groups):
+    """Says how it stands, and gives the memory, in MB."""
+    megabytes = proxy.megabytes()
+    print(
+        f"minute {number}: {megabytes:.1f} MB, {proxy.descriptors()} descriptors, "
+        f"answered {sum_of(groups, 'answered'):,}, refused {sum_of(groups, 'refused'):,}",
+        flush=True,
+    )
+    return megabytes
+
+
+def verdict(groups, restarts, weights, left, lines):
+    """Says what came of it, and whether something went wrong."""
     bad, missing = sum_of(groups, "bad"), sum_of(groups, "missing")
     print(
         f"answered {sum_of(groups, 'answered'):,}, refused {sum_of(groups, 'refused'):,}, bad {bad}, missing {missing}; "
         f"{sum(it.kills for it in groups)} groups of {CLIENTS} clients killed, the centre {restarts} times; "
-        f"{last:.1f} MB at the end, {left} descriptors left, {lines.count:,} lines"
+        f"{weights[-1]:.1f} MB at the end, {left} descriptors left, {lines.count:,} lines"
     )
     if lines.strange:
         print(f"a line that can't be read: {lines.strange!r}")
-    if early and last > 1.1 * early:
-        print(f"memory rose from {early:.1f} MB at the fifth minute to {last:.1f} MB")
-    return bool(bad or missing or left > 0 or lines.strange or (early and last > 1.1 * early))
+    rose = len(weights) > 5 and weights[-1] > 1.1 * weights[4]
+    if rose:
+        print(f"memory rose from {weights[4]:.1f} MB at the fifth minute to {weights[-1]:.1f} MB")
+    return bool(bad or missing or left > 0 or lines.strange or rose)
+
+
+def rough_soak(program, tool, config, seconds, part, restart):
+    """Whether something went wrong, each line of which it says."""
+    lines, weights, restarts = Lines(), [], 0
+    groups = [Group(tool, part) for _ in range(GROUPS)]
+    centre = Running(tool, "centre", str(CENTRE))
+    with Running(program, "serve", config, listens="listening", heed=lines.heed) as proxy:
+        time.sleep(3)
+        at_first, begun = proxy.descriptors(), time.time()
+        while True:
+            passed = time.time() - begun
+            goes_on = passed < seconds
+            at_work = [it.look(goes_on) for it in groups]
+            if not goes_on and not any(at_work):
+                break
+            if goes_on and random.random() < KILLS:
+                random.choice(groups).kill()
+            if goes_on and passed >= (restarts + 1) * restart:
+                centre.__exit__()
+                time.sleep(1)
+                centre, restarts = Running(tool, "centre", str(CENTRE)), restarts + 1
+            if passed >= (len(weights) + 1) * 60:
+                weights.append(minute(len(weights) + 1, proxy, groups))
+            time.sleep(1)
+        weights.append(proxy.megabytes())
+        time.sleep(5)
+        left = proxy.descriptors() - at_first
+    centre.__exit__()
+    return verdict(groups, restarts, weights, left, lines)
