@@ -98,8 +98,7 @@ impl<'d> Loop<'d> {
         Ok(())
     }
 
-    // Unbinds each client, and awaits its answer for a second, or, where it is told to stop once more, until
-    // what it was sent is written.
+    // Unbinds each client, and awaits its answer for a second, or until it is told to stop once more.
     fn part_from_clients<R: Wait + Clock + Net>(
         &mut self,
         rt: &R,
@@ -109,11 +108,7 @@ impl<'d> Loop<'d> {
         self.guests
             .unbind_all(rt, moment, &mut self.queues, &mut self.addresses);
         for _ in rt.forever() {
-            if self.guests.are_gone() {
-                break;
-            }
-            if remote.is_hurried() {
-                self.settle(rt, false, false)?;
+            if self.guests.are_gone() || remote.is_hurried() {
                 break;
             }
             self.round(rt, 10)?;
