@@ -2,7 +2,7 @@
 //
 //   bench_serve centre PORT [mute]                          answers until it is killed; mute: it takes
 //                                                           binds, and reads no more after a request
-//   bench_serve load PORT CLIENTS WINDOW SECONDS [FLAG]     prints one line of figures, and ends
+//   bench_serve load PORT CLIENTS WINDOW SECONDS [FLAG [PAUSE]]   prints one line of figures, and ends
 //
 // Each client binds as `alpha`, keeps WINDOW requests without an answer, and sends the next when an
 // answer comes. An answer with another status, or to no request of that client, is bad; a request
@@ -10,14 +10,16 @@
 // has one client more, which never reads and sends until nobody takes its octets any more; with `rough`
 // an answer with another status is refused, not bad, its client sends the next request a little later,
 // answers are waited for longer, as a lane's queue waits for its link, and the line ends with how many were
-// refused.
+// refused and how many connections the peer closed; there a client sends nothing for PAUSE seconds behind
+// each answer.
 #include "bench_links.h"
 
 enum { BUCKETS = 1 << 16 };
 
 static unsigned long answered, bad, missing, refused, late[BUCKETS];
 static int is_mute, is_rough;
-static const double tail = 10; // how long the answers of a rough load are waited for, in seconds
+static const double tail = 75; // how long answers of a rough load are waited for, in seconds: 60 where queued
+static double pause_; // how long a client of a rough load sends nothing behind an answer, in seconds
 static const double rest = 0.05; // how long a refused client of a rough load sends nothing, in seconds
 
 static void answer(struct link *l, const unsigned char *pdu, size_t size) {
@@ -98,6 +100,7 @@ static void settle(struct link *l, const unsigned char *pdu, size_t size) {
     unsigned long took = (now() - *at) * 1e6;
     late[took < BUCKETS ? took : BUCKETS - 1]++;
     *at = 0, l->waiting--, answered++;
+    if (pause_ > 0) l->rests_until = now() + pause_;
 }
 
 static struct link *client(int port) {
@@ -175,7 +178,9 @@ static void load(int port, int clients, double seconds, const char *flag) {
         if (!links[i]->mute) missing += links[i]->waiting;
     printf("%.0f messages/s p50 %lu us p99 %lu us answered %lu bad %lu missing %lu", inside / seconds, part(0.5),
         part(0.99), answered, bad, missing);
-    if (is_rough) printf(" refused %lu", refused);
+    unsigned long closed = 0;
+    for (int i = 0; i < count; i++) closed += links[i]->socket < 0;
+    if (is_rough) printf(" refused %lu closed %lu", refused, closed);
     printf("\n");
 }
 
@@ -189,6 +194,7 @@ int main(int words, char **word) {
     }
     if (words < 6 || strcmp(word[1], "load")) return 2;
     window = atoi(word[4]);
+    pause_ = words > 7 ? atof(word[7]) : 0;
     load(atoi(word[2]), atoi(word[3]), atof(word[5]), words > 6 ? word[6] : "");
     return 0;
 }

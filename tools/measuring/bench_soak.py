@@ -2,6 +2,7 @@
 
 import random
 import re
+import signal
 import subprocess
 import threading
 import time
@@ -43,24 +44,26 @@ def soak(program, tool, config, seconds, whole, timed):
 
 
 class Group:
-    """Clients of one process, which come anew after a part, or a second after they were killed."""
+    """Clients of one process, which come anew a second or more after a part, or after they were killed."""
 
-    def __init__(self, tool, part):
-        self.words = [tool, "load", str(PROXY), str(CLIENTS), str(REQUESTS), str(part), "rough"]
-        self.sums = {"answered": 0, "bad": 0, "missing": 0, "refused": 0}
-        self.child, self.begins, self.kills = None, time.time(), 0
+    def __init__(self, tool, part, pause):
+        self.words = [tool, "load", str(PROXY), str(CLIENTS), str(REQUESTS), str(part), "rough", str(pause)]
+        self.sums = {"answered": 0, "refused": 0, "bad": 0, "missing": 0, "closed": 0}
+        self.child, self.begins, self.kills, self.failures = None, time.time(), 0, 0
 
-    def look(self, goes_on):
-        """Counts what it said where it has ended, and begins it anew where it goes on."""
+    def look(self):
+        """Counts what it said where it has ended, and gives whether it is at work."""
         if self.child and self.child.poll() is not None:
             said = self.child.stdout.read().decode()
+            self.failures += not said and self.child.returncode != -signal.SIGKILL
             for name in self.sums:
                 found = re.search(rf"{name} (\d+)", said)
                 self.sums[name] += int(found[1]) if found else 0
             self.child, self.begins = None, time.time() + 1
-        if not self.child and goes_on and time.time() >= self.begins:
-            self.child = started(self.words, stdout=subprocess.PIPE, stderr=subprocess.DEVNULL)
         return self.child is not None
+
+    def begin(self):
+        self.child = started(self.words, stdout=subprocess.PIPE, stderr=subprocess.DEVNULL)
 
     def kill(self):
         if self.child:
@@ -84,12 +87,18 @@ def sum_of(groups, name):
     return sum(it.sums[name] for it in groups)
 
 
+def counts(groups):
+    """What clients that have ended were answered."""
+    named = ", ".join(f"{name} {sum_of(groups, name):,}" for name in groups[0].sums)
+    return f"{named}, {sum(it.failures for it in groups)} groups failed"
+
+
 def minute(number, proxy, groups):
     """Says how it stands, and gives the memory, in MB."""
     megabytes = proxy.megabytes()
     print(
-        f"minute {number}: {megabytes:.1f} MB, {proxy.descriptors()} descriptors, "
-        f"answered {sum_of(groups, 'answered'):,}, refused {sum_of(groups, 'refused'):,}",
+        f"minute {number}: {megabytes:.1f} MB, {proxy.descriptors()} descriptors, {proxy.seconds():.0f} s of processor, "
+        f"{counts(groups)}",
         flush=True,
     )
     return megabytes
@@ -97,24 +106,23 @@ def minute(number, proxy, groups):
 
 def verdict(groups, restarts, weights, left, lines):
     """Says what came of it, and whether something went wrong."""
-    bad, missing = sum_of(groups, "bad"), sum_of(groups, "missing")
+    wrong = sum(sum_of(groups, name) for name in ("bad", "missing", "closed")) + sum(it.failures for it in groups)
     print(
-        f"answered {sum_of(groups, 'answered'):,}, refused {sum_of(groups, 'refused'):,}, bad {bad}, missing {missing}; "
-        f"{sum(it.kills for it in groups)} groups of {CLIENTS} clients killed, the centre {restarts} times; "
+        f"{counts(groups)}; {sum(it.kills for it in groups)} groups of {CLIENTS} clients killed, the centre {restarts} times; "
         f"{weights[-1]:.1f} MB at the end, {left} descriptors left, {lines.count:,} lines"
     )
     if lines.strange:
         print(f"a line that can't be read: {lines.strange!r}")
-    rose = len(weights) > 5 and weights[-1] > 1.1 * weights[4]
+    rose = len(weights) > 5 and max(weights[5:]) > 1.1 * weights[4]
     if rose:
-        print(f"memory rose from {weights[4]:.1f} MB at the fifth minute to {weights[-1]:.1f} MB")
-    return bool(bad or missing or left > 0 or lines.strange or rose)
+        print(f"memory rose from {weights[4]:.1f} MB at the fifth minute to {max(weights[5:]):.1f} MB")
+    return bool(wrong or left > 0 or lines.strange or rose)
 
 
-def rough_soak(program, tool, config, seconds, part, restart):
+def rough_soak(program, tool, config, seconds, part, restart, pause):
     """Whether something went wrong, each line of which it says."""
     lines, weights, restarts = Lines(), [], 0
-    groups = [Group(tool, part) for _ in range(GROUPS)]
+    groups = [Group(tool, part, pause) for _ in range(GROUPS)]
     centre = Running(tool, "centre", str(CENTRE))
     with Running(program, "serve", config, listens="listening", heed=lines.heed) as proxy:
         time.sleep(3)
@@ -122,9 +130,13 @@ def rough_soak(program, tool, config, seconds, part, restart):
         while True:
             passed = time.time() - begun
             goes_on = passed < seconds
-            at_work = [it.look(goes_on) for it in groups]
+            at_work = [it.look() for it in groups]
             if not goes_on and not any(at_work):
                 break
+            due = [it for it in groups if not it.child and time.time() >= it.begins]
+            if goes_on and due:
+                # One a second, as half of the slots may be of clients that aren't bound.
+                due[0].begin()
             if goes_on and random.random() < KILLS:
                 random.choice(groups).kill()
             if goes_on and passed >= (restarts + 1) * restart:

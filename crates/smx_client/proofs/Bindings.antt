@@ -1,5 +1,5 @@
 -- Which account a session is bound by, and how its work ended, after an act.
-use Rattle.std.proofs.Common.{◌≡◌, ℕ, List, [], ◌∷◌, ◌++◌, Option, Some, None, Result, sym, ◌∙◌, ap, refl}
+use Rattle.std.proofs.Common.{◌≡◌, ℕ, [], Option, Some, None, Result, sym, ◌∙◌, ap, refl}
 use Rattle.std.specs.declared.snapshot.Snapshot.{Snapshot}
 use Rattle.smx_pdu.specs.declared.pdu.Pdu.{Pdu}
 use Rattle.smx_session.specs.ClientAsks.{client_bars}
@@ -13,7 +13,6 @@ use Rattle.smx_shared.specs.declared.fault.SubmitFault.{SubmitFault}
 use Rattle.smx_turns.specs.declared.end.End.{End}
 use Rattle.smx_turns.specs.Endings.{or_end, ending_of}
 use Rattle.smx_client.specs.declared.ending.Refusal.{Refusal}
-use Rattle.smx_client.specs.declared.event.Event.{Event}
 use Rattle.smx_client.specs.declared.event.Fate.TheVariants.{Submitted, Settled}
 use Rattle.smx_client.specs.declared.reply.Reply.{Reply}
 use Rattle.smx_client.specs.Events.{act_worth, worth}

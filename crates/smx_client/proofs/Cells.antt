@@ -1,5 +1,5 @@
 -- Cells of the turn's table.
-use Rattle.std.proofs.Common.{◌≡◌, ◌≢◌, ℕ, Bool, true, false, List, [], ◌∷◌, ◌++◌, sym, ◌∙◌, ap, refl, subst, Result, Option, None, IsSome, is_some, length, ◌≤◌}
+use Rattle.std.proofs.Common.{◌≡◌, ◌≢◌, ℕ, Bool, true, false, List, [], ◌∷◌, ◌++◌, sym, ◌∙◌, ap, refl, subst, true≢false, Result, Option, None, IsSome, is_some, length, ◌≤◌}
 use Rattle.std.specs.Prelude.{if◌then◌else◌, ◌==◌, ◌+◌}
 use Rattle.std.proofs.lemmas.Bool.{eq-eqb}
 use Rattle.std.specs.declared.snapshot.Snapshot.{Snapshot}
@@ -24,9 +24,9 @@ use Rattle.smx_turns.specs.declared.end.TurnEnd.{TurnEnd}
 use Rattle.smx_turns.specs.declared.end.TurnEnd.TheVariants.{Worked, Done}
 use Rattle.smx_turns.specs.declared.mo_item.MoItem.{MoItem}
 use Rattle.smx_turns.specs.declared.step.Step.TheVariants.{Asked, Read, Marked, Did}
-use Rattle.smx_client.specs.declared.mark.Stage.{Stage}
-use Rattle.smx_client.specs.declared.mark.Stage.TheVariants.{Open, Drained, Closed}
-use Rattle.smx_client.specs.declared.mark.Mark.TheVariants.{Offered, WriteFailed, Waited, NoRoom, Part, Entered, Full as Clogs}
+use Rattle.smx_client.specs.declared.stage.Stage.{Stage}
+use Rattle.smx_client.specs.declared.stage.Stage.TheVariants.{Open, Drained, Closed}
+use Rattle.smx_turns.specs.declared.mark.Mark.TheVariants.{Offered, WriteFailed, Waited, NoRoom, Part, Entered, Full as Clogs}
 use Rattle.smx_client.specs.declared.reply.Reply.{Reply}
 use Rattle.smx_client.specs.declared.event.Event.TheVariants.{Decided, Broke, Collected, PutAgain, Heard, Expired, Looked, LinkEnded, Got as Fetched}
 use Rattle.smx_client.specs.declared.event.Fate.TheVariants.{Submitted, Barred, Settled as Settles}
@@ -37,6 +37,7 @@ use Rattle.smx_client.specs.declared.reply.Parked.{Parked as Answer}
 use Rattle.smx_frame.specs.Stream.{HasNone}
 use Rattle.smx_shared.specs.Views.{PortView}
 use Rattle.smx_turns.specs.Rounds.{last_end}
+use Rattle.smx_turns.specs.Wires.{some_wait}
 use Rattle.smx_turns.proofs.Logged.{phase_push}
 use Rattle.smx_client.specs.Table.{Before, Phase, Opening, AtLane, MayCollect, Clear, Draining, MayRead, Hearing, Ageing, Looking, Gone, Deciding, MayBind, MayRefuse, Admitted, Barring, MaySubmit, Unentered, Settled, Stopped, Clogged, Closing, Ending, Over, Failed, Wrong, step_of, phase_of, go, from_opening, when_offered, when_written, halts, from_lane, when_may_collect, from_boxing, from_collecting, from_draining, from_clear, from_may_read, from_hearing, from_ageing, from_looking, from_deciding, from_admitted, from_barring, from_may_submit, from_entering, from_closing, is_same_leave, after_reply, after_got, after_collect, after_read, after_expired, is_given_at, after_look, after_bind, Faulted, EndsIn, Stands, IsAt}
 
@@ -50,9 +51,9 @@ unfolding phase_of
 phase_first t ss none = ap (phase_of t) none
 
 module _ (t : Before) where
-  pub opened : (wrote left : Bool) → go t Opening (Marked (Offered wrote left)) ≡ when_offered t left
+  pub opened : (waited wrote left : Bool) → go t Opening (Marked (Offered waited wrote left)) ≡ when_offered t left
   unfolding go from_opening
-  opened wrote left = refl
+  opened waited wrote left = refl
 
   pub unopened : go t Opening (Marked WriteFailed) ≡ Failed
   unfolding go from_opening
@@ -224,13 +225,13 @@ module _ (t : Before) where
   entered ended kind.Rx account whole other = enters ended account whole
   entered ended kind.Trx account whole other = enters ended account whole
 
-  pub ending : (wrote : Bool) → go t Closing (Marked (Offered wrote true)) ≡ Ending
+  pub ending : (waited wrote : Bool) → go t Closing (Marked (Offered waited wrote true)) ≡ Ending
   unfolding go from_closing
-  ending wrote = refl
+  ending waited wrote = refl
 
-  pub done : (wrote : Bool) → go t Closing (Marked (Offered wrote false)) ≡ Over
+  pub done : (waited wrote : Bool) → go t Closing (Marked (Offered waited wrote false)) ≡ Over
   unfolding go from_closing
-  done wrote = refl
+  done waited wrote = refl
 
   pub unclosed : go t Closing (Marked WriteFailed) ≡ Failed
   unfolding go from_closing
@@ -240,23 +241,32 @@ module _ (t : Before) where
 pub write_fails : (t : Before) (p q : Phase) (e : Fault) → go t p (Marked WriteFailed) ≡ Failed → (e ≡ fault.Link) × (q ≡ go t p (Marked WriteFailed)) → Faulted e q
 write_fails t p q e cell h = subst (λ x. Faulted x q) (sym h.0) (h.1 ∙ cell)
 
+-- octets wait, or none
+pub some_are : (u : List ℕ) → true ≡ some_wait u → u ≢ []
+some_are [] some none = true≢false some
+some_are (x ∷ xs) some none = absurd (cc)
+
+pub none_are : (u : List ℕ) → false ≡ some_wait u → u ≡ []
+none_are [] none = refl
+none_are (x ∷ xs) none = absurd (true≢false (sym none))
+
 -- nothing but a write was left to do
 pub last_ends : (t : Before) (q : Phase) (left quiet : Bool) (end : TurnEnd) (u rest : List ℕ) (held : Option Pdu) (parked : Option Answer) (settled : Bool) (stage : Stage) → stage ≡ Closed → end ≡ last_end left
-    → (wrote : Bool) × (q ≡ go t Closing (Marked (Offered wrote left))) → (left ≡ true → u ≢ []) → (left ≡ false → u ≡ [])
+    → (waited wrote : Bool) × (q ≡ go t Closing (Marked (Offered waited wrote left))) → left ≡ some_wait u
     → EndsIn end quiet q × Stands q u rest held parked settled stage
-last_ends t q true quiet end u rest held parked settled stage closed is h some none =
+last_ends t q true quiet end u rest held parked settled stage closed is h waits =
     subst (λ e. EndsIn e quiet q × Stands q u rest held parked settled stage) (sym is)
-    (subst (λ x. EndsIn Worked quiet x × Stands x u rest held parked settled stage) (sym (h.1 ∙ ending t h.0)) (tt, (some refl, closed)))
-last_ends t q false quiet end u rest held parked settled stage closed is h some none =
-    let e = h.1 ∙ done t h.0 in
-    subst (λ y. EndsIn y quiet q × Stands q u rest held parked settled stage) (sym is) (subst (EndsIn Done quiet) (sym e) tt, subst (λ x. Stands x u rest held parked settled stage) (sym e) (none refl, closed))
+    (subst (λ x. EndsIn Worked quiet x × Stands x u rest held parked settled stage) (sym (h.2 ∙ ending t h.0 h.1)) (tt, (some_are u waits, closed)))
+last_ends t q false quiet end u rest held parked settled stage closed is h waits =
+    let e = h.2 ∙ done t h.0 h.1 in
+    subst (λ y. EndsIn y quiet q × Stands q u rest held parked settled stage) (sym is) (subst (EndsIn Done quiet) (sym e) tt, subst (λ x. Stands x u rest held parked settled stage) (sym e) (none_are u waits, closed))
 
 -- some is left of what waited at a turn's start
 pub left_ends : (t : Before) (q : Phase) (left quiet : Bool) (u rest : List ℕ) (held : Option Pdu) (parked : Option Answer) (settled : Bool) (stage : Stage) → left ≡ true
-    → (wrote : Bool) × (q ≡ go t Opening (Marked (Offered wrote left))) → t.stage ≡ stage → u ≢ [] → EndsIn Worked quiet q × Stands q u rest held parked settled stage
+    → (waited wrote : Bool) × (q ≡ go t Opening (Marked (Offered waited wrote left))) → t.stage ≡ stage → u ≢ [] → EndsIn Worked quiet q × Stands q u rest held parked settled stage
 left_ends t q left quiet u rest held parked settled stage some h same unsent =
     subst (λ x. EndsIn Worked quiet x × Stands x u rest held parked settled stage)
-    (sym (h.1 ∙ ap (λ x. go t Opening (Marked (Offered h.0 x))) some ∙ opened t h.0 true)) (halted t.stage same)
+    (sym (h.2 ∙ ap (λ x. go t Opening (Marked (Offered h.0 h.1 x))) some ∙ opened t h.0 h.1 true)) (halted t.stage same)
   where
     halted : (s : Stage) → s ≡ stage → EndsIn Worked quiet (halts s) × Stands (halts s) u rest held parked settled stage
     halted Open e = (tt, unsent)
@@ -264,8 +274,8 @@ left_ends t q left quiet u rest held parked settled stage some h same unsent =
     halted Closed e = (tt, (unsent, sym e))
 
 -- what waited was written
-pub begun : (t : Before) (q : Phase) (left : Bool) → left ≡ false → (wrote : Bool) × (q ≡ go t Opening (Marked (Offered wrote left))) → q ≡ when_written t t.stage
-begun t q left none h = h.1 ∙ ap (λ x. go t Opening (Marked (Offered h.0 x))) none ∙ opened t h.0 false
+pub begun : (t : Before) (q : Phase) (left : Bool) → left ≡ false → (waited wrote : Bool) × (q ≡ go t Opening (Marked (Offered waited wrote left))) → q ≡ when_written t t.stage
+begun t q left none h = h.2 ∙ ap (λ x. go t Opening (Marked (Offered h.0 h.1 x))) none ∙ opened t h.0 h.1 false
 
 -- where the worker was closed, that is all
 pub over_ends : (t : Before) (q : Phase) (quiet : Bool) (u rest : List ℕ) (held : Option Pdu) (parked : Option Answer) (settled : Bool) (stage : Stage) → q ≡ when_written t t.stage → t.stage ≡ stage → stage ≡ Closed → u ≡ []

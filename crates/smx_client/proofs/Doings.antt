@@ -32,6 +32,7 @@ use Rattle.smx_client.specs.declared.event.Delivery.{Delivery}
 use Rattle.smx_client.specs.Replies.{PutSo, SettlesSo, ExpiresSo, Parks, put_in, parked_on, on_lane}
 use Rattle.smx_client.specs.Events.{act_out, refusal_out, response_out, enquiry_out, got_out, got_answers, settled_out, expired_answers}
 use Rattle.smx_client.proofs.Bindings.{submits_by, settles_by}
+use Rattle.smx_client.proofs.Replying.{put_count, settles_count, expires_count, delivery_count}
 use Rattle.smx_client.specs.Parts.{parts, Does, Suits, fate_session, collect_step, submit_step, settle_step, expire_step, got_step, Gets, delivery_senders, delivery_parks, IsOfferOf}
 
 -- nothing is put, and nothing is to be answered
@@ -95,10 +96,10 @@ module _ (d : Desk) (said said' : List Pdu) (s : Client) (w : Window) (i : Recei
 
   -- a message was overdue, or none was
   pub expired : (p : PortView) (w' : Window) (x' : List (Sending Pdu)) (h' : Option Parked) (until : ℕ) (found : Option (ℕ × ℕ × ℕ)) (reply : Reply)
-      → said' ≡ said → expire_step until found w w' → ExpiresSo found reply x x' → h ≡ None → Parks reply h' → length x' ≡ length x
+      → said' ≡ said → expire_step until found w w' → ExpiresSo found reply x x' → h ≡ None → Parks reply h'
       → ((k : ℕ) → k < length x → put_in x' k ++ parked_on k h' ≡ put_in x k ++ parked_on k h ++ expired_answers k found)
       → Does (parts d said p s w i x h) (Expired until found reply) (parts d said' p s w' i x' h')
-  expired p w' x' h' until found reply says window so none parks count answers = record {
+  expired p w' x' h' until found reply says window so none parks answers = record {
     says = says ∙ sym (append-nil said);
     port = refl;
     lists = λ all has. no_accept p all has;
@@ -109,7 +110,7 @@ module _ (d : Desk) (said said' : List Pdu) (s : Client) (w : Window) (i : Recei
     answers = answers;
     parked = (none, parks);
     desk = refl;
-    lanes = count;
+    lanes = expires_count found reply x x' so;
   }
 
   -- the moment was handed in
@@ -216,10 +217,10 @@ module _ (d : Desk) (said said' : List Pdu) (s : Client) (w : Window) (i : Recei
 
   pub settled : (p : PortView) (w' : Window) (x' : List (Sending Pdu)) (h' : Option Parked) (p0 : Pdu) (q : Snapshot Pdu) (a : Snapshot Act) (found : Option (ℕ × ℕ)) (reply : Reply)
       → q.value ≡ p0 → said' ≡ said ++ (act_out a.value ++ []) → ((a.value, s.state) ≡ client_decides d.accounts.items s.account s.state q.value) × Suits a.value (Settled found reply)
-      → settle_step q.value found w w' → SettlesSo p0 found reply x x' → h ≡ None → Parks reply h' → length x' ≡ length x
+      → settle_step q.value found w w' → SettlesSo p0 found reply x x' → h ≡ None → Parks reply h'
       → ((k : ℕ) → k < length x → put_in x' k ++ parked_on k h' ≡ put_in x k ++ parked_on k h ++ settled_out k p0 found)
       → Does (parts d said p s w i x h) (Decided q a (Settled found reply)) (parts d said' p s w' i x' h')
-  settled p w' x' h' p0 q a found reply seen says session window so none parks count answers = record {
+  settled p w' x' h' p0 q a found reply seen says session window so none parks answers = record {
     says = says;
     port = refl;
     lists = λ all has. no_accept p all has;
@@ -230,14 +231,14 @@ module _ (d : Desk) (said said' : List Pdu) (s : Client) (w : Window) (i : Recei
     answers = λ k within. answers k within ∙ ap (λ o. put_in x k ++ parked_on k h ++ settled_out k o found) (sym seen);
     parked = (none, parks);
     desk = refl;
-    lanes = count;
+    lanes = settles_count p0 found reply x x' so;
   }
 
   pub got : (p : PortView) (w' : Window) (i' : Receiving MoItem) (x' : List (Sending Pdu)) (h' : Option Parked) (r0 : Result (Got MoItem) BoxSpent) (r : Snapshot (Result (Got MoItem) BoxSpent)) (e : Delivery)
-      → r.value ≡ r0 → said' ≡ said ++ got_out r0 e → got_step r0 e w w' → Gets p.client (length x) i r0 e i' → delivery_senders r0 e x x' → delivery_parks e h h' → length x' ≡ length x
+      → r.value ≡ r0 → said' ≡ said ++ got_out r0 e → got_step r0 e w w' → Gets p.client (length x) i r0 e i' → delivery_senders r0 e x x' → delivery_parks e h h'
       → ((k : ℕ) → k < length x → put_in x' k ++ parked_on k h' ≡ put_in x k ++ parked_on k h ++ got_answers k r0 e)
       → Does (parts d said p s w i x h) (Fetched r e) (parts d said' p s w' i' x' h')
-  got p w' i' x' h' r0 r e seen says window gets so parks count answers = record {
+  got p w' i' x' h' r0 r e seen says window gets so parks answers = record {
     says = says ∙ ap (λ o. said ++ got_out o e) (sym seen);
     port = refl;
     lists = λ all has. no_accept p all has;
@@ -248,7 +249,7 @@ module _ (d : Desk) (said said' : List Pdu) (s : Client) (w : Window) (i : Recei
     answers = λ k within. answers k within ∙ ap (λ o. put_in x k ++ parked_on k h ++ got_answers k o e) (sym seen);
     parked = parks;
     desk = refl;
-    lanes = count;
+    lanes = delivery_count r0 e x x' so;
   }
 
 -- the answer that waits no more, or again
@@ -261,10 +262,10 @@ again x x' h h0 h' a k had none was =
     ∙ ap (λ o. put_in x k ++ parked_on k o) had ∙ still (put_in x k ++ parked_on k h)
 
 pub put_again : (d : Desk) (said : List Pdu) (s : Client) (w : Window) (i : Receiving MoItem) (x x' : List (Sending Pdu)) (h h0 h' : Option Parked) (p : PortView) (a : Parked) (reply : Reply)
-    → Some a ≡ h → h0 ≡ None → PutSo a.lane a.answer reply x x' → Parks reply h' → length x' ≡ length x
+    → Some a ≡ h → h0 ≡ None → PutSo a.lane a.answer reply x x' → Parks reply h'
     → ((k : ℕ) → k < length x → put_in x' k ++ parked_on k h' ≡ put_in x k ++ parked_on k h0 ++ on_lane k a.lane (a.answer ∷ []))
     → Does (parts d said p s w i x h) (PutAgain a.lane reply) (parts d said p s w i x' h')
-put_again d said s w i x x' h h0 h' p a reply had none so parks count answers = record {
+put_again d said s w i x x' h h0 h' p a reply had none so parks answers = record {
   says = sym (append-nil said);
   port = refl;
   lists = λ all has. no_accept p all has;
@@ -275,5 +276,5 @@ put_again d said s w i x x' h h0 h' p a reply had none so parks count answers = 
   answers = λ k within. again x x' h h0 h' a k had none (answers k within);
   parked = (a, sym had, refl, parks);
   desk = refl;
-  lanes = count;
+  lanes = put_count a.lane a.answer reply x x' so;
 }

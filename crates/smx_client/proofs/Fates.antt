@@ -8,6 +8,8 @@ use Rattle.smx_session.specs.ClientAsks.{bind_asks, request_asks, cell_asks, cli
 use Rattle.smx_session.specs.declared.ask.Ask.{Ask}
 use Rattle.smx_session.specs.declared.ask.Ask.TheVariants.{Request}
 use Rattle.smx_session.specs.ClientTable.{client_decides, client_decision, client_cell, client_row, bind_decision, request_decision, account_after, ClientCell}
+use Rattle.smx_session.specs.declared.client_row.ClientRow.{ClientRow}
+use Rattle.smx_session.specs.declared.client_row.ClientRow.TheVariants as row
 use Rattle.smx_session.specs.Rules.{rules_of, ruled_out}
 use Rattle.smx_session.specs.ClientTable.ClientCell.{checks, answer, nack, forward, message_answer, leave, closed, ignore}
 use Rattle.smx_session.specs.Binds.{check_bind}
@@ -97,6 +99,22 @@ pub settles : (accounts : List Login) (account : Option ℕ) (s : ClientState) (
 settles accounts account s h p had decides =
     subst (λ x. IfSome x (λ y. client_decides accounts account s y ≡ (act.MoAnswer p.number, s))) had
     (subst (λ x. IfSome x (λ y. client_decides accounts account s y ≡ (act.MoAnswer y.number, s))) (sym had) decides)
+
+ended_row : (r : ClientRow) (accounts : List Login) (account : Option ℕ) (p : Pdu) → (client_decision (client_cell r Ended) accounts account Ended p).1 ≡ Ended
+ended_row (row.Bind k) accounts account p = refl
+ended_row row.Forwarded accounts account p = refl
+ended_row row.DeliverSm accounts account p = refl
+ended_row row.EnquireLink accounts account p = refl
+ended_row row.Unbind accounts account p = refl
+ended_row row.MessageAnswer accounts account p = refl
+ended_row row.UnbindAnswer accounts account p = refl
+ended_row row.OtherResponse accounts account p = refl
+ended_row row.Unanswered accounts account p = refl
+ended_row row.Unknown accounts account p = refl
+
+-- a session that goes on after a PDU did so before
+pub stays_ended : (accounts : List Login) (account : Option ℕ) (s t : ClientState) (p : Pdu) → t ≡ (client_decides accounts account s p).1 → t ≢ Ended → s ≢ Ended
+stays_ended accounts account s t p is on over = on (is ∙ ap (λ x. (client_decides accounts account x p).1) over ∙ ended_row (client_row p.command) accounts account p)
 
 says_bind : (k : Kind) (x : Checked) (s : ClientState) (p : Pdu) → Suits (bind_decision k x s p).0 Own
 says_bind k (Refused status) s p = tt

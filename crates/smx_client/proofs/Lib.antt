@@ -4,7 +4,6 @@ pub mod Doings
 pub mod Starts
 pub mod Laws
 pub mod Looking
-pub mod Scenes
 pub mod Cells
 pub mod Leave
 pub mod Filters

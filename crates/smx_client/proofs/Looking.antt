@@ -28,6 +28,14 @@ ended_at false false p s is = absurd (cc)
 pub silent_ends : (s t : Client) (now : ℕ) (e : Enquiry) → e ≡ client_enquiry s now → t ≡ after_client_moment s now → is_unanswered e ≡ true → t.state ≡ Ended
 silent_ends s t now e is session silent = ap (λ x. x.state) session ∙ ended_at (is_enquiry_due s now) (is_late s now) _ s.state (ap is_unanswered (sym is) ∙ silent)
 
+stays_over : (late : Bool) (s : ClientState) → s ≡ Ended → (if late then Ended else s) ≡ Ended
+stays_over true s over = refl
+stays_over false s over = over
+
+-- a session that goes on after a look did so before
+pub was_going : (s t : Client) (now : ℕ) → t ≡ after_client_moment s now → t.state ≢ Ended → s.state ≢ Ended
+was_going s t now session on over = on (ap (λ x. x.state) session ∙ stays_over (is_late s now) s.state over)
+
 -- where the turn stands after a look
 pub looked_front : (p : Phase) (e : Enquiry) (silent : Bool) (r : Result (Result Bool Progress) Fault) → p ≡ after_look e → silent ≡ is_unanswered e → IsFront r (if silent then Gone else Deciding false) → IsFront r p
 looked_front p e silent r at is so = subst (IsFront r) (ap (λ b. if b then Gone else Deciding false) is ∙ sym at) so

@@ -1,10 +1,13 @@
 -- What a worker keeps by one event more.
-use Rattle.std.proofs.Common.{◌≡◌, ◌≢◌, ◌<◌, List, [], ◌∷◌, ◌++◌, length, Bool, true, false, true≢false, Option, Some, None, Result, sym, ◌∙◌, ap, refl, subst}
+use Rattle.std.proofs.Common.{◌≡◌, ◌≢◌, ◌<◌, ℕ, List, [], ◌∷◌, ◌++◌, length, Bool, true, true≢false, Option, Some, None, IsSome, Result, sym, ◌∙◌, ap, refl, subst}
 use Rattle.smx_pdu.specs.declared.pdu.Pdu.{Pdu}
 use Rattle.smx_frame.specs.Stream.{HasNone}
 use Rattle.smx_link.specs.declared.link.Polled.{Polled}
 use Rattle.smx_link.specs.declared.link.LinkFault.{LinkFault}
+use Rattle.smx_shared.specs.Views.{locks_of}
 use Rattle.smx_session.specs.ClientMoments.{client_state_after_stop}
+use Rattle.smx_session.specs.Login.{Login}
+use Rattle.smx_session.specs.declared.ask.Ask.{Ask}
 use Rattle.smx_session.specs.declared.client_state.ClientState.{ClientState}
 use Rattle.smx_session.specs.declared.client_state.ClientState.TheVariants.{Ended}
 use Rattle.smx_turns.specs.Wires.{has_ended}
@@ -16,19 +19,24 @@ use Rattle.smx_turns.proofs.Worths.{ending_push, heard_push}
 use Rattle.smx_turns.specs.Endings.{or_end}
 use Rattle.smx_client.specs.Refusals.{refused_after, last_refused}
 use Rattle.smx_client.specs.declared.event.Event.{Event}
-use Rattle.smx_client.specs.declared.mark.Stage.{Stage}
-use Rattle.smx_client.specs.declared.mark.Stage.TheVariants.{Closed}
+use Rattle.smx_client.specs.declared.stage.Stage.{Stage}
+use Rattle.smx_client.specs.declared.stage.Stage.TheVariants.{Closed}
 use Rattle.smx_client.specs.Events.{worth}
 use Rattle.smx_client.specs.Parts.{Parts, Does, Chain}
-use Rattle.smx_client.specs.Serving.{Serving, IsServing, parts_of, first_of}
+use Rattle.smx_client.specs.Serving.{Serving, IsServing, parts_of, first_of, asks_in}
 
 -- the PDU that waits is decided
 pub decides : (h h' : Option Pdu) (p q : Pdu) → q ≡ p → Some p ≡ h → h' ≡ None → q ∷ those h' ≡ those h
 decides h h' p q same had none = ap (λ o. q ∷ those o) none ∙ ap (λ (x : Pdu). x ∷ []) same ∙ ap those had
 
--- not every whole PDU was decided
-pub undecided : {A : Type 0} (b : Bool) → b ≡ false → b ≡ true → A
-undecided b some_left none_left = absurd (true≢false (sym none_left ∙ some_left))
+-- where a leave is asked for, a PDU waits
+pub some_asks : (accounts : List Login) (account : Option ℕ) (c : ClientState) (h : Option Pdu) (l : Ask) → asks_in accounts account c h ≡ Some l → IsSome h
+some_asks accounts account c None l asked = absurd (cc)
+some_asks accounts account c (Some p) l asked = refl
+
+-- where a PDU waits, not every whole PDU was decided
+pub undecided : {A : Type 0} (b : Bool) (h : Option Pdu) (r : List ℕ) → (b ≡ true → (h ≡ None) × HasNone 65536 r) → IsSome h → b ≡ true → A
+undecided b h r all waits none_left = absurd (true≢false (sym (subst IsSome (all none_left).0 waits)))
 
 -- fewer than 65,536 octets wait of the same worker
 pub as_below : {L : Type 0} (v w : Serving L) → v ≡ w → length w.wire.unsent < 65536 → length v.wire.unsent < 65536
@@ -46,15 +54,16 @@ module _ {L : Type 0} (polls : L → List (Result Polled LinkFault)) where
   stops_closed l l' s c c' b link stopped was at going = as_closed l l' s c b link was at (λ e. going (stopped ∙ ap client_state_after_stop e))
 
   -- it did one thing more, which reads nothing
-  pub did : (v w : Serving L) (e : Event) → IsServing polls v → w.wire.link ≡ v.wire.link → w.wire.start ≡ v.wire.start → w.stage ≡ v.stage → first_of w ≡ first_of v → w.events ≡ v.events ++ e ∷ []
+  pub did : (v w : Serving L) (e : Event) → IsServing polls v → w.wire.link ≡ v.wire.link → w.wire.start ≡ v.wire.start → w.stage ≡ v.stage → first_of w ≡ first_of v → locks_of w.port.fronts ≡ locks_of v.port.fronts → w.events ≡ v.events ++ e ∷ []
       → w.ending ≡ or_end v.ending (worth e).ends → w.refused ≡ refused_after v.refused e → w.wire.heard ≡ v.wire.heard → (worth e).decided ++ those w.held ≡ those v.held → Does (parts_of v) e (parts_of w)
       → (w.settled ≡ true → (w.held ≡ None) × HasNone 65536 w.wire.rest) → BadKept (worth e).breaks v.wire w.wire
       → (w.stage ≡ Closed → w.session.state ≢ Ended → (w.settled ≡ true) × (has_ended (polls w.wire.link) ≡ true)) → IsServing polls w
   unfolding last_refused
-  did v w e was link start stage first grown ends refuses heard decided does settled bad closed = record {
+  did v w e was link start stage first locks grown ends refuses heard decided does settled bad closed = record {
     heard = heard_push worth v.wire.heard w.wire.heard v.events w.events e v.held w.held grown was.heard heard decided;
     runs = chain_push Does (first_of w) (parts_of v) (parts_of w) v.events w.events e grown does (subst (λ (a : Parts). Chain a v.events (parts_of v)) (sym first) was.runs);
     settled = settled;
+    locks = locks ∙ was.locks ∙ sym (ap (λ (a : Parts). locks_of a.port.fronts) first);
     over = ending_push worth v.events w.events e v.ending w.ending grown was.over ends;
     turned_away = refuses ∙ sym (phase_push refused_after None v.events w.events e v.refused (refused_after v.refused e) grown refl (sym was.turned_away));
     broken = still_bad worth v.wire w.wire v.events w.events e grown was.broken bad;

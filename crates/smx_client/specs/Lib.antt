@@ -1,4 +1,3 @@
-pub mod Marks
 pub mod Replies
 pub mod Refusals
 pub mod Events

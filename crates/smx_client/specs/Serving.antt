@@ -13,7 +13,7 @@ use Rattle.smx_session.specs.Login.{Login}
 use Rattle.smx_session.specs.declared.ask.Ask.{Ask}
 use Rattle.smx_session.specs.declared.client_state.ClientState.{ClientState}
 use Rattle.smx_session.specs.declared.client_state.ClientState.TheVariants.{Ended}
-use Rattle.smx_shared.specs.Views.{PortView}
+use Rattle.smx_shared.specs.Views.{PortView, locks_of}
 use Rattle.smx_turns.specs.declared.mo_item.MoItem.{MoItem}
 use Rattle.smx_turns.specs.declared.end.TurnEnd.{TurnEnd}
 use Rattle.smx_turns.specs.declared.end.Fault.{Fault}
@@ -23,8 +23,8 @@ use Rattle.smx_client.specs.declared.ending.Refusal.{Refusal}
 use Rattle.smx_client.specs.Refusals.{last_refused}
 use Rattle.smx_client.specs.declared.desk.Desk.{Desk}
 use Rattle.smx_client.specs.declared.event.Event.{Event}
-use Rattle.smx_client.specs.declared.mark.Stage.{Stage}
-use Rattle.smx_client.specs.declared.mark.Stage.TheVariants.{Open, Drained, Closed}
+use Rattle.smx_client.specs.declared.stage.Stage.{Stage}
+use Rattle.smx_client.specs.declared.stage.Stage.TheVariants.{Open, Drained, Closed}
 use Rattle.smx_client.specs.declared.reply.Parked.{Parked}
 use Rattle.smx_client.specs.declared.worker.Origin.{Origin}
 use Rattle.smx_turns.specs.Wires.{IsBad, has_ended}
@@ -89,6 +89,8 @@ pub record IsServing {L : Type 0} (polls : L → List (Result Polled LinkFault))
   pub runs : Chain (first_of w) w.events (parts_of w)
   -- no whole PDU is left where every one was decided
   pub settled : w.settled ≡ true → (w.held ≡ None) × HasNone 65536 w.wire.rest
+  -- its port is of the exchange that the port handed over was of
+  pub locks : locks_of w.port.fronts ≡ locks_of w.origin.port.value.fronts
   -- how the work ended, and which bind was refused, is what the events say
   pub over : w.ending ≡ ending_of worth w.events
   pub turned_away : w.refused ≡ last_refused w.events

@@ -24,10 +24,9 @@ use Rattle.smx_turns.specs.declared.mo_item.MoItem.{MoItem}
 use Rattle.smx_turns.specs.Steps.{phase_from}
 use Rattle.smx_turns.specs.declared.step.Step.{Step}
 use Rattle.smx_turns.specs.declared.step.Step.TheVariants.{Asked, Read, Marked, Did}
-use Rattle.smx_client.specs.declared.mark.Stage.{Stage}
-use Rattle.smx_client.specs.declared.mark.Stage.TheVariants.{Open, Drained, Closed}
-use Rattle.smx_client.specs.declared.mark.Mark.{Mark}
-use Rattle.smx_client.specs.declared.mark.Mark.TheVariants.{Offered, WriteFailed, Waited, NoRoom, Part, Entered, Full as Clogs}
+use Rattle.smx_client.specs.declared.stage.Stage.{Stage}
+use Rattle.smx_client.specs.declared.stage.Stage.TheVariants.{Open, Drained, Closed}
+use Rattle.smx_turns.specs.declared.mark.Mark.TheVariants.{Offered, WriteFailed, Waited, NoRoom, Part, Entered, Full as Clogs}
 use Rattle.smx_client.specs.declared.reply.Reply.{Reply}
 use Rattle.smx_client.specs.declared.reply.Reply.TheVariants as reply
 use Rattle.smx_client.specs.declared.event.Event.{Event}
@@ -112,7 +111,7 @@ pub record Before : Type 0 where
   pub parked : Bool
 
 abbrev pub step_of : Type 0
-step_of = Step Mark Event
+step_of = Step Event
 
 -- an answer that waits goes before the PDUs that are left
 abbrev pub when_drained : Bool → Phase
@@ -136,7 +135,7 @@ when_offered t false = when_written t t.stage
 when_offered t true = halts t.stage
 
 unfoldable pub from_opening : Before → step_of → Phase
-from_opening t (Marked (Offered wrote left)) = when_offered t left
+from_opening t (Marked (Offered waited wrote left)) = when_offered t left
 from_opening t (Marked WriteFailed) = Failed
 from_opening t _ = Wrong
 
@@ -337,8 +336,8 @@ from_entering ended account (Marked (Entered i whole)) = if i == account then (i
 from_entering ended account _ = Wrong
 
 unfoldable pub from_closing : step_of → Phase
-from_closing (Marked (Offered wrote true)) = Ending
-from_closing (Marked (Offered wrote false)) = Over
+from_closing (Marked (Offered waited wrote true)) = Ending
+from_closing (Marked (Offered waited wrote false)) = Over
 from_closing (Marked WriteFailed) = Failed
 from_closing _ = Wrong
 
@@ -415,7 +414,7 @@ Stands _ unsent rest held parked settled stage = Unit {0}
 
 -- the parts of a turn: what an offer, a collect and a decision lead to
 abbrev pub IsOffered : Before → Phase → Result Bool Fault → Phase → Type 0
-IsOffered t p (Ok left) q = (wrote : Bool) × (q ≡ go t p (Marked (Offered wrote left)))
+IsOffered t p (Ok left) q = (waited wrote : Bool) × (q ≡ go t p (Marked (Offered waited wrote left)))
 IsOffered t p (Err e) q = (e ≡ fault.Link) × (q ≡ go t p (Marked WriteFailed))
 
 -- a lane gave a response, or has none

@@ -72,7 +72,6 @@ pub(crate) fn deliver<L: Link + Drop, R: Wait, G: Gate>(
     ensures delivered { IsDelivered client (length senders.old.items) got result }
     ensures window { item_step got result window.old window.new }
     ensures says { Spoke wire.old wire.new (item_out got result) }
-    ensures count { length senders.new.items ≡ length senders.old.items }
     ensures so { delivery_senders (Ok got) result senders.old.items senders.new.items }
     ensures parks { delivery_parks result parked.old parked.new }
     ensures answer { (k : ℕ) → k < length senders.old.items

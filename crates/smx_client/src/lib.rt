@@ -7,16 +7,16 @@ mod ending;
 mod event;
 mod leaver;
 mod ledger;
-mod mark;
 mod prefixes;
 mod reply;
 mod saying;
+mod stage;
 mod worker;
 
 pub use desk::Desk;
 pub use ending::Refusal;
 pub use event::{Delivery, Event, Fate};
 pub use leaver::{Closed, Leaving};
-pub use mark::{Mark, Stage};
 pub use reply::{Parked, Reply};
+pub use stage::Stage;
 pub use worker::{ClientWorker, Origin, run_client};

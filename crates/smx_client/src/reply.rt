@@ -98,7 +98,6 @@ pub(crate) fn put_or_park<R: Wait>(
     answer: Pdu,
 ) -> Reply
     requires none { parked.old ≡ None }
-    ensures count { length senders.new.items ≡ length senders.old.items }
     ensures so { PutSo lane answer result senders.old.items senders.new.items }
     ensures parks { Parks result parked.new }
     ensures answer { (k : ℕ) → k < length senders.old.items
@@ -130,7 +129,6 @@ pub(crate) fn answer_settled<R: Wait, G: Gate>(
     found: Option<(usize, u32)>,
 ) -> Reply
     requires none { parked.old ≡ None }
-    ensures count { length senders.new.items ≡ length senders.old.items }
     ensures so { SettlesSo pdu found result senders.old.items senders.new.items }
     ensures parks { Parks result parked.new }
     ensures answer { (k : ℕ) → k < length senders.old.items
@@ -158,7 +156,6 @@ pub(crate) fn refuse<R: Wait>(
     command: u32,
 ) -> Reply
     requires none { parked.old ≡ None }
-    ensures count { length senders.new.items ≡ length senders.old.items }
     ensures so { AnswersSo lane (refused_up (response_of command) number) result
         senders.old.items senders.new.items }
     ensures parks { Parks result parked.new }
@@ -184,7 +181,6 @@ pub(crate) fn answer_expired<R: Wait, G: Gate>(
     found: Option<(usize, u32, u32)>,
 ) -> Reply
     requires none { parked.old ≡ None }
-    ensures count { length senders.new.items ≡ length senders.old.items }
     ensures so { ExpiresSo found result senders.old.items senders.new.items }
     ensures parks { Parks result parked.new }
     ensures answer { (k : ℕ) → k < length senders.old.items

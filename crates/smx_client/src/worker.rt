@@ -9,7 +9,7 @@ ghost use Rattle.smx_session.specs.ClientTable.{client_enquiry_number};
 ghost use Rattle.smx_session.specs.declared.client_state.ClientState.TheVariants.{Opened, Ended};
 ghost use Rattle.smx_shared.specs.Offers.{Accepted};
 ghost use Rattle.smx_shared.specs.Ports.{HasAccepted};
-ghost use Rattle.smx_client.specs.declared.mark.Stage.{Stage};
+ghost use Rattle.smx_client.specs.declared.stage.Stage.{Stage};
 ghost use Rattle.smx_client.specs.Replies.{put_in, parked_on};
 ghost use Rattle.smx_client.specs.Events.{worth, accepts, answers};
 ghost use Rattle.smx_turns.specs.Wires.{IsBad, has_ended};
@@ -19,8 +19,8 @@ ghost use Rattle.smx_client.specs.Parts.{parts, Chain};
 use crate::desk::Desk;
 use crate::ending::Refusal;
 use crate::event::Event;
-use crate::mark::{Mark, Stage};
 use crate::reply::Parked;
+use crate::stage::Stage;
 use smx_box::{Receiver, Sender};
 use smx_link::{Link, LinkFault, Wire};
 use smx_pdu::Pdu;
@@ -82,7 +82,7 @@ pub struct ClientWorker<'d, L: Link + Drop> {
     stage: Stage,
     turns: u64,
     // The steps of the last turn.
-    steps: Trace<Step<Mark, Event>>,
+    steps: Trace<Step<Event>>,
     // How each turn ended.
     ends: Trace<Result<TurnEnd, Fault>>,
     origin: Origin,

@@ -6,7 +6,7 @@ use Rattle.std.proofs.lemmas.List.Folds.{list_any_at}
 use Rattle.std.proofs.lemmas.Slice.Eq.{bytes_eq-Decides}
 use Rattle.toml.specs.Data.{Data}
 use Rattle.smx_config.specs.declared.text.Text.TheVariants.{Prefix}
-use Rattle.smx_config.specs.Reading.{prefix_in, text_of}
+use Rattle.smx_config.specs.Settings.{prefix_in, text_of}
 
 pub list_any-map : {A B : Type 0} (p : B → Bool) (f : A → B) (xs : List A) → list_any (λ x. p (f x)) xs ≡ list_any p (map f xs)
 list_any-map p f [] = refl

@@ -7,7 +7,7 @@ use Rattle.toml.proofs.Views.{items_view-drop}
 use Rattle.toml.specs.Data.{Data}
 use Rattle.toml.specs.View.{view, items_view}
 use Rattle.toml.specs.declared.value.Value.{Value}
-use Rattle.smx_config.specs.Reading.{are_tables, item_count, prefix_in, prefixes_of, stated_after, tables_within}
+use Rattle.smx_config.specs.Settings.{are_tables, item_count, prefix_in, prefixes_of, stated_after, tables_within}
 
 pub item_count-items_view : (vs : List Value) → item_count (items_view vs) ≡ length vs
 item_count-items_view [] = refl

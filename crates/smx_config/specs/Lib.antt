@@ -2,6 +2,5 @@ pub mod Address
 pub mod Keys
 pub mod Choices
 pub mod Settings
-pub mod Reading
 pub mod Lines
 pub mod Unread

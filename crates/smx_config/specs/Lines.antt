@@ -5,8 +5,7 @@ use Rattle.smx_config.specs.declared.fault.ConfigFault.{ConfigFault}
 use Rattle.smx_config.specs.declared.fault.ConfigFault.TheVariants.{NotToml, Listen, Numbers, ProxyProtocol, Log, Limits, Timers, Upstreams, Upstream, Accounts, Account, NoMemory}
 use Rattle.smx_config.specs.declared.file.FileFault.{FileFault}
 use Rattle.smx_config.specs.declared.file.FileFault.TheVariants as file
-use Rattle.smx_config.specs.Settings.{Settings}
-use Rattle.smx_config.specs.Reading.{settings_of}
+use Rattle.smx_config.specs.Settings.{Settings, settings_of}
 
 -- a line and its end
 abbrev pub text_line : List ℕ → List ℕ

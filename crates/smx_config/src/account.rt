@@ -5,8 +5,7 @@ ghost use Rattle.std.specs.Str.{bytes_eq};
 ghost use Rattle.toml.specs.View.{view, items_view};
 ghost use Rattle.smx_config.specs.declared.text.Text.TheVariants as text;
 ghost use Rattle.smx_config.specs.Keys.{is_text};
-ghost use Rattle.smx_config.specs.Settings.{ArePrefixes};
-ghost use Rattle.smx_config.specs.Reading.{prefix_in, prefixes_of, prefixes_in, account_in, accounts_of};
+ghost use Rattle.smx_config.specs.Settings.{ArePrefixes, prefix_in, prefixes_of, prefixes_in, account_in, accounts_of};
 
 use crate::bodies::Bodies;
 use crate::commands::Commands;

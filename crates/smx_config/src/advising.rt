@@ -1,6 +1,6 @@
 //! What is wrong with a configuration and what would be right, in words for a person.
 ghost use Rattle.std.specs.Prelude.{◌≡◌, List, ℕ, [], ◌++◌, Some, IfOk, IfErr, OnOk, is_ok, true, option_map, slice_get, string_bytes};
-ghost use Rattle.smx_config.specs.Reading.{settings_of};
+ghost use Rattle.smx_config.specs.Settings.{settings_of};
 ghost use Rattle.smx_config.specs.Lines.{fault_place};
 
 use crate::fault::ConfigFault;

@@ -2,7 +2,7 @@
 ghost use Rattle.std.specs.Prelude.{◌≡◌};
 ghost use Rattle.toml.specs.View.{view};
 ghost use Rattle.smx_config.specs.Choices.{kind_word, all_kinds, meant};
-ghost use Rattle.smx_config.specs.Reading.{kind_in};
+ghost use Rattle.smx_config.specs.Settings.{kind_in};
 
 use crate::choice::Choice;
 use toml::Value;

@@ -2,7 +2,7 @@
 ghost use Rattle.std.specs.Prelude.{◌≡◌};
 ghost use Rattle.toml.specs.View.{view};
 ghost use Rattle.smx_config.specs.Choices.{bodies_word, all_bodies, meant};
-ghost use Rattle.smx_config.specs.Reading.{bodies_in};
+ghost use Rattle.smx_config.specs.Settings.{bodies_in};
 
 use crate::choice::Choice;
 use toml::Value;

@@ -2,7 +2,7 @@
 ghost use Rattle.std.specs.Prelude.{◌≡◌, IsTrue, option_map, option_copied};
 ghost use Rattle.toml.specs.View.{table_view, view};
 ghost use Rattle.smx_config.specs.Keys.{choice_row, all_choices, is_read};
-ghost use Rattle.smx_config.specs.Reading.{word_at, word_in};
+ghost use Rattle.smx_config.specs.Settings.{word_at, word_in};
 
 use crate::bind_kind::BindKind;
 use crate::bodies::Bodies;

@@ -2,7 +2,7 @@
 ghost use Rattle.std.specs.Prelude.{◌≡◌};
 ghost use Rattle.toml.specs.View.{view};
 ghost use Rattle.smx_config.specs.Choices.{command_word, all_command_names, meant};
-ghost use Rattle.smx_config.specs.Reading.{command_of};
+ghost use Rattle.smx_config.specs.Settings.{command_of};
 
 use toml::Value;
 

@@ -2,7 +2,7 @@
 ghost use Rattle.std.specs.Prelude.{◌≡◌};
 ghost use Rattle.toml.specs.View.{view, items_view};
 ghost use Rattle.smx_config.specs.Choices.{all_commands, no_commands, with_command};
-ghost use Rattle.smx_config.specs.Reading.{commands_after, commands_in};
+ghost use Rattle.smx_config.specs.Settings.{commands_after, commands_in};
 
 use crate::choice::Choice;
 use crate::command::Command;

@@ -2,7 +2,7 @@
 ghost use Rattle.std.specs.Prelude.{◌≡◌, IsTrue};
 ghost use Rattle.toml.specs.View.{table_view};
 ghost use Rattle.smx_config.specs.Keys.{flag_row, all_flags, is_read};
-ghost use Rattle.smx_config.specs.Reading.{flag_or_default};
+ghost use Rattle.smx_config.specs.Settings.{flag_or_default};
 
 use crate::section::Section;
 use crate::table::find;

@@ -54,5 +54,5 @@ pub use sharing::may_take_all;
 pub use smx_whole_text::WriteFault;
 pub use spelling::unread;
 pub use timers::Timers;
-pub use unread_key::UnreadKey;
+pub use unread_key::{NearKey, UnreadKey};
 pub use upstream::Upstream;

@@ -2,7 +2,7 @@
 ghost use Rattle.std.specs.Prelude.{◌≡◌};
 ghost use Rattle.toml.specs.View.{table_view};
 ghost use Rattle.smx_config.specs.Choices.{form_word, all_forms, meant};
-ghost use Rattle.smx_config.specs.Reading.{form_at};
+ghost use Rattle.smx_config.specs.Settings.{form_at};
 
 use crate::choice::Choice;
 use toml::Table;

@@ -2,7 +2,7 @@
 ghost use Rattle.std.specs.Prelude.{◌≡◌};
 ghost use Rattle.toml.specs.View.{table_view};
 ghost use Rattle.smx_config.specs.Choices.{level_word, all_levels, meant};
-ghost use Rattle.smx_config.specs.Reading.{level_at};
+ghost use Rattle.smx_config.specs.Settings.{level_at};
 
 use crate::choice::Choice;
 use toml::Table;

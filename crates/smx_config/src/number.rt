@@ -2,7 +2,7 @@
 ghost use Rattle.std.specs.Prelude.{◌≡◌, Some, None, IfSome, IsTrue};
 ghost use Rattle.toml.specs.View.{table_view, view};
 ghost use Rattle.smx_config.specs.Keys.{number_row, all_numbers, is_number, is_read};
-ghost use Rattle.smx_config.specs.Reading.{number_of, number_or_default, number_in, limit_in};
+ghost use Rattle.smx_config.specs.Settings.{number_of, number_or_default, number_in, limit_in};
 
 use crate::section::Section;
 use crate::table::find;

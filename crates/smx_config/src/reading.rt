@@ -4,7 +4,7 @@ ghost use Rattle.toml.specs.Parse.{parse_document};
 ghost use Rattle.toml.specs.View.{table_view};
 ghost use Rattle.smx_history.specs.Room.{AreLimits};
 ghost use Rattle.smx_config.specs.Keys.{is_number};
-ghost use Rattle.smx_config.specs.Reading.{number_or_default, stated_limits, limits_at, config_of, settings_of};
+ghost use Rattle.smx_config.specs.Settings.{number_or_default, stated_limits, limits_at, config_of, settings_of};
 
 use crate::account::read_accounts;
 use crate::config::Config;

@@ -6,7 +6,7 @@ ghost use Rattle.smx_config.specs.Unread.{names, unread_in, unread_within, unrea
 use crate::near::near;
 use crate::section::Section;
 use crate::table::find;
-use crate::unread_key::UnreadKey;
+use crate::unread_key::{NearKey, UnreadKey};
 use std::alloc::{AllocError, Global};
 use toml::{Table, Value};
 
@@ -21,13 +21,29 @@ fn elsewhere(alloc: Global, key: &str) -> Result<Vec<&'static str>, AllocError> 
     Ok(places)
 }
 
+// The key of the first other table that is near.
+fn near_elsewhere(alloc: Global, key: &str) -> Result<Option<NearKey>, AllocError> {
+    for section in Section::all() {
+        let all = section.keys(alloc)?;
+        if let Some(key) = near(alloc, key, &all)? {
+            let place = Some(section.place());
+            return Ok(Some(NearKey { key, place }));
+        }
+    }
+    Ok(None)
+}
+
 // A key that isn't read in its table, behind these words.
 fn on_key(alloc: Global, place: &str, key: &str, section: Section) -> Result<UnreadKey, AllocError>
     ensures { IfOk result (λ unread. string_bytes unread.name ≡ place.now ++ key.now) }
 {
     let all = section.keys(alloc)?;
-    let nearest = near(alloc, key, &all)?;
     let places = elsewhere(alloc, key)?;
+    let nearest = match near(alloc, key, &all)? {
+        Some(key) => Some(NearKey { key, place: None }),
+        None if places.is_empty() => near_elsewhere(alloc, key)?,
+        None => None,
+    };
     Ok(UnreadKey {
         name: format!(in alloc; "{place}{key}")?,
         places,

@@ -2,7 +2,7 @@
 ghost use Rattle.std.specs.Prelude.{◌≡◌, ◌≤◌, ◌&&◌, nat_le, length, option_map, IfSome};
 ghost use Rattle.toml.specs.Data.{get_member};
 ghost use Rattle.toml.specs.View.{table_view, view, items_view};
-ghost use Rattle.smx_config.specs.Reading.{are_tables, tables_at};
+ghost use Rattle.smx_config.specs.Settings.{are_tables, tables_at};
 
 use toml::{Table, Value};
 

@@ -3,7 +3,7 @@ ghost use Rattle.std.specs.Prelude.{◌≡◌, ◌⊎◌, [], IfSome, IsTrue, op
 ghost use Rattle.std.specs.List.{list_all};
 ghost use Rattle.toml.specs.View.{table_view, view};
 ghost use Rattle.smx_config.specs.Keys.{text_row, all_texts, stands_in, has_zero, is_text, is_read};
-ghost use Rattle.smx_config.specs.Reading.{text_of, text_at, text_in, text_or_empty};
+ghost use Rattle.smx_config.specs.Settings.{text_of, text_at, text_in, text_or_empty};
 
 use crate::address::is_address;
 use crate::section::Section;

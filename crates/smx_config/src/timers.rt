@@ -2,8 +2,7 @@
 ghost use Rattle.std.specs.Prelude.{◌≡◌, IfSome, IsTrue};
 ghost use Rattle.toml.specs.View.{table_view};
 ghost use Rattle.smx_config.specs.Keys.{is_number};
-ghost use Rattle.smx_config.specs.Reading.{enquire_at, stated_timers, timers_at};
-ghost use Rattle.smx_config.specs.Settings.{AreTimers};
+ghost use Rattle.smx_config.specs.Settings.{AreTimers, enquire_at, stated_timers, timers_at};
 
 use crate::number::Number;
 use crate::table::find;

@@ -1,7 +1,7 @@
 //! The binds to the message centre.
 ghost use Rattle.std.specs.Prelude.{◌≡◌, ◌≢◌, ◌⊎◌, [], IfOk, IfErr, MatchResult, length};
 ghost use Rattle.toml.specs.View.{view, items_view};
-ghost use Rattle.smx_config.specs.Reading.{number_in, upstream_in, upstreams_of};
+ghost use Rattle.smx_config.specs.Settings.{number_in, upstream_in, upstreams_of};
 
 use crate::bind_kind::BindKind;
 use crate::fault::ConfigFault;

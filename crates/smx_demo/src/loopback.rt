@@ -16,22 +16,10 @@ fn upstream_at(upstream: Upstream, address: String) -> Option<Upstream> {
     if length == 0 || length > MOST || !is_address(address.as_str()) {
         return None;
     }
-    let Upstream {
-        system_id,
-        password,
-        system_type,
-        address_range,
-        interface_version,
-        ..
-    } = upstream;
     Some(Upstream {
         address,
-        system_id,
-        password,
         bind: BindKind::Transceiver,
-        system_type,
-        address_range,
-        interface_version,
+        ..upstream
     })
 }
 
@@ -66,29 +54,12 @@ fn upstreams_at(
 /// The same configuration, but that its clients connect at a free port of 127.0.0.1, with no header of
 /// the PROXY protocol, and that the centres are its upstreams.
 pub(crate) fn moved(alloc: Global, config: Config, centres: &Centres) -> Result<Config, NotShown> {
-    let Config {
-        log,
-        log_level,
-        clients,
-        places,
-        limits,
-        timers,
-        upstream,
-        account,
-        ..
-    } = config;
-    let upstream = upstreams_at(alloc, upstream, centres)?;
     let listen = String::from_str(alloc, ANY_PORT)?;
+    let upstream = upstreams_at(alloc, config.upstream, centres)?;
     Ok(Config {
         listen,
         proxy_protocol: false,
-        log,
-        log_level,
-        clients,
-        places,
-        limits,
-        timers,
         upstream,
-        account,
+        ..config
     })
 }

@@ -1,9 +1,10 @@
 //! What is said of clients.
 
+use crate::count::{Count, requests as some_requests};
 use crate::facts::{Facts, Figures, Party};
 use crate::level::Level;
 use crate::reason::{Quoted, Reason};
-use smx_pdu::status::Status;
+use smx_pdu::status::{ESME_RINVPASWD, ESME_RINVSYSID, Status};
 use smx_session::Kind;
 use smx_turns::Fault;
 use std::fmt;
@@ -29,6 +30,8 @@ pub enum AccountChange {
     Prefixes,
     #[error("what it may send is another now, from its next bind on")]
     Rules,
+    #[error("its prefixes are others now, and from its next bind on what it may send")]
+    Both,
 }
 
 /// Why a client is gone.
@@ -100,14 +103,41 @@ impl ClientEnd {
     }
 }
 
+/// What a bind said that was refused.
+#[derive(Clone, Copy, Debug)]
+pub enum BindSaid<'a> {
+    /// The system_id of an account.
+    Known,
+    /// This system_id, which no account has.
+    Unknown(&'a [u8]),
+    /// What can't be read.
+    Unreadable,
+}
+
+impl<'a> BindSaid<'a> {
+    // Why it was refused with this status, where the status alone doesn't say it.
+    fn reason(self, status: u32) -> Option<Reason<'a>> {
+        match (self, status) {
+            (BindSaid::Known, _) => None,
+            (BindSaid::Unknown(said), _) => Some(Reason::NoAccount(Quoted(said))),
+            (BindSaid::Unreadable, ESME_RINVSYSID) => {
+                Some(Reason::Words("its system_id has more than 15 octets"))
+            }
+            (BindSaid::Unreadable, ESME_RINVPASWD) => {
+                Some(Reason::Words("its password has more than 8 octets"))
+            }
+            (BindSaid::Unreadable, _) => Some(Reason::Words("its body can't be read")),
+        }
+    }
+}
+
 /// What becomes of a client.
 #[derive(Clone, Copy, Debug)]
 pub enum ClientNews<'a> {
     Connected,
     Bound(Kind),
-    /// Its bind was refused with this status. Where no account has it, this is the system_id that the
-    /// bind said.
-    BindRefused { status: u32, said: Option<&'a [u8]> },
+    /// Its bind, which said this, was refused with this status.
+    BindRefused { status: u32, said: BindSaid<'a> },
     /// Its account is another one now.
     Changed(AccountChange),
     /// There is no memory for all prefixes that its account has now.
@@ -162,13 +192,17 @@ impl fmt::Display for ClientNews<'_> {
             ClientNews::Bound(kind) => write!(f, "bound as {}", kind_word(kind)),
             ClientNews::BindRefused {
                 status,
-                said: Some(said),
+                said: BindSaid::Unknown(said),
             } => {
                 let (name, status) = (Quoted(said), Status(status));
                 write!(f, "bind as {name} refused, {status}: no such account")
             }
-            ClientNews::BindRefused { status, said: None } => {
-                write!(f, "bind refused, {}", Status(status))
+            ClientNews::BindRefused { status, said } => {
+                write!(f, "bind refused, {}", Status(status))?;
+                match said.reason(status) {
+                    Some(reason) => write!(f, ": {reason}"),
+                    None => Ok(()),
+                }
             }
             ClientNews::Changed(change) => write!(f, "{change}"),
             ClientNews::Unrouted => f.write_str("no memory for its prefixes"),
@@ -192,8 +226,10 @@ impl fmt::Display for ClientStanding {
             None => "not bound",
         };
         write!(f, "{kind}, connected for {time} ms, ")?;
-        write!(f, "{requests} requests under way, ")?;
-        write!(f, "{messages} messages unanswered, {octets} octets wait")?;
+        let messages = Count(messages, "message", "messages");
+        let octets = Count(octets as u64, "octet waits", "octets wait");
+        write!(f, "{} under way, ", some_requests(requests))?;
+        write!(f, "{messages} unanswered, {octets}")?;
         f.write_str(if waits {
             " behind those at its socket"
         } else {
@@ -211,8 +247,8 @@ impl<'a> ClientNews<'a> {
             ),
             ClientNews::BindRefused { status, said } => {
                 let facts = Facts::new(Level::Warn, "bind_refused").with(status);
-                match said {
-                    Some(said) => facts.because(Reason::NoAccount(Quoted(said))),
+                match said.reason(status) {
+                    Some(reason) => facts.because(reason),
                     None => facts,
                 }
             }

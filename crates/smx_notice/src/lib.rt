@@ -2,6 +2,7 @@
 #![tactic(auto)]
 
 mod client;
+mod count;
 mod door;
 mod ended;
 mod facts;
@@ -19,7 +20,7 @@ mod spelling;
 mod standing;
 mod upstream;
 
-pub use client::{AccountChange, ClientEnd, ClientName, ClientNews, ClientStanding};
+pub use client::{AccountChange, BindSaid, ClientEnd, ClientName, ClientNews, ClientStanding};
 pub use door::{DoorNews, TurnedAway};
 pub use ended::Ended;
 pub use facts::{Facts, Figure, Figures, Party};

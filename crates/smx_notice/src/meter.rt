@@ -2,6 +2,7 @@
 ghost use Rattle.std.specs.Prelude.{◌≡◌, ◌≢◌, ◌^◌, ◌-◌, nat_lt, min, None, Some, true, false};
 ghost use Rattle.smx_notice.specs.Metered.{count, none, one_more, total};
 
+use crate::count::Count;
 use crate::facts::Figures;
 use std::fmt;
 
@@ -111,7 +112,8 @@ impl Tally {
 
 impl fmt::Display for Tally {
     fn fmt<W: fmt::Write>(&self, f: &mut fmt::Formatter<W>) -> fmt::Result {
-        write!(f, "{} lines were left out", self.total())?;
+        let total = Count(self.total(), "line was", "lines were");
+        write!(f, "{total} left out")?;
         let mut before = ": ";
         for (name, count) in self.named() {
             if count > 0 {

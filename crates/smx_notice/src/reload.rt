@@ -1,5 +1,6 @@
 //! What is said of a configuration that was read again.
 
+use crate::count::Count;
 use crate::facts::{Facts, Figures};
 use crate::level::Level;
 use crate::reason::Reason;
@@ -9,7 +10,7 @@ use thiserror::Error;
 #[derive(Clone, Copy, Debug, Error)]
 pub enum ReloadNews<'a> {
     /// It has so many accounts.
-    #[error("the configuration was read again, {0} accounts")]
+    #[error("the configuration was read again, {}", Count(*.0 as u64, "account", "accounts"))]
     Reloaded(usize),
     /// It is at fault.
     #[error("nothing is changed: {0}")]

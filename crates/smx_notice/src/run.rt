@@ -1,5 +1,6 @@
 //! What is said of the run as a whole.
 
+use crate::count::{Count, requests};
 use crate::ended::Ended;
 use crate::facts::{Facts, Figures};
 use crate::level::Level;
@@ -17,7 +18,7 @@ pub enum RunNews<'a> {
     #[error("stopping")]
     Stopping,
     /// No further request is taken, and so many are under way.
-    #[error("draining, {0} requests under way")]
+    #[error("draining, {} under way", requests(*.0))]
     Draining(u64),
     /// None is under way any more: of those so many were answered, and so many failed.
     #[error("drained: {answered} answered, {failed} with {}", Status(ESME_RSUBMITFAIL))]
@@ -29,7 +30,7 @@ pub enum RunNews<'a> {
     #[error("in the last second {0}")]
     LeftOut(Tally),
     /// So many lines weren't written, since nobody read those before them.
-    #[error("{0} lines left out")]
+    #[error("{} left out", Count(*.0, "line", "lines"))]
     Unwritten(u64),
 }
 

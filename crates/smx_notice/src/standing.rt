@@ -1,6 +1,7 @@
 //! How the proxy stands, part by part.
 
 use crate::client::{ClientName, ClientStanding};
+use crate::count::requests;
 use crate::facts::{Facts, Figures};
 use crate::level::Level;
 use crate::upstream::{UpstreamName, UpstreamStanding};
@@ -21,7 +22,7 @@ pub enum Standing<'a> {
         closing: usize,
     },
     /// So many requests of all clients, gone ones included, are accepted and neither answered nor failed.
-    #[error("{0} requests under way")]
+    #[error("{} under way", requests(*.0))]
     Requests(u64),
 }
 

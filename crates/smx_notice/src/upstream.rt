@@ -1,5 +1,6 @@
 //! What is said of links to centres.
 
+use crate::count::{Count, requests};
 use crate::facts::{Facts, Figures, Party};
 use crate::last_sent::LastSent;
 use crate::level::Level;
@@ -177,7 +178,7 @@ pub(crate) fn write_news<W: fmt::Write>(
             if let Some(last) = last {
                 write!(f, "; the last request on it was {last}")?;
             }
-            write!(f, "; {failed} requests failed; ")?;
+            write!(f, "; {} failed; ", requests(failed as u64))?;
             write!(f, "it is tried again in {again} ms")
         }
         UpstreamNews::Unknown { reason, again } => {
@@ -188,7 +189,8 @@ pub(crate) fn write_news<W: fmt::Write>(
             write!(f, "; it is looked up again in {again} ms")
         }
         UpstreamNews::GivenUp { failed } => {
-            write!(f, "has no link for long, {failed} queued requests failed")
+            let failed = Count(failed as u64, "queued request", "queued requests");
+            write!(f, "has no link for long, {failed} failed")
         }
     }
 }
@@ -206,7 +208,7 @@ impl fmt::Display for UpstreamStanding {
         if let Some(oldest) = oldest {
             write!(f, ", the oldest for {oldest} ms")?;
         }
-        write!(f, ", {history} entries of history")?;
+        write!(f, ", {} of history", Count(history, "entry", "entries"))?;
         match link {
             LinkState::Bound { waits: true, .. } => f.write_str(", octets wait"),
             _ => Ok(()),

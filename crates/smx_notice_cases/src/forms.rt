@@ -1,7 +1,8 @@
 //! The forms of lines.
 use crate::words::{BUSY, CLIENT, STRANGER, TALLY, UNREADABLE, UPSTREAM, gone};
 use smx_notice::{
-    ClientEnd, ClientNews, Ended, Form, Level, Notice, ReloadNews, RunNews, Standing, spell,
+    BindSaid, ClientEnd, ClientNews, Ended, Form, Level, Notice, ReloadNews, RunNews, Standing,
+    spell,
 };
 use smx_session::Kind;
 use std::process::Abort;
@@ -31,7 +32,7 @@ fn have_forms<R: Abort + AllocGlobal>(
 fn lines_have_their_forms(rt: HostRuntime) -> Result<(), Fail> {
     let refused = ClientNews::BindRefused {
         status: 0x0F,
-        said: Some(b"no\"body\n\xFF"),
+        said: BindSaid::Unknown(b"no\"body\n\xFF"),
     };
     have_forms(
         &rt,

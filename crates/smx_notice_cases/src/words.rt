@@ -1,7 +1,7 @@
 //! The words of lines, over values.
 use smx_notice::{
-    AccountChange, ClientEnd, ClientName, ClientNews, ClientStanding, Counts, DoorNews, Ended,
-    LastSent, LinkLoss, LinkState, Notice, ReloadNews, RunNews, Service, Standing, Tally,
+    AccountChange, BindSaid, ClientEnd, ClientName, ClientNews, ClientStanding, Counts, DoorNews,
+    Ended, LastSent, LinkLoss, LinkState, Notice, ReloadNews, RunNews, Service, Standing, Tally,
     TurnedAway, UpstreamName, UpstreamNews, UpstreamStanding,
 };
 use smx_session::Kind;
@@ -26,7 +26,7 @@ pub(crate) const CLIENT: ClientName<'static> = ClientName {
 };
 
 // An upstream's line, where so many requests failed with its link.
-fn lost(loss: LinkLoss, failed: usize, again: u64) -> Notice<'static> {
+pub(crate) fn lost(loss: LinkLoss, failed: usize, again: u64) -> Notice<'static> {
     let news = UpstreamNews::Lost {
         loss,
         last: None,
@@ -135,27 +135,6 @@ pub(crate) const TALLY: Tally = Tally {
     not_accepted: 0,
 };
 
-// Lines that tell of others.
-fn counted() -> [(Notice<'static>, &'static str); 3] {
-    let others = Tally {
-        connected: 3,
-        turned_away: 2,
-        not_accepted: 1,
-        ..Tally::none()
-    };
-    [
-        (
-            Notice::Run(RunNews::LeftOut(TALLY)),
-            "in the last second 236 lines were left out: 120 bound, 16 refused, 100 gone",
-        ),
-        (
-            Notice::Run(RunNews::LeftOut(others)),
-            "in the last second 6 lines were left out: 3 connected, 2 turned away, 1 not accepted",
-        ),
-        (Notice::Run(RunNews::Unwritten(37)), "37 lines left out"),
-    ]
-}
-
 // How the proxy and its clients end.
 fn ends() -> [(Notice<'static>, &'static str); 8] {
     [
@@ -242,15 +221,33 @@ pub(crate) const STRANGER: ClientName<'static> = ClientName {
     ..CLIENT
 };
 
+// A bind that can't be read and was refused with this status.
+fn unreadable(status: u32) -> Notice<'static> {
+    let said = BindSaid::Unreadable;
+    Notice::Client(STRANGER, ClientNews::BindRefused { status, said })
+}
+
 // Lines of binds that were refused.
-fn refusals() -> [(Notice<'static>, &'static str); 3] {
+fn refusals() -> [(Notice<'static>, &'static str); 6] {
     [
+        (
+            unreadable(0x0F),
+            "client 7 at 10.0.0.9:44484: bind refused, 0x0F ESME_RINVSYSID: its system_id has more than 15 octets",
+        ),
+        (
+            unreadable(0x0E),
+            "client 7 at 10.0.0.9:44484: bind refused, 0x0E ESME_RINVPASWD: its password has more than 8 octets",
+        ),
+        (
+            unreadable(0x02),
+            "client 7 at 10.0.0.9:44484: bind refused, 0x02 ESME_RINVCMDLEN: its body can't be read",
+        ),
         (
             Notice::Client(
                 STRANGER,
                 ClientNews::BindRefused {
                     status: 0x0F,
-                    said: Some(b"no\"body\n\xFF"),
+                    said: BindSaid::Unknown(b"no\"body\n\xFF"),
                 },
             ),
             "client 7 at 10.0.0.9:44484: bind as \"no\\\"body\\n\\xff\" refused, 0x0F ESME_RINVSYSID: no such account",
@@ -260,7 +257,7 @@ fn refusals() -> [(Notice<'static>, &'static str); 3] {
                 CLIENT,
                 ClientNews::BindRefused {
                     status: 0x0E,
-                    said: None,
+                    said: BindSaid::Known,
                 },
             ),
             "client 7 alpha at 10.0.0.9:44484: bind refused, 0x0E ESME_RINVPASWD",
@@ -270,7 +267,7 @@ fn refusals() -> [(Notice<'static>, &'static str); 3] {
                 STRANGER,
                 ClientNews::BindRefused {
                     status: 0x0F,
-                    said: Some(b"a name that is longer than any"),
+                    said: BindSaid::Unknown(b"a name that is longer than any"),
                 },
             ),
             "client 7 at 10.0.0.9:44484: bind as \"a name that is l..\" refused, 0x0F ESME_RINVSYSID: no such account",
@@ -279,7 +276,7 @@ fn refusals() -> [(Notice<'static>, &'static str); 3] {
 }
 
 // Lines of a configuration that was read again.
-fn renewals() -> [(Notice<'static>, &'static str); 8] {
+fn renewals() -> [(Notice<'static>, &'static str); 9] {
     [
         (
             Notice::Client(CLIENT, ClientNews::Changed(AccountChange::Gone)),
@@ -296,6 +293,10 @@ fn renewals() -> [(Notice<'static>, &'static str); 8] {
         (
             Notice::Client(CLIENT, ClientNews::Changed(AccountChange::Rules)),
             "client 7 alpha at 10.0.0.9:44484: what it may send is another now, from its next bind on",
+        ),
+        (
+            Notice::Client(CLIENT, ClientNews::Changed(AccountChange::Both)),
+            "client 7 alpha at 10.0.0.9:44484: its prefixes are others now, and from its next bind on what it may send",
         ),
         (
             gone(STRANGER, ClientEnd::Renewed),
@@ -393,7 +394,7 @@ fn standings() -> [(Standing<'static>, &'static str); 8] {
 }
 
 // Each of these notices has its words.
-fn have_words<R: Abort + AllocGlobal>(
+pub(crate) fn have_words<R: Abort + AllocGlobal>(
     rt: &R,
     lines: &[(Notice<'static>, &'static str)],
 ) -> Result<(), Fail> {
@@ -408,7 +409,6 @@ fn have_words<R: Abort + AllocGlobal>(
 fn lines_have_their_words(rt: HostRuntime) -> Result<(), Fail> {
     have_words(&rt, &links())?;
     have_words(&rt, &few())?;
-    have_words(&rt, &counted())?;
     have_words(&rt, &ends())?;
     have_words(&rt, &refusals())?;
     have_words(&rt, &renewals())?;

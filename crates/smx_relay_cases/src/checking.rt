@@ -129,15 +129,9 @@ pub fn tell_keys(alloc: Global, text: &str, out: &mut Vec<u8>) -> io::Result<()>
     Ok(())
 }
 
-/// The lines of the table of keys that begin with one of these lines.
-pub fn tell_table(alloc: Global, text: &str, out: &mut Vec<u8>) -> io::Result<()> {
-    let table = key_table(alloc)?;
-    for front in text.lines() {
-        for line in table.lines().filter(|line| line.starts_with(front)) {
-            writeln!(out, "{line}")?;
-        }
-    }
-    Ok(())
+/// The table of keys.
+pub fn tell_table(alloc: Global, out: &mut Vec<u8>) -> io::Result<()> {
+    out.write_all(key_table(alloc)?.as_str().as_bytes())
 }
 
 fn tell_numbers(config: &Config, out: &mut Vec<u8>) -> io::Result<()> {
@@ -146,16 +140,6 @@ fn tell_numbers(config: &Config, out: &mut Vec<u8>) -> io::Result<()> {
     writeln!(out, "clients {} box {}", config.clients, config.places)?;
     writeln!(out, "proxy_protocol {}", config.proxy_protocol)?;
     writeln!(out, "log {:?} level {:?}", config.log, config.log_level)?;
-    let timers = config.timers;
-    let (response, enquire, bind) = (timers.response, timers.enquire, timers.bind);
-    let (reconnect, most) = (timers.reconnect, timers.reconnect_most);
-    writeln!(out, "response {response} enquire {enquire} bind {bind}")?;
-    writeln!(out, "reconnect {reconnect} to {most}")?;
-    let (silence, message, stop) = (timers.client_silence, timers.message, timers.stop);
-    writeln!(
-        out,
-        "client_silence {silence} message {message} stop {stop}"
-    )?;
     writeln!(out, "queue {} window {}", limits.queue, limits.window)?;
     writeln!(out, "client {} history {}", limits.client, limits.history)
 }
@@ -202,7 +186,15 @@ fn tell_account(account: &Account, out: &mut Vec<u8>) -> io::Result<()> {
     writeln!(out)
 }
 
-/// The values that are read of a configuration, but for passwords.
+/// The timers that are read of a configuration.
+pub fn tell_timers(alloc: Global, text: &str, out: &mut Vec<u8>) -> io::Result<()> {
+    match read(alloc, text) {
+        Ok(config) => writeln!(out, "{:?}", config.timers),
+        Err(fault) => writeln!(out, "{fault}"),
+    }
+}
+
+/// The values that are read of a configuration, but for passwords and timers.
 pub fn tell_values(alloc: Global, text: &str, out: &mut Vec<u8>) -> io::Result<()> {
     let config = match read(alloc, text) {
         Ok(config) => config,

@@ -91,10 +91,13 @@ fn change_at(desk: &Desk, place: usize, other: &Desk) -> Option<AccountChange> {
     }
     let prefixes = desk.prefixes.as_slice().get(place)?;
     let others = other.prefixes.as_slice().get(found)?;
-    if !are_same_texts(prefixes.as_slice(), others.as_slice()) {
-        return Some(AccountChange::Prefixes);
+    let have_others = !are_same_texts(prefixes.as_slice(), others.as_slice());
+    match (have_others, same.rules != account.rules) {
+        (true, true) => Some(AccountChange::Both),
+        (true, false) => Some(AccountChange::Prefixes),
+        (false, true) => Some(AccountChange::Rules),
+        (false, false) => None,
     }
-    (same.rules != account.rules).then_some(AccountChange::Rules)
 }
 
 /// The prefixes of the account with this system_id.

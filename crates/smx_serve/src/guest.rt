@@ -10,7 +10,9 @@ use crate::refusals::Refusals;
 use crate::seats::Member;
 use crate::stillness::Stillness;
 use smx_client::Desk;
-use smx_notice::{AccountChange, ClientEnd, ClientName, ClientNews, ClientStanding, Notice};
+use smx_notice::{
+    AccountChange, BindSaid, ClientEnd, ClientName, ClientNews, ClientStanding, Notice,
+};
 use smx_pdu::read_bind;
 use smx_pdu::status::ESME_RINVSYSID;
 use smx_session::{ClientState, Kind};
@@ -337,21 +339,17 @@ impl<'d> Guest<'d> {
         let Some(refusal) = self.member.refused() else {
             return;
         };
-        let said = match read_bind(refusal.bind.body.as_slice()) {
-            Ok(bind) => Some(bind.system_id),
-            Err(_) => None,
+        let status = refusal.status;
+        let (system_id, said) = match read_bind(refusal.bind.body.as_slice()) {
+            Ok(bind) if status == ESME_RINVSYSID => (None, BindSaid::Unknown(bind.system_id)),
+            Ok(bind) => (name_of(self.desk, bind.system_id), BindSaid::Known),
+            Err(_) => (None, BindSaid::Unreadable),
         };
-        let has_account = refusal.status != ESME_RINVSYSID;
         let name = ClientName {
-            system_id: said
-                .filter(|_| has_account)
-                .and_then(|said| name_of(self.desk, said)),
+            system_id,
             ..self.named()
         };
-        let news = ClientNews::BindRefused {
-            status: refusal.status,
-            said: said.filter(|_| !has_account),
-        };
+        let news = ClientNews::BindRefused { status, said };
         moment.say(rt, Notice::Client(name, news));
     }
 

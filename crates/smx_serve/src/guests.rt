@@ -288,7 +288,9 @@ impl<'d> Guests<'d> {
         };
         match guest.change(rt, moment) {
             None => return,
-            Some(AccountChange::Prefixes) => guest.reroute(rt, moment, addresses),
+            Some(AccountChange::Prefixes | AccountChange::Both) => guest.reroute(
+                rt, moment, addresses,
+            ),
             Some(AccountChange::Rules) => guest.desk = moment.desk,
             Some(AccountChange::Gone | AccountChange::Password) => {
                 self.unbind_at(rt, queues, addresses, slot, moment.now);

@@ -3,7 +3,7 @@ ghost use Rattle.std.specs.Prelude.{◌≡◌, ◌≢◌, ◌≤◌, length, sli
 ghost use Rattle.std.specs.Arc.{arc_value};
 ghost use Rattle.smx_shared.specs.Views.{locks_of};
 ghost use Rattle.smx_turns.specs.declared.end.Fault.{Fault};
-ghost use Rattle.smx_client.specs.declared.mark.Stage.{Stage};
+ghost use Rattle.smx_client.specs.declared.stage.Stage.{Stage};
 ghost use Rattle.smx_session.specs.declared.upstream_state.UpstreamState.{UpstreamState};
 
 use smx_box::{Got, Receiver};

@@ -98,7 +98,8 @@ impl<'d> Loop<'d> {
         Ok(())
     }
 
-    // Unbinds each client, and awaits its answer for a second, or until it is told to stop once more.
+    // Unbinds each client, and awaits its answer for a second, or, where it is told to stop once more, until
+    // what it was sent is written.
     fn part_from_clients<R: Wait + Clock + Net>(
         &mut self,
         rt: &R,
@@ -108,7 +109,11 @@ impl<'d> Loop<'d> {
         self.guests
             .unbind_all(rt, moment, &mut self.queues, &mut self.addresses);
         for _ in rt.forever() {
-            if self.guests.are_gone() || remote.is_hurried() {
+            if self.guests.are_gone() {
+                break;
+            }
+            if remote.is_hurried() {
+                self.settle(rt, false, false)?;
                 break;
             }
             self.round(rt, 10)?;

@@ -1,5 +1,7 @@
 //! The clients that a ledger knows.
-ghost use Rattle.std.specs.Prelude.{◌≡◌, ℕ, IsSome, IfOk, Some, None, OnOk, OnErr, slice_index_or};
+ghost use Rattle.std.specs.Prelude.{◌≡◌, ◌==◌, ℕ, IsSome, IfOk, Some, None, OnOk, OnErr, nat_eq, slice_index_or, if◌then◌else◌};
+ghost use Rattle.std.specs.HashMap.{get};
+ghost use Rattle.std.specs.Option.{option_copied};
 ghost use Rattle.smx_slots.specs.Private.Entries.{entry_at, place_of, entry_of, is_free_for, SetsEntry, HasSameEntries};
 
 use std::alloc::{AllocError, Global};
@@ -25,7 +27,8 @@ pub(crate) struct Row {
 const ROWS: u64 = 1_024;
 
 /// Clients by their numbers. A client's row is where its number says; the others are those whose row another
-/// one has, of which a look-up costs more.
+/// one has, of which a look-up costs more. What looks among those is kept out of line, so that a call that
+/// finds the client's row is short and is inlined.
 #[derive(Drop)]
 pub(crate) struct Entries {
     rows: Vec<Option<Row>>,
@@ -80,13 +83,23 @@ impl Entries {
         }
     }
 
+    // What is known of a client that has no row.
+    #[cold]
+    #[inline(never)]
+    fn other(&self, client: u64) -> Option<&Entry>
+        ensures { option_copied result ≡ get nat_eq self.now.others client }
+    {
+        self.others.get(&client)
+    }
+
     // What is known of the client.
+    #[inline(always)]
     pub(crate) fn get(&self, client: u64) -> Option<Entry>
         ensures { result ≡ entry_at client self.now }
     {
         match entry_of(self.row(client), client) {
             Some(entry) => Some(entry),
-            None => self.others.get(&client).copied(),
+            None => self.other(client).copied(),
         }
     }
 
@@ -104,7 +117,27 @@ impl Entries {
         Ok(())
     }
 
+    // Changes what is known of a client that has no row. It takes no memory.
+    #[cold]
+    #[inline(never)]
+    fn change_other(&mut self, client: u64, key: usize, here: bool, requests: u64)
+        requires { IsSome (get nat_eq self.old.others client) }
+        ensures others { (c : ℕ) → get nat_eq self.new.others c
+            ≡ (if client == c then Some (record { key = key; here = here; requests = requests })
+            else get nat_eq self.old.others c) }
+        ensures rows { self.new.rows ≡ self.old.rows }
+    {
+        if let Some(place) = self.others.get_mut(&client) {
+            *place = Entry {
+                key,
+                here,
+                requests,
+            };
+        }
+    }
+
     // Changes what is known of a client. It takes no memory.
+    #[inline(always)]
     pub(crate) fn change(&mut self, client: u64, entry: Entry)
         requires { IsSome (entry_at client self.old) }
         ensures { SetsEntry (Some entry) self.old client self.new }
@@ -114,12 +147,12 @@ impl Entries {
             self.rows[at] = Some(Row { client, entry });
             return;
         }
-        if let Some(place) = self.others.get_mut(&client) {
-            *place = entry;
-        }
+        self.change_other(client, entry.key, entry.here, entry.requests);
     }
 
     // Takes the client out. It takes no memory.
+    #[cold]
+    #[inline(never)]
     pub(crate) fn remove(&mut self, client: u64)
         ensures { SetsEntry None self.old client self.new }
     {

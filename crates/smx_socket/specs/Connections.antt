@@ -1,10 +1,11 @@
 -- What contracts see of a connection.
-use Rattle.std.specs.Prelude.{◌≡◌, ℕ, ◌<◌, Bool, List, [], ◌∷◌, ◌++◌, Result, Ok, IsErr, IsTrue, IsFalse}
+use Rattle.std.specs.Prelude.{◌≡◌, ℕ, ◌<◌, ◌≤◌, Bool, not, ◌&&◌, length, List, [], ◌∷◌, ◌++◌, Result, Ok, IsErr, IsTrue, IsFalse}
 use Rattle.std.specs.List.{list_any}
 use Rattle.smx_link.specs.declared.link.Polled.{Polled}
 use Rattle.smx_link.specs.declared.link.Polled.TheVariants.{Nothing}
 use Rattle.smx_link.specs.declared.link.LinkFault.{LinkFault}
 use Rattle.smx_socket.specs.declared.transport.Outcome.{Outcome}
+use Rattle.smx_socket.specs.declared.transport.Outcome.TheVariants.{NotNow}
 use Rattle.smx_socket.specs.declared.marks.Marks.{Marks}
 use Rattle.smx_socket.specs.Outcomes.{is_end, has_failed, IsPolled, marks_read}
 
@@ -38,3 +39,15 @@ pub record TellsNothing (before after : List Outcome) (faults : ℕ) (old new : 
   pub marks : new ≡ old
   pub nothing : IsFalse old.failed → answer ≡ Ok Nothing
   pub failed : IsTrue old.failed → faults < 18446744073709551615 → IsErr answer
+
+-- whether a drain asks the system: a read may find something, and neither the peer's end nor a failure was found
+abbrev pub drains : Marks → Bool
+drains m = not m.failed && (not m.ended && m.readable)
+
+-- the system was asked once for so many octets, and what is known since is what it answered
+abbrev pub Asks : (before after : List Outcome) (room : ℕ) (old new : Marks) → Type 0
+Asks before after room old new = (outcome : Outcome) × (after ≡ before ++ outcome ∷ []) × (new ≡ marks_read outcome room old)
+
+-- since then the system was asked to write, and what it answered last is that it would have to wait
+abbrev pub HasToWait : (before after : List Outcome) → Type 0
+HasToWait before after = (earlier : List Outcome) × (length before ≤ length earlier) × (after ≡ earlier ++ NotNow ∷ [])

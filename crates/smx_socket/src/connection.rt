@@ -1,5 +1,5 @@
 //! What stands between a link and the system.
-ghost use Rattle.std.specs.Prelude.{◌≡◌, ◌<◌, ◌≤◌, ◌+◌, ◌++◌, ◌⊎◌, ◌↔◌, [], take, length, true, false, IfOk, IsOk, IsTrue, IsFalse};
+ghost use Rattle.std.specs.Prelude.{◌≡◌, ◌<◌, ◌≤◌, ◌+◌, ◌++◌, ◌⊎◌, ◌↔◌, [], take, length, true, false, Ok, IfOk, IsOk, IsTrue, IsFalse};
 ghost use Rattle.smx_link.specs.Links.{octets_read, octets_written, IsReadWithin, polls_of, fault_count};
 ghost use Rattle.smx_socket.specs.Connections.{Holds};
 
@@ -130,6 +130,7 @@ impl Answers {
 
     /// A read that asked nobody has found nothing.
     pub fn tell_nothing(&mut self, buffer: &[u8]) -> Result<Polled, LinkFault>
+        ensures nothing { result ≡ Ok Polled.Nothing }
         ensures given { self.new.given ≡ self.old.given ++ octets_read result buffer.now }
         ensures taken { self.new.taken ≡ self.old.taken }
         ensures offered { self.new.offered ≡ self.old.offered }
@@ -142,6 +143,7 @@ impl Answers {
 
     /// A write that asked nobody has taken nothing.
     pub fn tell_none(&mut self, octets: &[u8]) -> Result<usize, LinkFault>
+        ensures none { result ≡ Ok 0 }
         ensures taken { self.new.taken ≡ self.old.taken ++ octets_written result octets.now }
         ensures given { self.new.given ≡ self.old.given }
         ensures offered { self.new.offered ≡ self.old.offered ++ octets.now }
@@ -196,6 +198,7 @@ impl<T: Transport + Drop> Connection<T> {
         ensures none { IfOk result (λ c. (c.accepted ≡ []) × (c.unsent ≡ [])) }
         ensures open { IfOk result
             (λ c. (c.marks.readable ≡ true) × (c.marks.writable ≡ true) × (c.marks.closing ≡ false)) }
+        ensures read_open { IfOk result (λ c. c.marks.read_closed ≡ false) }
     {
         Ok(Connection {
             transport,

@@ -5,3 +5,5 @@ pub mod Breaking
 pub mod Logged
 pub mod Putting
 pub mod Rounding
+pub mod Scenes
+pub mod Filters

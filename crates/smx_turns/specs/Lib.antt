@@ -1,7 +1,9 @@
 pub mod Runs
 pub mod Worth
 pub mod Wires
+pub mod Marks
 pub mod Steps
+pub mod Scenes
 pub mod Puts
 pub mod Rounds
 pub mod Endings

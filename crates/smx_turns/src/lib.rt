@@ -5,6 +5,7 @@
 mod directory;
 mod end;
 mod gate;
+mod mark;
 mod mo_item;
 mod outcome;
 mod put;
@@ -14,6 +15,7 @@ mod wire;
 pub use directory::{Directory, Place, Query};
 pub use end::{End, Fault, RunEnd, TurnEnd, last_end};
 pub use gate::{Gate, Party, Point, Question};
+pub use mark::Mark;
 pub use mo_item::MoItem;
 pub use outcome::Outcome;
 pub use put::{is_full_at, put_at};

@@ -4,24 +4,25 @@ ghost use Rattle.smx_turns.specs.declared.gate.Question.{Question};
 ghost use Rattle.smx_turns.specs.Steps.{is_quiet_step, are_quiet};
 
 use crate::gate::{Gate, Point};
+use crate::mark::Mark;
 use smx_link::{LinkFault, Polled};
 use smx_trace::Trace;
 use std::marker::Model;
 
-/// What a turn did once. `M` are the worker's own marks, `E` its events.
+/// What a turn did once. `E` are the worker's events.
 #[derive(Drop)]
-pub enum Step<M, E> {
+pub enum Step<E> {
     /// It asked the gate, which gave this answer.
     Asked(Point, bool),
     /// It read from its link, which gave this answer.
     Read(Result<Polled, LinkFault>),
     /// It came to this mark.
-    Marked(M),
+    Marked(Mark),
     /// It did this.
     Did(E),
 }
 
-/// A worker's mark or event, of which something came or nothing.
+/// An event of a worker, of which something came or nothing.
 pub trait Deed {
     /// Whether nothing came of it.
     ghost is_quiet: { Self → Bool };
@@ -30,26 +31,26 @@ pub trait Deed {
 /// What a turn did so far, and whether something came of it. It takes no memory. Contracts see it
 /// as the list of its steps.
 #[derive(Drop)]
-pub struct Log<M: Deed + Drop, E: Deed + Drop> {
-    steps: Trace<Step<M, E>>,
+pub struct Log<E: Deed + Drop> {
+    steps: Trace<Step<E>>,
     quiet: bool,
 }
 
-impl<M: Deed + Drop, E: Deed + Drop> Model for Log<M, E> {
+impl<E: Deed + Drop> Model for Log<E> {
     ghost use Rattle.std.specs.Prelude.{◌≡◌, List};
     ghost use Rattle.smx_turns.specs.declared.step.Step.{Step};
     ghost use Rattle.smx_turns.specs.Steps.{are_quiet};
 
-    ghost Value = { List (Step M E) };
+    ghost Value = { List (Step E) };
 
     ghost view = { λ l. l.steps };
 
-    ghost invariant = { λ l. l.quiet ≡ are_quiet M.is_quiet E.is_quiet l.steps };
+    ghost invariant = { λ l. l.quiet ≡ are_quiet E.is_quiet l.steps };
 }
 
-impl<M: Deed + Drop, E: Deed + Drop> Log<M, E> {
+impl<E: Deed + Drop> Log<E> {
     /// Nothing was done yet.
-    pub fn new() -> Log<M, E>
+    pub fn new() -> Log<E>
         ensures { result ≡ [] }
     {
         Log {
@@ -59,8 +60,8 @@ impl<M: Deed + Drop, E: Deed + Drop> Log<M, E> {
     }
 
     /// This was done too. The caller says whether nothing came of it.
-    pub fn push(&mut self, step: &Step<M, E>, quiet: bool)
-        requires { quiet ≡ is_quiet_step M.is_quiet E.is_quiet step.now }
+    pub fn push(&mut self, step: &Step<E>, quiet: bool)
+        requires { quiet ≡ is_quiet_step E.is_quiet step.now }
         ensures { self.new ≡ self.old ++ step.now ∷ [] }
     {
         self.steps = self.steps.and(step);
@@ -71,13 +72,13 @@ impl<M: Deed + Drop, E: Deed + Drop> Log<M, E> {
 
     /// Whether nothing came of all that was done.
     pub fn is_quiet(&self) -> bool
-        ensures { result ≡ are_quiet M.is_quiet E.is_quiet self.now }
+        ensures { result ≡ are_quiet E.is_quiet self.now }
     {
         self.quiet
     }
 
     /// The steps.
-    pub fn into_steps(self) -> Trace<Step<M, E>>
+    pub fn into_steps(self) -> Trace<Step<E>>
         ensures { result ≡ self }
     {
         self.steps
@@ -85,12 +86,7 @@ impl<M: Deed + Drop, E: Deed + Drop> Log<M, E> {
 }
 
 /// Asks the gate, and writes it down.
-pub fn ask<M: Deed + Drop, E: Deed + Drop, G: Gate>(
-    log: &mut Log<M, E>,
-    gate: &mut G,
-    point: Point,
-    turn: u64,
-) -> bool
+pub fn ask<E: Deed + Drop, G: Gate>(log: &mut Log<E>, gate: &mut G, point: Point, turn: u64) -> bool
     ensures log { log.new ≡ log.old ++ Step.Asked point result ∷ [] }
     ensures asked { G.asked gate.new ≡ G.asked gate.old ++ record {
       point = point;

@@ -5,11 +5,10 @@ use Rattle.std.specs.Result.{is_err}
 use Rattle.smx_pdu.specs.declared.pdu.Pdu.{Pdu}
 use Rattle.smx_link.specs.declared.link.Polled.{Polled}
 use Rattle.smx_link.specs.declared.link.Polled.TheVariants.{Octets, Nothing, End}
-use Rattle.smx_turns.specs.Wires.{is_end}
 use Rattle.smx_link.specs.declared.link.LinkFault.{LinkFault}
 use Rattle.smx_turns.specs.declared.gate.Point.TheVariants.{Reading, Taking}
 use Rattle.smx_turns.specs.declared.end.TurnEnd.{TurnEnd}
-use Rattle.smx_turns.specs.declared.end.TurnEnd.TheVariants.{Worked, Filled, Idle, Done}
+use Rattle.smx_turns.specs.declared.end.TurnEnd.TheVariants.{Worked, Idle, Done}
 use Rattle.smx_turns.specs.declared.end.Fault.{Fault}
 use Rattle.smx_turns.specs.declared.end.Fault.TheVariants as fault
 use Rattle.smx_turns.specs.declared.step.Step.{Step}
@@ -18,8 +17,7 @@ use Rattle.smx_turns.specs.Rounds.{last_end}
 use Rattle.smx_turns.specs.Wires.{some_wait}
 use Rattle.smx_turns.proofs.Logged.{phase_push}
 use Rattle.smx_turns.proofs.Wires.{clear_so}
-use Rattle.smx_upstream.specs.declared.mark.Mark.{Mark}
-use Rattle.smx_upstream.specs.declared.mark.Mark.TheVariants.{Offered, WriteFailed, Full, Part}
+use Rattle.smx_turns.specs.declared.mark.Mark.TheVariants.{Offered, WriteFailed, Full, Part}
 use Rattle.smx_upstream.specs.declared.event.Event.{Event}
 use Rattle.smx_upstream.specs.declared.event.Event.TheVariants.{Opened, Looked, Judged, Expired, Shifted, Sought, Decided, Took, Broke, LinkEnded}
 use Rattle.smx_upstream.specs.declared.event.Span.{Span}
@@ -27,17 +25,17 @@ use Rattle.smx_upstream.specs.declared.event.Span.TheVariants.{Once, Twice}
 use Rattle.smx_upstream.specs.declared.event.Fate.{Fate}
 use Rattle.smx_upstream.specs.Events.{kept_by, fate_worth, event_ends, fills, gives, is_spent_expiry, is_spent_shift, is_spent_take}
 use Rattle.smx_upstream.specs.Phases.{Phase, Before, Opening, Ready, Written, Clogged, Watched, Clear, CaughtUp, Sweeping, Brimming, MayRead, Failed, Deciding, Closing, Settled, MayTake, HasTried, Stopped, Refrained, Gone, Drained, Wrong, go, from_opening, from_ready, from_written, from_watched, from_sweeping, from_caught_up, from_clear, from_may_read, from_deciding, from_closing, from_settled, from_may_take, phase_of, unless_spent, at_moment, if_so, after_offer, unless_left, when_looked, when_kept, when_judged, when_decided, when_part, when_full, when_read, when_may_read, when_may_take, when_taken, quiet_end, Waits, IsOver, IsTurnEnd, IsTurn, EndsEarly, IsPart, LeadsTo, Faulted, MayWant, Source, Emptied, Ebbed, from_emptied, from_ebbed, going_on, when_filled, source_of, has_end, when_progress, when_halted, filled_or, IsCourse, is_all_decided}
-use Rattle.smx_upstream.specs.Phases.Source.{Earlier, Behind}
+use Rattle.smx_upstream.specs.Phases.Source.{Earlier}
 use Rattle.smx_upstream.specs.declared.turning.Course.{Course}
 use Rattle.smx_upstream.specs.declared.deciding.Progress.{Progress}
 use Rattle.smx_upstream.specs.declared.deciding.Progress.TheVariants as progress
 
-pub phase_none : (t : Before) (ss : List (Step Mark Event)) → ss ≡ [] → phase_of t ss ≡ Opening
+pub phase_none : (t : Before) (ss : List (Step Event)) → ss ≡ [] → phase_of t ss ≡ Opening
 unfolding phase_of
 phase_none t ss none = ap (phase_of t) none
 
 -- one step more leads from one phase to the next
-pub stepped : (t : Before) (ss ss' : List (Step Mark Event)) (s : Step Mark Event) (p q : Phase) → ss' ≡ ss ++ s ∷ [] → go t p s ≡ q → phase_of t ss ≡ p → phase_of t ss' ≡ q
+pub stepped : (t : Before) (ss ss' : List (Step Event)) (s : Step Event) (p q : Phase) → ss' ≡ ss ++ s ∷ [] → go t p s ≡ q → phase_of t ss ≡ p → phase_of t ss' ≡ q
 unfolding phase_of
 stepped t ss ss' s p q grown cell was = phase_push (go t) Opening ss ss' s p q grown cell was
 
@@ -52,13 +50,13 @@ said_so b clear unsent p is tells = ap (λ x. if_so (not clear) x p) (is ∙ sym
 pub at_its_moment : (t : Before) (now : ℕ) (p : Phase) → t.now ≡ now → at_moment t now p ≡ p
 at_its_moment t now p same = ap (λ b. if b then p else Wrong) (eq-eqb now t.now (sym same))
 
-pub cell_offered : (t : Before) (waited left : Bool) → go t Ready (Marked (Offered waited left)) ≡ if_so waited t.waited (after_offer t.ending left)
+pub cell_offered : (t : Before) (waited wrote left : Bool) → go t Ready (Marked (Offered waited wrote left)) ≡ if_so waited t.waited (after_offer t.ending left)
 unfolding go from_ready
-cell_offered t waited left = refl
+cell_offered t waited wrote left = refl
 
-pub cell_closed : (t : Before) (waited left : Bool) → go t Closing (Marked (Offered waited left)) ≡ unless_left left
+pub cell_closed : (t : Before) (waited wrote left : Bool) → go t Closing (Marked (Offered waited wrote left)) ≡ unless_left left
 unfolding go from_closing
-cell_closed t waited left = refl
+cell_closed t waited wrote left = refl
 
 pub cell_unwritten : (t : Before) → go t Ready (Marked WriteFailed) ≡ Failed
 unfolding go from_ready

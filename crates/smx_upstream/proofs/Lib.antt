@@ -1,6 +1,7 @@
 pub mod Eventful
 pub mod Cells
 pub mod Judgements
+pub mod Counts
 pub mod Seen
 pub mod Surrender
 pub mod Keeping

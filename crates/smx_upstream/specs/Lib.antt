@@ -5,7 +5,7 @@ pub mod Ages
 pub mod Standing
 pub mod Phases
 pub mod Judging
-pub mod Writing
+pub mod May
 pub mod Working
 pub mod Timing
 pub mod Laws

@@ -22,8 +22,7 @@ use Rattle.smx_upstream.specs.declared.deciding.Next.{Next}
 use Rattle.smx_upstream.specs.declared.deciding.Next.TheVariants as next
 use Rattle.smx_upstream.specs.declared.deciding.Progress.{Progress}
 use Rattle.smx_upstream.specs.declared.deciding.Progress.TheVariants as progress
-use Rattle.smx_upstream.specs.declared.mark.Mark.{Mark}
-use Rattle.smx_upstream.specs.declared.mark.Mark.TheVariants.{Offered, WriteFailed, Full, Part}
+use Rattle.smx_turns.specs.declared.mark.Mark.TheVariants.{Offered, WriteFailed, Full, Part}
 use Rattle.smx_upstream.specs.declared.event.Event.{Event}
 use Rattle.smx_upstream.specs.declared.event.Event.TheVariants.{Opened, Looked, Judged, Expired, Shifted, Sought, Decided, Took, Broke, LinkEnded}
 use Rattle.smx_upstream.specs.declared.event.Span.{Span}
@@ -179,61 +178,61 @@ abbrev pub when_may_take : Bool → Bool → Phase
 when_may_take full true = MayTake full false
 when_may_take full false = Refrained full
 
-unfoldable pub from_opening : Step Mark Event → Phase
+unfoldable pub from_opening : Step Event → Phase
 from_opening (Did (Opened n)) = Ready
 from_opening _ = Wrong
 
-unfoldable pub from_ready : Before → Step Mark Event → Phase
-from_ready t (Marked (Offered waited left)) = if_so waited t.waited (after_offer t.ending left)
+unfoldable pub from_ready : Before → Step Event → Phase
+from_ready t (Marked (Offered waited wrote left)) = if_so waited t.waited (after_offer t.ending left)
 from_ready t (Marked WriteFailed) = Failed
 from_ready t _ = Wrong
 
-unfoldable pub from_written : Before → Bool → Step Mark Event → Phase
+unfoldable pub from_written : Before → Bool → Step Event → Phase
 from_written t left (Did (Looked now due some_left silent)) = at_moment t now (if_so some_left left (when_looked left silent))
 from_written t left _ = Wrong
 
-unfoldable pub from_watched : Bool → Step Mark Event → Phase
+unfoldable pub from_watched : Bool → Step Event → Phase
 from_watched left (Did (Shifted least r)) = unless_spent (is_spent (Shifted least r)) (when_kept left)
 from_watched left _ = Wrong
 
-unfoldable pub from_sweeping : Span → Phase → Step Mark Event → Phase
+unfoldable pub from_sweeping : Span → Phase → Step Event → Phase
 from_sweeping Once p (Did (Expired lane Once r)) = unless_spent (is_spent (Expired lane Once r)) p
 from_sweeping Twice p (Did (Expired lane Twice r)) = unless_spent (is_spent (Expired lane Twice r)) p
 from_sweeping span p _ = Wrong
 
-unfoldable pub from_clear : Step Mark Event → Phase
+unfoldable pub from_clear : Step Event → Phase
 from_clear (Did (Sought r under)) = unless_spent (is_spent (Sought r under)) (Deciding (Earlier false))
 from_clear _ = Wrong
 
-unfoldable pub from_emptied : Step Mark Event → Phase
+unfoldable pub from_emptied : Step Event → Phase
 from_emptied (Asked Reading answer) = when_may_read answer
 from_emptied _ = Wrong
 
-unfoldable pub from_may_read : Step Mark Event → Phase
+unfoldable pub from_may_read : Step Event → Phase
 from_may_read (Read r) = when_read r
 from_may_read _ = Wrong
 
-unfoldable pub from_deciding : Before → Source → Step Mark Event → Phase
+unfoldable pub from_deciding : Before → Source → Step Event → Phase
 from_deciding t s (Did (Decided p now a f)) = at_moment t now (unless_spent (is_spent (Decided p now a f)) (when_decided s (event_ends (Decided p now a f)) (fills f)))
 from_deciding t s (Did Broke) = Closing
 from_deciding t s (Marked Part) = when_part s
 from_deciding t s (Marked Full) = when_full s
 from_deciding t s _ = Wrong
 
-unfoldable pub from_ebbed : Step Mark Event → Phase
+unfoldable pub from_ebbed : Step Event → Phase
 from_ebbed (Did LinkEnded) = Drained
 from_ebbed _ = Wrong
 
-unfoldable pub from_closing : Step Mark Event → Phase
-from_closing (Marked (Offered waited left)) = unless_left left
+unfoldable pub from_closing : Step Event → Phase
+from_closing (Marked (Offered waited wrote left)) = unless_left left
 from_closing (Marked WriteFailed) = Failed
 from_closing _ = Wrong
 
-unfoldable pub from_caught_up : Step Mark Event → Phase
+unfoldable pub from_caught_up : Step Event → Phase
 from_caught_up (Did (Judged silent)) = when_judged silent
 from_caught_up _ = Wrong
 
-unfoldable pub from_settled : Bool → Step Mark Event → Phase
+unfoldable pub from_settled : Bool → Step Event → Phase
 from_settled full (Asked Taking answer) = when_may_take full answer
 from_settled full _ = Wrong
 
@@ -242,12 +241,12 @@ abbrev pub when_taken : Bool → Bool → Phase
 when_taken full true = MayTake full true
 when_taken full false = HasTried full
 
-unfoldable pub from_may_take : Bool → Step Mark Event → Phase
+unfoldable pub from_may_take : Bool → Step Event → Phase
 from_may_take full (Did (Took r)) = unless_spent (is_spent (Took r)) (when_taken full (gives r.value))
 from_may_take full _ = Wrong
 
 -- the table of an upstream turn
-unfoldable pub go : Before → Phase → Step Mark Event → Phase
+unfoldable pub go : Before → Phase → Step Event → Phase
 go t Opening s = from_opening s
 go t Ready s = from_ready t s
 go t (Written left) s = from_written t left s
@@ -264,7 +263,7 @@ go t (Settled full) s = from_settled full s
 go t (MayTake full gave) s = from_may_take full s
 go t _ s = Wrong
 
-unfoldable pub phase_of : Before → List (Step Mark Event) → Phase
+unfoldable pub phase_of : Before → List (Step Event) → Phase
 phase_of t ss = phase_from (go t) Opening ss
 
 -- the link failed there

@@ -25,11 +25,11 @@ abbrev pub timing : {C L : Type 0} → C → List Question → List Party → Li
 timing clock asked told queries worker = record { clock = clock; worker = worker; asked = asked; told = told; queries = queries }
 
 -- the clock was asked once, and a turn in the table's order was made at the moment that it gave; its steps are all that gate, directory and link were asked, and all that the link was offered
-pub record TurnsAt {C L : Type 0} (gives : C → ℕ → C → Type 0) (polls : L → List (Result Polled LinkFault)) (offered : L → List ℕ) (failures : L → ℕ) (a : Timing C L) (now : ℕ) (b : Timing C L) : Type 0 where
+pub record TurnsAt {C L : Type 0} (gives : C → ℕ → C → Type 0) (offered : L → List ℕ) (polls : L → List (Result Polled LinkFault)) (failures : L → ℕ) (a : Timing C L) (now : ℕ) (b : Timing C L) : Type 0 where
   pub end : Result TurnEnd Fault
   pub asked : gives a.clock now b.clock
   pub order : IsTurn (is_bound b.worker.stand.session.state) (are_all_quiet b.worker.steps) end (phase_of (before_turn now a.worker) b.worker.steps)
   pub judged : AreJudged b.worker.steps
-  pub turned : Changes b.worker.stand.age.turns (scene_of polls offered a.asked a.told a.queries a.worker) (scene_of polls offered b.asked b.told b.queries b.worker) b.worker.steps
+  pub changes : Changes b.worker.stand.age.turns (scene_of offered polls failures a.asked a.told a.queries a.worker) b.worker.steps (scene_of offered polls failures b.asked b.told b.queries b.worker)
   pub fails : failures b.worker.wire.link ≡ failures a.worker.wire.link + link_faults end
   pub ends : b.worker.ends ≡ a.worker.ends ++ end ∷ []

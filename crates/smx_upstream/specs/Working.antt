@@ -1,9 +1,10 @@
 -- What contracts see of a worker.
-use Rattle.std.specs.Prelude.{◌≡◌, ℕ, Bool, true, is_some, List, ◌++◌, Option, None, Result}
+use Rattle.std.specs.Prelude.{◌≡◌, ℕ, true, is_some, List, ◌++◌, Option, None, Result}
 use Rattle.smx_pdu.specs.declared.pdu.Pdu.{Pdu}
 use Rattle.smx_link.specs.Wiring.{Wiring}
 use Rattle.smx_link.specs.declared.link.Polled.{Polled}
 use Rattle.smx_link.specs.declared.link.LinkFault.{LinkFault}
+use Rattle.smx_shared.specs.Views.{TapView}
 use Rattle.smx_turns.specs.declared.gate.Question.{Question}
 use Rattle.smx_turns.specs.declared.gate.Party.{Party}
 use Rattle.smx_turns.specs.declared.directory.Query.{Query}
@@ -13,16 +14,15 @@ use Rattle.smx_turns.specs.declared.end.End.{End}
 use Rattle.smx_turns.specs.Endings.{ending_of}
 use Rattle.smx_turns.specs.declared.step.Step.{Step}
 use Rattle.smx_turns.specs.Runs.{Runs}
-use Rattle.smx_turns.specs.Steps.{Side, side, Turned}
-use Rattle.smx_upstream.specs.declared.mark.Mark.{Mark}
+use Rattle.smx_turns.specs.Scenes.{scene, Changed, LeadsOn}
 use Rattle.smx_upstream.specs.declared.event.Event.{Event}
-use Rattle.smx_turns.specs.Wires.{IsBad, has_ended as has_link_ended}
+use Rattle.smx_turns.specs.Wires.{IsBad}
 use Rattle.smx_turns.specs.Worth.{those, ins, outs, has_broken}
 use Rattle.smx_upstream.specs.Events.{worth}
 use Rattle.smx_upstream.specs.declared.last.LastRequest.{LastRequest}
 use Rattle.smx_upstream.specs.Last.{last_request}
 use Rattle.smx_upstream.specs.Phases.{Before, before}
-use Rattle.smx_upstream.specs.Writing.{Writing, Writes, writing}
+use Rattle.smx_upstream.specs.May.{Scene, May}
 use Rattle.smx_upstream.specs.Standing.{Stand, Does, HoldNone}
 
 pub record Working (L : Type 0) : Type 0 where
@@ -40,9 +40,13 @@ pub record Working (L : Type 0) : Type 0 where
   -- the request that was sent last
   pub last : Option LastRequest
   -- the steps of its last turn
-  pub steps : List (Step Mark Event)
+  pub steps : List (Step Event)
   -- how its turns ended
   pub ends : List (Result TurnEnd Fault)
+
+-- two moments of one tap
+abbrev pub IsSameLane : TapView → TapView → Type 0
+IsSameLane s t = (t.lane ≡ s.lane) × (t.front.lock ≡ s.front.lock)
 
 -- what a worker keeps at every call
 pub record IsWorker {L : Type 0} (w : Working L) : Type 0 where
@@ -52,6 +56,8 @@ pub record IsWorker {L : Type 0} (w : Working L) : Type 0 where
   pub said : w.wire.said ≡ outs worth w.events
   -- each event did what its call did, one after another
   pub runs : ∥ Runs Does w.first w.events w.stand ∥₁
+  -- its tap is that which it was handed, of the same lane and lock
+  pub tap : IsSameLane w.first.tap w.stand.tap
   -- at first no client has a message of this link
   pub none_owed : HoldNone w.first.owed
   -- just an event of which that came left nothing but writing to do
@@ -67,26 +73,19 @@ pub record IsWorker {L : Type 0} (w : Working L) : Type 0 where
 abbrev pub before_turn : {L : Type 0} → ℕ → Working L → Before
 before_turn now w = before now (is_some w.ending) w.wire.unsent
 
-abbrev pub writing_of : {L : Type 0} → (L → List (Result Polled LinkFault)) → (L → List ℕ) → Working L → Writing
-writing_of polls offered w = writing w.wire.unsent (offered w.wire.link) (has_link_ended (polls w.wire.link))
-
--- what a turn changes, as contracts see it
-pub record Scene : Type 0 where
-  pub side : Side Stand Event
-  pub writing : Writing
-
--- what a worker, its gate and its directory show of it
-abbrev pub scene_of : {L : Type 0} → (L → List (Result Polled LinkFault)) → (L → List ℕ) → List Question → List Party → List Query → Working L → Scene
-scene_of polls offered asked told queries w = record {
-  side = side asked told queries w.events w.stand (polls w.wire.link);
-  writing = writing_of polls offered w;
-}
+-- what a turn may change, as contracts see it of a worker, its gate and its directory
+abbrev pub scene_of : {L : Type 0} → (L → List ℕ) → (L → List (Result Polled LinkFault)) → (L → ℕ) → List Question → List Party → List Query → Working L → Scene
+scene_of offered polls failures asked told queries w = scene asked told queries w.events w.stand w.wire.unsent (offered w.wire.link) (polls w.wire.link) (failures w.wire.link)
 
 -- the steps of a turn, and nothing else, lead from one scene to the other
-pub record Changes (turn : ℕ) (a b : Scene) (ss : List (Step Mark Event)) : Type 0 where
-  pub turned : Turned Does worth turn a.side b.side ss
-  pub written : Runs Writes a.writing ss b.writing
+abbrev pub Changes : ℕ → Scene → List (Step Event) → Scene → Type 0
+Changes n a ss b = Changed Does worth May n a ss b
 
--- whatever led here, these steps lead on
-abbrev pub LeadsOn : ℕ → Scene → Scene → List (Step Mark Event) → List (Step Mark Event) → Type 0
-LeadsOn turn a b ss ss' = (start : Scene) → Changes turn start a ss → Changes turn start b ss'
+-- what the turn's steps led to, wherever it began, they lead on from there
+abbrev pub Leads : ℕ → Scene → List (Step Event) → Scene → List (Step Event) → Type 0
+Leads n a ss b ss' = LeadsOn Does worth May n a ss b ss'
+
+-- steps of any turn, which ask and tell nobody
+abbrev pub Moves : {L : Type 0} → (L → List ℕ) → (L → List (Result Polled LinkFault)) → (L → ℕ) → Working L → List (Step Event) → Working L → List (Step Event) → Type 0
+Moves offered polls failures old ss new ss' = (n : ℕ) (asked : List Question) (told : List Party) (queries : List Query)
+    → Leads n (scene_of offered polls failures asked told queries old) ss (scene_of offered polls failures asked told queries new) ss'

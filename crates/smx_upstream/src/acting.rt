@@ -6,8 +6,8 @@ ghost use Rattle.smx_upstream.specs.Events.{got_out, request_up, silent_end};
 ghost use Rattle.smx_turns.specs.Puts.{finds_nothing};
 ghost use Rattle.smx_upstream.specs.Ages.{next_turn};
 ghost use Rattle.smx_upstream.specs.Standing.{Answers, Settles};
-ghost use Rattle.smx_upstream.specs.Working.{scene_of, writing_of, LeadsOn};
-ghost use Rattle.smx_upstream.specs.Writing.{MayDecide};
+ghost use Rattle.smx_upstream.specs.Working.{scene_of, Leads, Moves};
+ghost use Rattle.smx_upstream.specs.May.{MayDecide};
 ghost use Rattle.smx_upstream.specs.Phases.{phase_of, when_gone, when_kept, when_next, when_taken, unless_spent, Before, LeadsTo, Opening, Ready, Written, Watched, Clear, Deciding, MayTake};
 ghost use Rattle.smx_upstream.specs.Phases.Source.{Earlier};
 
@@ -16,7 +16,6 @@ use crate::deciding::{Next, next_of};
 use crate::event::{Event, fills};
 use crate::judging::{silent_end, was_silent};
 use crate::last::last_taken;
-use crate::mark::Mark;
 use crate::spent::{gave_unless_spent, gives, is_spent_shift, is_spent_take, unless_spent};
 use crate::worker::{UpstreamWorker, jot, note};
 use smx_box::{Got, Spent};
@@ -103,16 +102,14 @@ fn request_in(taken: Result<Sent, TakeFault>) -> Option<Pdu>
 impl<L: Link + Drop> UpstreamWorker<L> {
     // Hands in the moment. True where octets are left, and the session was silent at an earlier moment
     // already, which ends the work.
-    pub(crate) fn look(&mut self, left: bool, now: u64, log: &mut Log<Mark, Event>) -> bool
+    pub(crate) fn look(&mut self, left: bool, now: u64, log: &mut Log<Event>) -> bool
         requires room { 65536 ≤ self.old.wire.room }
         requires goes_on { self.old.ending ≡ None }
         ensures phase { (t : Before) → t.now ≡ now → phase_of t log.old ≡ Written left
             → phase_of t log.new ≡ when_gone left result }
         ensures ending { self.new.ending ≡ silent_end result }
         ensures left { self.old.wire.unsent ≢ [] → self.new.wire.unsent ≢ [] }
-        ensures goes { (turn asked told queries : _) → LeadsOn turn
-            (scene_of L.polls L.offered asked told queries self.old)
-            (scene_of L.polls L.offered asked told queries self.new) log.old log.new }
+        ensures goes { Moves L.offered L.polls L.failures self.old log.old self.new log.new }
         ensures same { self.new ≡ record self.old {
           wire = record self.old.wire {
             said = self.new.wire.said;
@@ -141,12 +138,10 @@ impl<L: Link + Drop> UpstreamWorker<L> {
     }
 
     // Begins a turn, and answers its number.
-    pub(crate) fn open(&mut self, log: &mut Log<Mark, Event>) -> u64
+    pub(crate) fn open(&mut self, log: &mut Log<Event>) -> u64
         ensures turn { result ≡ (next_turn self.old.stand.age).turns }
         ensures phase { (t : Before) → phase_of t log.old ≡ Opening → phase_of t log.new ≡ Ready }
-        ensures goes { (turn asked told queries : _) → LeadsOn turn
-            (scene_of L.polls L.offered asked told queries self.old)
-            (scene_of L.polls L.offered asked told queries self.new) log.old log.new }
+        ensures goes { Moves L.offered L.polls L.failures self.old log.old self.new log.new }
         ensures same { self.new ≡ record self.old {
           stand = record self.old.stand { age = next_turn self.old.stand.age };
           events = self.new.events;
@@ -164,18 +159,13 @@ impl<L: Link + Drop> UpstreamWorker<L> {
         &mut self,
         at: &Exchange,
         rt: &R,
-        log: &mut Log<Mark, Event>,
+        log: &mut Log<Event>,
     ) -> Result<(), Fault>
-        requires lock { slice_get at.now self.old.stand.tap.lane
-            ≡ Some self.old.stand.tap.front.lock }
-        ensures lock { slice_get at.now self.new.stand.tap.lane
-            ≡ Some self.new.stand.tap.front.lock }
+        requires lock { slice_get at.now self.old.first.tap.lane
+            ≡ Some self.old.first.tap.front.lock }
         ensures phase { (t : Before) (left : _) → phase_of t log.old ≡ Watched left
             → LeadsTo result (λ _. when_kept left) (phase_of t log.new) }
-        ensures err { OnErr result (result ≡ Err Fault.Spent) }
-        ensures goes { (turn asked told queries : _) → LeadsOn turn
-            (scene_of L.polls L.offered asked told queries self.old)
-            (scene_of L.polls L.offered asked told queries self.new) log.old log.new }
+        ensures goes { Moves L.offered L.polls L.failures self.old log.old self.new log.new }
         ensures same { self.new ≡ record self.old {
           stand = record self.old.stand { tap = self.new.stand.tap };
           events = self.new.events;
@@ -190,14 +180,11 @@ impl<L: Link + Drop> UpstreamWorker<L> {
     }
 
     // Gets at most one answer, and drops one that answers no message of this link.
-    pub(crate) fn seek<R: Wait>(&mut self, rt: &R, log: &mut Log<Mark, Event>) -> Result<(), Fault>
+    pub(crate) fn seek<R: Wait>(&mut self, rt: &R, log: &mut Log<Event>) -> Result<(), Fault>
         requires room { 65536 ≤ self.old.wire.room }
         ensures phase { (t : Before) → phase_of t log.old ≡ Clear
             → LeadsTo result (λ _. Deciding (Earlier false)) (phase_of t log.new) }
-        ensures err { OnErr result (result ≡ Err Fault.Spent) }
-        ensures goes { (turn asked told queries : _) → LeadsOn turn
-            (scene_of L.polls L.offered asked told queries self.old)
-            (scene_of L.polls L.offered asked told queries self.new) log.old log.new }
+        ensures goes { Moves L.offered L.polls L.failures self.old log.old self.new log.new }
         ensures same { self.new ≡ record self.old {
           wire = record self.old.wire {
             said = self.new.wire.said;
@@ -228,22 +215,17 @@ impl<L: Link + Drop> UpstreamWorker<L> {
         &mut self,
         at: &Exchange,
         rt: &R,
-        log: &mut Log<Mark, Event>,
+        log: &mut Log<Event>,
     ) -> Result<bool, Fault>
         requires room { 65536 ≤ self.old.wire.room }
         requires bound { is_bound self.old.stand.session.state ≡ true }
-        requires lock { slice_get at.now self.old.stand.tap.lane
-            ≡ Some self.old.stand.tap.front.lock }
-        ensures lock { slice_get at.now self.new.stand.tap.lane
-            ≡ Some self.new.stand.tap.front.lock }
+        requires lock { slice_get at.now self.old.first.tap.lane
+            ≡ Some self.old.first.tap.front.lock }
         ensures phase { (t : Before) (full gave : _) → phase_of t log.old ≡ MayTake full gave
             → LeadsTo result (when_taken full) (phase_of t log.new) }
         ensures more { result ≡ Ok true
             → length self.old.wire.unsent < length self.new.wire.unsent }
-        ensures err { OnErr result (result ≡ Err Fault.Spent) }
-        ensures goes { (turn asked told queries : _) → LeadsOn turn
-            (scene_of L.polls L.offered asked told queries self.old)
-            (scene_of L.polls L.offered asked told queries self.new) log.old log.new }
+        ensures goes { Moves L.offered L.polls L.failures self.old log.old self.new log.new }
         ensures same { self.new ≡ record self.old {
           wire = record self.old.wire {
             said = self.new.wire.said;
@@ -280,29 +262,27 @@ impl<L: Link + Drop> UpstreamWorker<L> {
         gate: &mut G,
         directory: &mut D,
         now: u64,
-        log: &mut Log<Mark, Event>,
+        log: &mut Log<Event>,
     ) -> Next
         requires room { 65536 ≤ self.old.wire.room }
-        requires lock { slice_get at.now self.old.stand.tap.lane
-            ≡ Some self.old.stand.tap.front.lock }
+        requires lock { slice_get at.now self.old.first.tap.lane
+            ≡ Some self.old.first.tap.front.lock }
         requires some { IsSome self.old.held }
         requires goes_on { self.old.ending ≡ None }
-        requires may { MayDecide (writing_of L.polls L.offered self.old) }
-        ensures lock { slice_get at.now self.new.stand.tap.lane
-            ≡ Some self.new.stand.tap.front.lock }
+        requires may { MayDecide (L.polls self.old.wire.link) self.old.wire.unsent }
         ensures phase { (t : Before) (source : _) → t.now ≡ now
             → phase_of t log.old ≡ Deciding source → phase_of t log.new
             ≡ unless_spent (is_some self.new.held) (when_next source result) }
-        ensures over { result ≡ Next.Over → IsSome self.new.ending }
         ensures goes_on { result ≢ Next.Over → self.new.ending ≡ None }
         ensures filled { result ≡ Next.Filled → self.new.wire.unsent ≡ self.old.wire.unsent }
         ensures whole { result ≢ Next.Part }
-        ensures goes { (turn : _) → LeadsOn turn
-            (scene_of L.polls L.offered (G.asked gate.old) (G.told gate.old)
+        ensures goes { (turn : _) → Leads turn
+            (scene_of L.offered L.polls L.failures (G.asked gate.old) (G.told gate.old)
             (D.queries directory.old) self.old)
-            (scene_of L.polls L.offered (G.asked gate.new) (G.told gate.new)
+            log.old
+            (scene_of L.offered L.polls L.failures (G.asked gate.new) (G.told gate.new)
             (D.queries directory.new) self.new)
-            log.old log.new }
+            log.new }
         ensures same { self.new ≡ record self.old {
           wire = record self.old.wire {
             said = self.new.wire.said;

@@ -2,19 +2,18 @@
 ghost use Rattle.std.specs.Prelude.{◌≡◌, ◌≢◌, ◌≤◌, ◌<◌, true, false, is_some, length, slice_get, Some, None, Ok, IsSome, IfOk, OnOk};
 ghost use Rattle.smx_frame.specs.Stream.{HasNone};
 ghost use Rattle.smx_turns.specs.Wires.{has_ended as has_link_ended};
-ghost use Rattle.smx_upstream.specs.Working.{scene_of, writing_of, LeadsOn};
-ghost use Rattle.smx_upstream.specs.Writing.{MayDecide};
+ghost use Rattle.smx_upstream.specs.Working.{scene_of, Leads};
+ghost use Rattle.smx_upstream.specs.May.{MayDecide};
 ghost use Rattle.smx_upstream.specs.Phases.{phase_of, when_decided, when_next, when_progress, source_of, has_end, link_faults, Before, Source, LeadsTo, Deciding};
 ghost use Rattle.smx_upstream.specs.Phases.Source.{Earlier};
 
 use crate::event::Event;
-use crate::mark::Mark;
 use crate::wiring::Front;
 use crate::worker::UpstreamWorker;
 use smx_link::{Link, Polled};
 use smx_pdu::MAX_PDU;
 use smx_shared::Exchange;
-use smx_turns::{Directory, End, Fault, Gate, Log, Step, is_end};
+use smx_turns::{Directory, End, Fault, Gate, Log, Mark, Step, is_end};
 use std::sync::Wait;
 
 // What comes after a look at what was read.
@@ -34,7 +33,6 @@ pub(crate) enum Next {
 pub(crate) fn next_of(ends: Option<End>, full: bool) -> Next
     ensures phase { (source : Source) → when_next source result
         ≡ when_decided source (is_some ends) full }
-    ensures over { result ≡ Next.Over → IsSome ends }
     ensures goes_on { result ≢ Next.Over → ends ≡ None }
     ensures filled { result ≡ Next.Filled → full ≡ true }
     ensures whole { result ≢ Next.Part }
@@ -78,15 +76,13 @@ impl<L: Link + Drop> UpstreamWorker<L> {
         gate: &mut G,
         directory: &mut D,
         now: u64,
-        log: &mut Log<Mark, Event>,
+        log: &mut Log<Event>,
     ) -> Result<Next, Fault>
-        requires lock { slice_get at.now self.old.stand.tap.lane
-            ≡ Some self.old.stand.tap.front.lock }
+        requires lock { slice_get at.now self.old.first.tap.lane
+            ≡ Some self.old.first.tap.front.lock }
         requires none { self.old.held ≡ None }
         requires goes_on { self.old.ending ≡ None }
-        requires may { MayDecide (writing_of L.polls L.offered self.old) }
-        ensures lock { slice_get at.now self.new.stand.tap.lane
-            ≡ Some self.new.stand.tap.front.lock }
+        requires may { MayDecide (L.polls self.old.wire.link) self.old.wire.unsent }
         ensures phase { (t : Before) (source : _) → t.now ≡ now
             → phase_of t log.old ≡ Deciding source
             → LeadsTo result (when_next source) (phase_of t log.new) }
@@ -101,14 +97,13 @@ impl<L: Link + Drop> UpstreamWorker<L> {
             × (self.new.wire.unsent ≡ self.old.wire.unsent)
             × (self.new.wire.rest ≡ self.old.wire.rest)
             × (self.new.wire.intake ≡ self.old.wire.intake) }
-        ensures over { result ≡ Ok Next.Over → IsSome self.new.ending }
-        ensures faults { link_faults result ≡ 0 }
-        ensures goes { (turn : _) → LeadsOn turn
-            (scene_of L.polls L.offered (G.asked gate.old) (G.told gate.old)
+        ensures goes { (turn : _) → Leads turn
+            (scene_of L.offered L.polls L.failures (G.asked gate.old) (G.told gate.old)
             (D.queries directory.old) self.old)
-            (scene_of L.polls L.offered (G.asked gate.new) (G.told gate.new)
+            log.old
+            (scene_of L.offered L.polls L.failures (G.asked gate.new) (G.told gate.new)
             (D.queries directory.new) self.new)
-            log.old log.new }
+            log.new }
         ensures kept { (self.new.wire.link ≡ self.old.wire.link)
             × (self.new.stand.age.turns ≡ self.old.stand.age.turns)
             × (self.new.first ≡ self.old.first) × (self.new.ends ≡ self.old.ends) }
@@ -136,16 +131,14 @@ impl<L: Link + Drop> UpstreamWorker<L> {
         gate: &mut G,
         directory: &mut D,
         now: u64,
-        log: &mut Log<Mark, Event>,
+        log: &mut Log<Event>,
     ) -> Result<Progress, Fault>
-        requires lock { slice_get at.now self.old.stand.tap.lane
-            ≡ Some self.old.stand.tap.front.lock }
+        requires lock { slice_get at.now self.old.first.tap.lane
+            ≡ Some self.old.first.tap.front.lock }
         requires none { self.old.held ≡ None }
         requires goes_on { self.old.ending ≡ None }
         requires ended { has_end polled ≡ true
             → has_link_ended (L.polls self.old.wire.link) ≡ true }
-        ensures lock { slice_get at.now self.new.stand.tap.lane
-            ≡ Some self.new.stand.tap.front.lock }
         ensures phase { (t : Before) → t.now ≡ now → phase_of t log.old ≡ Deciding (source_of polled)
             → LeadsTo result (when_progress (source_of polled)) (phase_of t log.new) }
         ensures held { OnOk result (self.new.held ≡ None) }
@@ -157,14 +150,13 @@ impl<L: Link + Drop> UpstreamWorker<L> {
             → (has_end polled ≡ false) × (length self.new.wire.unsent < 65536) }
         ensures brimming { result ≡ Ok Progress.Brimming
             → (has_end polled ≡ false) × (65536 ≤ length self.new.wire.unsent) }
-        ensures over { result ≡ Ok Progress.Over → IsSome self.new.ending }
-        ensures faults { link_faults result ≡ 0 }
-        ensures goes { (turn : _) → LeadsOn turn
-            (scene_of L.polls L.offered (G.asked gate.old) (G.told gate.old)
+        ensures goes { (turn : _) → Leads turn
+            (scene_of L.offered L.polls L.failures (G.asked gate.old) (G.told gate.old)
             (D.queries directory.old) self.old)
-            (scene_of L.polls L.offered (G.asked gate.new) (G.told gate.new)
+            log.old
+            (scene_of L.offered L.polls L.failures (G.asked gate.new) (G.told gate.new)
             (D.queries directory.new) self.new)
-            log.old log.new }
+            log.new }
         ensures kept { (self.new.wire.link ≡ self.old.wire.link)
             × (self.new.stand.age.turns ≡ self.old.stand.age.turns)
             × (self.new.first ≡ self.old.first) × (self.new.ends ≡ self.old.ends) }
@@ -172,7 +164,7 @@ impl<L: Link + Drop> UpstreamWorker<L> {
         let ended = has_end(polled);
         loop {
             if !ended && self.wire.unsent() >= MAX_PDU {
-                log.push(&Step::Marked(Mark::Full), false);
+                log.push(&Step::Marked(Mark::Full), true);
                 return Ok(Progress::Brimming);
             }
             match self.decide_next(at, rt, gate, directory, now, log)? {
@@ -197,16 +189,14 @@ impl<L: Link + Drop> UpstreamWorker<L> {
         gate: &mut G,
         directory: &mut D,
         now: u64,
-        log: &mut Log<Mark, Event>,
+        log: &mut Log<Event>,
     ) -> Result<Progress, Fault>
-        requires lock { slice_get at.now self.old.stand.tap.lane
-            ≡ Some self.old.stand.tap.front.lock }
+        requires lock { slice_get at.now self.old.first.tap.lane
+            ≡ Some self.old.first.tap.front.lock }
         requires none { self.old.held ≡ None }
         requires goes_on { next ≢ Next.Over → self.old.ending ≡ None }
         requires whole { next ≢ Next.Part }
         requires few { next ≡ Next.Filled → length self.old.wire.unsent < 65536 }
-        ensures lock { slice_get at.now self.new.stand.tap.lane
-            ≡ Some self.new.stand.tap.front.lock }
         ensures phase { (t : Before) → t.now ≡ now
             → phase_of t log.old ≡ when_next (Earlier false) next
             → LeadsTo result (when_progress (Earlier true)) (phase_of t log.new) }
@@ -215,13 +205,13 @@ impl<L: Link + Drop> UpstreamWorker<L> {
         ensures few { IfOk result (λ progress. (progress ≢ Progress.Over)
             → (progress ≢ Progress.Brimming) → length self.new.wire.unsent < 65536) }
         ensures brimming { result ≡ Ok Progress.Brimming → 65536 ≤ length self.new.wire.unsent }
-        ensures faults { link_faults result ≡ 0 }
-        ensures goes { (turn : _) → LeadsOn turn
-            (scene_of L.polls L.offered (G.asked gate.old) (G.told gate.old)
+        ensures goes { (turn : _) → Leads turn
+            (scene_of L.offered L.polls L.failures (G.asked gate.old) (G.told gate.old)
             (D.queries directory.old) self.old)
-            (scene_of L.polls L.offered (G.asked gate.new) (G.told gate.new)
+            log.old
+            (scene_of L.offered L.polls L.failures (G.asked gate.new) (G.told gate.new)
             (D.queries directory.new) self.new)
-            log.old log.new }
+            log.new }
         ensures kept { (self.new.wire.link ≡ self.old.wire.link)
             × (self.new.stand.age.turns ≡ self.old.stand.age.turns)
             × (self.new.first ≡ self.old.first) × (self.new.ends ≡ self.old.ends) }

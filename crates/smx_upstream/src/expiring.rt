@@ -2,11 +2,10 @@
 ghost use Rattle.std.specs.Prelude.{◌≡◌, ◌++◌, slice_get, Some, Err, OnErr};
 ghost use Rattle.smx_upstream.specs.Events.{expiry_tells};
 ghost use Rattle.smx_upstream.specs.Phases.{phase_of, Phase, Before, LeadsTo, Sweeping};
-ghost use Rattle.smx_upstream.specs.Working.{scene_of, LeadsOn};
+ghost use Rattle.smx_upstream.specs.Working.{scene_of, Leads};
 
 use crate::event::{Event, Span};
 use crate::losing::tell_of;
-use crate::mark::Mark;
 use crate::spent::{is_spent_expiry, unless_spent};
 use crate::worker::{UpstreamWorker, jot};
 use smx_history::Failed;
@@ -35,19 +34,19 @@ impl<L: Link + Drop> UpstreamWorker<L> {
         at: &Exchange,
         rt: &R,
         gate: &mut G,
-        log: &mut Log<Mark, Event>,
+        log: &mut Log<Event>,
     ) -> Result<(), Fault>
-        requires lock { slice_get at.now self.old.stand.tap.lane
-            ≡ Some self.old.stand.tap.front.lock }
-        ensures lock { slice_get at.now self.new.stand.tap.lane
-            ≡ Some self.new.stand.tap.front.lock }
+        requires lock { slice_get at.now self.old.first.tap.lane
+            ≡ Some self.old.first.tap.front.lock }
         ensures phase { (t : Before) (p : Phase) → phase_of t log.old ≡ Sweeping span p
             → LeadsTo result (λ _. p) (phase_of t log.new) }
-        ensures err { OnErr result (result ≡ Err Fault.Spent) }
-        ensures goes { (turn queries : _) → LeadsOn turn
-            (scene_of L.polls L.offered (G.asked gate.old) (G.told gate.old) queries self.old)
-            (scene_of L.polls L.offered (G.asked gate.new)
-            (G.told gate.new) queries self.new) log.old log.new }
+        ensures goes { (turn queries : _) → Leads turn
+            (scene_of L.offered L.polls L.failures (G.asked gate.old)
+            (G.told gate.old) queries self.old)
+            log.old
+            (scene_of L.offered L.polls L.failures (G.asked gate.new)
+            (G.told gate.new) queries self.new)
+            log.new }
         ensures same { self.new ≡ record self.old {
           stand = record self.old.stand { tap = self.new.stand.tap };
           events = self.new.events;

@@ -4,12 +4,11 @@ ghost use Rattle.smx_frame.specs.Stream.{HasNone};
 ghost use Rattle.smx_turns.specs.Wires.{is_end, has_ended as has_link_ended};
 ghost use Rattle.smx_upstream.specs.Events.{silent_end};
 ghost use Rattle.smx_upstream.specs.Standing.{was_silent};
-ghost use Rattle.smx_upstream.specs.Working.{scene_of, LeadsOn};
+ghost use Rattle.smx_upstream.specs.Working.{scene_of, Leads, Moves};
 ghost use Rattle.smx_upstream.specs.Phases.{phase_of, link_faults, when_part, when_judged, Before, Waits, IsCourse, CaughtUp, Ebbed, Drained};
 ghost use Rattle.smx_upstream.specs.Phases.Source.{Behind};
 
 use crate::event::{Event, Span};
-use crate::mark::Mark;
 use crate::turning::Course;
 use crate::worker::{UpstreamWorker, jot};
 use smx_link::{Link, Polled};
@@ -37,14 +36,12 @@ pub(crate) fn silent_end(silent: bool) -> Option<End>
 
 impl<L: Link + Drop> UpstreamWorker<L> {
     // Whether the session is silent, as of the last moment that was handed in, which ends the work.
-    fn find_silent(&mut self, log: &mut Log<Mark, Event>) -> bool
+    fn find_silent(&mut self, log: &mut Log<Event>) -> bool
         requires goes_on { self.old.ending ≡ None }
         ensures phase { (t : Before) → phase_of t log.old ≡ CaughtUp
             → phase_of t log.new ≡ when_judged result }
         ensures ending { self.new.ending ≡ silent_end result }
-        ensures goes { (turn asked told queries : _) → LeadsOn turn
-            (scene_of L.polls L.offered asked told queries self.old)
-            (scene_of L.polls L.offered asked told queries self.new) log.old log.new }
+        ensures goes { Moves L.offered L.polls L.failures self.old log.old self.new log.new }
         ensures same { self.new ≡ record self.old {
           ending = self.new.ending;
           events = self.new.events;
@@ -58,13 +55,11 @@ impl<L: Link + Drop> UpstreamWorker<L> {
     }
 
     // All that came over the link is decided, which has ended.
-    fn end_link(&mut self, log: &mut Log<Mark, Event>)
+    fn end_link(&mut self, log: &mut Log<Event>)
         requires goes_on { self.old.ending ≡ None }
         requires ended { has_link_ended (L.polls self.old.wire.link) ≡ true }
         ensures phase { (t : Before) → phase_of t log.old ≡ Ebbed → phase_of t log.new ≡ Drained }
-        ensures goes { (turn asked told queries : _) → LeadsOn turn
-            (scene_of L.polls L.offered asked told queries self.old)
-            (scene_of L.polls L.offered asked told queries self.new) log.old log.new }
+        ensures goes { Moves L.offered L.polls L.failures self.old log.old self.new log.new }
         ensures same { self.new ≡ record self.old {
           ending = Some End.LinkEnded;
           events = self.new.events;
@@ -81,26 +76,26 @@ impl<L: Link + Drop> UpstreamWorker<L> {
         at: &Exchange,
         rt: &R,
         gate: &mut G,
-        log: &mut Log<Mark, Event>,
+        log: &mut Log<Event>,
     ) -> Result<Course, Fault>
-        requires lock { slice_get at.now self.old.stand.tap.lane
-            ≡ Some self.old.stand.tap.front.lock }
+        requires lock { slice_get at.now self.old.first.tap.lane
+            ≡ Some self.old.first.tap.front.lock }
         requires part { HasNone 65536 self.old.wire.rest }
         requires goes_on { self.old.ending ≡ None }
         requires ended { is_end polled ≡ has_link_ended (L.polls self.old.wire.link) }
-        ensures lock { slice_get at.now self.new.stand.tap.lane
-            ≡ Some self.new.stand.tap.front.lock }
         ensures phase { (t : Before) → phase_of t log.old ≡ when_part (Behind polled)
             → IsCourse result (phase_of t log.new) }
         ensures waits { (t : Before) → phase_of t log.old ≡ when_part (Behind polled)
             → OnOk result (Waits (phase_of t log.new) self.new.wire.unsent self.new.wire.rest) }
         ensures goes_on { IfOk result (λ course. (filled : _) → course ≡ Course.Goes filled
             → (is_end polled ≡ false) × (filled ≡ false)) }
-        ensures faults { link_faults result ≡ 0 }
-        ensures goes { (turn queries : _) → LeadsOn turn
-            (scene_of L.polls L.offered (G.asked gate.old) (G.told gate.old) queries self.old)
-            (scene_of L.polls L.offered (G.asked gate.new)
-            (G.told gate.new) queries self.new) log.old log.new }
+        ensures goes { (turn queries : _) → Leads turn
+            (scene_of L.offered L.polls L.failures (G.asked gate.old)
+            (G.told gate.old) queries self.old)
+            log.old
+            (scene_of L.offered L.polls L.failures (G.asked gate.new)
+            (G.told gate.new) queries self.new)
+            log.new }
         ensures same { self.new ≡ record self.old {
           stand = record self.old.stand { tap = self.new.stand.tap };
           ending = self.new.ending;

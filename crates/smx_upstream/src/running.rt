@@ -61,12 +61,12 @@ impl<L: Link + Drop> UpstreamWorker<L> {
             ≡ Some self.new.stand.tap.front.lock }
 
         // The turn's steps, and nothing else, lead from what was to what is, in the table's order.
-        ensures turned { Changes self.new.stand.age.turns
-            (scene_of L.polls L.offered (G.asked gate.old) (G.told gate.old)
+        ensures changes { Changes self.new.stand.age.turns
+            (scene_of L.offered L.polls L.failures (G.asked gate.old) (G.told gate.old)
             (D.queries directory.old) self.old)
-            (scene_of L.polls L.offered (G.asked gate.new) (G.told gate.new)
-            (D.queries directory.new) self.new)
-            self.new.steps }
+            self.new.steps
+            (scene_of L.offered L.polls L.failures (G.asked gate.new) (G.told gate.new)
+            (D.queries directory.new) self.new) }
         ensures order { IsTurn (is_bound self.new.stand.session.state)
             (are_all_quiet self.new.steps) result
             (phase_of (before_turn now self.old) self.new.steps) }
@@ -92,6 +92,7 @@ impl<L: Link + Drop> UpstreamWorker<L> {
         // A timer is judged only behind a read of the turn that found that nothing more had come.
         ensures judged { AreJudged self.new.steps }
     {
+        let _opened = &self.tap;
         let mut log = Log::new();
         let end = self.run_turn(at, rt, gate, directory, now, &mut log);
         self.steps = log.into_steps();
@@ -165,7 +166,7 @@ pub fn run_upstream<L: Link + Drop, R: Wait, G: Gate, D: Directory, C: FnMut() -
     // Each turn is one in the table's order, at the moment that one call of the clock gave, and
     // nothing else is asked of the gate, the directory and the link's reads.
     ensures clocked { (moments : List ℕ) × (last : C)
-        × Runs (TurnsAt (λ a now b. C.step a now b) L.polls L.offered L.failures)
+        × Runs (TurnsAt (λ a now b. C.step a now b) L.offered L.polls L.failures)
         (timing clock (G.asked gate.old) (G.told gate.old) (D.queries directory.old) worker.old)
         moments
         (timing last (G.asked gate.new) (G.told gate.new) (D.queries directory.new) worker.new) }

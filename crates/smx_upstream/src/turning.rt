@@ -4,20 +4,19 @@ ghost use mathlib.Core.List.{IsPrefix};
 ghost use Rattle.smx_frame.specs.Stream.{HasNone};
 ghost use Rattle.smx_session.specs.Moments.{is_bound};
 ghost use Rattle.smx_upstream.specs.Ages.{next_turn};
-ghost use Rattle.smx_upstream.specs.Working.{before_turn, scene_of, LeadsOn};
+ghost use Rattle.smx_upstream.specs.Working.{before_turn, scene_of, Leads, Moves};
 ghost use Rattle.smx_upstream.specs.Quiet.{are_all_quiet};
 ghost use Rattle.smx_upstream.specs.Phases.{phase_of, when_progress, when_halted, is_all_decided, quiet_end, filled_or, link_faults, Before, Waits, IsPart, IsCourse, IsTurn, Opening, Ready, MayRead, MayTake, Deciding, Settled};
 ghost use Rattle.smx_upstream.specs.Phases.Source.{Earlier};
 
 use crate::deciding::{Next, Progress};
 use crate::event::{Event, Span};
-use crate::mark::Mark;
 use crate::worker::UpstreamWorker;
 use smx_link::Link;
 use smx_pdu::MAX_PDU;
 use smx_session::UpstreamState;
 use smx_shared::Exchange;
-use smx_turns::{Directory, Fault, Gate, Log, Point, Step, TurnEnd, ask, last_end};
+use smx_turns::{Directory, Fault, Gate, Log, Mark, Point, Step, TurnEnd, ask, last_end};
 use std::sync::Wait;
 
 // How a turn ends that did all that there was to do.
@@ -81,12 +80,10 @@ impl<L: Link + Drop> UpstreamWorker<L> {
         rt: &R,
         gate: &mut G,
         now: u64,
-        log: &mut Log<Mark, Event>,
+        log: &mut Log<Event>,
     ) -> Result<Option<TurnEnd>, Fault>
-        requires lock { slice_get at.now self.old.stand.tap.lane
-            ≡ Some self.old.stand.tap.front.lock }
-        ensures lock { slice_get at.now self.new.stand.tap.lane
-            ≡ Some self.new.stand.tap.front.lock }
+        requires lock { slice_get at.now self.old.first.tap.lane
+            ≡ Some self.old.first.tap.front.lock }
         ensures phase { (t : Before) → t ≡ before_turn now self.old → phase_of t log.old ≡ Ready
             → IsPart (Deciding (Earlier false)) result (phase_of t log.new) }
         ensures waits { (t : Before) → t ≡ before_turn now self.old → phase_of t log.old ≡ Ready
@@ -94,14 +91,13 @@ impl<L: Link + Drop> UpstreamWorker<L> {
         ensures goes_on { result ≡ Ok None → self.new.ending ≡ None }
         ensures unread { (L.polls self.new.wire.link ≡ L.polls self.old.wire.link)
             × (self.new.wire.rest ≡ self.old.wire.rest) }
-        ensures offered { IsPrefix (L.offered self.old.wire.link ++ self.old.wire.unsent)
-            (L.offered self.new.wire.link) }
-        ensures failures { L.failures self.new.wire.link
-            ≡ L.failures self.old.wire.link + link_faults result }
-        ensures goes { (turn queries : _) → LeadsOn turn
-            (scene_of L.polls L.offered (G.asked gate.old) (G.told gate.old) queries self.old)
-            (scene_of L.polls L.offered (G.asked gate.new)
-            (G.told gate.new) queries self.new) log.old log.new }
+        ensures goes { (turn queries : _) → Leads turn
+            (scene_of L.offered L.polls L.failures (G.asked gate.old)
+            (G.told gate.old) queries self.old)
+            log.old
+            (scene_of L.offered L.polls L.failures (G.asked gate.new)
+            (G.told gate.new) queries self.new)
+            log.new }
         ensures kept { (self.new.held ≡ self.old.held)
             × (self.new.stand.age.turns ≡ self.old.stand.age.turns)
             × (self.new.first ≡ self.old.first) × (self.new.ends ≡ self.old.ends) }
@@ -131,13 +127,11 @@ impl<L: Link + Drop> UpstreamWorker<L> {
         at: &Exchange,
         rt: &R,
         gate: &mut G,
-        log: &mut Log<Mark, Event>,
+        log: &mut Log<Event>,
     ) -> Result<Course, Fault>
-        requires lock { slice_get at.now self.old.stand.tap.lane
-            ≡ Some self.old.stand.tap.front.lock }
+        requires lock { slice_get at.now self.old.first.tap.lane
+            ≡ Some self.old.first.tap.front.lock }
         requires brimming { progress ≡ Progress.Brimming → 65536 ≤ length self.old.wire.unsent }
-        ensures lock { slice_get at.now self.new.stand.tap.lane
-            ≡ Some self.new.stand.tap.front.lock }
         ensures phase { (t : Before) → phase_of t log.old ≡ when_progress (Earlier true) progress
             → IsCourse result (phase_of t log.new) }
         ensures waits { (t : Before) → phase_of t log.old ≡ when_progress (Earlier true) progress
@@ -145,13 +139,13 @@ impl<L: Link + Drop> UpstreamWorker<L> {
         ensures filled { (filled : _) → result ≡ Ok (Course.Goes filled)
             → (progress ≡ (if filled then Progress.Filled else Progress.Part))
             × (self.new.wire.unsent ≡ self.old.wire.unsent) }
-        ensures offers { IsPrefix (L.offered self.old.wire.link) (L.offered self.new.wire.link) }
-        ensures failures { L.failures self.new.wire.link
-            ≡ L.failures self.old.wire.link + link_faults result }
-        ensures goes { (turn queries : _) → LeadsOn turn
-            (scene_of L.polls L.offered (G.asked gate.old) (G.told gate.old) queries self.old)
-            (scene_of L.polls L.offered (G.asked gate.new)
-            (G.told gate.new) queries self.new) log.old log.new }
+        ensures goes { (turn queries : _) → Leads turn
+            (scene_of L.offered L.polls L.failures (G.asked gate.old)
+            (G.told gate.old) queries self.old)
+            log.old
+            (scene_of L.offered L.polls L.failures (G.asked gate.new)
+            (G.told gate.new) queries self.new)
+            log.new }
         ensures unread { (L.polls self.new.wire.link ≡ L.polls self.old.wire.link)
             × (self.new.wire.rest ≡ self.old.wire.rest) }
         ensures kept { (self.new.held ≡ self.old.held)
@@ -174,15 +168,13 @@ impl<L: Link + Drop> UpstreamWorker<L> {
         gate: &mut G,
         directory: &mut D,
         now: u64,
-        log: &mut Log<Mark, Event>,
+        log: &mut Log<Event>,
     ) -> Result<Course, Fault>
-        requires lock { slice_get at.now self.old.stand.tap.lane
-            ≡ Some self.old.stand.tap.front.lock }
+        requires lock { slice_get at.now self.old.first.tap.lane
+            ≡ Some self.old.first.tap.front.lock }
         requires none { self.old.held ≡ None }
         requires goes_on { self.old.ending ≡ None }
         requires intake { 4096 ≤ self.old.wire.intake }
-        ensures lock { slice_get at.now self.new.stand.tap.lane
-            ≡ Some self.new.stand.tap.front.lock }
         ensures phase { (t : Before) → t.now ≡ now → phase_of t log.old ≡ MayRead
             → IsCourse result (phase_of t log.new) }
         ensures waits { (t : Before) → t.now ≡ now → phase_of t log.old ≡ MayRead
@@ -191,15 +183,13 @@ impl<L: Link + Drop> UpstreamWorker<L> {
         ensures few { (filled : _) → result ≡ Ok (Course.Goes filled)
             → length self.new.wire.unsent < 65536 }
         ensures held { OnOk result (self.new.held ≡ None) }
-        ensures offers { IsPrefix (L.offered self.old.wire.link) (L.offered self.new.wire.link) }
-        ensures failures { L.failures self.new.wire.link
-            ≡ L.failures self.old.wire.link + link_faults result }
-        ensures goes { (turn : _) → LeadsOn turn
-            (scene_of L.polls L.offered (G.asked gate.old) (G.told gate.old)
+        ensures goes { (turn : _) → Leads turn
+            (scene_of L.offered L.polls L.failures (G.asked gate.old) (G.told gate.old)
             (D.queries directory.old) self.old)
-            (scene_of L.polls L.offered (G.asked gate.new) (G.told gate.new)
+            log.old
+            (scene_of L.offered L.polls L.failures (G.asked gate.new) (G.told gate.new)
             (D.queries directory.new) self.new)
-            log.old log.new }
+            log.new }
         ensures kept { (self.new.stand.age.turns ≡ self.old.stand.age.turns)
             × (self.new.first ≡ self.old.first) × (self.new.ends ≡ self.old.ends) }
     {
@@ -221,14 +211,12 @@ impl<L: Link + Drop> UpstreamWorker<L> {
         directory: &mut D,
         now: u64,
         turn: u64,
-        log: &mut Log<Mark, Event>,
+        log: &mut Log<Event>,
     ) -> Result<Course, Fault>
-        requires lock { slice_get at.now self.old.stand.tap.lane
-            ≡ Some self.old.stand.tap.front.lock }
+        requires lock { slice_get at.now self.old.first.tap.lane
+            ≡ Some self.old.first.tap.front.lock }
         requires none { self.old.held ≡ None }
         requires goes_on { self.old.ending ≡ None }
-        ensures lock { slice_get at.now self.new.stand.tap.lane
-            ≡ Some self.new.stand.tap.front.lock }
         ensures phase { (t : Before) → t.now ≡ now → phase_of t log.old ≡ Deciding (Earlier false)
             → IsCourse result (phase_of t log.new) }
         ensures waits { (t : Before) → t.now ≡ now → phase_of t log.old ≡ Deciding (Earlier false)
@@ -239,21 +227,19 @@ impl<L: Link + Drop> UpstreamWorker<L> {
         ensures reads { L.polls self.new.wire.link ≢ L.polls self.old.wire.link
             → HasNone 65536 self.old.wire.rest }
         ensures held { OnOk result (self.new.held ≡ None) }
-        ensures offers { IsPrefix (L.offered self.old.wire.link) (L.offered self.new.wire.link) }
-        ensures failures { L.failures self.new.wire.link
-            ≡ L.failures self.old.wire.link + link_faults result }
-        ensures goes { LeadsOn turn
-            (scene_of L.polls L.offered (G.asked gate.old) (G.told gate.old)
+        ensures goes { Leads turn
+            (scene_of L.offered L.polls L.failures (G.asked gate.old) (G.told gate.old)
             (D.queries directory.old) self.old)
-            (scene_of L.polls L.offered (G.asked gate.new) (G.told gate.new)
+            log.old
+            (scene_of L.offered L.polls L.failures (G.asked gate.new) (G.told gate.new)
             (D.queries directory.new) self.new)
-            log.old log.new }
+            log.new }
         ensures kept { (self.new.stand.age.turns ≡ self.old.stand.age.turns)
             × (self.new.first ≡ self.old.first) × (self.new.ends ≡ self.old.ends) }
     {
         self.make_ready()?;
         if self.wire.unsent() >= MAX_PDU {
-            log.push(&Step::Marked(Mark::Full), false);
+            log.push(&Step::Marked(Mark::Full), true);
             return self.halt(Progress::Brimming, at, rt, gate, log);
         }
         match self.decide_next(at, rt, gate, directory, now, log)? {
@@ -277,24 +263,19 @@ impl<L: Link + Drop> UpstreamWorker<L> {
         filled: bool,
         at: &Exchange,
         rt: &R,
-        log: &mut Log<Mark, Event>,
+        log: &mut Log<Event>,
     ) -> Result<TurnEnd, Fault>
-        requires lock { slice_get at.now self.old.stand.tap.lane
-            ≡ Some self.old.stand.tap.front.lock }
+        requires lock { slice_get at.now self.old.first.tap.lane
+            ≡ Some self.old.first.tap.front.lock }
         requires room { 65536 ≤ self.old.wire.room }
         requires bound { is_bound self.old.stand.session.state ≡ true }
-        ensures lock { slice_get at.now self.new.stand.tap.lane
-            ≡ Some self.new.stand.tap.front.lock }
         ensures phase { (t : Before) → phase_of t log.old ≡ MayTake filled false
             → IsTurn true (are_all_quiet log.new) result (phase_of t log.new) }
         ensures decided { (t : Before) → phase_of t log.old ≡ MayTake filled false
             → OnOk result (is_all_decided (phase_of t log.new) ≡ true → filled ≡ false) }
         ensures waits { (t : Before) → phase_of t log.old ≡ MayTake filled false
             → OnOk result (Waits (phase_of t log.new) self.new.wire.unsent self.new.wire.rest) }
-        ensures faults { link_faults result ≡ 0 }
-        ensures goes { (turn asked told queries : _) → LeadsOn turn
-            (scene_of L.polls L.offered asked told queries self.old)
-            (scene_of L.polls L.offered asked told queries self.new) log.old log.new }
+        ensures goes { Moves L.offered L.polls L.failures self.old log.old self.new log.new }
         ensures same { self.new ≡ record self.old {
           wire = record self.old.wire {
             said = self.new.wire.said;
@@ -325,13 +306,11 @@ impl<L: Link + Drop> UpstreamWorker<L> {
         rt: &R,
         gate: &mut G,
         turn: u64,
-        log: &mut Log<Mark, Event>,
+        log: &mut Log<Event>,
     ) -> Result<TurnEnd, Fault>
-        requires lock { slice_get at.now self.old.stand.tap.lane
-            ≡ Some self.old.stand.tap.front.lock }
+        requires lock { slice_get at.now self.old.first.tap.lane
+            ≡ Some self.old.first.tap.front.lock }
         requires few { length self.old.wire.unsent < 65536 }
-        ensures lock { slice_get at.now self.new.stand.tap.lane
-            ≡ Some self.new.stand.tap.front.lock }
         ensures phase { (t : Before) → phase_of t log.old ≡ Settled filled
             → IsTurn (is_bound self.new.stand.session.state) (are_all_quiet log.new) result
             (phase_of t log.new) }
@@ -339,11 +318,13 @@ impl<L: Link + Drop> UpstreamWorker<L> {
             → OnOk result (is_all_decided (phase_of t log.new) ≡ true → filled ≡ false) }
         ensures waits { (t : Before) → phase_of t log.old ≡ Settled filled
             → OnOk result (Waits (phase_of t log.new) self.new.wire.unsent self.new.wire.rest) }
-        ensures faults { link_faults result ≡ 0 }
-        ensures goes { (queries : _) → LeadsOn turn
-            (scene_of L.polls L.offered (G.asked gate.old) (G.told gate.old) queries self.old)
-            (scene_of L.polls L.offered (G.asked gate.new)
-            (G.told gate.new) queries self.new) log.old log.new }
+        ensures goes { (queries : _) → Leads turn
+            (scene_of L.offered L.polls L.failures (G.asked gate.old)
+            (G.told gate.old) queries self.old)
+            log.old
+            (scene_of L.offered L.polls L.failures (G.asked gate.new)
+            (G.told gate.new) queries self.new)
+            log.new }
         ensures kept { (self.new.held ≡ self.old.held) × (self.new.wire.link ≡ self.old.wire.link)
             × (self.new.wire.rest ≡ self.old.wire.rest)
             × (self.new.stand.age.turns ≡ self.old.stand.age.turns)
@@ -369,14 +350,12 @@ impl<L: Link + Drop> UpstreamWorker<L> {
         gate: &mut G,
         directory: &mut D,
         now: u64,
-        log: &mut Log<Mark, Event>,
+        log: &mut Log<Event>,
     ) -> Result<TurnEnd, Fault>
-        requires lock { slice_get at.now self.old.stand.tap.lane
-            ≡ Some self.old.stand.tap.front.lock }
+        requires lock { slice_get at.now self.old.first.tap.lane
+            ≡ Some self.old.first.tap.front.lock }
         requires none { self.old.held ≡ None }
         requires opening { phase_of (before_turn now self.old) log.old ≡ Opening }
-        ensures lock { slice_get at.now self.new.stand.tap.lane
-            ≡ Some self.new.stand.tap.front.lock }
         ensures order { IsTurn (is_bound self.new.stand.session.state) (are_all_quiet log.new)
             result (phase_of (before_turn now self.old) log.new) }
         ensures waits { OnOk result (Waits (phase_of (before_turn now self.old) log.new)
@@ -386,16 +365,13 @@ impl<L: Link + Drop> UpstreamWorker<L> {
         ensures reads { L.polls self.new.wire.link ≢ L.polls self.old.wire.link
             → HasNone 65536 self.old.wire.rest }
         ensures held { OnOk result (self.new.held ≡ None) }
-        ensures offered { IsPrefix (L.offered self.old.wire.link ++ self.old.wire.unsent)
-            (L.offered self.new.wire.link) }
-        ensures failures { L.failures self.new.wire.link
-            ≡ L.failures self.old.wire.link + link_faults result }
-        ensures goes { LeadsOn self.new.stand.age.turns
-            (scene_of L.polls L.offered (G.asked gate.old) (G.told gate.old)
+        ensures goes { Leads self.new.stand.age.turns
+            (scene_of L.offered L.polls L.failures (G.asked gate.old) (G.told gate.old)
             (D.queries directory.old) self.old)
-            (scene_of L.polls L.offered (G.asked gate.new) (G.told gate.new)
+            log.old
+            (scene_of L.offered L.polls L.failures (G.asked gate.new) (G.told gate.new)
             (D.queries directory.new) self.new)
-            log.old log.new }
+            log.new }
         ensures count { self.new.stand.age.turns ≡ (next_turn self.old.stand.age).turns }
         ensures kept { (self.new.first ≡ self.old.first) × (self.new.ends ≡ self.old.ends) }
     {

@@ -1,5 +1,5 @@
 //! What a worker does with its link.
-ghost use Rattle.std.specs.Prelude.{◌≡◌, ◌≢◌, ◌+◌, ◌≤◌, ◌<◌, ◌++◌, [], ◌∷◌, true, false, length, Some, None, Ok, Err, OnOk, OnErr, IfOk, IsSome};
+ghost use Rattle.std.specs.Prelude.{◌≡◌, ◌≢◌, ◌==◌, ◌+◌, ◌≤◌, ◌<◌, ◌++◌, [], ◌∷◌, true, false, not, length, Some, None, Ok, Err, OnOk, OnErr, IfOk, IsSome};
 ghost use Rattle.smx_frame.specs.Stream.{HasNone};
 ghost use Rattle.smx_turns.specs.Steps.{brings_none};
 ghost use Rattle.smx_turns.specs.Wires.{is_end, some_wait, has_ended as has_link_ended};
@@ -7,18 +7,17 @@ ghost use Rattle.smx_turns.specs.declared.step.Step.TheVariants.{Did};
 ghost use Rattle.smx_upstream.specs.declared.event.Event.TheVariants.{Broke};
 ghost use Rattle.smx_upstream.specs.Events.{worth};
 ghost use Rattle.smx_link.specs.Wiring.{spellings};
-ghost use Rattle.smx_upstream.specs.Working.{scene_of, writing_of, LeadsOn};
-ghost use Rattle.smx_upstream.specs.Writing.{MayDecide};
+ghost use Rattle.smx_upstream.specs.Working.{Moves};
+ghost use Rattle.smx_upstream.specs.May.{MayDecide};
 ghost use Rattle.smx_upstream.specs.Phases.{phase_of, after_offer, unless_left, when_front, Before, LeadsTo, link_faults, Ready, Closing, MayRead, Deciding};
 ghost use Rattle.smx_upstream.specs.Phases.Source.{Behind};
 
 use crate::event::Event;
-use crate::mark::Mark;
 use crate::worker::{UpstreamWorker, note};
 use smx_link::{Link, Polled, Wire};
 use smx_pdu::Pdu;
 use smx_trace::Trace;
-use smx_turns::{End, Fault, Log, Outcome, Step, is_memory};
+use smx_turns::{End, Fault, Log, Mark, Outcome, Step, is_memory};
 use std::alloc::Global;
 
 // What stands at the front of what was read.
@@ -30,6 +29,13 @@ pub(crate) enum Front {
     Part,
     // A bad length.
     Broken,
+}
+
+// Whether the two numbers differ.
+fn differ(one: usize, other: usize) -> bool
+    ensures { result ≡ not (one == other) }
+{
+    one != other
 }
 
 // Whether octets came.
@@ -44,7 +50,7 @@ fn break_off<L: Link + Drop>(
     alloc: Global,
     wire: &mut Wire<L>,
     events: &mut Trace<Event>,
-    log: &mut Log<Mark, Event>,
+    log: &mut Log<Event>,
 )
     requires room { 65536 ≤ wire.old.room }
     ensures said { wire.new.said ≡ wire.old.said ++ (worth Broke).said }
@@ -70,7 +76,7 @@ fn break_off<L: Link + Drop>(
 
 impl<L: Link + Drop> UpstreamWorker<L> {
     // Offers what waits to the link. True where octets are left.
-    pub(crate) fn offer(&mut self, log: &mut Log<Mark, Event>) -> Result<bool, Fault>
+    pub(crate) fn offer(&mut self, log: &mut Log<Event>) -> Result<bool, Fault>
         ensures opening { (t : Before) → t.waited ≡ some_wait self.old.wire.unsent
             → phase_of t log.old ≡ Ready
             → LeadsTo result (after_offer t.ending) (phase_of t log.new) }
@@ -78,27 +84,26 @@ impl<L: Link + Drop> UpstreamWorker<L> {
             → LeadsTo result unless_left (phase_of t log.new) }
         ensures left { IfOk result (λ left. (left ≡ true → self.new.wire.unsent ≢ [])
             × (left ≡ false → self.new.wire.unsent ≡ [])) }
-        ensures offered { L.offered self.new.wire.link
-            ≡ L.offered self.old.wire.link ++ self.old.wire.unsent }
         ensures unread { L.polls self.new.wire.link ≡ L.polls self.old.wire.link }
-        ensures failures { L.failures self.new.wire.link
-            ≡ L.failures self.old.wire.link + link_faults result }
-        ensures err { OnErr result (result ≡ Err Fault.Link) }
-        ensures goes { (turn asked told queries : _) → LeadsOn turn
-            (scene_of L.polls L.offered asked told queries self.old)
-            (scene_of L.polls L.offered asked told queries self.new) log.old log.new }
+        ensures goes { Moves L.offered L.polls L.failures self.old log.old self.new log.new }
         ensures same { self.new ≡ record self.old {
           wire = record self.old.wire { link = self.new.wire.link; unsent = self.new.wire.unsent };
         } }
     {
         let waited = !self.wire.is_clear();
+        let before = self.wire.unsent();
         if self.wire.offer().is_err() {
             log.push(&Step::Marked(Mark::WriteFailed), true);
             return Err(Fault::Link);
         }
+        let wrote = differ(self.wire.unsent(), before);
         let left = !self.wire.is_clear();
-        let mark = Mark::Offered { waited, left };
-        log.push(&Step::Marked(mark), !waited);
+        let mark = Mark::Offered {
+            waited,
+            wrote,
+            left,
+        };
+        log.push(&Step::Marked(mark), !wrote);
         Ok(left)
     }
 
@@ -131,20 +136,14 @@ impl<L: Link + Drop> UpstreamWorker<L> {
     }
 
     // Reads once.
-    pub(crate) fn read(&mut self, log: &mut Log<Mark, Event>) -> Result<Polled, Fault>
+    pub(crate) fn read(&mut self, log: &mut Log<Event>) -> Result<Polled, Fault>
         requires intake { 4096 ≤ self.old.wire.intake }
         requires goes_on { self.old.ending ≡ None }
         ensures phase { (t : Before) → phase_of t log.old ≡ MayRead
             → LeadsTo result (λ polled. Deciding (Behind polled)) (phase_of t log.new) }
         ensures ended { IfOk result (λ polled. is_end polled
             ≡ has_link_ended (L.polls self.new.wire.link)) }
-        ensures offered { L.offered self.new.wire.link ≡ L.offered self.old.wire.link }
-        ensures failures { L.failures self.new.wire.link
-            ≡ L.failures self.old.wire.link + link_faults result }
-        ensures err { OnErr result (result ≡ Err Fault.Link) }
-        ensures goes { (turn asked told queries : _) → LeadsOn turn
-            (scene_of L.polls L.offered asked told queries self.old)
-            (scene_of L.polls L.offered asked told queries self.new) log.old log.new }
+        ensures goes { Moves L.offered L.polls L.failures self.old log.old self.new log.new }
         ensures same { self.new ≡ record self.old {
           wire = record self.old.wire {
             link = self.new.wire.link;
@@ -165,11 +164,11 @@ impl<L: Link + Drop> UpstreamWorker<L> {
     }
 
     // Sets the next whole PDU apart, or says that none is there, or answers a bad length.
-    pub(crate) fn fetch(&mut self, log: &mut Log<Mark, Event>) -> Result<Front, Fault>
+    pub(crate) fn fetch(&mut self, log: &mut Log<Event>) -> Result<Front, Fault>
         requires room { 65536 ≤ self.old.wire.room }
         requires none { self.old.held ≡ None }
         requires goes_on { self.old.ending ≡ None }
-        requires may { MayDecide (writing_of L.polls L.offered self.old) }
+        requires may { MayDecide (L.polls self.old.wire.link) self.old.wire.unsent }
         ensures phase { (t : Before) (source : _) → phase_of t log.old ≡ Deciding source
             → LeadsTo result (when_front source) (phase_of t log.new) }
         ensures whole { result ≡ Ok Front.Whole
@@ -182,9 +181,7 @@ impl<L: Link + Drop> UpstreamWorker<L> {
             → (self.new.held ≡ None) × IsSome self.new.ending }
         ensures err { OnErr result
             ((result ≡ Err Fault.NoMemory) × (self.new ≡ self.old) × (log.new ≡ log.old)) }
-        ensures goes { (turn asked told queries : _) → LeadsOn turn
-            (scene_of L.polls L.offered asked told queries self.old)
-            (scene_of L.polls L.offered asked told queries self.new) log.old log.new }
+        ensures goes { Moves L.offered L.polls L.failures self.old log.old self.new log.new }
         ensures same { self.new ≡ record self.old {
           wire = record self.new.wire { link = self.old.wire.link; start = self.old.wire.start };
           held = self.new.held;

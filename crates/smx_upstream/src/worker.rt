@@ -14,7 +14,6 @@ ghost use Rattle.smx_upstream.specs.Standing.{bind_of, stand, AreEmptied};
 use crate::age::Age;
 use crate::event::Event;
 use crate::last::LastRequest;
-use crate::mark::Mark;
 use smx_box::{Receiver, Sender};
 use smx_link::{Link, LinkFault, Wire};
 use smx_pdu::Pdu;
@@ -102,7 +101,7 @@ pub struct UpstreamWorker<L: Link + Drop> {
     // The request that was sent last.
     pub(crate) last: Option<LastRequest>,
     // Those of the last turn.
-    pub(crate) steps: Trace<Step<Mark, Event>>,
+    pub(crate) steps: Trace<Step<Event>>,
     // How the turns ended.
     pub(crate) ends: Trace<Result<TurnEnd, Fault>>,
 }
@@ -144,7 +143,7 @@ impl<L: Link + Drop> Model for UpstreamWorker<L> {
 const LISTS: usize = 1_024;
 
 // Writes down an event that sends nothing.
-pub(crate) fn jot(event: Event, quiet: bool, events: &mut Trace<Event>, log: &mut Log<Mark, Event>)
+pub(crate) fn jot(event: Event, quiet: bool, events: &mut Trace<Event>, log: &mut Log<Event>)
     requires quiet { quiet ≡ is_quiet_event event }
     ensures events { events.new ≡ events.old ++ event ∷ [] }
     ensures log { log.new ≡ log.old ++ Did event ∷ [] }
@@ -183,7 +182,7 @@ pub(crate) fn note<L: Link + Drop, A: Drop>(
     outcome: Outcome<Event, A>,
     wire: &mut Wire<L>,
     events: &mut Trace<Event>,
-    log: &mut Log<Mark, Event>,
+    log: &mut Log<Event>,
 ) -> A
     requires room { 65536 ≤ wire.old.room }
     requires worth { IsWorth outcome (worth outcome.event) }

@@ -2,7 +2,7 @@
 //! with what is to be found.
 ghost use Rattle.std.specs.Prelude.{◌≡◌, ◌≢◌, length, None, All, Some, slice_get, false};
 ghost use Rattle.smx_shared.specs.Views.{locks_of};
-ghost use Rattle.smx_client.specs.declared.mark.Stage.{Stage};
+ghost use Rattle.smx_client.specs.declared.stage.Stage.{Stage};
 
 use crate::hall::{Brought, Hall, Line, hold, lanes_of, lines_of};
 use crate::stand::{Piece, World, body_of, link_to, name_want, octets_in, script, took};

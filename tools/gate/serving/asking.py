@@ -94,6 +94,9 @@ def another_file(words_of, ask):
                 proxy.waits_for("not bound in time")
             last = proxy.connect()
             assert last.ask(bind_of("alpha", "other")).status == OK
+            other = text.replace('"secret"', '"other"').replace('["49"]', '["48"]\ncommands = ["submit_sm"]')
+            read_again(proxy, other, lambda: ask(proxy))
+            proxy.waits_for("its prefixes are others now, and from its next bind on what it may send")
             other = text.replace("alpha", "gamma").replace("[limits]", "clients = 9\n[limits]")
             read_again(proxy, other, lambda: ask(proxy))
             proxy.waits_for("another clients in the file wants a restart")

@@ -54,11 +54,14 @@ def bodies_that_are_not_read(link):
 
 
 def names_that_are_too_long(program, _):
-    """A bind with too long a password or system_id is answered as one with a wrong one."""
+    """A bind with too long a password or system_id is answered as one with a wrong one, and a line says why."""
+    tries = (("alpha", "ninechars", BAD_PASSWORD, "ESME_RINVPASWD: its password has more than 8 octets"),
+             ("a" * 16, "secret", BAD_SYSTEM_ID, "ESME_RINVSYSID: its system_id has more than 15 octets"))
     with one_lane(program) as (_centre, proxy):
-        for name, password, status in (("alpha", "ninechars", BAD_PASSWORD), ("a" * 16, "secret", BAD_SYSTEM_ID)):
+        for name, password, status, why in tries:
             with proxy.connect() as link:
                 assert link.ask(bind_of(name, password)).status == status
+                proxy.waits_for(why)
 
 
 def a_burst_of_messages(program, _):

@@ -48,7 +48,7 @@ def last_request(program, _):
             client.say(message(SUBMIT_SM, 5, "49"))
             up.hear()
             up.stream.close()
-            proxy.waits_for("; the last request on it was submit_sm of client 2 alpha; 1 requests failed; ")
+            proxy.waits_for("; the last request on it was submit_sm of client 2 alpha; 1 request failed; ")
 
 
 def takes_no_octets(program, _):

@@ -15,6 +15,8 @@ ENQUIRE_LINK = 0x00000015
 OK = 0x00
 INVALID_LENGTH = 0x02
 QUEUE_FULL = 0x14
+# What a request is answered that no lane takes.
+NOT_TAKEN = QUEUE_FULL
 SUBMIT_FAILED = 0x45
 TEMPORARY_ERROR = 0x64
 # What a test waits for comes within these seconds, or never.

@@ -76,17 +76,18 @@ def stop_of_a_silent_centre(program, _):
 
 
 def stop_once_more(program, _):
-    """A second stop cuts the waiting short."""
+    """A second stop cuts the waiting short; the client is sent unbind all the same."""
     with one_lane(program, keys="[timers]\nstop = 600000") as (centre, proxy):
         with centre.bound() as up, proxy.client() as client:
             client.say(message(SUBMIT_SM, 5, "49"))
             up.hear()
             proxy.asks("stop")
-            proxy.waits_for("draining, 1 requests under way")
+            proxy.waits_for("draining, 1 request under way")
             time.sleep(1)
             assert "drained" not in proxy.said()
             proxy.asks("stop")
             assert client.hear()[:3] == (SUBMIT_SM | RESPONSE, SUBMIT_FAILED, 5)
+            assert until_unbind(client) == []
             assert until_unbind(up) == []
             assert proxy.child.wait(10) == 0
 

@@ -1,7 +1,7 @@
 //! A client's worker beside the exchange that its port came from.
 ghost use Rattle.std.specs.Prelude.{◌≡◌, ◌≢◌, None, false};
 ghost use Rattle.smx_shared.specs.Views.{locks_of};
-ghost use Rattle.smx_client.specs.declared.mark.Stage.TheVariants as stage;
+ghost use Rattle.smx_client.specs.declared.stage.Stage.TheVariants as stage;
 
 use crate::figures::{NOT_MADE, stopped};
 use crate::seats::Seat;

@@ -13,12 +13,11 @@ ghost use Rattle.smx_client.specs.Turns.{Leads};
 use super::ClientWorker;
 use crate::event::{Event, Progress, Verdict};
 use crate::ledger::{ask, mark};
-use crate::mark::{Mark, Stage};
 use crate::prefixes::{add_all, prefixes_at};
 use smx_link::Link;
 use smx_session::{Ask, ClientState, Kind};
 use smx_shared::Exchange;
-use smx_turns::{Directory, Fault, Gate, Log, Point};
+use smx_turns::{Directory, Fault, Gate, Log, Mark, Point};
 use std::sync::Wait;
 
 // Whether a client that is bound so is sent messages.
@@ -53,7 +52,7 @@ impl<'d, L: Link + Drop> ClientWorker<'d, L> {
         directory: &mut D,
         kind: Kind,
         account: usize,
-        log: &mut Log<Mark, Event>,
+        log: &mut Log<Event>,
     ) -> Result<Option<Progress>, Fault>
         ensures leads { (n : ℕ) (asked : List Question) (told : List Party) → Leads n
             (scene_of L.offered L.polls L.failures asked told (D.queries directory.old) self.old)
@@ -82,15 +81,13 @@ impl<'d, L: Link + Drop> ClientWorker<'d, L> {
         rt: &R,
         gate: &mut G,
         directory: &mut D,
-        log: &mut Log<Mark, Event>,
+        log: &mut Log<Event>,
     ) -> Result<Option<Progress>, Fault>
         requires none { self.old.parked ≡ None }
         requires room { 65536 ≤ self.old.wire.room }
         requires below { length self.old.wire.unsent < 65536 }
         requires own { held_asks self.old ≢ Some Ask.Request }
         requires some { IsSome self.old.held }
-        requires undecided { self.old.settled ≡ false }
-        requires going { self.old.stage ≢ Stage.Closed }
         ensures leads { (n : ℕ) → Leads n
             (scene_of L.offered L.polls L.failures (G.asked gate.old) (G.told gate.old) (D.queries
             directory.old) self.old)
@@ -140,14 +137,12 @@ impl<'d, L: Link + Drop> ClientWorker<'d, L> {
         rt: &R,
         gate: &mut G,
         turn: u64,
-        log: &mut Log<Mark, Event>,
+        log: &mut Log<Event>,
     ) -> Option<Progress>
-        requires locks { locks_of self.old.port.fronts ≡ at.now }
+        requires locks { locks_of self.old.origin.port.value.fronts ≡ at.now }
         requires room { 65536 ≤ self.old.wire.room }
         requires below { length self.old.wire.unsent < 65536 }
         requires asks { held_asks self.old ≡ Some Ask.Request }
-        requires some { IsSome self.old.held }
-        requires undecided { self.old.settled ≡ false }
         ensures leads { (queries : List Query) → Leads turn
             (scene_of L.offered L.polls L.failures (G.asked gate.old) (G.told gate.old) queries
             self.old)
@@ -159,7 +154,6 @@ impl<'d, L: Link + Drop> ClientWorker<'d, L> {
             → IsPart (Deciding ended) (Ok result) (phase_of t log.new) }
         ensures next { result ≡ None → self.new.held ≡ None }
         ensures stopped { IfSome result (λ progress. progress ≡ Progress.Stopped) }
-        ensures locks { locks_of self.new.port.fronts ≡ locks_of self.old.port.fronts }
         ensures same { self.new ≡ record self.old {
           port = self.new.port;
           wire = record self.old.wire {
@@ -194,14 +188,12 @@ impl<'d, L: Link + Drop> ClientWorker<'d, L> {
         directory: &mut D,
         turn: u64,
         ended: bool,
-        log: &mut Log<Mark, Event>,
+        log: &mut Log<Event>,
     ) -> Result<Option<Progress>, Fault>
-        requires locks { locks_of self.old.port.fronts ≡ at.now }
+        requires locks { locks_of self.old.origin.port.value.fronts ≡ at.now }
         requires none { self.old.parked ≡ None }
         requires below { length self.old.wire.unsent < 65536 }
         requires some { IsSome self.old.held }
-        requires undecided { self.old.settled ≡ false }
-        requires going { self.old.stage ≢ Stage.Closed }
         ensures leads { Leads turn
             (scene_of L.offered L.polls L.failures (G.asked gate.old) (G.told gate.old) (D.queries
             directory.old) self.old)
@@ -218,7 +210,6 @@ impl<'d, L: Link + Drop> ClientWorker<'d, L> {
         ensures over { result ≡ Ok (Some Progress.Closed)
             → self.new.session.state ≡ ClientState.Ended }
         ensures waits { result ≡ Ok (Some Progress.Parked) → IsSome self.new.parked }
-        ensures locks { locks_of self.new.port.fronts ≡ locks_of self.old.port.fronts }
         ensures same { self.new ≡ record self.old {
           port = self.new.port;
           session = self.new.session;

@@ -12,18 +12,15 @@ use super::ClientWorker;
 use crate::deliver::{deliver, is_empty};
 use crate::event::{Delivery, Event, Progress};
 use crate::ledger::{mark, note};
-use crate::mark::Mark;
 use crate::reply::{Parked, put_or_park};
 use smx_link::Link;
-use smx_turns::{Fault, Gate, Log};
+use smx_turns::{Fault, Gate, Log, Mark};
 use std::snapshot::Snapshot;
 use std::sync::Wait;
 
 // Whether one waits.
 pub(super) fn is_waiting<T>(place: &Option<T>) -> bool
     ensures there { result ≡ is_some place.now }
-    ensures some { result ≡ true → IsSome place.now }
-    ensures none { result ≡ false → place.now ≡ None }
 {
     match place {
         Some(_) => true,
@@ -37,7 +34,7 @@ impl<'d, L: Link + Drop> ClientWorker<'d, L> {
         &mut self,
         rt: &R,
         gate: &mut G,
-        log: &mut Log<Mark, Event>,
+        log: &mut Log<Event>,
     ) -> Result<Option<Progress>, Fault>
         requires some { IsSome self.old.parked }
         ensures leads { (n : ℕ) (queries : List Query) → Leads n
@@ -78,7 +75,7 @@ impl<'d, L: Link + Drop> ClientWorker<'d, L> {
         rt: &R,
         gate: &mut G,
         now: u64,
-        log: &mut Log<Mark, Event>,
+        log: &mut Log<Event>,
     ) -> Result<Option<Progress>, Fault>
         requires room { 65536 ≤ self.old.wire.room }
         requires below { length self.old.wire.unsent < 65536 }
@@ -151,7 +148,7 @@ impl<'d, L: Link + Drop> ClientWorker<'d, L> {
         rt: &R,
         gate: &mut G,
         now: u64,
-        log: &mut Log<Mark, Event>,
+        log: &mut Log<Event>,
     ) -> Result<Option<Progress>, Fault>
         ensures leads { (n : ℕ) (queries : List Query) → Leads n
             (scene_of L.offered L.polls L.failures (G.asked gate.old) (G.told gate.old) queries

@@ -11,21 +11,18 @@ ghost use Rattle.smx_turns.specs.Wires.{some_wait};
 use super::ClientWorker;
 use crate::event::{Event, Progress};
 use crate::ledger::{ask, mark, note};
-use crate::mark::Mark;
 use crate::saying::say_found;
 use smx_link::{Link, Wire};
 use smx_lock::Spent;
 use smx_pdu::{MAX_PDU, Pdu};
 use smx_shared::Exchange;
-use smx_turns::{Fault, Gate, Log, Point};
+use smx_turns::{Fault, Gate, Log, Mark, Point};
 use std::snapshot::Snapshot;
 use std::sync::Wait;
 
 // Whether some of what was said waits.
 fn has_unsent<L: Link + Drop>(wire: &Wire<L>) -> bool
-    ensures left { result ≡ some_wait wire.now.unsent }
-    ensures some { result ≡ true → wire.now.unsent ≢ [] }
-    ensures none { result ≡ false → wire.now.unsent ≡ [] }
+    ensures { result ≡ some_wait wire.now.unsent }
 {
     !wire.is_clear()
 }
@@ -50,24 +47,29 @@ fn gave_unless_spent(found: &Result<Option<Pdu>, Spent>) -> Result<bool, Fault>
 
 impl<'d, L: Link + Drop> ClientWorker<'d, L> {
     // Offers the link what waits. True where some is left.
-    pub(super) fn offer_part(&mut self, log: &mut Log<Mark, Event>) -> Result<bool, Fault>
+    pub(super) fn offer_part(&mut self, log: &mut Log<Event>) -> Result<bool, Fault>
         ensures moves { Moves L.offered L.polls L.failures self.old log.old self.new log.new }
         ensures phase { (t : Before) (p : Phase) → phase_of t log.old ≡ p
             → IsOffered t p result (phase_of t log.new) }
-        ensures some { result ≡ Ok true → self.new.wire.unsent ≢ [] }
-        ensures none { result ≡ Ok false → self.new.wire.unsent ≡ [] }
+        ensures left { IfOk result (λ left. left ≡ some_wait self.new.wire.unsent) }
         ensures same { self.new ≡ record self.old {
           wire = record self.old.wire { link = self.new.wire.link; unsent = self.new.wire.unsent };
         } }
     {
-        let waited = self.wire.unsent();
+        let before = self.wire.unsent();
+        let waited = has_unsent(&self.wire);
         if self.wire.offer().is_err() {
             mark(log, Mark::WriteFailed, true);
             return Err(Fault::Link);
         }
         let left = has_unsent(&self.wire);
-        let wrote = differ(self.wire.unsent(), waited);
-        mark(log, Mark::Offered(wrote, left), !wrote);
+        let wrote = differ(self.wire.unsent(), before);
+        let offered = Mark::Offered {
+            waited,
+            wrote,
+            left,
+        };
+        mark(log, offered, !wrote);
         Ok(left)
     }
 
@@ -99,10 +101,10 @@ impl<'d, L: Link + Drop> ClientWorker<'d, L> {
         at: &Exchange,
         rt: &R,
         lane: usize,
-        log: &mut Log<Mark, Event>,
+        log: &mut Log<Event>,
     ) -> Result<bool, Fault>
-        requires locks { locks_of self.old.port.fronts ≡ at.now }
-        requires lane { lane < length self.old.port.fronts }
+        requires locks { locks_of self.old.origin.port.value.fronts ≡ at.now }
+        requires lane { lane < length self.old.origin.port.value.fronts }
         requires room { 65536 ≤ self.old.wire.room }
         requires below { length self.old.wire.unsent < 65536 }
         ensures moves { Moves L.offered L.polls L.failures self.old log.old self.new log.new }
@@ -110,7 +112,6 @@ impl<'d, L: Link + Drop> ClientWorker<'d, L> {
             → IsCollectedFrom lane result (phase_of t log.new) }
         ensures more { result ≡ Ok true
             → length self.old.wire.unsent < length self.new.wire.unsent }
-        ensures locks { locks_of self.new.port.fronts ≡ locks_of self.old.port.fronts }
         ensures same { self.new ≡ record self.old {
           port = self.new.port;
           wire = record self.old.wire {
@@ -136,15 +137,14 @@ impl<'d, L: Link + Drop> ClientWorker<'d, L> {
         at: &Exchange,
         rt: &R,
         lane: usize,
-        log: &mut Log<Mark, Event>,
+        log: &mut Log<Event>,
     ) -> Result<bool, Fault>
-        requires locks { locks_of self.old.port.fronts ≡ at.now }
-        requires lane { lane < length self.old.port.fronts }
+        requires locks { locks_of self.old.origin.port.value.fronts ≡ at.now }
+        requires lane { lane < length self.old.origin.port.value.fronts }
         ensures moves { Moves L.offered L.polls L.failures self.old log.old self.new log.new }
         ensures phase { (t : Before) → phase_of t log.old ≡ MayCollect lane
             → IsGathered lane result (phase_of t log.new) }
         ensures clogged { result ≡ Ok true → 65536 ≤ length self.new.wire.unsent }
-        ensures locks { locks_of self.new.port.fronts ≡ locks_of self.old.port.fronts }
         ensures same { self.new ≡ record self.old {
           port = self.new.port;
           wire = record self.old.wire {
@@ -176,10 +176,10 @@ impl<'d, L: Link + Drop> ClientWorker<'d, L> {
         gate: &mut G,
         turn: u64,
         lane: usize,
-        log: &mut Log<Mark, Event>,
+        log: &mut Log<Event>,
     ) -> Result<bool, Fault>
-        requires locks { locks_of self.old.port.fronts ≡ at.now }
-        requires lane { lane < length self.old.port.fronts }
+        requires locks { locks_of self.old.origin.port.value.fronts ≡ at.now }
+        requires lane { lane < length self.old.origin.port.value.fronts }
         ensures leads { (queries : List Query) → Leads turn
             (scene_of L.offered L.polls L.failures (G.asked gate.old) (G.told gate.old) queries
             self.old)
@@ -190,7 +190,6 @@ impl<'d, L: Link + Drop> ClientWorker<'d, L> {
         ensures phase { (t : Before) → phase_of t log.old ≡ AtLane lane
             → IsGathered lane result (phase_of t log.new) }
         ensures clogged { result ≡ Ok true → 65536 ≤ length self.new.wire.unsent }
-        ensures locks { locks_of self.new.port.fronts ≡ locks_of self.old.port.fronts }
         ensures same { self.new ≡ record self.old {
           port = self.new.port;
           wire = record self.old.wire {
@@ -214,9 +213,9 @@ impl<'d, L: Link + Drop> ClientWorker<'d, L> {
         rt: &R,
         gate: &mut G,
         turn: u64,
-        log: &mut Log<Mark, Event>,
+        log: &mut Log<Event>,
     ) -> Result<Option<Progress>, Fault>
-        requires locks { locks_of self.old.port.fronts ≡ at.now }
+        requires locks { locks_of self.old.origin.port.value.fronts ≡ at.now }
         ensures leads { (queries : List Query) → Leads turn
             (scene_of L.offered L.polls L.failures (G.asked gate.old) (G.told gate.old) queries
             self.old)
@@ -231,7 +230,6 @@ impl<'d, L: Link + Drop> ClientWorker<'d, L> {
         ensures which { (result ≢ Ok (Some Progress.Settled)) × (result ≢ Ok (Some Progress.Closed))
             × (result ≢ Ok (Some Progress.Parked)) × (result ≢ Ok (Some Progress.Stopped))
             × (result ≢ Ok (Some Progress.Gone)) }
-        ensures locks { locks_of self.new.port.fronts ≡ locks_of self.old.port.fronts }
         ensures same { self.new ≡ record self.old {
           port = self.new.port;
           wire = record self.old.wire {

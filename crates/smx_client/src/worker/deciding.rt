@@ -16,13 +16,13 @@ use super::ClientWorker;
 use crate::ending::{or_end, take_in};
 use crate::event::{Event, Fate, Front, Progress, Verdict};
 use crate::ledger::{mark, note};
-use crate::mark::{Mark, Stage};
 use crate::reply::answer_settled;
 use crate::saying::{offer_of, say_act, say_refusal, tell_accepted, verdict_of};
+use crate::stage::Stage;
 use smx_link::Link;
 use smx_session::{Act, Ask, ClientState};
 use smx_shared::Exchange;
-use smx_turns::{End, Fault, Gate, Log, is_memory};
+use smx_turns::{End, Fault, Gate, Log, Mark, is_memory};
 use std::snapshot::Snapshot;
 use std::sync::Wait;
 
@@ -65,16 +65,15 @@ impl<'d, L: Link + Drop> ClientWorker<'d, L> {
     }
 
     // Ends the session at a bad length.
-    fn break_off(&mut self, log: &mut Log<Mark, Event>)
+    fn break_off(&mut self, log: &mut Log<Event>)
         requires room { 65536 ≤ self.old.wire.room }
         requires below { length self.old.wire.unsent < 65536 }
         requires bad { IsBad self.old.wire }
         ensures moves { Moves L.offered L.polls L.failures self.old log.old self.new log.new }
         ensures phase { (t : Before) (ended : Bool) → phase_of t log.old ≡ Deciding ended
             → phase_of t log.new ≡ Closing }
-        ensures over { self.new.session.state ≡ ClientState.Ended }
         ensures same { self.new ≡ record self.old {
-          session = self.new.session;
+          session = record self.old.session { state = ClientState.Ended };
           wire = record self.old.wire {
             said = self.new.wire.said;
             unsent = self.new.wire.unsent;
@@ -92,9 +91,8 @@ impl<'d, L: Link + Drop> ClientWorker<'d, L> {
     }
 
     // No whole PDU is left: how far the turn comes.
-    fn rest(&mut self, ended: bool, log: &mut Log<Mark, Event>) -> Progress
+    fn rest(&mut self, ended: bool, log: &mut Log<Event>) -> Progress
         requires below { length self.old.wire.unsent < 65536 }
-        requires going { self.old.stage ≢ Stage.Closed }
         ensures moves { Moves L.offered L.polls L.failures self.old log.old self.new log.new }
         ensures phase { (t : Before) → phase_of t log.old ≡ Deciding ended
             → IsAt result (phase_of t log.new) }
@@ -119,7 +117,7 @@ impl<'d, L: Link + Drop> ClientWorker<'d, L> {
     pub(super) fn next_up(
         &mut self,
         ended: bool,
-        log: &mut Log<Mark, Event>,
+        log: &mut Log<Event>,
     ) -> Result<Option<Progress>, Fault>
         requires below { length self.old.wire.unsent < 65536 }
         requires goes_on { self.old.wire.failed ≡ None }
@@ -131,7 +129,6 @@ impl<'d, L: Link + Drop> ClientWorker<'d, L> {
             → IsSome self.new.held
             × (weight self.new.held self.new.wire.rest ≤ weight self.old.held
             self.old.wire.rest) }
-        ensures undecided { result ≡ Ok None → self.new.settled ≡ false }
         ensures unsaid { result ≡ Ok None → self.new.wire.unsent ≡ self.old.wire.unsent }
         ensures settled { result ≡ Ok (Some Progress.Settled)
             → (self.new.settled ≡ true) × (self.new.held ≡ None)
@@ -181,23 +178,20 @@ impl<'d, L: Link + Drop> ClientWorker<'d, L> {
     }
 
     // Answers the PDU that waits, which asked for this leave: the gate gave none.
-    pub(super) fn bar(&mut self, leave: Ask, log: &mut Log<Mark, Event>)
+    pub(super) fn bar(&mut self, leave: Ask, log: &mut Log<Event>)
         requires room { 65536 ≤ self.old.wire.room }
         requires below { length self.old.wire.unsent < 65536 }
         requires asks { held_asks self.old ≡ Some leave }
-        requires some { IsSome self.old.held }
-        requires undecided { self.old.settled ≡ false }
         ensures moves { Moves L.offered L.polls L.failures self.old log.old self.new log.new }
         ensures phase { (t : Before) (ended : Bool) → phase_of t log.old ≡ Barring ended leave
             → phase_of t log.new ≡ Deciding ended }
-        ensures held { self.new.held ≡ None }
         ensures same { self.new ≡ record self.old {
           wire = record self.old.wire {
             said = self.new.wire.said;
             unsent = self.new.wire.unsent;
             room = self.new.wire.room;
           };
-          held = self.new.held;
+          held = None;
           events = self.new.events;
         } }
     {
@@ -212,13 +206,11 @@ impl<'d, L: Link + Drop> ClientWorker<'d, L> {
 
     // Decides the PDU that waits, as far as the session alone does. Its leave was given, where it
     // asks for one.
-    pub(super) fn decide(&mut self, log: &mut Log<Mark, Event>) -> Result<Verdict, Fault>
+    pub(super) fn decide(&mut self, log: &mut Log<Event>) -> Result<Verdict, Fault>
         requires room { 65536 ≤ self.old.wire.room }
         requires own { held_asks self.old ≢ Some Ask.Request }
         requires below { length self.old.wire.unsent < 65536 }
         requires some { IsSome self.old.held }
-        requires undecided { self.old.settled ≡ false }
-        requires going { self.old.stage ≢ Stage.Closed }
         ensures moves { Moves L.offered L.polls L.failures self.old log.old self.new log.new }
         ensures phase { (t : Before) (ended : Bool)
             → phase_of t log.old ≡ with_leave ended (held_asks self.old)
@@ -274,14 +266,12 @@ impl<'d, L: Link + Drop> ClientWorker<'d, L> {
         at: &Exchange,
         rt: &R,
         gate: &mut G,
-        log: &mut Log<Mark, Event>,
+        log: &mut Log<Event>,
     )
-        requires locks { locks_of self.old.port.fronts ≡ at.now }
+        requires locks { locks_of self.old.origin.port.value.fronts ≡ at.now }
         requires room { 65536 ≤ self.old.wire.room }
         requires below { length self.old.wire.unsent < 65536 }
         requires asks { held_asks self.old ≡ Some Ask.Request }
-        requires some { IsSome self.old.held }
-        requires undecided { self.old.settled ≡ false }
         ensures leads { (n : ℕ) (queries : List Query) → Leads n
             (scene_of L.offered L.polls L.failures (G.asked gate.old) (G.told gate.old) queries
             self.old)
@@ -291,8 +281,6 @@ impl<'d, L: Link + Drop> ClientWorker<'d, L> {
             log.new }
         ensures phase { (t : Before) (ended : Bool) → phase_of t log.old ≡ MaySubmit ended
             → phase_of t log.new ≡ Deciding ended }
-        ensures locks { locks_of self.new.port.fronts ≡ locks_of self.old.port.fronts }
-        ensures held { self.new.held ≡ None }
         ensures same { self.new ≡ record self.old {
           port = self.new.port;
           wire = record self.old.wire {
@@ -300,7 +288,7 @@ impl<'d, L: Link + Drop> ClientWorker<'d, L> {
             unsent = self.new.wire.unsent;
             room = self.new.wire.room;
           };
-          held = self.new.held;
+          held = None;
           events = self.new.events;
         } }
     {
@@ -326,7 +314,7 @@ impl<'d, L: Link + Drop> ClientWorker<'d, L> {
         &mut self,
         rt: &R,
         gate: &mut G,
-        log: &mut Log<Mark, Event>,
+        log: &mut Log<Event>,
     ) -> Result<Option<Progress>, Fault>
         requires below { length self.old.wire.unsent < 65536 }
         requires none { self.old.parked ≡ None }
@@ -335,7 +323,6 @@ impl<'d, L: Link + Drop> ClientWorker<'d, L> {
             self.old.session.state p
             ≡ (Act.MoAnswer p.number, self.old.session.state)) }
         requires some { IsSome self.old.held }
-        requires undecided { self.old.settled ≡ false }
         ensures leads { (n : ℕ) (queries : List Query) → Leads n
             (scene_of L.offered L.polls L.failures (G.asked gate.old) (G.told gate.old) queries
             self.old)
@@ -350,11 +337,10 @@ impl<'d, L: Link + Drop> ClientWorker<'d, L> {
             × (result ≢ Ok (Some Progress.Gone)) }
         ensures waits { result ≡ Ok (Some Progress.Parked) → IsSome self.new.parked }
         ensures clear { result ≡ Ok None → self.new.parked ≡ None }
-        ensures held { self.new.held ≡ None }
         ensures same { self.new ≡ record self.old {
           senders = self.new.senders;
           window = self.new.window;
-          held = self.new.held;
+          held = None;
           parked = self.new.parked;
           events = self.new.events;
         } }

@@ -10,12 +10,11 @@ use super::ClientWorker;
 use crate::ending::{or_end, silent_end};
 use crate::event::{Event, Progress};
 use crate::ledger::{mark, note};
-use crate::mark::{Mark, Stage};
 use crate::reply::{Reply, answer_expired};
 use crate::saying::{is_not_due, is_unanswered, say_enquiry};
 use smx_link::{Link, Polled};
 use smx_session::ClientState;
-use smx_turns::{Fault, Gate, Log};
+use smx_turns::{Fault, Gate, Log, Mark};
 use std::snapshot::Snapshot;
 use std::sync::Wait;
 
@@ -66,8 +65,7 @@ fn front_of(silent: bool) -> Result<Result<bool, Progress>, Fault>
 
 impl<'d, L: Link + Drop> ClientWorker<'d, L> {
     // Octets came at this moment.
-    fn hear(&mut self, now: u64, log: &mut Log<Mark, Event>)
-        requires going { self.old.stage ≢ Stage.Closed }
+    fn hear(&mut self, now: u64, log: &mut Log<Event>)
         ensures moves { Moves L.offered L.polls L.failures self.old log.old self.new log.new }
         ensures phase { (t : Before) → phase_of t log.old ≡ Hearing → t.now ≡ now
             → phase_of t log.new ≡ Deciding false }
@@ -81,12 +79,7 @@ impl<'d, L: Link + Drop> ClientWorker<'d, L> {
     }
 
     // Hands in the moment, and says the enquiry that is due.
-    fn look(
-        &mut self,
-        now: u64,
-        log: &mut Log<Mark, Event>,
-    ) -> Result<Result<bool, Progress>, Fault>
-        requires going { self.old.stage ≢ Stage.Closed }
+    fn look(&mut self, now: u64, log: &mut Log<Event>) -> Result<Result<bool, Progress>, Fault>
         ensures moves { Moves L.offered L.polls L.failures self.old log.old self.new log.new }
         ensures phase { (t : Before) → phase_of t log.old ≡ Looking → t.now ≡ now
             → IsFront result (phase_of t log.new) }
@@ -115,12 +108,7 @@ impl<'d, L: Link + Drop> ClientWorker<'d, L> {
     }
 
     // Hands in the moment, and says the enquiry that is due.
-    fn enquire(
-        &mut self,
-        now: u64,
-        log: &mut Log<Mark, Event>,
-    ) -> Result<Result<bool, Progress>, Fault>
-        requires going { self.old.stage ≢ Stage.Closed }
+    fn enquire(&mut self, now: u64, log: &mut Log<Event>) -> Result<Result<bool, Progress>, Fault>
         requires room { 65536 ≤ self.old.wire.room }
         requires below { length self.old.wire.unsent < 65536 }
         ensures moves { Moves L.offered L.polls L.failures self.old log.old self.new log.new }
@@ -158,10 +146,9 @@ impl<'d, L: Link + Drop> ClientWorker<'d, L> {
         rt: &R,
         gate: &mut G,
         until: u64,
-        log: &mut Log<Mark, Event>,
+        log: &mut Log<Event>,
     ) -> Option<Reply>
         requires none { self.old.parked ≡ None }
-        requires going { self.old.stage ≢ Stage.Closed }
         ensures leads { (n : ℕ) (queries : List Query) → Leads n
             (scene_of L.offered L.polls L.failures (G.asked gate.old) (G.told gate.old) queries
             self.old)
@@ -201,10 +188,9 @@ impl<'d, L: Link + Drop> ClientWorker<'d, L> {
         rt: &R,
         gate: &mut G,
         now: u64,
-        log: &mut Log<Mark, Event>,
+        log: &mut Log<Event>,
     ) -> Result<Option<Progress>, Fault>
         requires none { self.old.parked ≡ None }
-        requires going { self.old.stage ≢ Stage.Closed }
         ensures leads { (n : ℕ) (queries : List Query) → Leads n
             (scene_of L.offered L.polls L.failures (G.asked gate.old) (G.told gate.old) queries
             self.old)
@@ -245,10 +231,9 @@ impl<'d, L: Link + Drop> ClientWorker<'d, L> {
         rt: &R,
         gate: &mut G,
         now: u64,
-        log: &mut Log<Mark, Event>,
+        log: &mut Log<Event>,
     ) -> Result<Result<bool, Progress>, Fault>
         requires none { self.old.parked ≡ None }
-        requires going { self.old.stage ≢ Stage.Closed }
         ensures leads { (n : ℕ) (queries : List Query) → Leads n
             (scene_of L.offered L.polls L.failures (G.asked gate.old) (G.told gate.old) queries
             self.old)
@@ -292,10 +277,9 @@ impl<'d, L: Link + Drop> ClientWorker<'d, L> {
         gate: &mut G,
         found: Option<Polled>,
         now: u64,
-        log: &mut Log<Mark, Event>,
+        log: &mut Log<Event>,
     ) -> Result<Result<bool, Progress>, Fault>
         requires none { self.old.parked ≡ None }
-        requires going { self.old.stage ≢ Stage.Closed }
         ensures leads { (n : ℕ) (queries : List Query) → Leads n
             (scene_of L.offered L.polls L.failures (G.asked gate.old) (G.told gate.old) queries
             self.old)

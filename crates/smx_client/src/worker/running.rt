@@ -4,6 +4,7 @@ ghost use Rattle.smx_frame.specs.Stream.{HasNone};
 ghost use Rattle.smx_shared.specs.Views.{locks_of};
 ghost use Rattle.smx_turns.specs.Rounds.{EndsSo};
 ghost use Rattle.smx_turns.specs.Runs.{Runs, RunsOn};
+ghost use Rattle.smx_turns.specs.Scenes.{faults};
 ghost use Rattle.smx_turns.specs.Steps.{asks, polls, events, are_quiet};
 ghost use Rattle.smx_turns.specs.Wires.{has_ended};
 ghost use Rattle.smx_turns.specs.Worth.{tells};
@@ -11,16 +12,15 @@ ghost use Rattle.smx_turns.specs.declared.end.Fault.{Fault};
 ghost use Rattle.smx_turns.specs.declared.end.TurnEnd.{TurnEnd};
 ghost use Rattle.smx_client.specs.Courses.{course, TurnsSo};
 ghost use Rattle.smx_client.specs.Events.{is_quiet_event, worth};
-ghost use Rattle.smx_client.specs.Marks.{is_quiet_mark};
 ghost use Rattle.smx_client.specs.Parts.{Does};
 ghost use Rattle.smx_client.specs.Scenes.{scene_of, before, Moves};
 ghost use Rattle.smx_client.specs.Serving.{parts_of};
 ghost use Rattle.smx_client.specs.Table.{Before, Phase, phase_of, Opening, Closing, when_written, IsAt, EndsIn, IsTurn, Stands};
-ghost use Rattle.smx_client.specs.Turns.{Leads, Changes, faults};
+ghost use Rattle.smx_client.specs.Turns.{Leads, Changes};
 
 use super::ClientWorker;
 use crate::event::{Event, Progress};
-use crate::mark::{Mark, Stage};
+use crate::stage::Stage;
 use smx_link::Link;
 use smx_session::ClientState;
 use smx_shared::Exchange;
@@ -52,14 +52,13 @@ fn end_of(progress: Progress, quiet: bool) -> TurnEnd
 
 impl<'d, L: Link + Drop> ClientWorker<'d, L> {
     // Offers what waits, where nothing more is decided in any turn.
-    fn last_part(&mut self, log: &mut Log<Mark, Event>) -> Result<TurnEnd, Fault>
+    fn last_part(&mut self, log: &mut Log<Event>) -> Result<TurnEnd, Fault>
         requires stage { self.old.stage ≡ Stage.Closed }
         ensures moves { Moves L.offered L.polls L.failures self.old log.old self.new log.new }
         ensures phase { (t : Before) → phase_of t log.old ≡ Closing
-            → IsTurn result (are_quiet is_quiet_mark is_quiet_event log.new) (phase_of t log.new)
+            → IsTurn result (are_quiet is_quiet_event log.new) (phase_of t log.new)
             × OnOk result (Stands (phase_of t log.new) self.new.wire.unsent self.new.wire.rest
             self.new.held self.new.parked self.new.settled self.new.stage) }
-        ensures stage { self.new.stage ≡ Stage.Closed }
         ensures same { self.new ≡ record self.old {
           wire = record self.old.wire { link = self.new.wire.link; unsent = self.new.wire.unsent };
         } }
@@ -79,9 +78,9 @@ impl<'d, L: Link + Drop> ClientWorker<'d, L> {
         directory: &mut D,
         turn: u64,
         now: u64,
-        log: &mut Log<Mark, Event>,
+        log: &mut Log<Event>,
     ) -> Result<TurnEnd, Fault>
-        requires locks { locks_of self.old.port.fronts ≡ at.now }
+        requires locks { locks_of self.old.origin.port.value.fronts ≡ at.now }
         requires goes_on { self.old.wire.failed ≡ None }
         requires going { self.old.stage ≢ Stage.Closed }
         ensures leads { Leads turn
@@ -93,13 +92,12 @@ impl<'d, L: Link + Drop> ClientWorker<'d, L> {
             log.new }
         ensures phase { (t : Before) → t ≡ before now self.old
             → phase_of t log.old ≡ when_written t self.old.stage
-            → IsTurn result (are_quiet is_quiet_mark is_quiet_event log.new) (phase_of t log.new)
+            → IsTurn result (are_quiet is_quiet_event log.new) (phase_of t log.new)
             × OnOk result (Stands (phase_of t log.new) self.new.wire.unsent self.new.wire.rest
             self.new.held self.new.parked self.new.settled self.new.stage) }
         ensures goes_on { OnOk result
             (self.new.stage ≢ Stage.Closed → self.new.wire.failed ≡ None) }
         ensures done { result ≡ Ok TurnEnd.Done → self.new.stage ≡ Stage.Closed }
-        ensures locks { locks_of self.new.port.fronts ≡ locks_of self.old.port.fronts }
         ensures same { self.new ≡ record self.new {
           desk = self.old.desk;
           message_time = self.old.message_time;
@@ -131,9 +129,9 @@ impl<'d, L: Link + Drop> ClientWorker<'d, L> {
         directory: &mut D,
         turn: u64,
         now: u64,
-        log: &mut Log<Mark, Event>,
+        log: &mut Log<Event>,
     ) -> Result<TurnEnd, Fault>
-        requires locks { locks_of self.old.port.fronts ≡ at.now }
+        requires locks { locks_of self.old.origin.port.value.fronts ≡ at.now }
         requires goes_on { self.old.stage ≢ Stage.Closed → self.old.wire.failed ≡ None }
         ensures leads { Leads turn
             (scene_of L.offered L.polls L.failures (G.asked gate.old) (G.told gate.old) (D.queries
@@ -143,13 +141,12 @@ impl<'d, L: Link + Drop> ClientWorker<'d, L> {
             directory.new) self.new)
             log.new }
         ensures phase { (t : Before) → t ≡ before now self.old → phase_of t log.old ≡ Opening
-            → IsTurn result (are_quiet is_quiet_mark is_quiet_event log.new) (phase_of t log.new)
+            → IsTurn result (are_quiet is_quiet_event log.new) (phase_of t log.new)
             × OnOk result (Stands (phase_of t log.new) self.new.wire.unsent self.new.wire.rest
             self.new.held self.new.parked self.new.settled self.new.stage) }
         ensures goes_on { OnOk result
             (self.new.stage ≢ Stage.Closed → self.new.wire.failed ≡ None) }
         ensures done { result ≡ Ok TurnEnd.Done → self.new.stage ≡ Stage.Closed }
-        ensures locks { locks_of self.new.port.fronts ≡ locks_of self.old.port.fronts }
         ensures same { self.new ≡ record self.new {
           desk = self.old.desk;
           message_time = self.old.message_time;
@@ -196,7 +193,7 @@ impl<'d, L: Link + Drop> ClientWorker<'d, L> {
             self.new.steps
             (scene_of L.offered L.polls L.failures (G.asked gate.new) (G.told gate.new) (D.queries
             directory.new) self.new) }
-        ensures order { IsTurn result (are_quiet is_quiet_mark is_quiet_event self.new.steps)
+        ensures order { IsTurn result (are_quiet is_quiet_event self.new.steps)
             (phase_of (before now self.old) self.new.steps) }
         ensures stands { OnOk result (Stands (phase_of (before now self.old) self.new.steps)
             self.new.wire.unsent self.new.wire.rest self.new.held self.new.parked

@@ -21,18 +21,14 @@ impl<'d, L: Link + Drop> ClientWorker<'d, L> {
         ensures event { (unbind : Snapshot (Option Pdu))
             × (unbind.value ≡ client_farewell self.old.session.state)
             × (self.new.events ≡ self.old.events ++ Unbound unbind ∷ []) }
-        ensures said { self.new.wire.said
-            ≡ self.old.wire.said ++ those (client_farewell self.old.session.state) }
-        ensures unsent { self.new.wire.unsent ≡ self.old.wire.unsent
-            ++ spellings (those (client_farewell self.old.session.state)) }
-        ensures state { self.new.session ≡ record self.old.session {
-          state = client_state_after_stop self.old.session.state;
-        } }
         ensures same { self.new ≡ record self.old {
-          session = self.new.session;
+          session = record self.old.session {
+            state = client_state_after_stop self.old.session.state;
+          };
           wire = record self.old.wire {
-            said = self.new.wire.said;
-            unsent = self.new.wire.unsent;
+            said = self.old.wire.said ++ those (client_farewell self.old.session.state);
+            unsent = self.old.wire.unsent
+                ++ spellings (those (client_farewell self.old.session.state));
             room = self.new.wire.room;
           };
           events = self.new.events;

@@ -13,17 +13,16 @@ use super::ClientWorker;
 use super::boxing::is_waiting;
 use crate::event::{Event, Progress};
 use crate::ledger::{ask, mark, reading};
-use crate::mark::{Mark, Stage};
+use crate::stage::Stage;
 use smx_link::{Link, Polled};
 use smx_session::ClientState;
 use smx_shared::Exchange;
-use smx_turns::{Directory, Fault, Gate, Log, Point, is_end};
+use smx_turns::{Directory, Fault, Gate, Log, Mark, Point, is_end};
 use std::sync::Wait;
 
 // The stage after a read that answered so.
 fn stage_after(ended: bool) -> Stage
     ensures drained { ended ≡ true → result ≡ Stage.Drained }
-    ensures opened { ended ≡ false → result ≡ Stage.Open }
     ensures only { (result ≡ Stage.Drained → ended ≡ true) × (result ≡ Stage.Open → ended ≡ false) }
     ensures goes_on { result ≢ Stage.Closed }
 {
@@ -36,7 +35,7 @@ impl<'d, L: Link + Drop> ClientWorker<'d, L> {
         &mut self,
         gate: &mut G,
         turn: u64,
-        log: &mut Log<Mark, Event>,
+        log: &mut Log<Event>,
     ) -> Result<Result<Option<Polled>, Progress>, Fault>
         requires goes_on { self.old.wire.failed ≡ None }
         requires opened { self.old.stage ≡ Stage.Open }
@@ -94,9 +93,9 @@ impl<'d, L: Link + Drop> ClientWorker<'d, L> {
         gate: &mut G,
         turn: u64,
         now: u64,
-        log: &mut Log<Mark, Event>,
+        log: &mut Log<Event>,
     ) -> Result<Result<bool, Progress>, Fault>
-        requires locks { locks_of self.old.port.fronts ≡ at.now }
+        requires locks { locks_of self.old.origin.port.value.fronts ≡ at.now }
         requires goes_on { self.old.wire.failed ≡ None }
         requires opened { self.old.stage ≡ Stage.Open }
         ensures leads { (queries : List Query) → Leads turn
@@ -116,7 +115,6 @@ impl<'d, L: Link + Drop> ClientWorker<'d, L> {
         ensures which { (result ≢ Ok (Err Progress.Settled)) × (result ≢ Ok (Err Progress.Closed)) }
         ensures gone { result ≡ Ok (Err Progress.Gone)
             → self.new.session.state ≡ ClientState.Ended }
-        ensures locks { locks_of self.new.port.fronts ≡ locks_of self.old.port.fronts }
         ensures stage { self.new.stage ≢ Stage.Closed }
         ensures ended { IfOk result
             (λ r. IfOk r (λ ended. ended ≡ true → self.new.stage ≡ Stage.Drained)) }
@@ -158,9 +156,9 @@ impl<'d, L: Link + Drop> ClientWorker<'d, L> {
         directory: &mut D,
         turn: u64,
         ended: bool,
-        log: &mut Log<Mark, Event>,
+        log: &mut Log<Event>,
     ) -> Result<Progress, Fault>
-        requires locks { locks_of self.old.port.fronts ≡ at.now }
+        requires locks { locks_of self.old.origin.port.value.fronts ≡ at.now }
         requires goes_on { self.old.wire.failed ≡ None }
         requires none { self.old.parked ≡ None }
         requires going { self.old.stage ≢ Stage.Closed }
@@ -183,7 +181,6 @@ impl<'d, L: Link + Drop> ClientWorker<'d, L> {
         ensures which { result ≢ Ok Progress.Gone }
         ensures waits { result ≡ Ok Progress.Parked → IsSome self.new.parked }
         ensures clogged { result ≡ Ok Progress.Clogged → 65536 ≤ length self.new.wire.unsent }
-        ensures locks { locks_of self.new.port.fronts ≡ locks_of self.old.port.fronts }
         ensures same { self.new ≡ record self.old {
           port = self.new.port;
           session = self.new.session;
@@ -217,7 +214,7 @@ impl<'d, L: Link + Drop> ClientWorker<'d, L> {
         &mut self,
         rt: &R,
         gate: &mut G,
-        log: &mut Log<Mark, Event>,
+        log: &mut Log<Event>,
     ) -> Result<Option<Progress>, Fault>
         ensures leads { (n : ℕ) (queries : List Query) → Leads n
             (scene_of L.offered L.polls L.failures (G.asked gate.old) (G.told gate.old) queries
@@ -255,9 +252,9 @@ impl<'d, L: Link + Drop> ClientWorker<'d, L> {
         directory: &mut D,
         turn: u64,
         now: u64,
-        log: &mut Log<Mark, Event>,
+        log: &mut Log<Event>,
     ) -> Result<Progress, Fault>
-        requires locks { locks_of self.old.port.fronts ≡ at.now }
+        requires locks { locks_of self.old.origin.port.value.fronts ≡ at.now }
         requires goes_on { self.old.wire.failed ≡ None }
         requires going { self.old.stage ≢ Stage.Closed }
         ensures leads { Leads turn
@@ -271,7 +268,6 @@ impl<'d, L: Link + Drop> ClientWorker<'d, L> {
             → phase_of t log.old ≡ when_written t self.old.stage
             → ComesTo result (phase_of t log.new) }
         ensures goes_on { OnOk result (result ≢ Ok Progress.Closed → self.new.wire.failed ≡ None) }
-        ensures stage { self.new.stage ≢ Stage.Closed }
         ensures settled { result ≡ Ok Progress.Settled
             → (self.new.settled ≡ true) × (self.new.held ≡ None)
             × HasNone 65536 self.new.wire.rest }
@@ -280,7 +276,6 @@ impl<'d, L: Link + Drop> ClientWorker<'d, L> {
         ensures gone { result ≡ Ok Progress.Gone → self.new.session.state ≡ ClientState.Ended }
         ensures waits { result ≡ Ok Progress.Parked → IsSome self.new.parked }
         ensures clogged { result ≡ Ok Progress.Clogged → 65536 ≤ length self.new.wire.unsent }
-        ensures locks { locks_of self.new.port.fronts ≡ locks_of self.old.port.fronts }
         ensures same { self.new ≡ record self.new {
           desk = self.old.desk;
           message_time = self.old.message_time;

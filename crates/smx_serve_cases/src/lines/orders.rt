@@ -90,7 +90,12 @@ fn binds_that_are_refused(rt: HostRuntime) -> Result<(), Fail> {
     for _ in 0..3 {
         bind_with(&mut other, SHORT)?;
         assert!(rt; is_refused(rt.alloc(), &mut other, ESME_RINVCMDLEN));
-        told.client(&rt, "2", &other, "bind refused, 0x02 ESME_RINVCMDLEN")?;
+        told.client(
+            &rt,
+            "2",
+            &other,
+            "bind refused, 0x02 ESME_RINVCMDLEN: its body can't be read",
+        )?;
     }
     let line = format!(in rt.alloc(); "client 2 at {address}: hung up, three refused binds")?;
     told.lines.says(&rt, line.as_str());
@@ -172,7 +177,7 @@ fn a_configuration_that_is_read_again(rt: HostRuntime) -> Result<(), Fail> {
     told.client(&rt, "2", &second, "connected")?;
     told.remote.reload(&rt, config);
     told.lines
-        .says(&rt, "the configuration was read again, 1 accounts");
+        .says(&rt, "the configuration was read again, 1 account");
     told.lines
         .says(&rt, "another clients in the file wants a restart");
     let words = "its password is another one now; it is unbound";

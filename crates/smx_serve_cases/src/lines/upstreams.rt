@@ -166,9 +166,9 @@ fn requests_that_fail(rt: HostRuntime) -> Result<(), Fail> {
     assert!(rt; comes(&mut up, SENT));
     drop(up);
     let words =
-        "ended, it closed the connection; the last request on it was submit_sm of client 1 alpha; 1 requests failed";
+        "ended, it closed the connection; the last request on it was submit_sm of client 1 alpha; 1 request failed";
     waits_within(&rt, &mut told, words, PAUSE)?;
-    told.upstream(&rt, "has no link for long, 1 queued requests failed")?;
+    told.upstream(&rt, "has no link for long, 1 queued request failed")?;
     told.stops(&rt);
     told.client(&rt, "1 alpha", &client, "answered no unbind")?;
     told.is_over(&rt);

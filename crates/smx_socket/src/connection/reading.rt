@@ -2,7 +2,7 @@
 ghost use Rattle.std.specs.Prelude.{◌≡◌, ◌++◌, ◌+◌, ◌∷◌, ◌⊎◌, ◌↔◌, [], length, true, false, IsTrue, IsFalse};
 ghost use Rattle.smx_link.specs.Links.{octets_read, IsReadWithin, polls_of, fault_count};
 ghost use Rattle.smx_socket.specs.Outcomes.{asks, octets_moved, IsMovedWithin, IsPolled, marks_read};
-ghost use Rattle.smx_socket.specs.Connections.{TellsRead, TellsNothing};
+ghost use Rattle.smx_socket.specs.Connections.{TellsRead, TellsNothing, drains, Asks};
 
 use crate::connection::{Answers, Connection};
 use crate::transport::{Outcome, Transport};
@@ -121,6 +121,12 @@ impl<T: Transport + Drop> Connection<T> {
         ensures ended { (result ≡ Drained.Ended)
             ↔ (IsTrue self.new.marks.ended ⊎ IsTrue self.new.marks.failed) }
         ensures nothing { result ≡ Drained.Nothing → IsFalse self.new.marks.readable }
+        ensures asks { IsTrue (drains self.old.marks)
+            → Asks (T.reads self.old.transport) (T.reads self.new.transport)
+            16384 self.old.marks self.new.marks }
+        ensures asks_nobody { IsFalse (drains self.old.marks)
+            → T.reads self.new.transport ≡ T.reads self.old.transport }
+        ensures unchanged { IsFalse (drains self.old.marks) → self.new.marks ≡ self.old.marks }
         ensures taken { T.taken self.new.transport ≡ T.taken self.old.transport }
         ensures same { self.new ≡ record self.old {
           transport = self.new.transport;

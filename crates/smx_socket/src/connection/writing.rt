@@ -1,6 +1,7 @@
 //! Writes of a connection.
-ghost use Rattle.std.specs.Prelude.{◌≡◌, ◌<◌, ◌≤◌, ◌++◌, ◌+◌, ◌∷◌, ◌⊎◌, ◌↔◌, ◌||◌, [], take, length, true, false, IfOk, IsOk, IsTrue, IsFalse};
+ghost use Rattle.std.specs.Prelude.{◌≡◌, ◌<◌, ◌≤◌, ◌++◌, ◌+◌, ◌∷◌, ◌⊎◌, ◌↔◌, ◌||◌, [], take, length, true, false, Ok, IfOk, IsOk, IsErr, IsTrue, IsFalse};
 ghost use Rattle.smx_link.specs.Links.{octets_written, fault_count};
+ghost use Rattle.smx_socket.specs.Connections.{HasToWait};
 
 use crate::connection::{Answers, Connection};
 use crate::transport::{Outcome, Transport};
@@ -43,8 +44,23 @@ impl<T: Transport + Drop> Connection<T> {
         ensures ok { IsFalse (self.old.marks.failed || self.old.marks.closing) → IsOk result }
         ensures full { IsFalse (self.old.marks.failed || self.old.marks.closing)
             → IfOk result (λ n. (n ≡ length octets.now) ⊎ (32768 < length self.new.unsent)) }
+        ensures failed { IsTrue self.old.marks.failed → IsErr result }
+        ensures closing { IsFalse self.old.marks.failed → IsTrue self.old.marks.closing
+            → result ≡ Ok 0 }
         ensures given { T.given self.new.transport ≡ T.given self.old.transport }
         ensures reads { T.reads self.new.transport ≡ T.reads self.old.transport }
+        ensures marks { self.new.marks ≡ record self.old.marks {
+          writable = self.new.marks.writable;
+          failed = self.new.marks.failed;
+          write_closed = self.new.marks.write_closed;
+        } }
+        ensures writable { IsTrue self.new.marks.writable → IsTrue self.old.marks.writable }
+        ensures waits { IsTrue self.old.marks.writable → IsFalse self.new.marks.writable
+            → HasToWait (T.writes self.old.transport) (T.writes self.new.transport) }
+        ensures asks { IsFalse (self.old.marks.failed || self.old.marks.closing)
+            → IsTrue self.old.marks.writable
+            → IfOk result (λ n. (n ≡ length octets.now) ⊎ (length (T.writes self.old.transport)
+            < length (T.writes self.new.transport))) }
     {
         if self.marks.failed {
             return Err(LinkFault);
@@ -69,6 +85,22 @@ impl<T: Transport + Drop> Connection<T> {
         ensures ok { IsFalse (self.old.marks.failed || self.old.marks.closing) → IsOk result }
         ensures full { IsFalse (self.old.marks.failed || self.old.marks.closing)
             → IfOk result (λ n. (n ≡ length octets.now) ⊎ (32768 < length self.new.unsent)) }
+        ensures failed { IsTrue self.old.marks.failed → answers.old.failures < u64.MAX
+            → IsErr result }
+        ensures closing { IsFalse self.old.marks.failed → IsTrue self.old.marks.closing
+            → result ≡ Ok 0 }
+        ensures marks { self.new.marks ≡ record self.old.marks {
+          writable = self.new.marks.writable;
+          failed = self.new.marks.failed;
+          write_closed = self.new.marks.write_closed;
+        } }
+        ensures writable { IsTrue self.new.marks.writable → IsTrue self.old.marks.writable }
+        ensures waits { IsTrue self.old.marks.writable → IsFalse self.new.marks.writable
+            → HasToWait (T.writes self.old.transport) (T.writes self.new.transport) }
+        ensures asks { IsFalse (self.old.marks.failed || self.old.marks.closing)
+            → IsTrue self.old.marks.writable
+            → IfOk result (λ n. (n ≡ length octets.now) ⊎ (length (T.writes self.old.transport)
+            < length (T.writes self.new.transport))) }
         ensures unread { T.given self.new.transport ≡ T.given self.old.transport }
         ensures reads { T.reads self.new.transport ≡ T.reads self.old.transport }
         ensures taken { answers.new.taken
@@ -94,6 +126,9 @@ impl<T: Transport + Drop> Connection<T> {
           writable = self.new.marks.writable;
           failed = self.new.marks.failed;
         } }
+        ensures writable { IsTrue self.new.marks.writable → IsTrue self.old.marks.writable }
+        ensures waits { IsTrue self.old.marks.writable → IsFalse self.new.marks.writable
+            → HasToWait (T.writes self.old.transport) (T.writes self.new.transport) }
     {
         let outcome = self.transport.write(self.waiting.waiting());
         if let Outcome::Moved(count) = outcome {
@@ -108,6 +143,7 @@ impl<T: Transport + Drop> Connection<T> {
         ensures shut { T.is_shut self.new.transport ≡ self.old.marks.closing }
         ensures given { T.given self.new.transport ≡ T.given self.old.transport }
         ensures reads { T.reads self.new.transport ≡ T.reads self.old.transport }
+        ensures writes { T.writes self.new.transport ≡ T.writes self.old.transport }
         ensures same { self.new ≡ record self.old {
           transport = self.new.transport;
           marks = record self.old.marks { write_closed = self.new.marks.write_closed };
@@ -137,6 +173,12 @@ impl<T: Transport + Drop> Connection<T> {
           failed = self.new.marks.failed;
           write_closed = self.new.marks.write_closed;
         } }
+        ensures writable { IsTrue self.new.marks.writable → IsTrue self.old.marks.writable }
+        ensures waits { IsTrue self.old.marks.writable → IsFalse self.new.marks.writable
+            → HasToWait (T.writes self.old.transport) (T.writes self.new.transport) }
+        ensures asks { IsFalse self.old.marks.failed → IsTrue self.old.marks.writable
+            → (self.old.unsent ≡ []) ⊎ (length (T.writes self.old.transport)
+            < length (T.writes self.new.transport)) }
     {
         for _ in 0..u64::MAX {
             if self.marks.failed {
@@ -165,6 +207,20 @@ impl<T: Transport + Drop> Connection<T> {
         ensures accepted { self.new.accepted ≡ self.old.accepted }
         ensures all { result ≡ Flushed.All → T.is_shut self.new.transport ≡ true }
         ensures failed { (result ≡ Flushed.Failed) ↔ IsTrue self.new.marks.failed }
+        ensures part { result ≡ Flushed.Part → IsFalse self.new.marks.writable
+            ⊎ (length (T.writes self.old.transport) + u64.MAX
+            ≤ length (T.writes self.new.transport)) }
+        ensures given { T.given self.new.transport ≡ T.given self.old.transport }
+        ensures reads { T.reads self.new.transport ≡ T.reads self.old.transport }
+        ensures marks { self.new.marks ≡ record self.old.marks {
+          closing = true;
+          writable = self.new.marks.writable;
+          failed = self.new.marks.failed;
+          write_closed = self.new.marks.write_closed;
+        } }
+        ensures writable { IsTrue self.new.marks.writable → IsTrue self.old.marks.writable }
+        ensures waits { IsTrue self.old.marks.writable → IsFalse self.new.marks.writable
+            → HasToWait (T.writes self.old.transport) (T.writes self.new.transport) }
     {
         self.marks.closing = true;
         self.flush()

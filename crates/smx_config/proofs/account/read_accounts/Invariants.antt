@@ -1,6 +1,6 @@
 use Rattle.std.proofs.Common.{◌≡◌, ◌≢◌, [], length, drop, AllPairs}
 use Rattle.toml.specs.View.{items_view}
-use Rattle.smx_config.specs.Reading.{stated_after, account_in}
+use Rattle.smx_config.specs.Settings.{stated_after, account_in}
 use Rattle.smx_config.proofs.account.read_accounts.Given as goal
 
 abbrev pub invariant-loop-value : goal.invariant-loop-value

@@ -5,7 +5,7 @@ use Rattle.std.proofs.lemmas.List.Elements.{All-push}
 use Rattle.std.proofs.lemmas.List.Quantifiers.{all_pairs_push}
 use Rattle.smx_config.specs.declared.text.Text.TheVariants.{Prefix}
 use Rattle.smx_config.specs.Keys.{is_text}
-use Rattle.smx_config.specs.Reading.{prefix_in}
+use Rattle.smx_config.specs.Settings.{prefix_in}
 use Rattle.smx_config.proofs.Items.{prefixes_of-few, prefixes_of-long, stated_after-next}
 use Rattle.smx_config.proofs.account.read_prefixes.Goals as goal
 

@@ -2,7 +2,7 @@ use Rattle.std.proofs.Common.{◌≡◌, ◌≢◌, [], length, drop, map, strin
 use Rattle.toml.specs.View.{items_view}
 use Rattle.smx_config.specs.declared.text.Text.TheVariants.{Prefix}
 use Rattle.smx_config.specs.Keys.{is_text}
-use Rattle.smx_config.specs.Reading.{stated_after, prefix_in}
+use Rattle.smx_config.specs.Settings.{stated_after, prefix_in}
 use Rattle.smx_config.proofs.account.read_prefixes.Given as goal
 
 abbrev pub invariant-loop-value : goal.invariant-loop-value

@@ -1,6 +1,6 @@
 use Rattle.std.proofs.Common.{◌≡◌, drop}
 use Rattle.toml.specs.View.{items_view}
-use Rattle.smx_config.specs.Reading.{are_tables}
+use Rattle.smx_config.specs.Settings.{are_tables}
 use Rattle.smx_config.proofs.table.are_tables.Given as goal
 
 abbrev pub invariant-loop-value : goal.invariant-loop-value

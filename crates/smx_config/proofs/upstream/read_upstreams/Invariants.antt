@@ -1,6 +1,6 @@
 use Rattle.std.proofs.Common.{◌≡◌, [], length, drop}
 use Rattle.toml.specs.View.{items_view}
-use Rattle.smx_config.specs.Reading.{stated_after, upstream_in}
+use Rattle.smx_config.specs.Settings.{stated_after, upstream_in}
 use Rattle.smx_config.proofs.upstream.read_upstreams.Given as goal
 
 abbrev pub invariant-loop-value : goal.invariant-loop-value

@@ -1,4 +1,4 @@
-use Rattle.std.proofs.Common.{◌≡◌, ℕ, List, sym, subst, refl}
+use Rattle.std.proofs.Common.{ℕ, List, sym, subst, refl}
 use Rattle.smx_box.specs.Boxes.{Sending, LookServes}
 use Rattle.smx_session.specs.declared.up_act.UpAct.TheVariants as act
 use Rattle.smx_turns.specs.declared.mo_item.MoItem.{MoItem}

@@ -13,7 +13,7 @@ invariant-loop-turn g l = record {
   lock : slice_get l.fn.at l.worker.stand.tap.lane ≡ Some l.worker.stand.tap.front.lock;
   first : l.worker.first ≡ l.fn.worker.first;
   ends : l.worker.ends ≡ l.fn.worker.ends ++ worked_turns l._turn [];
-  clocked : (moments : List ℕ) × Runs (TurnsAt (λ a now b. goal.C-step g a now b) g.L.Link.polls g.L.Link.offered g.L.Link.failures)
+  clocked : (moments : List ℕ) × Runs (TurnsAt (λ a now b. goal.C-step g a now b) g.L.Link.offered g.L.Link.polls g.L.Link.failures)
       (timing l.initial.clock (g.G.Gate.asked l.fn.gate) (g.G.Gate.told l.fn.gate) (g.D.Directory.queries l.fn.directory) l.fn.worker)
       moments
       (timing l.clock (g.G.Gate.asked l.gate) (g.G.Gate.told l.gate) (g.D.Directory.queries l.directory) l.worker);

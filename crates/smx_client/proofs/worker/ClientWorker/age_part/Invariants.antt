@@ -1,6 +1,5 @@
-use Rattle.std.proofs.Common.{◌≡◌, ◌≢◌, ℕ, List, length, None}
+use Rattle.std.proofs.Common.{◌≡◌, ℕ, List, length, None}
 use Rattle.smx_turns.specs.declared.directory.Query.{Query}
-use Rattle.smx_client.specs.declared.mark.Stage.TheVariants.{Closed}
 use Rattle.smx_client.specs.Scenes.{scene_of}
 use Rattle.smx_client.specs.Table.{Before, phase_of, when_nothing, Ageing}
 use Rattle.smx_client.specs.Turns.{Leads}
@@ -9,7 +8,6 @@ use Rattle.smx_client.proofs.worker.ClientWorker.age_part.Given as goal
 abbrev pub invariant-loop-reply : goal.invariant-loop-reply
 invariant-loop-reply g l = record {
   parked : l.self.parked ≡ None;
-  going : l.self.stage ≢ Closed;
   same : l.self ≡ record l.fn.self {
     senders = l.self.senders;
     window = l.self.window;

@@ -1,12 +1,10 @@
 use Rattle.std.proofs.Common.{◌≡◌, ◌-◌, length}
-use Rattle.smx_shared.specs.Views.{locks_of}
 use Rattle.smx_client.specs.Scenes.{Moves}
 use Rattle.smx_client.specs.Table.{Before, phase_of, MayCollect}
 use Rattle.smx_client.proofs.worker.ClientWorker.collect_lane.Given as goal
 
 abbrev pub invariant-loop-log : goal.invariant-loop-log
 invariant-loop-log g l = record {
-  locks : locks_of l.self.port.fronts ≡ locks_of l.fn.self.port.fronts;
   same : l.self ≡ record l.fn.self {
     port = l.self.port;
     wire = record l.fn.self.wire { said = l.self.wire.said; unsent = l.self.wire.unsent; room = l.self.wire.room };

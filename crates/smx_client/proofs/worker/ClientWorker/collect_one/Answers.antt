@@ -2,22 +2,23 @@ use Rattle.std.proofs.Common.{◌<◌, ◌++◌, length, refl, sym, ap, ◌∙�
 use Rattle.std.proofs.lemmas.List.{append-nil}
 use Rattle.smx_link.specs.Wiring.{Wiring, spellings}
 use Rattle.smx_client.specs.declared.event.Event.TheVariants.{Collected}
-use Rattle.smx_client.specs.Events.{response_out}
+use Rattle.smx_client.specs.Events.{response_out, worth}
 use Rattle.smx_client.specs.Table.{IsCollectedFrom}
 use Rattle.smx_client.proofs.Cells.{collects}
 use Rattle.smx_client.proofs.Doings.{collected}
 use Rattle.smx_client.proofs.Lengthening.{lengthens}
-use Rattle.smx_client.proofs.Scenes.{happens}
+use Rattle.smx_turns.proofs.Scenes.{happens}
 use Rattle.smx_turns.proofs.Breaking.{stays_bad}
 use Rattle.smx_client.proofs.Serving.{did, as_below, as_closed}
 use Rattle.smx_client.proofs.Settling.{still}
 use Rattle.smx_client.proofs.Bindings.{going}
+use Rattle.smx_client.specs.Parts.{Does}
 use Rattle.smx_client.proofs.worker.ClientWorker.collect_one.Goals as goal
 
 pub invariant_of-self : goal.invariant_of-self
 invariant_of-self g c =
     let e = c.say_found-none.ensures.spoke.same in
-    did g.L.Link.polls _ _ (Collected c.args.lane c.of.result) c.self.invariant (ap (λ w. w.link) e) (ap (λ w. w.start) e) refl refl c.note.ensures.events (going _ _ refl) refl (ap (λ w. w.heard) e) refl
+    did g.L.Link.polls _ _ (Collected c.args.lane c.of.result) c.self.invariant (ap (λ w. w.link) e) (ap (λ w. w.start) e) refl refl c.collect-found.ensures.locks c.note.ensures.events (going _ _ refl) refl (ap (λ w. w.heard) e) refl
     (collected _ _ _ _ _ _ _ _ _ _ _ _ c.of.result c.of.ensures c.say_found-none.ensures.spoke.said (c.collect-found.ensures.served, c.collect-found.ensures.same) c.collect-found.ensures.listed)
     (still _ _ _ _ (ap (λ (w : Wiring g.row.L.Denot). w.rest) e) c.self.invariant.settled)
     (stays_bad refl (ap (λ (w : Wiring g.row.L.Denot). w.failed) e) (ap (λ (w : Wiring g.row.L.Denot). w.rest) e))
@@ -26,9 +27,9 @@ invariant_of-self g c =
 pub returns-clause-moves : goal.returns-clause-moves
 returns-clause-moves g c = rw (← c.self.view_is) (λ n asked told queries base was.
     let s = c.self.inside in
-    c.note.ensures.leads n _ _ (happens g.L.Link.offered g.L.Link.polls g.L.Link.failures asked asked told told queries _ _ _ _ _ _ _ _ (Collected c.args.lane c.of.result) (as_below _ _ c.self.view_is c.requires.below)
+    c.note.ensures.leads n _ _ (as_below _ _ c.self.view_is c.requires.below) (happens g.L.Link.offered g.L.Link.polls g.L.Link.failures Does worth asked asked told told queries queries _ _ _ _ _ _ _ _ (Collected c.args.lane c.of.result)
     (collected _ _ _ _ _ _ _ _ _ _ _ _ c.of.result c.of.ensures c.say_found-none.ensures.spoke.said (c.collect-found.ensures.served, c.collect-found.ensures.same) c.collect-found.ensures.listed)
-    refl (sym (append-nil told)) c.note.ensures.events (c.say_found-none.ensures.spoke.unsent ∙ ap (λ r. s.wire.unsent ++ spellings (response_out r)) (sym c.of.ensures))
+    refl (sym (append-nil told)) (sym (append-nil queries)) c.note.ensures.events (c.say_found-none.ensures.spoke.unsent ∙ ap (λ r. s.wire.unsent ++ spellings (response_out r)) (sym c.of.ensures))
     (ap (λ w. w.link) c.say_found-none.ensures.spoke.same)) base was)
 
 pub returns-clause-phase : goal.returns-clause-phase

@@ -1,5 +1,4 @@
 use Rattle.std.proofs.Common.{◌≡◌, List}
-use Rattle.smx_shared.specs.Views.{locks_of}
 use Rattle.smx_turns.specs.declared.directory.Query.{Query}
 use Rattle.smx_client.specs.Scenes.{scene_of}
 use Rattle.smx_client.specs.Table.{Before, phase_of, AtLane}
@@ -8,7 +7,6 @@ use Rattle.smx_client.proofs.worker.ClientWorker.collect_part.Given as goal
 
 abbrev pub invariant-loop-lane : goal.invariant-loop-lane
 invariant-loop-lane g l = record {
-  locks : locks_of l.self.port.fronts ≡ locks_of l.fn.self.port.fronts;
   same : l.self ≡ record l.fn.self {
     port = l.self.port;
     wire = record l.fn.self.wire { said = l.self.wire.said; unsent = l.self.wire.unsent; room = l.self.wire.room };

@@ -1,6 +1,5 @@
 use Rattle.std.proofs.Common.{◌≡◌, ◌≢◌, None}
-use Rattle.smx_shared.specs.Views.{locks_of}
-use Rattle.smx_client.specs.declared.mark.Stage.TheVariants.{Closed}
+use Rattle.smx_client.specs.declared.stage.Stage.TheVariants.{Closed}
 use Rattle.smx_client.specs.Scenes.{scene_of}
 use Rattle.smx_client.specs.Table.{Before, phase_of, Deciding, weight}
 use Rattle.smx_client.specs.Turns.{Leads}
@@ -8,7 +7,6 @@ use Rattle.smx_client.proofs.worker.ClientWorker.decide_part.Given as goal
 
 abbrev pub invariant-loop-log : goal.invariant-loop-log
 invariant-loop-log g l = record {
-  locks : locks_of l.self.port.fronts ≡ locks_of l.fn.self.port.fronts;
   parked : l.self.parked ≡ None;
   going : l.self.stage ≢ Closed;
   failed : l.self.wire.failed ≡ None;

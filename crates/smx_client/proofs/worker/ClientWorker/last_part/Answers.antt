@@ -1,4 +1,4 @@
-use Rattle.std.proofs.Common.{ap, ◌∙◌, Ok}
+use Rattle.std.proofs.Common.{ap, ◌∙◌}
 use Rattle.smx_client.specs.Table.{Closing}
 use Rattle.smx_client.proofs.Cells as cell
 use Rattle.smx_client.proofs.worker.ClientWorker.last_part.Goals as goal
@@ -8,4 +8,4 @@ returns-in-Err-clause-phase g c = λ t was. (cell.write_fails t Closing _ _ (cel
 
 pub returns-in-Ok-clause-phase : goal.returns-in-Ok-clause-phase
 returns-in-Ok-clause-phase g c = λ t was.
-    cell.last_ends t _ c.in-Ok.left _ _ _ _ _ _ _ _ (ap (λ w. w.stage) c.in-Ok.ensures.same ∙ c.requires.stage) c.last_end.ensures (c.in-Ok.ensures.phase t Closing was) (λ e. c.in-Ok.ensures.some (ap Ok e)) (λ e. c.in-Ok.ensures.none (ap Ok e))
+    cell.last_ends t _ c.in-Ok.left _ _ _ _ _ _ _ _ (ap (λ w. w.stage) c.in-Ok.ensures.same ∙ c.requires.stage) c.last_end.ensures (c.in-Ok.ensures.phase t Closing was) c.in-Ok.ensures.left

@@ -9,7 +9,7 @@ use Rattle.smx_turns.proofs.Breaking.{unbroken}
 use Rattle.smx_turns.proofs.Wires.{ended_by}
 use Rattle.smx_client.specs.Events.{worth}
 use Rattle.smx_client.proofs.Cells as cell
-use Rattle.smx_client.proofs.Scenes.{reads}
+use Rattle.smx_turns.proofs.Scenes.{reads}
 use Rattle.smx_client.proofs.worker.ClientWorker.read_part.Goals as goal
 
 pub returns-then-not-ask-clause-phase : goal.returns-then-not-ask-clause-phase
@@ -64,6 +64,7 @@ invariant_of-self-in-Ok g c =
       heard = search rules;
       runs = search rules;
       settled = search rules;
+      locks = search rules;
       over = search rules;
       turned_away = search rules;
       broken = unbroken worth c.self.inside.wire c.read-answer.new.self _ (ap (λ (w : Serving g.row.L.Denot). w.wire.failed) c.self.view_is ∙ c.requires.goes_on) c.self.invariant.broken;
@@ -77,6 +78,7 @@ invariant_of-self-in-Err g c = record {
   heard = search rules;
   runs = search rules;
   settled = search rules;
+  locks = search rules;
   over = search rules;
   turned_away = search rules;
   broken = unbroken worth c.self.inside.wire c.read-answer.new.self _ (ap (λ (w : Serving g.row.L.Denot). w.wire.failed) c.self.view_is ∙ c.requires.goes_on) c.self.invariant.broken;

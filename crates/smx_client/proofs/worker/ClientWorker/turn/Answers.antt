@@ -3,18 +3,21 @@ use Rattle.smx_frame.specs.Stream.{HasNone}
 use Rattle.smx_client.specs.Scenes.{before, scene_of}
 use Rattle.smx_client.specs.Serving.{Serving}
 use Rattle.smx_client.specs.Table.{phase_of, Stands}
-use Rattle.smx_client.specs.Turns.{Changes}
+use Rattle.smx_client.specs.Events.{worth}
+use Rattle.smx_client.specs.Parts.{Does}
+use Rattle.smx_client.specs.Turns.{May, Changes}
 use Rattle.smx_client.proofs.Cells.{phase_first}
-use Rattle.smx_client.proofs.Scenes.{nothing_yet}
+use Rattle.smx_turns.proofs.Scenes.{nothing_yet, changes_as}
 use Rattle.smx_client.proofs.Settling.{reads_settled}
-use Rattle.smx_client.proofs.Filters.{all_asks, all_tells, all_events, all_runs, all_polls, all_faults, offered_first, is_begun, is_right, changes_as, ends_as, stands_as}
+use Rattle.smx_turns.proofs.Filters.{all_asks, all_tells, all_events, all_runs, all_polls, all_faults}
+use Rattle.smx_client.proofs.Filters.{offered_first, is_begun, is_right, ends_as, stands_as}
 use Rattle.smx_client.proofs.worker.ClientWorker.turn.Goals as goal
 
 pub returns-clause-changes : goal.returns-clause-changes
-returns-clause-changes g c = changes_as _ _ _ _ _ c.into_steps-self-inside.ensures
+returns-clause-changes g c = changes_as Does worth May _ _ _ _ _ c.into_steps-self-inside.ensures
     (subst (λ (w : Serving g.row.L.Denot). Changes c.after-turn.result (scene_of g.L.Link.offered g.L.Link.polls g.L.Link.failures (g.G.Gate.asked c.args.gate.now) (g.G.Gate.told c.args.gate.now) (g.D.Directory.queries c.args.directory.now) c.args.self.now)
     c.run_turn-end.new.log (scene_of g.L.Link.offered g.L.Link.polls g.L.Link.failures (g.G.Gate.asked c.run_turn-end.new.gate) (g.G.Gate.told c.run_turn-end.new.gate) (g.D.Directory.queries c.run_turn-end.new.directory) w))
-    (sym c.self-2.view_is) (c.run_turn-end.ensures.leads _ (nothing_yet _ _ _ c.new-log.ensures)))
+    (sym c.self-2.view_is) (c.run_turn-end.ensures.leads _ (nothing_yet Does worth May _ _ _ c.new-log.ensures)))
 
 pub returns-clause-order : goal.returns-clause-order
 returns-clause-order g c = ends_as _ _ _ _ c.into_steps-self-inside.ensures (c.run_turn-end.ensures.phase _ refl (phase_first _ _ c.new-log.ensures)).0
@@ -30,22 +33,22 @@ returns-clause-settled g c = λ some.
     (reads_settled _ _ _ _ (returns-clause-order g c) some)
 
 pub returns-clause-asks : goal.returns-clause-asks
-returns-clause-asks g c = all_asks _ _ _ _ (returns-clause-changes g c)
+returns-clause-asks g c = all_asks Does worth May _ _ _ _ (returns-clause-changes g c)
 
 pub returns-clause-told : goal.returns-clause-told
-returns-clause-told g c = all_tells _ _ _ _ (returns-clause-changes g c)
+returns-clause-told g c = all_tells Does worth May _ _ _ _ (returns-clause-changes g c)
 
 pub returns-clause-events : goal.returns-clause-events
-returns-clause-events g c = all_events _ _ _ _ (returns-clause-changes g c)
+returns-clause-events g c = all_events Does worth May _ _ _ _ (returns-clause-changes g c)
 
 pub returns-clause-runs : goal.returns-clause-runs
-returns-clause-runs g c = all_runs _ _ _ _ (returns-clause-changes g c)
+returns-clause-runs g c = all_runs Does worth May _ _ _ _ (returns-clause-changes g c)
 
 pub returns-clause-reads : goal.returns-clause-reads
-returns-clause-reads g c = all_polls _ _ _ _ (returns-clause-changes g c)
+returns-clause-reads g c = all_polls Does worth May _ _ _ _ (returns-clause-changes g c)
 
 pub returns-clause-failures : goal.returns-clause-failures
-returns-clause-failures g c = all_faults _ _ _ _ (returns-clause-changes g c)
+returns-clause-failures g c = all_faults Does worth May _ _ _ _ (returns-clause-changes g c)
 
 pub returns-clause-offered : goal.returns-clause-offered
 returns-clause-offered g c =

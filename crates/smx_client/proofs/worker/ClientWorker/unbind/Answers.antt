@@ -11,7 +11,7 @@ use Rattle.smx_client.proofs.worker.ClientWorker.unbind.Goals as goal
 pub invariant_of-self : goal.invariant_of-self
 invariant_of-self g c =
     let e = c.say_some.ensures.same in
-    did g.L.Link.polls _ _ (Unbound c.of.result) c.self.invariant (ap (λ w. w.link) e) (ap (λ w. w.start) e) refl refl c.and-self-inside.ensures (going _ _ refl) refl (ap (λ w. w.heard) e) refl
+    did g.L.Link.polls _ _ (Unbound c.of.result) c.self.invariant (ap (λ w. w.link) e) (ap (λ w. w.start) e) refl refl refl c.and-self-inside.ensures (going _ _ refl) refl (ap (λ w. w.heard) e) refl
     (doing.unbound _ _ _ _ _ _ _ _ _ _ _ c.of.result c.of.ensures c.stop-unbind.ensures.unbind c.stop-unbind.ensures.session c.say_some.ensures.said)
     (still _ _ _ _ (ap (λ (w : Wiring g.row.L.Denot). w.rest) e) c.self.invariant.settled)
     (stays_bad refl (ap (λ (w : Wiring g.row.L.Denot). w.failed) e) (ap (λ (w : Wiring g.row.L.Denot). w.rest) e))

@@ -3,7 +3,7 @@ use Rattle.smx_shared.specs.Views.{locks_of}
 use Rattle.smx_turns.specs.declared.end.TurnEnd.{TurnEnd}
 use Rattle.smx_turns.specs.declared.end.Fault.{Fault}
 use Rattle.smx_turns.specs.Runs.{Runs, RunsOn}
-use Rattle.smx_client.specs.declared.mark.Stage.TheVariants.{Closed}
+use Rattle.smx_client.specs.declared.stage.Stage.TheVariants.{Closed}
 use Rattle.smx_client.specs.Courses.{course, TurnsSo}
 use Rattle.smx_client.specs.Parts.{Does}
 use Rattle.smx_turns.specs.Rounds.{worked_turns}

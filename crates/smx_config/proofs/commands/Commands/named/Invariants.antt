@@ -1,7 +1,7 @@
 use Rattle.std.proofs.Common.{◌≡◌, drop}
 use Rattle.toml.specs.View.{items_view}
 use Rattle.smx_config.specs.Choices.{no_commands}
-use Rattle.smx_config.specs.Reading.{commands_after}
+use Rattle.smx_config.specs.Settings.{commands_after}
 use Rattle.smx_config.proofs.commands.Commands.named.Given as goal
 
 abbrev pub invariant-loop-value : goal.invariant-loop-value

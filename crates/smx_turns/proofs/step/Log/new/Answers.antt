@@ -5,4 +5,4 @@ use Rattle.smx_turns.proofs.step.Log.new.Goals as goal
 
 pub invariant_of-result : goal.invariant_of-result
 invariant_of-result g c =
-    quiet_none g.M.Deed.is_quiet g.E.Deed.is_quiet ∙ sym (ap (are_quiet g.M.Deed.is_quiet g.E.Deed.is_quiet) c.new.ensures)
+    quiet_none g.E.Deed.is_quiet ∙ sym (ap (are_quiet g.E.Deed.is_quiet) c.new.ensures)

@@ -1,8 +1,8 @@
 use Rattle.std.proofs.Common.{rules, refl, sym, ap, ◌∙◌}
 use Rattle.smx_turns.specs.declared.step.Step.TheVariants.{Marked}
-use Rattle.smx_upstream.specs.declared.mark.Mark.TheVariants.{Full}
+use Rattle.smx_turns.specs.declared.mark.Mark.TheVariants.{Full}
 use Rattle.smx_upstream.specs.Phases.{Deciding, when_next, source_of}
-use Rattle.smx_upstream.proofs.Eventful.{goes_mark, goes_then}
+use Rattle.smx_upstream.proofs.Eventful.{goes_by, goes_then}
 use Rattle.smx_upstream.proofs.Cells.{stepped, cell_brim, leads_err, more_of, ended_of}
 use Rattle.smx_upstream.proofs.worker.UpstreamWorker.decide_all.Goals as goal
 
@@ -12,13 +12,12 @@ returns-then-unsent-ge-MAX_PDU-clause-phase g c = λ t same was.
 
 pub returns-then-unsent-ge-MAX_PDU-clause-goes : goal.returns-then-unsent-ge-MAX_PDU-clause-goes
 returns-then-unsent-ge-MAX_PDU-clause-goes g c = λ turn.
-    goes_then turn _ _ _ _ _ _ (c.loop-self.invariant.goes turn) (goes_mark turn _ _ _ _ Full c.push.ensures refl (let h = c.unsent.ensures in let k = c.if-unsent-ge-MAX_PDU.true in (search rules), refl))
+    goes_then turn _ _ _ _ _ _ (c.loop-self.invariant.goes turn) (goes_by turn _ _ _ _ (Marked Full) c.push.ensures tt (let h = c.unsent.ensures in let k = c.if-unsent-ge-MAX_PDU.true in (search rules), refl))
 
 pub loop-self-preserved : goal.loop-self-preserved
 loop-self-preserved g c = record {
   held = search rules;
   on = search rules;
-  lock = search rules;
   link = search rules;
   turns = search rules;
   first = search rules;
@@ -31,7 +30,6 @@ pub loop-self-preserved-in-More : goal.loop-self-preserved-in-More
 loop-self-preserved-in-More g c = record {
   held = search rules;
   on = search rules;
-  lock = search rules;
   link = search rules;
   turns = search rules;
   first = search rules;

@@ -15,6 +15,7 @@ invariant_of-self g c =
     (gave_does _ _ c.lose-lost.new.tap c.lose-lost.result c.give_up_queued-abandoned.result given c.lane-lane.ensures c.of.ensures c.of-between.ensures c.of-2.ensures
     c.lose-lost.ensures.loses c.give_up_queued-abandoned.ensures.rounds (c.give_up_queued-abandoned.ensures.lock.0 ∙ c.lose-lost.ensures.lock.0) refl)
     c.self.invariant.goes_on (goes_on c.self.inside.ending) (stays_bad refl refl refl) refl
+    (c.give_up_queued-abandoned.ensures.lock.0 ∙ c.lose-lost.ensures.lock.0, c.give_up_queued-abandoned.ensures.lock.1 ∙ c.lose-lost.ensures.lock.1)
 
 pub returns-clause-event : goal.returns-clause-event
 returns-clause-event g c = rw (← c.self.view_is)

@@ -1,11 +1,12 @@
-use Rattle.std.proofs.Common.{refl, ap, ◌∙◌}
+use Rattle.std.proofs.Common.{refl, ap, ◌∙◌, length, not, rules}
+use Rattle.std.specs.Prelude.{◌==◌}
 use Rattle.smx_turns.specs.declared.end.Fault.TheVariants as fault
 use Rattle.smx_turns.specs.declared.step.Step.TheVariants.{Marked}
-use Rattle.smx_upstream.specs.declared.mark.Mark.TheVariants.{WriteFailed}
+use Rattle.smx_turns.specs.declared.mark.Mark.TheVariants.{WriteFailed}
 use Rattle.smx_upstream.specs.Phases.{Ready, Closing, Failed}
-use Rattle.smx_turns.specs.Wires.{has_ended as has_link_ended}
 use Rattle.smx_turns.proofs.Wires.{clear_so}
-use Rattle.smx_upstream.proofs.Eventful.{goes_mark, sides_same, writes_same}
+use Rattle.smx_turns.proofs.Scenes.{offers, write_fails}
+use Rattle.smx_upstream.proofs.Eventful.{goes_by}
 use Rattle.smx_upstream.proofs.Cells.{stepped, cell_offered, cell_closed, cell_unwritten, cell_unclosed, said_so, faulted_as}
 use Rattle.smx_upstream.proofs.worker.UpstreamWorker.offer.Goals as goal
 
@@ -17,16 +18,19 @@ returns-then-is_err-clause-closing g c = λ t was. faulted_as fault.Link _ Faile
 
 pub returns-then-is_err-clause-goes : goal.returns-then-is_err-clause-goes
 returns-then-is_err-clause-goes g c = rw (← c.self.view_is)
-    (λ turn asked told queries. goes_mark turn _ _ _ _ WriteFailed c.push.ensures (sides_same refl refl refl refl refl c.offer.ensures.polls) (writes_same refl c.offer.ensures.offered (ap has_link_ended c.offer.ensures.polls)))
+    (λ turn asked told queries. goes_by turn _ _ _ _ (Marked WriteFailed) c.push.ensures tt
+    (write_fails g.L.Link.offered g.L.Link.polls g.L.Link.failures asked told queries _ _ _ _ _ _ _ refl c.offer.ensures.offered c.offer.ensures.polls (search rules)))
 
 pub returns-clause-opening : goal.returns-clause-opening
 returns-clause-opening g c = rw (← c.self.view_is)
-    (λ t waits. stepped t _ _ _ Ready _ c.push-2.ensures (cell_offered t _ _ ∙ said_so _ _ _ _ waits c.is_clear-waited.ensures))
+    (λ t waits. stepped t _ _ _ Ready _ c.push-2.ensures (cell_offered t _ _ _ ∙ said_so _ _ _ _ waits c.is_clear-waited.ensures))
 
 pub returns-clause-closing : goal.returns-clause-closing
-returns-clause-closing g c = λ t. stepped t _ _ _ Closing _ c.push-2.ensures (cell_closed t _ _)
+returns-clause-closing g c = λ t. stepped t _ _ _ Closing _ c.push-2.ensures (cell_closed t _ _ _)
 
 pub returns-clause-goes : goal.returns-clause-goes
 returns-clause-goes g c = rw (← c.self.view_is)
-    (λ turn asked told queries. goes_mark turn _ _ _ _ _ c.push-2.ensures (sides_same refl refl refl refl refl c.offer.ensures.polls)
-    (record { some_waited = clear_so _ _ c.is_clear-waited.ensures; some_left = clear_so _ _ c.is_clear-left.ensures; same = writes_same refl c.offer.ensures.offered (ap has_link_ended c.offer.ensures.polls) }))
+    (λ turn asked told queries. goes_by turn _ _ _ _ _ c.push-2.ensures tt
+    (offers g.L.Link.offered g.L.Link.polls g.L.Link.failures asked told queries _ _ _ _ _ _ _ _ _ _ refl (clear_so _ _ c.is_clear-waited.ensures)
+    (c.differ-wrote.ensures ∙ ap (λ k. not (k == c.unsent-before.result)) c.unsent.ensures ∙ ap (λ k. not (length c.offer.new.self.unsent == k)) c.unsent-before.ensures)
+    (clear_so _ _ c.is_clear-left.ensures) c.offer.ensures.offered c.offer.ensures.polls (search rules)))

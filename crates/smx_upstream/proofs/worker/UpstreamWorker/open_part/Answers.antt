@@ -15,28 +15,28 @@ pub returns-then-is_some-clause-goes : goal.returns-then-is_some-clause-goes
 returns-then-is_some-clause-goes g c = λ turn queries. c.offer.ensures.goes turn (g.G.Gate.asked c.args.gate.now) (g.G.Gate.told c.args.gate.now) queries
 
 pub returns-in_err-make_room-clause-goes : goal.returns-in_err-make_room-clause-goes
-returns-in_err-make_room-clause-goes g c = λ turn queries. (goes_to turn _ _ _ _ _ (ap (λ w. scene_of g.L.Link.polls g.L.Link.offered (g.G.Gate.asked c.args.gate.now) (g.G.Gate.told c.args.gate.now) queries w) c.make_room.ensures.same) (c.offer.ensures.goes turn (g.G.Gate.asked c.args.gate.now) (g.G.Gate.told c.args.gate.now) queries))
+returns-in_err-make_room-clause-goes g c = λ turn queries. (goes_to turn _ _ _ _ _ (ap (λ w. scene_of g.L.Link.offered g.L.Link.polls g.L.Link.failures (g.G.Gate.asked c.args.gate.now) (g.G.Gate.told c.args.gate.now) queries w) c.make_room.ensures.same) (c.offer.ensures.goes turn (g.G.Gate.asked c.args.gate.now) (g.G.Gate.told c.args.gate.now) queries))
 
 pub returns-then-look-clause-goes : goal.returns-then-look-clause-goes
-returns-then-look-clause-goes g c = λ turn queries. (goes_then turn _ _ _ _ _ _ (goes_to turn _ _ _ _ _ (ap (λ w. scene_of g.L.Link.polls g.L.Link.offered (g.G.Gate.asked c.args.gate.now) (g.G.Gate.told c.args.gate.now) queries w) c.make_room.ensures.same) (c.offer.ensures.goes turn (g.G.Gate.asked c.args.gate.now) (g.G.Gate.told c.args.gate.now) queries)) (c.look.ensures.goes turn (g.G.Gate.asked c.args.gate.now) (g.G.Gate.told c.args.gate.now) queries))
+returns-then-look-clause-goes g c = λ turn queries. (goes_then turn _ _ _ _ _ _ (goes_to turn _ _ _ _ _ (ap (λ w. scene_of g.L.Link.offered g.L.Link.polls g.L.Link.failures (g.G.Gate.asked c.args.gate.now) (g.G.Gate.told c.args.gate.now) queries w) c.make_room.ensures.same) (c.offer.ensures.goes turn (g.G.Gate.asked c.args.gate.now) (g.G.Gate.told c.args.gate.now) queries)) (c.look.ensures.goes turn (g.G.Gate.asked c.args.gate.now) (g.G.Gate.told c.args.gate.now) queries))
 
 pub returns-in_err-renew-clause-goes : goal.returns-in_err-renew-clause-goes
-returns-in_err-renew-clause-goes g c = λ turn queries. (goes_then turn _ _ _ _ _ _ (goes_then turn _ _ _ _ _ _ (goes_to turn _ _ _ _ _ (ap (λ w. scene_of g.L.Link.polls g.L.Link.offered (g.G.Gate.asked c.args.gate.now) (g.G.Gate.told c.args.gate.now) queries w) c.make_room.ensures.same) (c.offer.ensures.goes turn (g.G.Gate.asked c.args.gate.now) (g.G.Gate.told c.args.gate.now) queries)) (c.look.ensures.goes turn (g.G.Gate.asked c.args.gate.now) (g.G.Gate.told c.args.gate.now) queries)) (c.renew.ensures.goes turn (g.G.Gate.asked c.args.gate.now) (g.G.Gate.told c.args.gate.now) queries))
+returns-in_err-renew-clause-goes g c = λ turn queries. (goes_then turn _ _ _ _ _ _ (goes_then turn _ _ _ _ _ _ (goes_to turn _ _ _ _ _ (ap (λ w. scene_of g.L.Link.offered g.L.Link.polls g.L.Link.failures (g.G.Gate.asked c.args.gate.now) (g.G.Gate.told c.args.gate.now) queries w) c.make_room.ensures.same) (c.offer.ensures.goes turn (g.G.Gate.asked c.args.gate.now) (g.G.Gate.told c.args.gate.now) queries)) (c.look.ensures.goes turn (g.G.Gate.asked c.args.gate.now) (g.G.Gate.told c.args.gate.now) queries)) (c.renew.ensures.goes turn (g.G.Gate.asked c.args.gate.now) (g.G.Gate.told c.args.gate.now) queries))
 
 pub returns-in_err-expire-clause-goes : goal.returns-in_err-expire-clause-goes
-returns-in_err-expire-clause-goes g c = λ turn queries. (goes_then turn _ _ _ _ _ _ (goes_then turn _ _ _ _ _ _ (goes_then turn _ _ _ _ _ _ (goes_to turn _ _ _ _ _ (ap (λ w. scene_of g.L.Link.polls g.L.Link.offered (g.G.Gate.asked c.args.gate.now) (g.G.Gate.told c.args.gate.now) queries w) c.make_room.ensures.same) (c.offer.ensures.goes turn (g.G.Gate.asked c.args.gate.now) (g.G.Gate.told c.args.gate.now) queries)) (c.look.ensures.goes turn (g.G.Gate.asked c.args.gate.now) (g.G.Gate.told c.args.gate.now) queries)) (c.renew.ensures.goes turn (g.G.Gate.asked c.args.gate.now) (g.G.Gate.told c.args.gate.now) queries)) (c.expire.ensures.goes turn queries))
+returns-in_err-expire-clause-goes g c = λ turn queries. (goes_then turn _ _ _ _ _ _ (goes_then turn _ _ _ _ _ _ (goes_then turn _ _ _ _ _ _ (goes_to turn _ _ _ _ _ (ap (λ w. scene_of g.L.Link.offered g.L.Link.polls g.L.Link.failures (g.G.Gate.asked c.args.gate.now) (g.G.Gate.told c.args.gate.now) queries w) c.make_room.ensures.same) (c.offer.ensures.goes turn (g.G.Gate.asked c.args.gate.now) (g.G.Gate.told c.args.gate.now) queries)) (c.look.ensures.goes turn (g.G.Gate.asked c.args.gate.now) (g.G.Gate.told c.args.gate.now) queries)) (c.renew.ensures.goes turn (g.G.Gate.asked c.args.gate.now) (g.G.Gate.told c.args.gate.now) queries)) (c.expire.ensures.goes turn queries))
 
 pub returns-then-left-clause-goes : goal.returns-then-left-clause-goes
-returns-then-left-clause-goes g c = λ turn queries. (goes_then turn _ _ _ _ _ _ (goes_then turn _ _ _ _ _ _ (goes_then turn _ _ _ _ _ _ (goes_to turn _ _ _ _ _ (ap (λ w. scene_of g.L.Link.polls g.L.Link.offered (g.G.Gate.asked c.args.gate.now) (g.G.Gate.told c.args.gate.now) queries w) c.make_room.ensures.same) (c.offer.ensures.goes turn (g.G.Gate.asked c.args.gate.now) (g.G.Gate.told c.args.gate.now) queries)) (c.look.ensures.goes turn (g.G.Gate.asked c.args.gate.now) (g.G.Gate.told c.args.gate.now) queries)) (c.renew.ensures.goes turn (g.G.Gate.asked c.args.gate.now) (g.G.Gate.told c.args.gate.now) queries)) (c.expire.ensures.goes turn queries))
+returns-then-left-clause-goes g c = λ turn queries. (goes_then turn _ _ _ _ _ _ (goes_then turn _ _ _ _ _ _ (goes_then turn _ _ _ _ _ _ (goes_to turn _ _ _ _ _ (ap (λ w. scene_of g.L.Link.offered g.L.Link.polls g.L.Link.failures (g.G.Gate.asked c.args.gate.now) (g.G.Gate.told c.args.gate.now) queries w) c.make_room.ensures.same) (c.offer.ensures.goes turn (g.G.Gate.asked c.args.gate.now) (g.G.Gate.told c.args.gate.now) queries)) (c.look.ensures.goes turn (g.G.Gate.asked c.args.gate.now) (g.G.Gate.told c.args.gate.now) queries)) (c.renew.ensures.goes turn (g.G.Gate.asked c.args.gate.now) (g.G.Gate.told c.args.gate.now) queries)) (c.expire.ensures.goes turn queries))
 
 pub returns-in_err-make_room-2-clause-goes : goal.returns-in_err-make_room-2-clause-goes
-returns-in_err-make_room-2-clause-goes g c = λ turn queries. (goes_to turn _ _ _ _ _ (ap (λ w. scene_of g.L.Link.polls g.L.Link.offered (g.G.Gate.asked c.args.gate.now) (g.G.Gate.told c.args.gate.now) queries w) c.make_room-2.ensures.same) (goes_then turn _ _ _ _ _ _ (goes_then turn _ _ _ _ _ _ (goes_to turn _ _ _ _ _ (ap (λ w. scene_of g.L.Link.polls g.L.Link.offered (g.G.Gate.asked c.args.gate.now) (g.G.Gate.told c.args.gate.now) queries w) c.make_room.ensures.same) (c.offer.ensures.goes turn (g.G.Gate.asked c.args.gate.now) (g.G.Gate.told c.args.gate.now) queries)) (c.look.ensures.goes turn (g.G.Gate.asked c.args.gate.now) (g.G.Gate.told c.args.gate.now) queries)) (c.renew.ensures.goes turn (g.G.Gate.asked c.args.gate.now) (g.G.Gate.told c.args.gate.now) queries)))
+returns-in_err-make_room-2-clause-goes g c = λ turn queries. (goes_to turn _ _ _ _ _ (ap (λ w. scene_of g.L.Link.offered g.L.Link.polls g.L.Link.failures (g.G.Gate.asked c.args.gate.now) (g.G.Gate.told c.args.gate.now) queries w) c.make_room-2.ensures.same) (goes_then turn _ _ _ _ _ _ (goes_then turn _ _ _ _ _ _ (goes_to turn _ _ _ _ _ (ap (λ w. scene_of g.L.Link.offered g.L.Link.polls g.L.Link.failures (g.G.Gate.asked c.args.gate.now) (g.G.Gate.told c.args.gate.now) queries w) c.make_room.ensures.same) (c.offer.ensures.goes turn (g.G.Gate.asked c.args.gate.now) (g.G.Gate.told c.args.gate.now) queries)) (c.look.ensures.goes turn (g.G.Gate.asked c.args.gate.now) (g.G.Gate.told c.args.gate.now) queries)) (c.renew.ensures.goes turn (g.G.Gate.asked c.args.gate.now) (g.G.Gate.told c.args.gate.now) queries)))
 
 pub returns-in_err-seek-clause-goes : goal.returns-in_err-seek-clause-goes
-returns-in_err-seek-clause-goes g c = λ turn queries. (goes_then turn _ _ _ _ _ _ (goes_to turn _ _ _ _ _ (ap (λ w. scene_of g.L.Link.polls g.L.Link.offered (g.G.Gate.asked c.args.gate.now) (g.G.Gate.told c.args.gate.now) queries w) c.make_room-2.ensures.same) (goes_then turn _ _ _ _ _ _ (goes_then turn _ _ _ _ _ _ (goes_to turn _ _ _ _ _ (ap (λ w. scene_of g.L.Link.polls g.L.Link.offered (g.G.Gate.asked c.args.gate.now) (g.G.Gate.told c.args.gate.now) queries w) c.make_room.ensures.same) (c.offer.ensures.goes turn (g.G.Gate.asked c.args.gate.now) (g.G.Gate.told c.args.gate.now) queries)) (c.look.ensures.goes turn (g.G.Gate.asked c.args.gate.now) (g.G.Gate.told c.args.gate.now) queries)) (c.renew.ensures.goes turn (g.G.Gate.asked c.args.gate.now) (g.G.Gate.told c.args.gate.now) queries))) (c.seek.ensures.goes turn (g.G.Gate.asked c.args.gate.now) (g.G.Gate.told c.args.gate.now) queries))
+returns-in_err-seek-clause-goes g c = λ turn queries. (goes_then turn _ _ _ _ _ _ (goes_to turn _ _ _ _ _ (ap (λ w. scene_of g.L.Link.offered g.L.Link.polls g.L.Link.failures (g.G.Gate.asked c.args.gate.now) (g.G.Gate.told c.args.gate.now) queries w) c.make_room-2.ensures.same) (goes_then turn _ _ _ _ _ _ (goes_then turn _ _ _ _ _ _ (goes_to turn _ _ _ _ _ (ap (λ w. scene_of g.L.Link.offered g.L.Link.polls g.L.Link.failures (g.G.Gate.asked c.args.gate.now) (g.G.Gate.told c.args.gate.now) queries w) c.make_room.ensures.same) (c.offer.ensures.goes turn (g.G.Gate.asked c.args.gate.now) (g.G.Gate.told c.args.gate.now) queries)) (c.look.ensures.goes turn (g.G.Gate.asked c.args.gate.now) (g.G.Gate.told c.args.gate.now) queries)) (c.renew.ensures.goes turn (g.G.Gate.asked c.args.gate.now) (g.G.Gate.told c.args.gate.now) queries))) (c.seek.ensures.goes turn (g.G.Gate.asked c.args.gate.now) (g.G.Gate.told c.args.gate.now) queries))
 
 pub returns-clause-goes : goal.returns-clause-goes
-returns-clause-goes g c = λ turn queries. (goes_then turn _ _ _ _ _ _ (goes_to turn _ _ _ _ _ (ap (λ w. scene_of g.L.Link.polls g.L.Link.offered (g.G.Gate.asked c.args.gate.now) (g.G.Gate.told c.args.gate.now) queries w) c.make_room-2.ensures.same) (goes_then turn _ _ _ _ _ _ (goes_then turn _ _ _ _ _ _ (goes_to turn _ _ _ _ _ (ap (λ w. scene_of g.L.Link.polls g.L.Link.offered (g.G.Gate.asked c.args.gate.now) (g.G.Gate.told c.args.gate.now) queries w) c.make_room.ensures.same) (c.offer.ensures.goes turn (g.G.Gate.asked c.args.gate.now) (g.G.Gate.told c.args.gate.now) queries)) (c.look.ensures.goes turn (g.G.Gate.asked c.args.gate.now) (g.G.Gate.told c.args.gate.now) queries)) (c.renew.ensures.goes turn (g.G.Gate.asked c.args.gate.now) (g.G.Gate.told c.args.gate.now) queries))) (c.seek.ensures.goes turn (g.G.Gate.asked c.args.gate.now) (g.G.Gate.told c.args.gate.now) queries))
+returns-clause-goes g c = λ turn queries. (goes_then turn _ _ _ _ _ _ (goes_to turn _ _ _ _ _ (ap (λ w. scene_of g.L.Link.offered g.L.Link.polls g.L.Link.failures (g.G.Gate.asked c.args.gate.now) (g.G.Gate.told c.args.gate.now) queries w) c.make_room-2.ensures.same) (goes_then turn _ _ _ _ _ _ (goes_then turn _ _ _ _ _ _ (goes_to turn _ _ _ _ _ (ap (λ w. scene_of g.L.Link.offered g.L.Link.polls g.L.Link.failures (g.G.Gate.asked c.args.gate.now) (g.G.Gate.told c.args.gate.now) queries w) c.make_room.ensures.same) (c.offer.ensures.goes turn (g.G.Gate.asked c.args.gate.now) (g.G.Gate.told c.args.gate.now) queries)) (c.look.ensures.goes turn (g.G.Gate.asked c.args.gate.now) (g.G.Gate.told c.args.gate.now) queries)) (c.renew.ensures.goes turn (g.G.Gate.asked c.args.gate.now) (g.G.Gate.told c.args.gate.now) queries))) (c.seek.ensures.goes turn (g.G.Gate.asked c.args.gate.now) (g.G.Gate.told c.args.gate.now) queries))
 
 pub returns-in_err-left-clause-phase : goal.returns-in_err-left-clause-phase
 returns-in_err-left-clause-phase g c = λ t same was.

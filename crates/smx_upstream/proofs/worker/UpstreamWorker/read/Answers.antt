@@ -4,7 +4,8 @@ use Rattle.smx_turns.specs.declared.step.Step.TheVariants.{Read}
 use Rattle.smx_upstream.specs.Phases.{MayRead, Failed}
 use Rattle.smx_turns.specs.Wires.{has_ended as has_link_ended}
 use Rattle.smx_turns.proofs.Wires.{ended_by}
-use Rattle.smx_upstream.proofs.Eventful.{on_hearing, goes_read, sides_same, writes_same}
+use Rattle.smx_turns.proofs.Scenes.{reads}
+use Rattle.smx_upstream.proofs.Eventful.{on_hearing, goes_by}
 use Rattle.smx_upstream.proofs.Cells.{stepped, cell_read, faulted_as}
 use Rattle.smx_upstream.proofs.worker.UpstreamWorker.read.Goals as goal
 
@@ -22,8 +23,8 @@ invariant_of-self-2 g c =
 
 pub returns-in-Err-clause-goes : goal.returns-in-Err-clause-goes
 returns-in-Err-clause-goes g c = rw (← c.self.view_is)
-    (λ turn asked told queries. goes_read turn _ _ _ _ _ c.push.ensures (sides_same refl refl refl refl refl c.in-Err.ensures.polls)
-    (writes_same (ap (λ w. w.unsent) c.in-Err.ensures.same) c.in-Err.ensures.offered (ap has_link_ended c.in-Err.ensures.polls ∙ ended_by _ _)))
+    (λ turn asked told queries. goes_by turn _ _ _ _ (Read (Err c.in-Err.fault)) c.push.ensures tt
+    (reads g.L.Link.offered g.L.Link.polls g.L.Link.failures asked told queries _ _ _ _ _ _ _ (Err c.in-Err.fault) refl (ap (λ w. w.unsent) c.in-Err.ensures.same) c.in-Err.ensures.offered c.in-Err.ensures.polls c.in-Err.ensures.failures))
 
 pub returns-in-Err-clause-phase : goal.returns-in-Err-clause-phase
 returns-in-Err-clause-phase g c = λ t was.
@@ -31,8 +32,8 @@ returns-in-Err-clause-phase g c = λ t was.
 
 pub returns-clause-goes : goal.returns-clause-goes
 returns-clause-goes g c = rw (← c.self.view_is)
-    (λ turn asked told queries. goes_read turn _ _ _ _ (Ok c.in-Ok.polled) c.push-2.ensures (sides_same refl refl refl refl refl c.in-Ok.ensures.polls)
-    (writes_same (ap (λ w. w.unsent) c.in-Ok.ensures.same) c.in-Ok.ensures.offered (ap has_link_ended c.in-Ok.ensures.polls ∙ ended_by _ _)))
+    (λ turn asked told queries. goes_by turn _ _ _ _ (Read (Ok c.in-Ok.polled)) c.push-2.ensures tt
+    (reads g.L.Link.offered g.L.Link.polls g.L.Link.failures asked told queries _ _ _ _ _ _ _ (Ok c.in-Ok.polled) refl (ap (λ w. w.unsent) c.in-Ok.ensures.same) c.in-Ok.ensures.offered c.in-Ok.ensures.polls c.in-Ok.ensures.failures))
 
 pub returns-clause-phase : goal.returns-clause-phase
 returns-clause-phase g c = λ t was.

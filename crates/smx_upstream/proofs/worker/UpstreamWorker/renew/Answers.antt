@@ -6,7 +6,7 @@ use Rattle.smx_upstream.specs.Standing.{Shifts}
 use Rattle.smx_upstream.specs.Phases.{Watched, when_kept, unless_spent}
 use Rattle.smx_upstream.specs.Events.{is_spent_shift}
 use Rattle.smx_turns.proofs.Breaking.{stays_bad}
-use Rattle.smx_upstream.proofs.Eventful.{did, goes_did, goes_on, writes_same}
+use Rattle.smx_upstream.proofs.Eventful.{did, lock_now, goes_alone, goes_on}
 use Rattle.smx_upstream.proofs.Cells.{stepped, cell_shifted}
 use Rattle.std.specs.Prelude.{Option, Result}
 use Rattle.std.specs.declared.vec.Vec.{Vec}
@@ -30,18 +30,21 @@ invariant_of-self g c =
       subst (Shifts c.self.inside.tap.front c.turn_over-entries.new.self.front c.least_shift-least.result) (sym c.of.ensures) (as_shifts _ _ _ _ c.turn_over-entries.ensures.served),
       c.turn_over-entries.ensures.same.0,
       refl,
-    ) c.self.invariant.goes_on (goes_on c.self.inside.ending) (stays_bad refl refl refl) refl
+    ) c.self.invariant.goes_on (goes_on c.self.inside.ending) (stays_bad refl refl refl) refl c.turn_over-entries.ensures.same
 
 pub returns-clause-goes : goal.returns-clause-goes
 returns-clause-goes g c = rw (← c.self.view_is)
-    (λ turn asked told queries. goes_did turn _ _ _ _ (Shifted c.least_shift-least.result c.of.result) c.jot.ensures.log refl (sym (append-nil told)) (sym (append-nil queries)) c.jot.ensures.events (
+    (λ turn asked told queries. goes_alone g.L.Link.offered g.L.Link.polls g.L.Link.failures turn asked told queries _ _ _ _ _ _ _ _ _ _ (Shifted c.least_shift-least.result c.of.result) c.jot.ensures.log tt (
       c.least_shift-least.ensures,
       subst (Shifts c.self.inside.tap.front c.turn_over-entries.new.self.front c.least_shift-least.result) (sym c.of.ensures) (as_shifts _ _ _ _ c.turn_over-entries.ensures.served),
       c.turn_over-entries.ensures.same.0,
       refl,
-    ) refl (record { fits = tt; same = writes_same (sym (append-nil _)) refl refl }))
+    ) refl refl c.jot.ensures.events (sym (append-nil _)) refl)
 
 pub returns-clause-phase : goal.returns-clause-phase
 returns-clause-phase g c = λ t left was.
     c.unless_spent.ensures.leads (when_kept left) _ (stepped t _ _ (Did (Shifted c.least_shift-least.result c.of.result)) (Watched left) _ c.jot.ensures.log (cell_shifted t left _ _) was
     ∙ ap (λ b. unless_spent b (when_kept left)) (ap is_spent_shift c.of.ensures ∙ sym c.is_spent_shift-spent.ensures))
+
+pub turn_over-entries-requires : goal.turn_over-entries-requires
+turn_over-entries-requires g c = lock_now _ _ _ c.self.view_is c.self.invariant c.requires.lock

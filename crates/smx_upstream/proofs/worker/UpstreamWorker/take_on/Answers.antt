@@ -7,11 +7,11 @@ use Rattle.smx_upstream.proofs.worker.UpstreamWorker.take_on.Goals as goal
 
 pub returns-in_err-make_room-clause-goes : goal.returns-in_err-make_room-clause-goes
 returns-in_err-make_room-clause-goes g c = λ turn asked told queries.
-    goes_to turn _ _ _ _ _ (ap (λ w. scene_of g.L.Link.polls g.L.Link.offered asked told queries w) c.make_room.ensures.same) (c.loop-gave.invariant.goes turn asked told queries)
+    goes_to turn _ _ _ _ _ (ap (λ w. scene_of g.L.Link.offered g.L.Link.polls g.L.Link.failures asked told queries w) c.make_room.ensures.same) (c.loop-gave.invariant.goes turn asked told queries)
 
 pub returns-in_err-gave-2-clause-goes : goal.returns-in_err-gave-2-clause-goes
 returns-in_err-gave-2-clause-goes g c = λ turn asked told queries.
-    goes_then turn _ _ _ _ _ _ (goes_to turn _ _ _ _ _ (ap (λ w. scene_of g.L.Link.polls g.L.Link.offered asked told queries w) c.make_room.ensures.same) (c.loop-gave.invariant.goes turn asked told queries)) (c.take_one-in-loop-gave.ensures.goes turn asked told queries)
+    goes_then turn _ _ _ _ _ _ (goes_to turn _ _ _ _ _ (ap (λ w. scene_of g.L.Link.offered g.L.Link.polls g.L.Link.failures asked told queries w) c.make_room.ensures.same) (c.loop-gave.invariant.goes turn asked told queries)) (c.take_one-in-loop-gave.ensures.goes turn asked told queries)
 
 pub loop-gave-smaller : goal.loop-gave-smaller
 loop-gave-smaller g c =
@@ -21,8 +21,7 @@ loop-gave-smaller g c =
 
 pub loop-gave-preserved : goal.loop-gave-preserved
 loop-gave-preserved g c = record {
-  lock = search rules;
   phase = λ t was. c.in_ok-gave-2.ensures.phase t c.args.filled true (c.loop-gave.invariant.phase t was ∙ ap (when_taken c.args.filled) c.loop-gave-test.true);
-  goes = λ turn asked told queries. goes_then turn _ _ _ _ _ _ (goes_to turn _ _ _ _ _ (ap (λ w. scene_of g.L.Link.polls g.L.Link.offered asked told queries w) c.make_room.ensures.same) (c.loop-gave.invariant.goes turn asked told queries)) (c.take_one-in-loop-gave.ensures.goes turn asked told queries);
+  goes = λ turn asked told queries. goes_then turn _ _ _ _ _ _ (goes_to turn _ _ _ _ _ (ap (λ w. scene_of g.L.Link.offered g.L.Link.polls g.L.Link.failures asked told queries w) c.make_room.ensures.same) (c.loop-gave.invariant.goes turn asked told queries)) (c.take_one-in-loop-gave.ensures.goes turn asked told queries);
   same = search rules;
 }

@@ -4,19 +4,19 @@ use Rattle.smx_turns.specs.declared.gate.Point.TheVariants.{Taking}
 use Rattle.smx_turns.specs.declared.step.Step.TheVariants.{Asked}
 use Rattle.smx_upstream.specs.Phases.{Settled, MayTake, IsTurn, phase_of, when_may_take, quiet_end, filled_or, Refrained}
 use Rattle.smx_upstream.specs.Quiet.{are_all_quiet}
-use Rattle.smx_turns.specs.Wires.{has_ended as has_link_ended}
-use Rattle.smx_upstream.proofs.Eventful.{goes_ask, goes_then, sides_same, writes_same}
+use Rattle.smx_turns.proofs.Scenes.{scenes_same}
+use Rattle.smx_upstream.proofs.Eventful.{goes_by, goes_then}
 use Rattle.smx_upstream.proofs.Cells.{stepped, cell_taking, wanted, turn_err, waits_as, decided_so, refrained, ends_unbound}
 use Rattle.smx_upstream.proofs.worker.UpstreamWorker.take_part.Goals as goal
 
 pub returns-then-not-may-clause-goes : goal.returns-then-not-may-clause-goes
-returns-then-not-may-clause-goes g c = λ queries. goes_ask c.args.turn _ _ _ _ Taking c.ask-may.result c.ask-may.ensures.log (sides_same c.ask-may.ensures.asked c.ask-may.ensures.told refl (ap (λ w. w.events) c.make_room.ensures.same) (ap (λ w. w.stand) c.make_room.ensures.same) (ap (λ w. g.L.Link.polls w.wire.link) c.make_room.ensures.same)) c.requires.few (writes_same (ap (λ w. w.wire.unsent) c.make_room.ensures.same) (ap (λ w. g.L.Link.offered w.wire.link) c.make_room.ensures.same) (ap (λ w. has_link_ended (g.L.Link.polls w.wire.link)) c.make_room.ensures.same))
+returns-then-not-may-clause-goes g c = λ queries. goes_by c.args.turn _ _ _ _ (Asked Taking c.ask-may.result) c.ask-may.ensures.log c.requires.few (scenes_same c.ask-may.ensures.asked c.ask-may.ensures.told refl (ap (λ w. w.events) c.make_room.ensures.same) (ap (λ w. w.stand) c.make_room.ensures.same) (ap (λ w. w.wire.unsent) c.make_room.ensures.same) (ap (λ w. g.L.Link.offered w.wire.link) c.make_room.ensures.same) (ap (λ w. g.L.Link.polls w.wire.link) c.make_room.ensures.same) (ap (λ w. g.L.Link.failures w.wire.link) c.make_room.ensures.same))
 
 pub returns-then-not-bound-clause-goes : goal.returns-then-not-bound-clause-goes
-returns-then-not-bound-clause-goes g c = λ queries. goes_ask c.args.turn _ _ _ _ Taking c.ask-may.result c.ask-may.ensures.log (sides_same c.ask-may.ensures.asked c.ask-may.ensures.told refl (ap (λ w. w.events) c.make_room.ensures.same) (ap (λ w. w.stand) c.make_room.ensures.same) (ap (λ w. g.L.Link.polls w.wire.link) c.make_room.ensures.same)) c.requires.few (writes_same (ap (λ w. w.wire.unsent) c.make_room.ensures.same) (ap (λ w. g.L.Link.offered w.wire.link) c.make_room.ensures.same) (ap (λ w. has_link_ended (g.L.Link.polls w.wire.link)) c.make_room.ensures.same))
+returns-then-not-bound-clause-goes g c = λ queries. goes_by c.args.turn _ _ _ _ (Asked Taking c.ask-may.result) c.ask-may.ensures.log c.requires.few (scenes_same c.ask-may.ensures.asked c.ask-may.ensures.told refl (ap (λ w. w.events) c.make_room.ensures.same) (ap (λ w. w.stand) c.make_room.ensures.same) (ap (λ w. w.wire.unsent) c.make_room.ensures.same) (ap (λ w. g.L.Link.offered w.wire.link) c.make_room.ensures.same) (ap (λ w. g.L.Link.polls w.wire.link) c.make_room.ensures.same) (ap (λ w. g.L.Link.failures w.wire.link) c.make_room.ensures.same))
 
 pub returns-clause-goes : goal.returns-clause-goes
-returns-clause-goes g c = λ queries. goes_then c.args.turn _ _ _ _ _ _ (goes_ask c.args.turn _ _ _ _ Taking c.ask-may.result c.ask-may.ensures.log (sides_same c.ask-may.ensures.asked c.ask-may.ensures.told refl (ap (λ w. w.events) c.make_room.ensures.same) (ap (λ w. w.stand) c.make_room.ensures.same) (ap (λ w. g.L.Link.polls w.wire.link) c.make_room.ensures.same)) c.requires.few (writes_same (ap (λ w. w.wire.unsent) c.make_room.ensures.same) (ap (λ w. g.L.Link.offered w.wire.link) c.make_room.ensures.same) (ap (λ w. has_link_ended (g.L.Link.polls w.wire.link)) c.make_room.ensures.same))) (c.take_on.ensures.goes c.args.turn _ _ queries)
+returns-clause-goes g c = λ queries. goes_then c.args.turn _ _ _ _ _ _ (goes_by c.args.turn _ _ _ _ (Asked Taking c.ask-may.result) c.ask-may.ensures.log c.requires.few (scenes_same c.ask-may.ensures.asked c.ask-may.ensures.told refl (ap (λ w. w.events) c.make_room.ensures.same) (ap (λ w. w.stand) c.make_room.ensures.same) (ap (λ w. w.wire.unsent) c.make_room.ensures.same) (ap (λ w. g.L.Link.offered w.wire.link) c.make_room.ensures.same) (ap (λ w. g.L.Link.polls w.wire.link) c.make_room.ensures.same) (ap (λ w. g.L.Link.failures w.wire.link) c.make_room.ensures.same))) (c.take_on.ensures.goes c.args.turn _ _ queries)
 
 pub returns-then-not-may-clause-phase : goal.returns-then-not-may-clause-phase
 returns-then-not-may-clause-phase g c = λ t was.

@@ -1,11 +1,11 @@
 -- Which marks of a turn tell that nothing came of it.
 use Rattle.std.specs.Prelude.{Bool, true, not}
-use Rattle.smx_client.specs.declared.mark.Mark.{Mark}
-use Rattle.smx_client.specs.declared.mark.Mark.TheVariants.{Offered, WriteFailed, Waited, NoRoom, Part, Entered, Full}
+use Rattle.smx_turns.specs.declared.mark.Mark.{Mark}
+use Rattle.smx_turns.specs.declared.mark.Mark.TheVariants.{Offered, WriteFailed, Waited, Full, NoRoom, Part, Entered}
 
--- whether nothing came of it
+-- no octet was written
 abbrev pub is_quiet_mark : Mark → Bool
-is_quiet_mark (Offered wrote left) = not wrote
+is_quiet_mark (Offered waited wrote left) = not wrote
 is_quiet_mark WriteFailed = true
 is_quiet_mark Waited = true
 is_quiet_mark Full = true
