@@ -9,6 +9,7 @@
 mod checking;
 mod failing;
 mod files;
+mod ranges;
 mod scripts;
 mod sessions;
 
@@ -33,6 +34,7 @@ fn tell_case(alloc: Global, kind: &str, text: &str, out: &mut Vec<u8>) -> io::Re
         "configurations, advice" => checking::tell_advice(alloc, text, out),
         "configurations, keys that nobody reads" => checking::tell_keys(alloc, text, out),
         "configurations, the table of keys" => checking::tell_table(alloc, out),
+        "configurations, the range of each number" => ranges::tell_ranges(alloc, out),
         "configurations, timers" => checking::tell_timers(alloc, text, out),
         "configurations, values" => checking::tell_values(alloc, text, out),
         "configurations, what may be meant otherwise" => checking::tell_counsel(alloc, text, out),
