@@ -57,6 +57,7 @@ pub(crate) fn note(events: &mut Trace<Event>, log: &mut Log<Event>, event: Event
 }
 
 // It asks the gate.
+#[inline(always)]
 pub(crate) fn ask<G: Gate>(log: &mut Log<Event>, gate: &mut G, point: Point, turn: u64) -> bool
     ensures phase { (t : Before) (p : Phase) → phase_of t log.old ≡ p
         → phase_of t log.new ≡ go t p (step.Asked point result) }

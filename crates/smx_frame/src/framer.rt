@@ -73,6 +73,7 @@ impl Framer {
 
     /// Gives a PDU back that is done with: where its list is kept, the body of a later one takes no
     /// memory.
+    #[inline(always)]
     pub fn give_back(&mut self, pdu: Pdu)
         ensures { self.new ≡ self.old }
     {

@@ -138,6 +138,7 @@ impl Roster {
 
     // Puts a response into the box of the client, and tells whether the client is there. Where it is not, the response
     // is let go.
+    #[inline(always)]
     pub(crate) fn put(&mut self, client: u64, response: Response) -> bool
         requires room { (m : Member) → member_with client self.old.members ≡ Some m
             → length m.waiting < self.old.places }
@@ -162,6 +163,7 @@ impl Roster {
     }
 
     // Takes the oldest response out of the box of the client, where the client is there and has one.
+    #[inline(always)]
     pub(crate) fn get(&mut self, client: u64) -> Option<Response>
         requires { (m : Member) → member_with client self.old.members ≡ Some m
             → length m.waiting ≤ m.pending }

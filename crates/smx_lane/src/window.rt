@@ -98,6 +98,7 @@ impl Window {
 
     // Puts a request that is taken now into an empty row, and tells its place there: under the next number of the row,
     // and at the moment of the last take where that is greater.
+    #[inline(always)]
     pub(crate) fn put(&mut self, request: &Request, now: u64) -> Place
         requires { length self.old.taken < self.old.most }
         ensures place { result ≡ place_for request.now result.upstream (max now self.old.latest) }

@@ -150,6 +150,7 @@ impl<L: Link + Drop> Wire<L> {
     }
 
     /// Makes room for one PDU more to be said, however long it is.
+    #[inline(always)]
     pub fn make_room(&mut self) -> Result<(), AllocError>
         ensures room { OnOk result (65536 ≤ self.new.room) }
         ensures same { self.new ≡ record self.old { room = self.new.room } }
@@ -239,6 +240,7 @@ impl<L: Link + Drop> Wire<L> {
 
     /// Gives a PDU back that is done with: where its list is kept, the body of a later one that is heard
     /// takes no memory.
+    #[inline(always)]
     pub fn give_back(&mut self, pdu: Pdu)
         ensures { self.new ≡ self.old }
     {

@@ -103,6 +103,7 @@ impl<S: Kept> TicketLock<S> {
     /// Draws a ticket, waits until it is served, and takes the value. It waits by spinning and
     /// then yielding, and may never return. `Spent` comes where all tickets below 2^62 are drawn,
     /// and from then on at once.
+    #[inline(always)]
     pub fn acquire<R: Wait>(
         &self,
         rt: &R,
@@ -136,6 +137,7 @@ impl<S: Kept> TicketLock<S> {
     }
 
     // Waits until the ticket is served, and takes the value out of the slot.
+    #[inline(always)]
     fn wait_for<R: Wait>(
         &self,
         rt: &R,

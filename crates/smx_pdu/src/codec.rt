@@ -93,6 +93,7 @@ pub fn decode_into(list: Vec<u8>, octets: &[u8]) -> Result<Pdu, PduFault>
 }
 
 // Writes octets at the end, where there is room.
+#[inline(always)]
 pub fn append_within(out: &mut Vec<u8>, octets: &[u8])
     requires { vec_len out.old + length octets.now ≤ vec_capacity out.old }
     ensures items { out.new.items ≡ out.old.items ++ octets.now }

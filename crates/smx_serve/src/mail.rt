@@ -98,10 +98,12 @@ impl<'a, G: Gate + Drop> Gate for Counted<'a, G> {
 
     ghost told = { λ c. G.told c.gate };
 
+    #[inline(always)]
     fn at(&mut self, point: Point, turn: u64) -> bool {
         self.gate.at(point, turn)
     }
 
+    #[inline(always)]
     fn ready(&mut self, party: Party) {
         match (party, self.slot) {
             (Party::Slot(slot), _) => self.mail.add(slot),

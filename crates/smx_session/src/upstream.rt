@@ -209,6 +209,7 @@ impl UpstreamSession {
     }
 
     /// Decides a PDU of the centre. It takes no memory.
+    #[inline(always)]
     pub fn on_pdu(&mut self, pdu: &Pdu, now: u64) -> UpAct
         ensures act { result ≡ act_on self.old pdu.now }
         ensures session { self.new ≡ after_pdu self.old pdu.now now }

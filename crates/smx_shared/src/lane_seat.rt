@@ -28,6 +28,7 @@ impl Model for LaneSeat {
 
 impl LaneSeat {
     // Makes the call in one hold, for which it may wait.
+    #[inline(always)]
     pub(crate) fn hold<R: Wait, C: LaneCall>(
         &mut self,
         rt: &R,

@@ -51,6 +51,7 @@ impl Tap {
     /// Takes the lane's oldest request, which is to go upstream under the number given. The moment
     /// is in milliseconds, from any start; one below that of the lane's last take counts as that. It
     /// may wait.
+    #[inline(always)]
     pub fn take<R: Wait>(&mut self, at: &Exchange, rt: &R, now: u64) -> Result<Sent, TakeFault>
         requires { slice_get at.now self.old.lane ≡ Some self.old.front.lock }
         ensures same { (self.new.lane ≡ self.old.lane)

@@ -238,6 +238,7 @@ impl Gate for ClientBell<'_> {
         answer
     }
 
+    #[inline(always)]
     fn ready(&mut self, party: Party)
         ensures told { self.new.told ≡ self.old.told ++ party ∷ [] }
         ensures asked { self.new.asked ≡ self.old.asked }

@@ -63,6 +63,7 @@ impl<'a> LaneBell<'a> {
 }
 
 // Counts what a party was told of.
+#[inline(always)]
 fn count(ledger: &mut Ledger, party: Party)
     ensures { ledger.new ≡ settled_by party ledger.old }
 {
@@ -99,6 +100,7 @@ impl Gate for LaneBell<'_> {
         true
     }
 
+    #[inline(always)]
     fn ready(&mut self, party: Party)
         ensures told { self.new.told ≡ self.old.told ++ party ∷ [] }
         ensures asked { self.new.asked ≡ self.old.asked }

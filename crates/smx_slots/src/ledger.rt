@@ -190,6 +190,7 @@ impl Ledger {
 
     /// A request of the client was answered or failed. Nothing changes where none of it is under way. It
     /// takes no memory.
+    #[inline(always)]
     pub fn settled(&mut self, client: u64)
         ensures { self.new ≡ with_settled client self.old }
     {

@@ -100,6 +100,7 @@ impl Schedule {
 
     /// This party is ready, behind those of its class that are. Nothing changes where it is ready or
     /// stalled, or there is no such party.
+    #[inline(always)]
     pub fn add(&mut self, party: usize)
         ensures { self.new ≡ with_ready party self.old }
     {

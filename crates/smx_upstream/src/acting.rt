@@ -211,6 +211,7 @@ impl<L: Link + Drop> UpstreamWorker<L> {
     }
 
     // Asks the lane for a request, where the session is bound. Whether it gave one.
+    #[inline(always)]
     pub(crate) fn take_one<R: Wait>(
         &mut self,
         at: &Exchange,

@@ -69,6 +69,7 @@ pub(crate) enum Progress {
 
 impl<L: Link + Drop> UpstreamWorker<L> {
     // Decides the next whole PDU, where there is one.
+    #[inline(always)]
     pub(crate) fn decide_next<R: Wait, G: Gate, D: Directory>(
         &mut self,
         at: &Exchange,

@@ -92,6 +92,7 @@ impl<L: Link + Drop> UpstreamWorker<L> {
         // A timer is judged only behind a read of the turn that found that nothing more had come.
         ensures judged { AreJudged self.new.steps }
     {
+        // (what the worker keeps of its tap is known below only once it is looked into)
         let _opened = &self.tap;
         let mut log = Log::new();
         let end = self.run_turn(at, rt, gate, directory, now, &mut log);

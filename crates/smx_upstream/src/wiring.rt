@@ -108,6 +108,7 @@ impl<L: Link + Drop> UpstreamWorker<L> {
     }
 
     // Makes room for one PDU more to be said.
+    #[inline(always)]
     pub(crate) fn make_room(&mut self) -> Result<(), Fault>
         ensures room { OnOk result (65536 ≤ self.new.wire.room) }
         ensures err { OnErr result (result ≡ Err Fault.NoMemory) }
@@ -164,6 +165,7 @@ impl<L: Link + Drop> UpstreamWorker<L> {
     }
 
     // Sets the next whole PDU apart, or says that none is there, or answers a bad length.
+    #[inline(always)]
     pub(crate) fn fetch(&mut self, log: &mut Log<Event>) -> Result<Front, Fault>
         requires room { 65536 ≤ self.old.wire.room }
         requires none { self.old.held ≡ None }

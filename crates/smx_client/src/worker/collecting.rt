@@ -74,6 +74,7 @@ impl<'d, L: Link + Drop> ClientWorker<'d, L> {
     }
 
     // Makes room for what one event may say.
+    #[inline(always)]
     pub(super) fn make_room(&mut self) -> Result<(), Fault>
         ensures room { OnOk result (65536 ≤ self.new.wire.room) }
         ensures err { OnErr result (result ≡ Err Fault.NoMemory) }

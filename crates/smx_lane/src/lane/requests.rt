@@ -31,6 +31,7 @@ impl Lane {
     }
 
     /// Accepts a request into the queue, or hands it back.
+    #[inline(always)]
     pub fn accept(&mut self, by: u64, request: Request) -> Result<(), (Request, Refusal)>
         requires { IsNext self.old by request.client request.ordinal }
         ensures reply { MatchResult result
@@ -64,6 +65,7 @@ impl Lane {
     /// that is free, and how often that place was given before, going round after 2,097,150. So a number comes again
     /// after 2,097,151 takes at the least, and the greatest is 2,147,482,624 (SMPP 3.4, section 5.1.4). The moment is in
     /// milliseconds, from any start; one below that of the last take counts as that. It takes no memory.
+    #[inline(always)]
     pub fn take(&mut self, by: u64, now: u64) -> Result<Sent, TakeRefusal>
         ensures reply { MatchResult result (λ _. take_refusal self.old ≡ None)
             (λ e. take_refusal self.old ≡ Some e) }

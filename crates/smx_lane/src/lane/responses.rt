@@ -53,6 +53,7 @@ pub(super) fn facing(place: &Place, response: Pdu) -> Response
 
 impl Lane {
     /// Settles the place that a response answers, and puts the response into its client's box.
+    #[inline(always)]
     pub fn answer(&mut self, by: u64, response: Pdu) -> Answered
         ensures answered { IsAnswered self.old by response result self.new }
         ensures limits { self.new.limits ≡ self.old.limits }
@@ -75,6 +76,7 @@ impl Lane {
     }
 
     /// Takes the client's oldest response out of its box. It bears the client's own number.
+    #[inline(always)]
     pub fn collect(&mut self, by: u64, client: u64) -> Option<Pdu>
         requires { IsOwn self.old by client }
         ensures collected { IsCollected self.old by client result self.new }
