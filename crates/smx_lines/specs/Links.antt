@@ -4,7 +4,7 @@ use Rattle.smx_pdu.specs.declared.pdu.Pdu.{Pdu}
 use Rattle.smx_frame.specs.Stream.{Stream, Cuts, fault_at}
 use Rattle.smx_session.specs.declared.kind.Kind.{Kind}
 use Rattle.smx_session.specs.declared.client_state.ClientState.{ClientState}
-use Rattle.smx_session.specs.declared.client_state.ClientState.TheVariants.{Opened, BoundTx, BoundRx, BoundTrx}
+use Rattle.smx_session.specs.declared.client_state.ClientState.TheVariants.{Opened, BoundRx, BoundTrx}
 use Rattle.smx_session.specs.declared.client_state.ClientState.TheVariants as client
 use Rattle.smx_session.specs.declared.upstream_state.UpstreamState.{UpstreamState}
 use Rattle.smx_session.specs.declared.upstream_state.UpstreamState.TheVariants.{Binding, Bound, Unbinding, Ended}
@@ -55,12 +55,9 @@ at_end k = record k { session = record k.session { state = client.Ended } }
 
 -- a client that is bound to receive
 abbrev pub may_receive : ClientState → Bool
-may_receive Opened = false
-may_receive BoundTx = false
 may_receive BoundRx = true
 may_receive BoundTrx = true
-may_receive client.Unbinding = false
-may_receive client.Ended = false
+may_receive _ = false
 
 -- a lane is bound before the first line that is no setting
 abbrev pub bound_centre : CentreLink

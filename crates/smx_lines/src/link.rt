@@ -68,10 +68,7 @@ impl ClientLink {
     {
         match self.session.state() {
             ClientState::BoundRx | ClientState::BoundTrx => true,
-            ClientState::Opened
-            | ClientState::BoundTx
-            | ClientState::Unbinding
-            | ClientState::Ended => false,
+            _ => false,
         }
     }
 

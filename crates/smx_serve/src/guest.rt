@@ -56,7 +56,7 @@ fn kind_of(state: ClientState) -> Option<Kind> {
         ClientState::BoundTx => Some(Kind::Tx),
         ClientState::BoundRx => Some(Kind::Rx),
         ClientState::BoundTrx => Some(Kind::Trx),
-        ClientState::Opened | ClientState::Unbinding | ClientState::Ended => None,
+        _ => None,
     }
 }
 
