@@ -3,10 +3,10 @@
 //! Each key that takes numbers is tried at both ends of the range that the table of keys prints for it, and
 //! one beyond, in a configuration of what has to be there.
 
-use smx_config::{key_table, read};
+use smx_config::{ConfigFault, key_table, read};
 use std::alloc::{AllocError, Global};
 use std::io;
-use std::io::Write;
+use std::io::{ErrorKind, Write};
 
 /// What has to be there, and a heading for each table that a key may stand in.
 const BASE: &str = "listen = \"a:1\"\n[limits]\n[timers]\n\
@@ -51,8 +51,11 @@ fn tell_range(
     write!(out, "{heading}{below}{key}:")?;
     for number in [least.saturating_sub(1), least, most, most.saturating_add(1)] {
         let text = with_number(alloc, heading, key, number)?;
-        let may_stand = read(alloc, &text).is_ok();
-        write!(out, " {number} {may_stand}")?;
+        match read(alloc, &text) {
+            Ok(_) => write!(out, " {number} true")?,
+            Err(ConfigFault::NoMemory) => return Err(io::Error::from(ErrorKind::OutOfMemory)),
+            Err(_) => write!(out, " {number} false")?,
+        }
     }
     writeln!(out)
 }
