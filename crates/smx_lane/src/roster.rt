@@ -1,5 +1,6 @@
 //! The clients that are admitted, and the boxes of their responses.
 ghost use Rattle.std.specs.Prelude.{◌≡◌, ◌≤◌, ◌<◌, ◌+◌, ◌-◌, [], ◌∷◌, ◌++◌, length, map, drop, IsTrue, IsFalse, IsSome, IfNone, OnSome, OnOk, OnErr, MatchOption, MatchResult, Some, None};
+ghost use Rattle.std.specs.Option.{option_copied};
 ghost use Rattle.smx_history.specs.Contents.{Member};
 ghost use Rattle.smx_history.specs.Prefixes.{RiseAbove};
 ghost use Rattle.smx_history.specs.Replies.{member_with};
@@ -160,6 +161,15 @@ impl Roster {
         }
         self.waiting += 1;
         true
+    }
+
+    // The oldest response in the box of the client, where the client is there and has one.
+    #[inline(always)]
+    pub(crate) fn oldest(&self, client: u64) -> Option<&Response>
+        ensures { option_copied result ≡ oldest_in (member_with client self.now.members) }
+    {
+        let row = self.rows.get(&client)?;
+        row.waiting.front()
     }
 
     // Takes the oldest response out of the box of the client, where the client is there and has one.

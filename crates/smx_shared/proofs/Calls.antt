@@ -37,10 +37,10 @@ use Rattle.smx_shared.specs.Roomy.{finds_full, lane_met, shifts_before, shifts_w
 use Rattle.smx_shared.proofs.Roomy.{turned_limits}
 use Rattle.smx_shared.specs.Steps.{IsMade, notes_for, answer_notes, late_notes, collect_notes, fail_notes}
 
-AreBy : ℕ → List Note → Type 0
+unfoldable pub AreBy : ℕ → List Note → Type 0
 AreBy k own = All (λ (n : Note). writer n ≡ k) own
 
-one : (k : ℕ) (e : Event) → AreBy k (note k e ∷ [])
+pub one : (k : ℕ) (e : Event) → AreBy k (note k e ∷ [])
 unfolding AreBy
 one k e = search rules
 
@@ -48,7 +48,7 @@ one_shift : (k : ℕ) → AreBy k (shift k ∷ [])
 unfolding AreBy
 one_shift k = search rules
 
-none : (k : ℕ) → AreBy k []
+pub none : (k : ℕ) → AreBy k []
 unfolding AreBy
 none k = λ j d lt. absurd (omega arith)
 

@@ -8,6 +8,7 @@ pub mod Leaving
 pub mod Rounds
 pub mod Roomy
 pub mod Calls
+pub mod ListServing
 pub mod Entering
 pub mod Making
 pub mod Knowing

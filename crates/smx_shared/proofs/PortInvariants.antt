@@ -28,6 +28,9 @@ use Rattle.smx_shared.specs.Roomy.{shifts_before}
 use Rattle.smx_shared.specs.Serving.{CallServes, CollectServes, Waited, Tried}
 use Rattle.smx_pdu.specs.declared.pdu.Pdu.{Pdu}
 use Rattle.smx_lock.specs.declared.faults.Spent as spent
+use Rattle.smx_shared.specs.declared.batch.Collected.{Collected}
+use Rattle.smx_shared.specs.Batches.{CollectsServe}
+use Rattle.smx_shared.proofs.ListServing.{collects_quiet}
 use Rattle.smx_shared.proofs.Lists.{All-both}
 use Rattle.smx_shared.proofs.Passing.{got_same, got_other, some_same}
 
@@ -188,6 +191,16 @@ collect_grows c n lane old new f g (Ok None) at is w = same_grows c n old new (l
 collect_grows c n lane old new f g (Ok (Some p)) at is w =
     lane_grows c n lane [] old new f g (note f.number (event.Collect c w.told.1.ordinal) ∷ []) at is w.hold.serves.number (w.hold.serves.mine ∙ ap (λ own. f.mine ++ own) w.told.4) refl refl (λ k apart. refl) tt
 collect_grows c n lane old new f g (Err s) at is w =
+    let same = spent_same f g w in same_grows c n old new (lane_same lane old new f g at is same.0 same.1)
+
+-- so it is with a list of collects
+pub collects_grow : (c n lane : ℕ) (old new : List (Front Note Limits)) (f g : Front Note Limits) (res : Result Collected spent.Spent) → slice_get old lane ≡ Some f → new ≡ set old lane g
+    → Waited (CollectsServe f g c) f g res → Grows c n [] old new
+collects_grow c n lane old new f g (Ok b) at is w =
+    let s = w.serves in
+    let quiet = collects_quiet f.number c b.responses.items b.more s.own s.old s.new s.told in
+    lane_grows c n lane [] old new f g s.own at is s.hold.serves.number s.hold.serves.mine quiet.0 quiet.1 (λ k apart. refl) tt
+collects_grow c n lane old new f g (Err s) at is w =
     let same = spent_same f g w in same_grows c n old new (lane_same lane old new f g at is same.0 same.1)
 
 pub port_quiet : (v : PortView) (new : List (Front Note Limits)) → IsPort v → Grows v.client v.next [] v.fronts new → IsPort (record { client = v.client; first = v.first; next = v.next; fronts = new })

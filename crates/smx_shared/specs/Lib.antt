@@ -1,6 +1,7 @@
 pub mod Views
 pub mod Roomy
 pub mod Serving
+pub mod Batches
 pub mod Taps
 pub mod Offers
 pub mod Ports

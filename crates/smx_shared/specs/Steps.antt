@@ -1,6 +1,6 @@
 -- What private functions ask and promise: the notes of one hold, and a turn of one lane. No contract
 -- of a public function cites this file.
-use Rattle.std.specs.Prelude.{◌≡◌, ◌<◌, ℕ, Bool, List, [], ◌∷◌, ◌++◌, Option, Some, None, Ok, slice_get, All}
+use Rattle.std.specs.Prelude.{◌≡◌, ◌<◌, ◌≤◌, ℕ, Bool, List, [], ◌∷◌, ◌++◌, Option, Some, None, Ok, slice_get, All, map, length, true}
 use Rattle.std.specs.List.{AllByRecursion}
 use Rattle.smx_lock.specs.Fronts.{Front, Hold, Finds}
 use Rattle.smx_history.specs.declared.limits.Limits.{Limits}
@@ -21,9 +21,13 @@ use Rattle.smx_history.specs.Contents.{Content}
 use Rattle.smx_lane.specs.declared.call.Call.{Call}
 use Rattle.smx_lane.specs.declared.call.Reply.{Reply}
 use Rattle.smx_lane.specs.Taking.{taking}
-use Rattle.smx_lane.specs.Calls.{IsReply, GoesOn, Keeps}
+use Rattle.smx_lane.specs.declared.sent.Sent.{Sent}
+use Rattle.smx_lane.specs.Calls.{IsReply, GoesOn, Keeps, Ran}
 use Rattle.smx_lane.specs.Kept.{writer, limits_of, suits}
 use Rattle.smx_shared.specs.declared.offer.Offer.{Offer}
+use Rattle.smx_shared.specs.declared.batch.Collected.{Collected}
+use Rattle.smx_shared.specs.declared.batch.Takings.{Takings}
+use Rattle.smx_shared.specs.Batches.{collect_calls, collect_replies, CollectEnds, octets_of_responses, take_calls, take_replies, TakeEnds, octets_of_requests, octets_with}
 use Rattle.smx_shared.specs.Ports.{IsMemberBy}
 use Rattle.smx_shared.specs.Roomy.{lane_met, shifts_before, shifts_where}
 
@@ -73,6 +77,37 @@ pub record IsMade (by : ℕ) (old : Content) (call : Call) (reply : Reply) (new 
   pub goes_on : GoesOn old (hold_notes by old call reply) new
   pub writers : All (λ n. writer n ≡ by) (hold_notes by old call reply)
   pub limits : new.limits ≡ old.limits
+
+-- the notes of collects that gave these responses
+abbrev pub collects_of : ℕ → ℕ → List Response → List Note
+collects_of by c rs = map (λ r. note by (event.Collect c r.ordinal)) rs
+
+-- the seat with this number collected what waits for a client
+pub record AreCollected (by c : ℕ) (old : Content) (b : Collected) (new : Content) : Type 0 where
+  pub ran : Ran old (collect_calls by c b) (collect_replies b) (collects_of by c b.responses.items) new
+  pub limits : new.limits ≡ old.limits
+  pub count : length b.responses.items ≤ 64
+  pub some : b.more ≡ true → 0 < length b.responses.items
+  pub octets : octets_of_responses b.responses.items ≤ 65536
+  pub ends : CollectEnds c b new
+
+-- the octets of a request's PDU, where there is one
+abbrev pub length_in : Option Request → ℕ
+length_in None = 0
+length_in (Some r) = octets_with r.body
+
+-- the notes of takes that gave these requests
+abbrev pub takes_of : Content → ℕ → ℕ → List Sent → List Note
+takes_of old by now ss = map (taking old by now) ss
+
+-- the seat with this number took what is queued
+pub record AreTaken (by now : ℕ) (old : Content) (b : Takings) (new : Content) : Type 0 where
+  pub ran : Ran old (take_calls by now b) (take_replies b) (takes_of old by now b.requests.items) new
+  pub limits : new.limits ≡ old.limits
+  pub count : length b.requests.items ≤ 64
+  pub some : b.stop ≡ None → 0 < length b.requests.items
+  pub octets : octets_of_requests b.requests.items ≤ 65536
+  pub ends : TakeEnds b new
 
 -- whatever the seat finds in a hold, the call keeps to its condition there
 abbrev pub MayCall : Front Note Limits → (ℕ → Call) → Type 0

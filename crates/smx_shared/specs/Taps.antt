@@ -1,5 +1,5 @@
 -- What a tap's caller knows of the tap's notes.
-use Rattle.std.specs.Prelude.{ℕ, List, [], ◌∷◌, filter_map, Option, Some, None, Result, Ok, Err}
+use Rattle.std.specs.Prelude.{ℕ, List, [], ◌∷◌, map, filter_map, Option, Some, None, Result, Ok, Err}
 use Rattle.smx_pdu.specs.declared.pdu.Pdu.{Pdu}
 use Rattle.smx_history.specs.declared.note.Note.{Note}
 use Rattle.smx_history.specs.declared.note.Event.{Event}
@@ -7,6 +7,7 @@ use Rattle.smx_history.specs.declared.note.Event.TheVariants as event
 use Rattle.smx_history.specs.declared.reply.Answered.{Answered}
 use Rattle.smx_history.specs.declared.reply.Answered.TheVariants as answered
 use Rattle.smx_lane.specs.declared.sent.Sent.{Sent}
+use Rattle.smx_shared.specs.declared.batch.Takings.{Takings}
 
 -- a note without its ordinal
 pub data Known : Type 0 where
@@ -34,3 +35,8 @@ abbrev pub known_by_answer : {E : Type 0} → Pdu → Result Answered E → List
 known_by_answer p (Ok (answered.Queued c)) = Queued c p ∷ []
 known_by_answer p (Ok (answered.Late c)) = CameLate c p.number p.command ∷ []
 known_by_answer p _ = []
+
+-- what a list of takes adds to it
+abbrev pub known_by_takes : {E : Type 0} → Result Takings E → List Known
+known_by_takes (Ok b) = map (λ s. Took s.request.client s.upstream) b.requests.items
+known_by_takes (Err _) = []

@@ -1,11 +1,16 @@
 //! A seat on one lane. Each call of the lane is made in one hold of its lock.
-ghost use Rattle.std.specs.Prelude.{◌≡◌, MatchResult};
+ghost use Rattle.std.specs.Prelude.{◌≡◌, ◌≤◌, [], vec_capacity, MatchResult};
+ghost use Rattle.smx_lane.specs.declared.call.Call.TheVariants as call;
 ghost use Rattle.smx_lock.specs.Fronts.{IsSpent, Refused};
+ghost use Rattle.smx_shared.specs.Batches.{CollectsServe, TakesServe};
 ghost use Rattle.smx_shared.specs.Serving.{CallServes, LoadServes, SplitServes, SplitFails, Waited};
 ghost use Rattle.smx_shared.specs.Steps.{MayCall};
 
+use crate::batch::{Collected, Takings};
+use crate::batching::{CollectingAll, TakingAll};
 use crate::lane_call::{Calling, LaneCall, Weighing};
-use smx_lane::{Lane, Load};
+use smx_history::Response;
+use smx_lane::{Lane, Load, Sent};
 use smx_lock::{SeatInPlace, Spent, TicketLock, TryFault};
 use std::marker::Model;
 use std::sync::Wait;
@@ -64,6 +69,47 @@ impl LaneSeat {
         match self.seat.try_hold(lock, Calling { made }) {
             Ok(answer) => Ok(answer),
             Err((calling, fault)) => Err((calling.made, fault)),
+        }
+    }
+
+    // Collects what waits for a client, in one hold, for which it may wait.
+    #[inline(always)]
+    pub(crate) fn collect_all<R: Wait>(
+        &mut self,
+        rt: &R,
+        lock: &TicketLock<Lane>,
+        client: u64,
+        room: Vec<Response>,
+    ) -> Result<Collected, Spent>
+        requires lock { self.old.lock ≡ lock.now }
+        requires room { (room.items ≡ []) × (64 ≤ vec_capacity room) }
+        requires may { MayCall self.old (λ by. call.Collect by client) }
+        ensures lock { self.new.lock ≡ self.old.lock }
+        ensures served { Waited (CollectsServe self.old self.new client) self.old self.new result }
+    {
+        match self.seat.hold(rt, lock, CollectingAll { client, room }) {
+            Ok(collected) => Ok(collected),
+            Err((_, spent)) => Err(spent),
+        }
+    }
+
+    // Takes what is queued, in one hold, for which it may wait.
+    #[inline(always)]
+    pub(crate) fn take_all<R: Wait>(
+        &mut self,
+        rt: &R,
+        lock: &TicketLock<Lane>,
+        now: u64,
+        room: Vec<Sent>,
+    ) -> Result<Takings, Spent>
+        requires lock { self.old.lock ≡ lock.now }
+        requires room { (room.items ≡ []) × (64 ≤ vec_capacity room) }
+        ensures lock { self.new.lock ≡ self.old.lock }
+        ensures served { Waited (TakesServe self.old self.new now) self.old self.new result }
+    {
+        match self.seat.hold(rt, lock, TakingAll { now, room }) {
+            Ok(taken) => Ok(taken),
+            Err((_, spent)) => Err(spent),
         }
     }
 

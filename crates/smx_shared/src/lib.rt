@@ -9,6 +9,8 @@
 #![tactic(auto)]
 
 mod admit;
+mod batch;
+mod batching;
 mod departed;
 mod door;
 mod exchange;
@@ -25,6 +27,7 @@ mod tap;
 mod token;
 mod unmade;
 
+pub use batch::{BATCH, Collected, Takings};
 pub use departed::Departed;
 pub use door::Door;
 pub use exchange::Exchange;

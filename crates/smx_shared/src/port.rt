@@ -1,13 +1,14 @@
 //! The token of a client, with a seat on each lane.
-ghost use Rattle.std.specs.Prelude.{◌≡◌, true, false, List, [], ◌++◌, ◌<◌, ◌≤◌, ◌^◌, length, IfOk, IfErr, OnOk, OnErr};
+ghost use Rattle.std.specs.Prelude.{◌≡◌, true, false, List, [], ◌++◌, ◌<◌, ◌≤◌, ◌^◌, length, vec_capacity, IfOk, IfErr, OnOk, OnErr};
 ghost use Rattle.smx_shared.specs.Views.{locks_of};
 ghost use Rattle.smx_shared.specs.Offers.{Accepted, accepted_by, request_for};
 ghost use Rattle.smx_shared.specs.Steps.{offer_of, HaveAdmitted};
 ghost use Rattle.smx_shared.specs.Ports.{IsPort, HasAccepted};
 ghost use Rattle.smx_shared.specs.Leaving.{HasLeft};
-ghost use Rattle.smx_shared.specs.Collecting.{Collects, TriesCollect};
+ghost use Rattle.smx_shared.specs.Collecting.{Collects, CollectsAll, TriesCollect};
 ghost use Rattle.smx_shared.specs.Submits.{Submitted, Refuses};
 
+use crate::batch::Collected;
 use crate::departed::Departed;
 use crate::exchange::Exchange;
 use crate::fault::SubmitFault;
@@ -16,7 +17,7 @@ use crate::lane_seat::LaneSeat;
 use crate::offer::Offer;
 use crate::retire::retire_all;
 use crate::submit::try_ring;
-use smx_history::Request;
+use smx_history::{Request, Response};
 use smx_lock::{Spent, TryFault};
 use smx_pdu::Pdu;
 use smx_ticket_core::MOST;
@@ -147,7 +148,34 @@ impl Port {
         }
     }
 
-    /// The same without waiting: `Busy` where another caller has the lane.
+    /// What waits for the client on the lane, the oldest first, with the client's own numbers: at most
+    /// 64 responses, and at most 65,536 octets of PDUs, in one hold. It may wait. The list is made in
+    /// `room`, which is empty and has 64 places; it takes no memory.
+    #[inline(always)]
+    pub fn collect_all<R: Wait>(
+        &mut self,
+        at: &Exchange,
+        rt: &R,
+        lane: usize,
+        room: Vec<Response>,
+    ) -> Result<Collected, Spent>
+        requires locks { locks_of self.old.fronts ≡ at.now }
+        requires lane { lane < length self.old.fronts }
+        requires room { (room.items ≡ []) × (64 ≤ vec_capacity room) }
+        ensures served { CollectsAll lane self.old self.new result }
+        ensures same { self.new ≡ record self.old { fronts = self.new.fronts } }
+        ensures listed { (all : List Accepted) → HasAccepted self.old all
+            → HasAccepted self.new all }
+        ensures locks { locks_of self.new.fronts ≡ locks_of self.old.fronts }
+    {
+        let client = self.client;
+        match self.seats[lane].collect_all(rt, &at.locks[lane], client, room) {
+            Ok(collected) => Ok(collected),
+            Err(spent) => Err(spent),
+        }
+    }
+
+    /// `collect` without waiting: `Busy` where another caller has the lane.
     pub fn try_collect(&mut self, at: &Exchange, lane: usize) -> Result<Option<Pdu>, TryFault>
         requires locks { locks_of self.old.fronts ≡ at.now }
         requires lane { lane < length self.old.fronts }

@@ -1,8 +1,10 @@
 //! The token that takes from one lane.
-ghost use Rattle.std.specs.Prelude.{◌≡◌, ◌++◌, slice_get, Some};
-ghost use Rattle.smx_shared.specs.Taps.{known_of, known_by_take, known_by_answer};
+ghost use Rattle.std.specs.Prelude.{◌≡◌, ◌++◌, ◌≤◌, [], vec_capacity, slice_get, Some};
+ghost use Rattle.smx_shared.specs.Taps.{known_of, known_by_take, known_by_takes, known_by_answer};
+ghost use Rattle.smx_shared.specs.Batches.{TakesAll};
 ghost use Rattle.smx_shared.specs.Serving.{Turns, Takes, TriesTake, Brings};
 
+use crate::batch::Takings;
 use crate::exchange::Exchange;
 use crate::fault::{TakeFault, TryTakeFault, TurnFault};
 use crate::lane_call::{Answering, Taking, TurningOver};
@@ -67,7 +69,32 @@ impl Tap {
         }
     }
 
-    /// The same without waiting: `Busy` where another caller has the lane.
+    /// Takes what is queued, the oldest first: at most 64 requests, and at most 65,536 octets of PDUs,
+    /// in one hold. The moment is as in `take`. It may wait. The list is made in `room`, which is empty
+    /// and has 64 places; it takes no memory.
+    #[inline(always)]
+    pub fn take_all<R: Wait>(
+        &mut self,
+        at: &Exchange,
+        rt: &R,
+        now: u64,
+        room: Vec<Sent>,
+    ) -> Result<Takings, Spent>
+        requires lock { slice_get at.now self.old.lane ≡ Some self.old.front.lock }
+        requires room { (room.items ≡ []) × (64 ≤ vec_capacity room) }
+        ensures same { (self.new.lane ≡ self.old.lane)
+            × (self.new.front.lock ≡ self.old.front.lock) }
+        ensures served { TakesAll self.old.front self.new.front now result }
+        ensures known { known_of self.new.front.mine
+            ≡ known_of self.old.front.mine ++ known_by_takes result }
+    {
+        match self.seat.take_all(rt, &at.locks[self.lane], now, room) {
+            Ok(taken) => Ok(taken),
+            Err(spent) => Err(spent),
+        }
+    }
+
+    /// `take` without waiting: `Busy` where another caller has the lane.
     pub fn try_take(&mut self, at: &Exchange, now: u64) -> Result<Sent, TryTakeFault>
         requires { slice_get at.now self.old.lane ≡ Some self.old.front.lock }
         ensures same { (self.new.lane ≡ self.old.lane)

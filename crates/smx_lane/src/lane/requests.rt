@@ -1,9 +1,10 @@
 //! Requests on their way upstream.
 ghost use Rattle.std.specs.Prelude.{◌≡◌, List, [], ◌∷◌, ◌++◌, slice_get, IfOk, OnOk, OnErr, MatchResult, Some, None};
+ghost use Rattle.std.specs.Option.{option_copied};
 ghost use Rattle.smx_history.specs.Contents.{AgreesWith};
 ghost use Rattle.smx_history.specs.History.{note};
 ghost use Rattle.smx_history.specs.declared.note.Note.{Note};
-ghost use Rattle.smx_history.specs.Replies.{accept_refusal, take_refusal};
+ghost use Rattle.smx_history.specs.Replies.{accept_refusal, take_refusal, moment_at};
 ghost use Rattle.smx_lane.specs.Conditions.{IsNext};
 ghost use Rattle.smx_lane.specs.Members.{lane_refusal};
 ghost use Rattle.smx_history.specs.declared.note.Event.TheVariants.{Accept};
@@ -61,6 +62,13 @@ impl Lane {
         }
     }
 
+    /// The oldest request, where one is queued.
+    pub fn next_request(&self) -> Option<&Request>
+        ensures { option_copied result ≡ slice_get self.now.queue 0 }
+    {
+        self.queue.front()
+    }
+
     /// Takes the oldest request. Its number upstream is 1,024 x generation + place + 1: a place below the window's size
     /// that is free, and how often that place was given before, going round after 2,097,150. So a number comes again
     /// after 2,097,151 takes at the least, and the greatest is 2,147,482,624 (SMPP 3.4, section 5.1.4). The moment is in
@@ -72,6 +80,7 @@ impl Lane {
         ensures oldest { IfOk result (λ sent. slice_get self.old.queue 0 ≡ Some sent.request) }
         ensures agrees { IfOk result (λ sent. (h : List Note) → AgreesWith h self.old →
             AgreesWith (h ++ taking self.old by now sent ∷ []) self.new) }
+        ensures latest { OnOk result (self.new.latest ≡ moment_at self.old now) }
         ensures err { OnErr result (self.new ≡ self.old) }
         ensures limits { self.new.limits ≡ self.old.limits }
     {

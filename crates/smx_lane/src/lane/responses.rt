@@ -1,7 +1,12 @@
 //! Responses on their way to the clients.
-ghost use Rattle.std.specs.Prelude.{◌≡◌};
+ghost use Rattle.std.specs.Prelude.{◌≡◌, [], ◌∷◌, IfSome, IfNone};
+ghost use Rattle.std.specs.Option.{option_copied};
+ghost use Rattle.smx_lane.specs.Calls.{GoesOn};
 ghost use Rattle.smx_lane.specs.Conditions.{IsOwn};
-ghost use Rattle.smx_history.specs.Answering.{IsAnswered, IsCollected};
+ghost use Rattle.smx_history.specs.Answering.{IsAnswered, IsCollected, oldest_in};
+ghost use Rattle.smx_history.specs.History.{note};
+ghost use Rattle.smx_history.specs.Replies.{member_with};
+ghost use Rattle.smx_history.specs.declared.note.Event.TheVariants.{Collect};
 ghost use Rattle.smx_history.proofs.Updates.{response_for};
 
 use super::Lane;
@@ -75,11 +80,23 @@ impl Lane {
         Answered::Queued { client }
     }
 
-    /// Takes the client's oldest response out of its box. It bears the client's own number.
+    /// The client's oldest response, as it is to see it, where one waits.
+    pub fn next_response(&self, client: u64) -> Option<&Response>
+        ensures { option_copied result ≡ oldest_in (member_with client self.now.members) }
+    {
+        self.roster.oldest(client)
+    }
+
+    /// Takes the client's oldest response out of its box, with the ordinal of its request. Its PDU bears the client's
+    /// own number.
     #[inline(always)]
-    pub fn collect(&mut self, by: u64, client: u64) -> Option<Pdu>
+    pub fn collect_response(&mut self, by: u64, client: u64) -> Option<Response>
         requires { IsOwn self.old by client }
-        ensures collected { IsCollected self.old by client result self.new }
+        ensures oldest { result ≡ oldest_in (member_with client self.old.members) }
+        ensures agrees { IfSome result (λ r. GoesOn self.old (note by (Collect client r.ordinal) ∷ [])
+            self.new) }
+        ensures none { IfNone result (self.new ≡ self.old) }
+        ensures own { IsOwn self.new by client }
         ensures limits { self.new.limits ≡ self.old.limits }
     {
         let response = self.roster.get(client)?;
@@ -91,6 +108,17 @@ impl Lane {
             number: 0,
             command: 0,
         });
+        Some(response)
+    }
+
+    /// Takes the client's oldest response out of its box. It bears the client's own number.
+    #[inline(always)]
+    pub fn collect(&mut self, by: u64, client: u64) -> Option<Pdu>
+        requires { IsOwn self.old by client }
+        ensures collected { IsCollected self.old by client result self.new }
+        ensures limits { self.new.limits ≡ self.old.limits }
+    {
+        let response = self.collect_response(by, client)?;
         Some(response.pdu)
     }
 }

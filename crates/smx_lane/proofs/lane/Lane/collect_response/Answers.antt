@@ -1,14 +1,14 @@
-use Rattle.std.proofs.Common.{arith, ◌≡◌, ◌<◌, drop, length, Some, refl, sym, ◌∙◌, ap}
+use Rattle.std.proofs.Common.{arith, ◌≡◌, ◌<◌, ◌-◌, drop, length, Some, refl, sym, ◌∙◌, ap}
 use Rattle.smx_history.specs.Contents.{Content}
 use Rattle.smx_history.specs.Replies.{member_with}
 use Rattle.smx_history.specs.Answering.{oldest_in}
 use Rattle.smx_history.proofs.Room.{FitsBox}
-use Rattle.smx_history.proofs.Keeping.{found_meets, All-each}
+use Rattle.smx_history.proofs.Keeping.{found_meets, All-each, All-with_row}
 use Rattle.smx_history.proofs.Settled.{KeepsRoom-collected}
 use Rattle.smx_history.proofs.CollectAgrees.{AgreesWith-collected}
 use Rattle.smx_lane.specs.Inside.{content_of}
 use Rattle.smx_lane.proofs.Refusing.{oldest_row}
-use Rattle.smx_lane.proofs.lane.Lane.collect.Goals as goal
+use Rattle.smx_lane.proofs.lane.Lane.collect_response.Goals as goal
 
 pub get-requires : goal.get-requires
 get-requires c = λ m found.
@@ -34,8 +34,8 @@ invariant_of-self-2 c =
       places = rw got c.self.invariant.places;
     }
 
-pub returns-clause-collected : goal.returns-clause-collected
-returns-clause-collected c =
+pub returns-clause-agrees : goal.returns-clause-agrees
+returns-clause-agrees c =
     let v = content_of c.self.inside in
     let r = c.in_ok-response.response in
     let oldest : oldest_in (member_with c.args.client v.members) ≡ Some r = sym c.get.ensures.oldest ∙ c.in_ok-response.was in
@@ -43,10 +43,12 @@ returns-clause-collected c =
     let m = row.0 in
     let some : 0 < length m.waiting = omega (arith, ap length row.2) in
     let room = KeepsRoom-collected v c.args.by c.args.client r m c.self.invariant.room row.1 some in
-    let own = found_meets (λ x. x.by ≡ c.args.by) c.args.client m v.members (rw (← c.self.view_is) at c.requires) row.1 in (
-      r,
-      ap (λ (x : Content). oldest_in (member_with c.args.client x.members)) (sym c.self.view_is) ∙ oldest,
-      refl,
-      λ h was. rw (c.push_reserved.ensures.items, c.in_ok-response.ensures.some)
-          (AgreesWith-collected h v c.args.by c.args.client r (drop 1 m.waiting) m (rw c.self.view_is was) row.1 own row.2 room),
-    )
+    let own = found_meets (λ x. x.by ≡ c.args.by) c.args.client m v.members (rw (← c.self.view_is) at c.requires) row.1 in
+    λ h was. rw (c.push_reserved.ensures.items, c.in_ok-response.ensures.some)
+    (AgreesWith-collected h v c.args.by c.args.client r (drop 1 m.waiting) m (rw c.self.view_is was) row.1 own row.2 room)
+
+pub returns-clause-own : goal.returns-clause-own
+returns-clause-own c =
+    let v = content_of c.self.inside in
+    rw c.in_ok-response.ensures.some (All-with_row (λ m. m.client ≡ c.args.client → m.by ≡ c.args.by) (λ m. m.client ≡ c.args.client → m.by ≡ c.args.by)
+    (λ m. record m { pending = m.pending - 1; waiting = drop 1 m.waiting }) c.args.client (λ m is h. h) (λ m is h. h) v.members (rw (← c.self.view_is) at c.requires))
