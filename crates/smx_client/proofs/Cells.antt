@@ -15,6 +15,7 @@ use Rattle.smx_session.specs.declared.ask.Ask.TheVariants as leave
 use Rattle.smx_session.specs.declared.enquiry.Enquiry.{Enquiry}
 use Rattle.smx_shared.specs.declared.offer.Offer.{Offer}
 use Rattle.smx_shared.specs.declared.fault.SubmitFault.{SubmitFault}
+use Rattle.smx_shared.specs.declared.batch.Collected.{Collected as Batch}
 use Rattle.smx_link.specs.declared.link.Polled.{Polled}
 use Rattle.smx_link.specs.declared.link.LinkFault.{LinkFault}
 use Rattle.smx_turns.specs.declared.gate.Point.TheVariants.{Reading, Binding, Refusing, Admitting, Submitting, Collecting}
@@ -67,7 +68,7 @@ module _ (t : Before) where
   unfolding go from_collecting
   clogs_collect n = refl
 
-  pub collects : (n : ℕ) (r : Snapshot (Result (Option Pdu) Spent)) (x : Result (Option Pdu) Spent) → r.value ≡ x → go t (MayCollect n) (Did (Collected n r)) ≡ after_collect n x
+  pub collects : (n : ℕ) (r : Snapshot (Result Batch Spent)) (x : Result Batch Spent) → r.value ≡ x → go t (MayCollect n) (Did (Collected n r)) ≡ after_collect n x
   unfolding go from_collecting
   collects n r x is = ap (λ o. if n == n then after_collect n o else Wrong) is ∙ ap (λ b. if b then after_collect n x else Wrong) (eq-eqb n n refl)
 

@@ -18,6 +18,7 @@ use Rattle.smx_shared.specs.Offers.{Accepted, accepted_by}
 use Rattle.smx_shared.specs.Ports.{HasAccepted}
 use Rattle.smx_shared.specs.declared.offer.Offer.{Offer}
 use Rattle.smx_shared.specs.declared.fault.SubmitFault.{SubmitFault}
+use Rattle.smx_shared.specs.declared.batch.Collected.{Collected as Batch}
 use Rattle.smx_box.specs.declared.receiver.Got.{Got}
 use Rattle.smx_box.specs.Boxes.{Sending, Receiving}
 use Rattle.smx_routes.specs.Window.{Window}
@@ -46,7 +47,7 @@ no_accept : (p : PortView) (all : List Accepted) → HasAccepted p all → HasAc
 no_accept p all has = subst (HasAccepted p) (sym (append-nil all)) has
 
 module _ (d : Desk) (said said' : List Pdu) (s : Client) (w : Window) (i : Receiving MoItem) (x : List (Sending Pdu)) (h : Option Parked) where
-  pub collected : (p p' : PortView) (lane : ℕ) (r0 : Result (Option Pdu) Spent) (r : Snapshot (Result (Option Pdu) Spent)) → r.value ≡ r0 → said' ≡ said ++ response_out r0
+  pub collected : (p p' : PortView) (lane : ℕ) (r0 : Result Batch Spent) (r : Snapshot (Result Batch Spent)) → r.value ≡ r0 → said' ≡ said ++ response_out r0
       → collect_step lane r0 p p' → ((all : List Accepted) → HasAccepted p all → HasAccepted p' all) → Does (parts d said p s w i x h) (Collected lane r) (parts d said' p' s w i x h)
   collected p p' lane r0 r seen says step lists = record {
     says = says ∙ ap (λ o. said ++ response_out o) (sym seen);

@@ -15,3 +15,4 @@ pub mod Coursing
 pub mod Serving
 pub mod Faults
 pub mod Lengthening
+pub mod Lists

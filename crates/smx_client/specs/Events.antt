@@ -1,11 +1,12 @@
 -- What an event is worth: what it decided and says, whom it tells, whether nothing came of it, and what it ends.
-use Rattle.std.specs.Prelude.{ℕ, Bool, true, false, ◌||◌, is_none, List, [], ◌∷◌, ◌++◌, Option, Some, None, Result, Ok, Err}
+use Rattle.std.specs.Prelude.{ℕ, Bool, true, false, ◌||◌, ◌==◌, is_none, length, map, List, [], ◌∷◌, ◌++◌, Option, Some, None, Result, Ok, Err}
 use Rattle.std.specs.List.{flat_map}
 use Rattle.std.specs.Result.{is_err}
 use Rattle.smx_pdu.specs.declared.pdu.Pdu.{Pdu}
 use Rattle.smx_pdu.specs.Command.{response_of}
 use Rattle.smx_history.specs.declared.telling.Unaccepted.{Unaccepted}
 use Rattle.smx_history.specs.declared.telling.Unaccepted.TheVariants.{AllFull, UsedUp}
+use Rattle.smx_history.specs.declared.response.Response.{Response}
 use Rattle.smx_history.specs.Failures.{refusal_of}
 use Rattle.smx_session.specs.declared.act.Act.{Act}
 use Rattle.smx_session.specs.declared.act.Act.TheVariants as act
@@ -14,6 +15,7 @@ use Rattle.smx_session.specs.declared.enquiry.Enquiry.TheVariants.{NotDue, Due, 
 use Rattle.smx_shared.specs.declared.offer.Offer.{Offer}
 use Rattle.smx_shared.specs.declared.fault.SubmitFault.{SubmitFault}
 use Rattle.smx_shared.specs.declared.fault.SubmitFault.TheVariants as submit
+use Rattle.smx_shared.specs.declared.batch.Collected.{Collected as Batch}
 use Rattle.smx_shared.specs.Offers.{Accepted, accepted_by}
 use Rattle.smx_lock.specs.declared.faults.Spent.{Spent}
 use Rattle.smx_box.specs.declared.fault.Spent.{Spent as BoxSpent}
@@ -83,9 +85,13 @@ abbrev pub refusal_out : Pdu → Result ℕ (Offer × SubmitFault) → List Pdu
 refusal_out p (Ok lane) = []
 refusal_out p (Err e) = refusal_of (why_unaccepted e.1) p.command p.number ∷ []
 
-abbrev pub response_out : Result (Option Pdu) Spent → List Pdu
-response_out (Ok (Some p)) = p ∷ []
-response_out (Ok None) = []
+-- the PDUs of responses
+abbrev pub pdus_of : List Response → List Pdu
+pdus_of rs = map (λ r. r.pdu) rs
+
+-- what a lane gave, as its client is sent it
+abbrev pub response_out : Result Batch Spent → List Pdu
+response_out (Ok b) = pdus_of b.responses.items
 response_out (Err e) = []
 
 -- a message as the client is sent it
@@ -189,9 +195,8 @@ abbrev pub expired_told : Option (ℕ × ℕ × ℕ) → Reply → List Party
 expired_told None reply = []
 expired_told (Some m) reply = lane_told m.0 reply
 
-abbrev pub is_none_found : Result (Option Pdu) Spent → Bool
-is_none_found (Ok (Some p)) = false
-is_none_found (Ok None) = true
+abbrev pub is_none_found : Result Batch Spent → Bool
+is_none_found (Ok b) = length b.responses.items == 0
 is_none_found (Err e) = true
 
 abbrev pub is_refused : Reply → Bool

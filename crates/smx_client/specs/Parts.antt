@@ -14,10 +14,11 @@ use Rattle.smx_box.specs.declared.fault.Spent.{Spent as BoxSpent}
 use Rattle.smx_shared.specs.Views.{PortView}
 use Rattle.smx_shared.specs.Offers.{Accepted}
 use Rattle.smx_shared.specs.Ports.{HasAccepted}
-use Rattle.smx_shared.specs.Serving.{CollectServes, Waited}
-use Rattle.smx_shared.specs.Submits.{OnLane, Submitted as Lands, Refuses}
+use Rattle.smx_shared.specs.Collecting.{CollectsAll}
+use Rattle.smx_shared.specs.Submits.{Submitted as Lands, Refuses}
 use Rattle.smx_shared.specs.declared.offer.Offer.{Offer}
 use Rattle.smx_shared.specs.declared.fault.SubmitFault.{SubmitFault}
+use Rattle.smx_shared.specs.declared.batch.Collected.{Collected as Batch}
 use Rattle.smx_box.specs.declared.receiver.Got.{Got}
 use Rattle.smx_box.specs.declared.receiver.Got.TheVariants.{Item, Shut, Empty}
 use Rattle.smx_routes.specs.declared.mo_window.Waiting.{Waiting}
@@ -47,9 +48,9 @@ abbrev pub submit_step : Offer → Result ℕ (Offer × SubmitFault) → PortVie
 submit_step o (Ok lane) v w = Lands v o w lane
 submit_step o (Err e) v w = (e.0 ≡ o) × Refuses v o w e.1
 
--- what a collect on lane k did to the port
-abbrev pub collect_step : ℕ → Result (Option Pdu) Spent → PortView → PortView → Type 0
-collect_step k r v w = OnLane k v.fronts w.fronts (λ f g. Waited (CollectServes f g v.client) f g r) × (w ≡ record v { fronts = w.fronts })
+-- what the list of collects on lane k did to the port, by one hold
+abbrev pub collect_step : ℕ → Result Batch Spent → PortView → PortView → Type 0
+collect_step k r v w = CollectsAll k v w r × (w ≡ record v { fronts = w.fronts })
 
 abbrev pub fate_port : Pdu → Fate → PortView → PortView → Type 0
 fate_port p Own v w = w ≡ v

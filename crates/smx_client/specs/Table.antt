@@ -5,6 +5,7 @@ use Rattle.smx_frame.specs.Stream.{HasNone}
 use Rattle.smx_lock.specs.declared.faults.Spent.{Spent}
 use Rattle.smx_box.specs.declared.fault.Spent.{Spent as BoxSpent}
 use Rattle.smx_box.specs.declared.receiver.Got.{Got}
+use Rattle.smx_shared.specs.declared.batch.Collected.{Collected as Batch}
 use Rattle.smx_session.specs.declared.kind.Kind.{Kind}
 use Rattle.smx_session.specs.declared.kind.Kind.TheVariants as kind
 use Rattle.smx_session.specs.declared.act.Act.{Act}
@@ -181,7 +182,7 @@ from_boxing now false (Marked NoRoom) = Clear
 from_boxing now false (Marked Clogs) = Clogged
 from_boxing now false _ = Wrong
 
--- a lane to which the gate says no is passed over
+-- a lane is asked, or passed over
 abbrev pub when_may_collect : ℕ → Bool → Phase
 when_may_collect n true = MayCollect n
 when_may_collect n false = AtLane (n + 1)
@@ -190,10 +191,9 @@ unfoldable pub from_lane : Before → ℕ → step_of → Phase
 from_lane t n (Asked (Collecting k) answer) = if k == n then when_may_collect n answer else Wrong
 from_lane t n s = if n == t.lanes then from_boxing t.now t.parked s else Wrong
 
--- a lane that gave a response may be asked again
-abbrev pub after_collect : ℕ → Result (Option Pdu) Spent → Phase
-after_collect n (Ok (Some p)) = MayCollect n
-after_collect n (Ok None) = AtLane (n + 1)
+-- a lane whose hold ended at a limit may be asked again, and one that has none left is passed
+abbrev pub after_collect : ℕ → Result Batch Spent → Phase
+after_collect n (Ok b) = when_may_collect n b.more
 after_collect n (Err e) = Exhausted
 
 unfoldable pub from_collecting : ℕ → step_of → Phase
@@ -417,7 +417,7 @@ abbrev pub IsOffered : Before → Phase → Result Bool Fault → Phase → Type
 IsOffered t p (Ok left) q = (waited wrote : Bool) × (q ≡ go t p (Marked (Offered waited wrote left)))
 IsOffered t p (Err e) q = (e ≡ fault.Link) × (q ≡ go t p (Marked WriteFailed))
 
--- a lane gave a response, or has none
+-- a lane may have more, or has none left
 abbrev pub IsCollectedFrom : ℕ → Result Bool Fault → Phase → Type 0
 IsCollectedFrom n (Ok true) p = p ≡ MayCollect n
 IsCollectedFrom n (Ok false) p = p ≡ AtLane (n + 1)

@@ -6,7 +6,7 @@ use smx_box::{Got, Spent as BoxSpent};
 use smx_lock::Spent;
 use smx_pdu::Pdu;
 use smx_session::{Act, Ask, Enquiry, Kind};
-use smx_shared::{Offer, SubmitFault};
+use smx_shared::{Collected, Offer, SubmitFault};
 use smx_turns::{Deed, MoItem};
 use std::snapshot::Snapshot;
 
@@ -41,8 +41,8 @@ pub enum Event {
     Decided(Snapshot<Pdu>, Snapshot<Act>, Fate),
     /// A bad length was met, and this is the session's act.
     Broke(Snapshot<Act>),
-    /// A lane was asked for a response, and gave this.
-    Collected(usize, Snapshot<Result<Option<Pdu>, Spent>>),
+    /// A lane was asked for what waits, and gave this.
+    Collected(usize, Snapshot<Result<Collected, Spent>>),
     /// The box was asked for an item, and gave this.
     Got(Snapshot<Result<Got<MoItem>, BoxSpent>>, Delivery),
     /// The answer that waited for the return box of this lane was put again.

@@ -1,20 +1,21 @@
 //! What is said to a client.
-ghost use Rattle.std.specs.Prelude.{◌≡◌, ◌≢◌, ◌++◌, ◌≤◌, [], ◌∷◌, true, length};
+ghost use Rattle.std.specs.Prelude.{◌≡◌, ◌≢◌, ◌++◌, ◌≤◌, [], ◌∷◌, true, length, IfOk};
 ghost use Rattle.smx_pdu.specs.Command.{is_forwarded};
 ghost use Rattle.smx_session.specs.declared.act.Act.{Act};
-ghost use Rattle.smx_client.specs.Events.{act_out, refusal_out, response_out, why_unaccepted, is_none_found, enquiry_out, is_not_due, is_unanswered};
+ghost use Rattle.smx_shared.specs.Batches.{octets_of_responses};
+ghost use Rattle.smx_client.specs.Events.{act_out, refusal_out, response_out, pdus_of, why_unaccepted, is_none_found, enquiry_out, is_not_due, is_unanswered};
 ghost use Rattle.smx_client.specs.Events.{submit_told};
 ghost use Rattle.smx_client.specs.Parts.{IsOfferOf};
 ghost use Rattle.smx_turns.specs.Worth.{those};
 ghost use Rattle.smx_client.specs.Sayings.{Spoke, IsVerdict, asked_of};
 
 use crate::event::Verdict;
-use smx_history::{Unaccepted, refusal_of};
+use smx_history::{Response, Unaccepted, refusal_of};
 use smx_link::{Link, Wire};
 use smx_lock::Spent;
 use smx_pdu::Pdu;
 use smx_session::{Act, Enquiry};
-use smx_shared::{Offer, SubmitFault};
+use smx_shared::{Collected, Offer, SubmitFault};
 use smx_turns::{Gate, Party};
 use std::alloc::Global;
 
@@ -44,22 +45,35 @@ pub(crate) fn say_some<L: Link + Drop>(wire: &mut Wire<L>, said: &Option<Pdu>)
     }
 }
 
-// Says the response that was found, where there is one, and gives it back. True where there is none.
-pub(crate) fn say_found<L: Link + Drop>(
-    wire: &mut Wire<L>,
-    found: Result<Option<Pdu>, Spent>,
-) -> bool
-    requires room { 65536 ≤ wire.old.room }
+// Says the responses, one after another, and gives each back.
+fn say_each<L: Link + Drop>(wire: &mut Wire<L>, responses: Vec<Response>)
+    requires room { octets_of_responses responses.items ≤ wire.old.room }
+    ensures { Spoke wire.old wire.new (pdus_of responses.items) }
+{
+    for response in responses {
+        let Response { ordinal: _, pdu } = response;
+        wire.say_within(&pdu);
+        wire.give_back(pdu);
+    }
+}
+
+// Says the responses that were found, and gives them back. True where there is none.
+pub(crate) fn say_found<L: Link + Drop>(wire: &mut Wire<L>, found: Result<Collected, Spent>) -> bool
+    requires room { IfOk found (λ b. octets_of_responses b.responses.items ≤ wire.old.room) }
     ensures spoke { Spoke wire.old wire.new (response_out found) }
     ensures none { result ≡ is_none_found found }
 {
-    if let Ok(Some(response)) = found {
-        say_one(wire, &response);
-        wire.give_back(response);
-        return false;
+    match found {
+        Ok(Collected { responses, more: _ }) => {
+            let none = responses.is_empty();
+            say_each(wire, responses);
+            none
+        }
+        Err(_) => {
+            say_none(wire);
+            true
+        }
     }
-    say_none(wire);
-    true
 }
 
 // Says what the session's act says.

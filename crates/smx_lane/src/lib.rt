@@ -11,6 +11,7 @@ mod numbers;
 mod roster;
 mod rows;
 mod sent;
+mod settled;
 mod window;
 
 pub use call::{Call, Reply, run, run_all};
@@ -18,6 +19,7 @@ pub use fault::{LaneFault, NotAdmitted};
 pub use lane::Lane;
 pub use load::Load;
 pub use sent::Sent;
+pub use settled::Settled;
 pub use smx_history::{
     AdmitFault, AlreadyDown, Answered, Entry, Event, FailRefusal, Failed, Kind, Limits,
     NoneExpired, Note, Place, Refusal, Request, Response, TakeRefusal, UpRefusal,

@@ -1,13 +1,14 @@
 //! PDUs over a link.
-ghost use Rattle.std.specs.Prelude.{◌≡◌, ℕ, ◌+◌, ◌<◌, ◌≤◌, ◌++◌, ◌⊎◌, [], ◌∷◌, length, IfOk, IfErr, IfSome, OnOk, IsTrue, ◌↔◌, Some, None, Ok, Err, drop, take, vec_len};
-ghost use Rattle.smx_pdu.specs.Pdu.{spelling};
+ghost use Rattle.std.specs.Prelude.{◌≡◌, ℕ, List, ◌+◌, ◌<◌, ◌≤◌, ◌++◌, ◌⊎◌, [], ◌∷◌, length, IfOk, IfErr, IfSome, OnOk, IsTrue, ◌↔◌, Some, None, Ok, Err, drop, take, vec_len, vec_capacity};
+ghost use Rattle.smx_pdu.specs.Pdu.{octets_of, spelling};
+ghost use Rattle.smx_pdu.specs.declared.pdu.Pdu.{Pdu};
 ghost use Rattle.smx_frame.specs.Stream.{TakesFirst, HasNone, fault_at};
 ghost use Rattle.smx_link.specs.Links.{fault_count};
 ghost use Rattle.smx_link.specs.Wiring.{Balances};
 
 use crate::link::{Link, LinkFault, Polled};
 use smx_frame::{FrameFault, Framer, compact};
-use smx_pdu::{MAX_PDU, Pdu, encode_within};
+use smx_pdu::{Header, MAX_PDU, Pdu, encode_within, read_header};
 use smx_trace::Trace;
 use std::alloc::{AllocError, Global};
 use std::marker::Model;
@@ -83,6 +84,42 @@ fn read_behind<L: Link + Drop>(
         Ok(Polled::Octets(count)) => (Ok(Polled::Octets(count)), end + count),
         answer => (answer, end),
     }
+}
+
+// The octets that a PDU of this length begins with.
+fn header_of(pdu: &Pdu, length: u32) -> [u8; 16]
+    ensures { result ≡ octets_of length ++ (octets_of pdu.now.command
+        ++ (octets_of pdu.now.status ++ octets_of pdu.now.number)) }
+{
+    let [a, b, c, d] = length.to_be_bytes();
+    let [e, f, g, h] = pdu.command.to_be_bytes();
+    let [i, j, k, l] = pdu.status.to_be_bytes();
+    let [m, n, o, p] = pdu.number.to_be_bytes();
+    [a, b, c, d, e, f, g, h, i, j, k, l, m, n, o, p]
+}
+
+// Writes octets at the end, where there is room.
+#[inline(always)]
+fn append_within(out: &mut Vec<u8>, octets: &[u8])
+    requires { vec_len out.old + length octets.now ≤ vec_capacity out.old }
+    ensures items { out.new.items ≡ out.old.items ++ octets.now }
+    ensures len { vec_len out.new ≡ vec_len out.old + length octets.now }
+    ensures capacity { vec_capacity out.old ≤ vec_capacity out.new }
+{
+    let _ = out.extend_from_slice(octets);
+}
+
+// Writes a PDU's octets at the end, where there is room for so many.
+fn append_pdu(pdu: &Pdu, out: &mut Vec<u8>)
+    requires { vec_len out.old + (16 + length pdu.now.body) ≤ vec_capacity out.old }
+    ensures items { out.new.items ≡ out.old.items ++ spelling pdu.now }
+    ensures len { vec_len out.new ≡ vec_len out.old + (16 + length pdu.now.body) }
+    ensures capacity { vec_capacity out.old ≤ vec_capacity out.new }
+{
+    let body = pdu.body.as_slice();
+    let length = (16 + body.len()) as u32;
+    append_within(out, &header_of(pdu, length));
+    append_within(out, body);
 }
 
 impl<L: Link + Drop> Wire<L> {
@@ -174,6 +211,24 @@ impl<L: Link + Drop> Wire<L> {
         self.said = self.said.and(pdu);
     }
 
+    /// Says a PDU that there is room for, and leaves the rest of the room: so several PDUs are said once
+    /// room was made. It takes no memory.
+    pub fn say_within(&mut self, pdu: &Pdu)
+        requires room { 16 + length pdu.now.body ≤ self.old.room }
+        ensures said { self.new.said ≡ self.old.said ++ pdu.now ∷ [] }
+        ensures unsent { self.new.unsent ≡ self.old.unsent ++ spelling pdu.now }
+        ensures left { self.old.room ≤ self.new.room + (16 + length pdu.now.body) }
+        ensures same { self.new ≡ record self.old {
+          said = self.new.said;
+          unsent = self.new.unsent;
+          room = self.new.room;
+        } }
+    {
+        append_pdu(pdu, &mut self.waiting);
+        let said = self.said.and(pdu);
+        self.said = said;
+    }
+
     /// Makes room for what one read may give.
     pub fn make_ready(&mut self) -> Result<(), AllocError>
         ensures intake { OnOk result (4096 ≤ self.new.intake) }
@@ -200,6 +255,27 @@ impl<L: Link + Drop> Wire<L> {
         let (answer, end) = read_behind(&mut self.link, &mut octets, end);
         self.framer.take_back(octets, end);
         answer
+    }
+
+    /// The command of the next whole PDU, where one is there: it is heard next, unless memory is wanted
+    /// for its body.
+    #[inline(always)]
+    pub fn next_command(&self) -> Option<u32>
+        ensures command { IfSome result (λ k. (p : Pdu) (rest : List ℕ)
+            → TakesFirst 65536 self.now.rest p rest → p.command ≡ k) }
+        ensures whole { IfSome result (λ k. fault_at 65536 self.now.rest ≡ None) }
+    {
+        let octets = self.framer.rest();
+        let first = octets.first_chunk::<16>()?;
+        let Header {
+            length,
+            command,
+            ..
+        } = read_header(first);
+        if length < 16 || length > 65_536 || octets.len() < length as usize {
+            return None;
+        }
+        Some(command)
     }
 
     /// Hears the next whole PDU, where there is one. The fault is that of a bad length, which ends

@@ -1,25 +1,30 @@
 -- Lists of calls in one hold.
-use Rattle.std.proofs.Common.{◌≡◌, ◌<◌, ◌≤◌, ◌+◌, ◌&&◌, ◌==◌, ◌||◌, length, ℕ, max, Bool, true, false, List, [], ◌∷◌, ◌++◌, map, slice_get, Option, Some, None, Result, Ok, Err, refl, sym, ap, ◌∙◌, subst, arith, inl, inr}
-use Rattle.std.specs.Prelude.{All, sum_by}
-use Rattle.std.specs.List.{list_any}
+use Rattle.std.proofs.Common.{◌≡◌, ◌<◌, ◌≤◌, ◌+◌, length, ℕ, max, Bool, true, false, List, [], ◌∷◌, ◌++◌, map, slice_get, Option, Some, None, Result, Ok, Err, refl, sym, ap, ◌∙◌, subst, arith, inl, inr, is_some, append_assoc}
+use Rattle.std.specs.Prelude.{sum_by}
 use Rattle.std.proofs.lemmas.List.{append-nil, map-append}
 use Rattle.std.proofs.lemmas.List.Elements.{All-append, filter_map-append}
-use Rattle.smx_lock.specs.Fronts.{Front, Hold, Finds, MayLeave, Runs, IsSpent, after_hold, holding}
+use Rattle.smx_lock.specs.Fronts.{Front, Hold, Finds, MayLeave, Runs, after_hold, holding}
 use Rattle.smx_lock.specs.declared.faults.Spent as spent
 use Rattle.smx_history.specs.declared.limits.Limits.{Limits}
 use Rattle.smx_history.specs.declared.note.Note.{Note}
-use Rattle.smx_history.specs.declared.note.Event.{Event}
 use Rattle.smx_history.specs.declared.note.Event.TheVariants as event
 use Rattle.smx_history.specs.declared.request.Request.{Request}
 use Rattle.smx_history.specs.declared.response.Response.{Response}
 use Rattle.smx_history.specs.declared.reply.TakeRefusal.{TakeRefusal}
-use Rattle.smx_history.specs.Entries.{is_retired, is_retire}
-use Rattle.smx_history.specs.History.{note, entries_of, requests, request_in}
+use Rattle.smx_history.specs.Entries.{is_retired}
+use Rattle.smx_history.specs.History.{note, entries_of, requests}
 use Rattle.smx_history.specs.Contents.{Content, AgreesWith}
-use Rattle.smx_history.specs.Answering.{oldest_in}
-use Rattle.smx_history.specs.Replies.{member_with, moment_at, take_refusal}
+use Rattle.smx_history.specs.Answering.{oldest_in, IsAnswered}
+use Rattle.smx_history.specs.Replies.{member_with, moment_at, take_refusal, answers_place}
 use Rattle.smx_lane.specs.Conditions.{IsOwn}
+use Rattle.std.specs.Global.{Vec}
+use Rattle.std.specs.List.{find}
+use Rattle.smx_pdu.specs.declared.pdu.Pdu.{Pdu}
+use Rattle.smx_history.specs.declared.place.Place.{Place}
+use Rattle.smx_history.specs.declared.reply.Answered.{Answered}
+use Rattle.smx_history.specs.declared.reply.Answered.TheVariants as answered
 use Rattle.smx_lane.specs.declared.sent.Sent.{Sent}
+use Rattle.smx_lane.specs.declared.settled.Settled.{Settled}
 use Rattle.smx_lane.specs.declared.call.Call.{Call}
 use Rattle.smx_lane.specs.declared.call.Call.TheVariants as call
 use Rattle.smx_lane.specs.declared.call.Reply.{Reply}
@@ -30,11 +35,9 @@ use Rattle.smx_lane.specs.Taking.{taking}
 use Rattle.smx_lane.proofs.Calling.{ran_none, ran_further, goes_further, stays}
 use Rattle.smx_shared.specs.declared.batch.Collected.{Collected}
 use Rattle.smx_shared.specs.declared.batch.Takings.{Takings}
-use Rattle.smx_shared.specs.Views.{PortView}
-use Rattle.smx_shared.specs.Serving.{OneHold, Waited}
-use Rattle.smx_shared.specs.Batches.{BatchServes, CollectsServe, TakesServe, TakesAll, collect_calls, collect_replies, collect_reply, none_left, CollectEnds, take_calls, take_replies, take_reply, stopped_by, TakeEnds, Exceeds, body_of}
-use Rattle.smx_shared.specs.Steps.{AreCollected, AreTaken, collects_of, takes_of, length_in}
-use Rattle.smx_shared.specs.Taps.{Known, Took, known_from, known_of, known_by_takes}
+use Rattle.smx_shared.specs.Batches.{BatchServes, CollectsServe, TakesServe, TakesAll, collect_calls, collect_replies, collect_reply, none_left, CollectEnds, take_calls, take_replies, take_reply, stopped_by, TakeEnds, Exceeds, body_of, AnswersServe, BringsAll, answer_calls, answer_replies, answers_of, settled_notes}
+use Rattle.smx_shared.specs.Steps.{AreCollected, AreTaken, AreBrought, collects_of, takes_of, length_in}
+use Rattle.smx_shared.specs.Taps.{Known, Took, known_from, known_of, known_by_takes, known_by_answer, known_by_answers, known_by_settled}
 use Rattle.smx_shared.proofs.Calls.{AreBy, one, none}
 use Rattle.smx_shared.proofs.Holding.{served}
 
@@ -235,6 +238,85 @@ all_known f g now (Ok b) h =
     ap known_of h.serves.hold.serves.mine ∙ filter_map-append (λ n. known_from n.event) f.mine h.serves.own
     ∙ ap (λ ks. known_of f.mine ++ ks) (ran_known f.number now b.requests.items b.stop h.serves.own h.serves.old h.serves.new h.serves.told)
 all_known f g now (Err e) h = elim h [
+  | inl s ↦ ap (λ z. known_of z.mine) s ∙ sym (append-nil (known_of f.mine))
+  | inr s ↦ ap (λ z. known_of z.mine) s ∙ sym (append-nil (known_of f.mine))
+]
+
+-- the responses so far
+abbrev pub Brought : ℕ → Content → List Pdu → List Settled → Content → Type 0
+Brought by old ps ss new = Ran old (answer_calls by ps) (answer_replies ss) (answers_of by ps ss) new
+
+-- an answer and its notes
+answer_told : (by : ℕ) (p : Pdu) (old new : Content) (n : ℕ) (a : Answered) → IsAnswered old by p a new → ((q : Place) → find (answers_place p) old.window ≡ Some q → q.ordinal ≡ n)
+    → IsReply old (call.Answer by p) (reply.Answered a) (settled_notes by p n a) new × GoesOn old (settled_notes by p n a) new
+answer_told by p old new n (answered.Queued c) is named =
+    let e : note by (event.Answer is.0.client is.0.ordinal p) ≡ note by (event.Answer c n p) = ap (λ x. note by (event.Answer x is.0.ordinal p)) is.3 ∙ ap (λ m. note by (event.Answer c m p)) (named is.0 is.2) in
+    ((is.0, is.2, is.3, ap is_some is.4, ap (λ x. x ∷ []) (sym e)), subst (λ x. GoesOn old (x ∷ []) new) e is.5)
+answer_told by p old new n (answered.Late c) is named =
+    let e : note by (event.Late is.0.client is.0.ordinal p.number p.command) ≡ note by (event.Late c n p.number p.command) =
+    ap (λ x. note by (event.Late x is.0.ordinal p.number p.command)) is.2 ∙ ap (λ m. note by (event.Late c m p.number p.command)) (named is.0 is.1) in
+    ((is.0, is.1, is.2, is.3, ap (λ x. x ∷ []) (sym e)), subst (λ x. GoesOn old (x ∷ []) new) e is.4)
+answer_told by p old new n (answered.Unknown back) is named = ((is.0, is.1, (refl, is.2)), stays old new is.2)
+
+answers_more : (by : ℕ) (ps : List Pdu) (ss : List Settled) (p : Pdu) (s : Settled) → length ps ≡ length ss
+    → answers_of by (ps ++ p ∷ []) (ss ++ s ∷ []) ≡ answers_of by ps ss ++ settled_notes by p s.ordinal s.answered
+answers_more by [] [] p s same = append-nil (settled_notes by p s.ordinal s.answered)
+answers_more by [] (t ∷ ss) p s same = absurd (omega (arith, same))
+answers_more by (q ∷ ps) [] p s same = absurd (omega (arith, same))
+answers_more by (q ∷ ps) (t ∷ ss) p s same =
+    ap (λ ns. settled_notes by q t.ordinal t.answered ++ ns) (answers_more by ps ss p s (omega (arith, same))) ∙ sym (append_assoc (settled_notes by q t.ordinal t.answered) (answers_of by ps ss) (settled_notes by p s.ordinal s.answered))
+
+pub brought_more : (by : ℕ) (old mid new : Content) (ps : List Pdu) (ss : List Settled) (p : Pdu) (s : Settled) → length ps ≡ length ss → Brought by old ps ss mid → IsAnswered mid by p s.answered new
+    → ((q : Place) → find (answers_place p) mid.window ≡ Some q → q.ordinal ≡ s.ordinal) → Brought by old (ps ++ p ∷ []) (ss ++ s ∷ []) new
+brought_more by old mid new ps ss p s same brought is named =
+    let told = answer_told by p mid new s.ordinal s.answered is named in
+    let made = ran_further (answer_calls by ps) (answer_replies ss) (answers_of by ps ss) _ old mid new _ _ brought told.0 told.1 in
+    subst (λ ns. Ran old (answer_calls by (ps ++ p ∷ [])) (answer_replies (ss ++ s ∷ [])) ns new) (sym (answers_more by ps ss p s same))
+    (subst (λ rs. Ran old (answer_calls by (ps ++ p ∷ [])) rs (answers_of by ps ss ++ settled_notes by p s.ordinal s.answered) new) (sym (map-append (λ (x : Settled). reply.Answered x.answered) ss (s ∷ [])))
+    (subst (λ cs. Ran old cs (answer_replies ss ++ reply.Answered s.answered ∷ []) (answers_of by ps ss ++ settled_notes by p s.ordinal s.answered) new) (sym (map-append (call.Answer by) ps (p ∷ []))) made))
+
+settled_by : (by : ℕ) (p : Pdu) (n : ℕ) (a : Answered) → AreBy by (settled_notes by p n a)
+settled_by by p n (answered.Queued c) = one by (event.Answer c n p)
+settled_by by p n (answered.Late c) = one by (event.Late c n p.number p.command)
+settled_by by p n (answered.Unknown back) = none by
+
+pub answers_by : (by : ℕ) (ps : List Pdu) (ss : List Settled) → AreBy by (answers_of by ps ss)
+unfolding AreBy
+answers_by by [] ss = none by
+answers_by by (p ∷ ps) [] = none by
+answers_by by (p ∷ ps) (s ∷ ss) = All-append (λ n. writer n ≡ by) (settled_notes by p s.ordinal s.answered) (answers_of by ps ss) (settled_by by p s.ordinal s.answered) (answers_by by ps ss)
+
+pub brought_may : (h : Hold Content Note Limits) (w : Content) (ps : List Pdu) (ss : List Settled) → AreBrought h.number ps h.value ss w → h.value.limits ≡ h.lock.fixed → AgreesWith h.found h.value
+    → MayLeave writer limits_of suits (holding h w) (answers_of h.number ps ss)
+brought_may h w ps ss did fixed agrees = may_leave h w _ _ _ did.ran (answers_by h.number ps ss) did.limits fixed agrees
+
+pub brought_serves : (f g : Front Note Limits) (ps : List Pdu) (ss : Vec Settled)
+    → Runs writer limits_of suits f g (λ by old a new. AreBrought by ps old a.items new) (λ by old a. answers_of by ps a.items) ss → AnswersServe f g ps ss.items
+unfolding list_serves
+brought_serves f g ps ss ran =
+    let did = ran.3 in
+    let serves = list_serves f g ran.0 ran.1 (λ by. answer_calls by ps) (answer_replies ss.items) (answers_of ran.0.number ps ss.items) (λ v. Unit {0}) ran.2 did.ran did.limits tt ran.4 in
+    record {
+      serves = serves;
+      notes = serves.hold.serves.mine ∙ ap (λ k. f.mine ++ answers_of k ps ss.items) ran.2.number;
+    }
+
+settled_known : (by : ℕ) (p : Pdu) (n : ℕ) (a : Answered) → known_of (settled_notes by p n a) ≡ known_by_answer {E = Unit {0}} p (Ok a)
+settled_known by p n (answered.Queued c) = refl
+settled_known by p n (answered.Late c) = refl
+settled_known by p n (answered.Unknown back) = refl
+
+answers_known : (by : ℕ) (ps : List Pdu) (ss : List Settled) → known_of (answers_of by ps ss) ≡ known_by_settled ps ss
+answers_known by [] ss = refl
+answers_known by (p ∷ ps) [] = refl
+answers_known by (p ∷ ps) (s ∷ ss) =
+    filter_map-append (λ n. known_from n.event) (settled_notes by p s.ordinal s.answered) (answers_of by ps ss)
+    ∙ ap (λ ks. ks ++ known_of (answers_of by ps ss)) (settled_known by p s.ordinal s.answered) ∙ ap (λ ks. known_by_answer {E = Unit {0}} p (Ok s.answered) ++ ks) (answers_known by ps ss)
+
+pub all_answers_known : (f g : Front Note Limits) (ps : List Pdu) (r : Result (Vec Settled) (Vec Pdu × spent.Spent)) → BringsAll f g ps r → known_of g.mine ≡ known_of f.mine ++ known_by_answers ps r
+all_answers_known f g ps (Ok ss) h =
+    ap known_of h.notes ∙ filter_map-append (λ n. known_from n.event) f.mine (answers_of f.number ps ss.items) ∙ ap (λ ks. known_of f.mine ++ ks) (answers_known f.number ps ss.items)
+all_answers_known f g ps (Err e) h = elim h.1 [
   | inl s ↦ ap (λ z. known_of z.mine) s ∙ sym (append-nil (known_of f.mine))
   | inr s ↦ ap (λ z. known_of z.mine) s ∙ sym (append-nil (known_of f.mine))
 ]

@@ -1,12 +1,7 @@
 -- What a turn over before a call leaves as it was.
-use Rattle.std.proofs.Common.{◌≡◌, ℕ, Bool, true, false, not, if◌then◌else◌, List, [], ◌∷◌, ◌++◌, Option, Some, None, nat_le, length, refl, sym, ◌∙◌, subst, true≢false}
-use Rattle.smx_history.specs.declared.limits.Limits.{Limits}
+use Rattle.std.proofs.Common.{◌≡◌, ℕ, Bool, true, false, not, if◌then◌else◌, List, ◌++◌, Option, Some, None, nat_le, length, refl, sym, ◌∙◌, true≢false}
 use Rattle.smx_history.specs.declared.note.Note.{Note}
-use Rattle.smx_history.specs.declared.entry.Entry.{Entry}
-use Rattle.smx_history.specs.declared.request.Request.{Request}
-use Rattle.smx_history.specs.declared.reply.AdmitFault.{AdmitFault}
 use Rattle.smx_history.specs.declared.reply.AdmitFault.TheVariants as admit
-use Rattle.smx_history.specs.declared.reply.Refusal.{Refusal}
 use Rattle.smx_history.specs.declared.reply.Refusal.TheVariants.{ClientFull, QueueFull, HistoryFull, Down}
 use Rattle.smx_history.specs.History.{entries_of, requests}
 use Rattle.smx_history.specs.Contents.{Content, Member}

@@ -11,7 +11,13 @@ use Rattle.smx_history.specs.declared.reply.TakeRefusal.{TakeRefusal}
 use Rattle.smx_history.specs.Contents.{Content, AgreesWith}
 use Rattle.smx_history.specs.Answering.{oldest_in}
 use Rattle.smx_history.specs.Replies.{member_with}
+use Rattle.std.specs.Global.{Vec}
+use Rattle.smx_history.specs.declared.note.Event.TheVariants as event
+use Rattle.smx_history.specs.declared.reply.Answered.{Answered}
+use Rattle.smx_history.specs.declared.reply.Answered.TheVariants as answered
+use Rattle.smx_history.specs.History.{note}
 use Rattle.smx_lane.specs.declared.sent.Sent.{Sent}
+use Rattle.smx_lane.specs.declared.settled.Settled.{Settled}
 use Rattle.smx_lane.specs.declared.call.Call.{Call}
 use Rattle.smx_lane.specs.declared.call.Call.TheVariants as call
 use Rattle.smx_lane.specs.declared.call.Reply.{Reply}
@@ -112,3 +118,31 @@ pub record TakesServe (f g : Front Note Limits) (now : ℕ) (b : Takings) : Type
 abbrev pub TakesAll : Front Note Limits → Front Note Limits → ℕ → Result Takings Spent → Type 0
 TakesAll f g now (Ok b) = TakesServe f g now b
 TakesAll f g now (Err _) = IsSpent f g
+
+-- each of these responses was brought
+abbrev pub answer_calls : ℕ → List Pdu → List Call
+answer_calls by ps = map (call.Answer by) ps
+
+abbrev pub answer_replies : List Settled → List Reply
+answer_replies ss = map (λ s. reply.Answered s.answered) ss
+
+-- what a seat notes of a response, which answers the request of this ordinal
+abbrev pub settled_notes : ℕ → Pdu → ℕ → Answered → List Note
+settled_notes by p n (answered.Queued c) = note by (event.Answer c n p) ∷ []
+settled_notes by p n (answered.Late c) = note by (event.Late c n p.number p.command) ∷ []
+settled_notes by p n (answered.Unknown back) = []
+
+-- and of these, one after the other
+abbrev pub answers_of : ℕ → List Pdu → List Settled → List Note
+answers_of by (p ∷ ps) (s ∷ ss) = settled_notes by p s.ordinal s.answered ++ answers_of by ps ss
+answers_of by _ _ = []
+
+-- a list of answers, as long as the list of responses
+pub record AnswersServe (f g : Front Note Limits) (ps : List Pdu) (ss : List Settled) : Type 0 where
+  pub serves : BatchServes f g (answer_calls f.number ps) (answer_replies ss) (λ v. Unit {0})
+  pub notes : g.mine ≡ f.mine ++ answers_of f.number ps ss
+
+-- what bringing a list of responses leaves: one hold, or the tickets are spent and they come back
+abbrev pub BringsAll : Front Note Limits → Front Note Limits → List Pdu → Result (Vec Settled) (Vec Pdu × Spent) → Type 0
+BringsAll f g ps (Ok ss) = AnswersServe f g ps ss.items
+BringsAll f g ps (Err e) = (e.0.items ≡ ps) × IsSpent f g

@@ -22,12 +22,13 @@ use Rattle.smx_lane.specs.declared.call.Call.{Call}
 use Rattle.smx_lane.specs.declared.call.Reply.{Reply}
 use Rattle.smx_lane.specs.Taking.{taking}
 use Rattle.smx_lane.specs.declared.sent.Sent.{Sent}
+use Rattle.smx_lane.specs.declared.settled.Settled.{Settled}
 use Rattle.smx_lane.specs.Calls.{IsReply, GoesOn, Keeps, Ran}
 use Rattle.smx_lane.specs.Kept.{writer, limits_of, suits}
 use Rattle.smx_shared.specs.declared.offer.Offer.{Offer}
 use Rattle.smx_shared.specs.declared.batch.Collected.{Collected}
 use Rattle.smx_shared.specs.declared.batch.Takings.{Takings}
-use Rattle.smx_shared.specs.Batches.{collect_calls, collect_replies, CollectEnds, octets_of_responses, take_calls, take_replies, TakeEnds, octets_of_requests, octets_with}
+use Rattle.smx_shared.specs.Batches.{collect_calls, collect_replies, CollectEnds, octets_of_responses, take_calls, take_replies, TakeEnds, octets_of_requests, octets_with, answer_calls, answer_replies, answers_of}
 use Rattle.smx_shared.specs.Ports.{IsMemberBy}
 use Rattle.smx_shared.specs.Roomy.{lane_met, shifts_before, shifts_where}
 
@@ -108,6 +109,11 @@ pub record AreTaken (by now : ℕ) (old : Content) (b : Takings) (new : Content)
   pub some : b.stop ≡ None → 0 < length b.requests.items
   pub octets : octets_of_requests b.requests.items ≤ 65536
   pub ends : TakeEnds b new
+
+-- the seat with this number brought these responses
+pub record AreBrought (by : ℕ) (ps : List Pdu) (old : Content) (ss : List Settled) (new : Content) : Type 0 where
+  pub ran : Ran old (answer_calls by ps) (answer_replies ss) (answers_of by ps ss) new
+  pub limits : new.limits ≡ old.limits
 
 -- whatever the seat finds in a hold, the call keeps to its condition there
 abbrev pub MayCall : Front Note Limits → (ℕ → Call) → Type 0

@@ -1,12 +1,14 @@
 -- What a tap's caller knows of the tap's notes.
-use Rattle.std.specs.Prelude.{ℕ, List, [], ◌∷◌, map, filter_map, Option, Some, None, Result, Ok, Err}
+use Rattle.std.specs.Prelude.{ℕ, List, [], ◌∷◌, ◌++◌, map, filter_map, Option, Some, None, Result, Ok, Err}
 use Rattle.smx_pdu.specs.declared.pdu.Pdu.{Pdu}
 use Rattle.smx_history.specs.declared.note.Note.{Note}
 use Rattle.smx_history.specs.declared.note.Event.{Event}
 use Rattle.smx_history.specs.declared.note.Event.TheVariants as event
 use Rattle.smx_history.specs.declared.reply.Answered.{Answered}
 use Rattle.smx_history.specs.declared.reply.Answered.TheVariants as answered
+use Rattle.std.specs.Global.{Vec}
 use Rattle.smx_lane.specs.declared.sent.Sent.{Sent}
+use Rattle.smx_lane.specs.declared.settled.Settled.{Settled}
 use Rattle.smx_shared.specs.declared.batch.Takings.{Takings}
 
 -- a note without its ordinal
@@ -40,3 +42,12 @@ known_by_answer p _ = []
 abbrev pub known_by_takes : {E : Type 0} → Result Takings E → List Known
 known_by_takes (Ok b) = map (λ s. Took s.request.client s.upstream) b.requests.items
 known_by_takes (Err _) = []
+
+-- what a list of answers adds to it
+abbrev pub known_by_settled : List Pdu → List Settled → List Known
+known_by_settled (p ∷ ps) (s ∷ ss) = known_by_answer {E = Unit {0}} p (Ok s.answered) ++ known_by_settled ps ss
+known_by_settled _ _ = []
+
+abbrev pub known_by_answers : {E : Type 0} → List Pdu → Result (Vec Settled) E → List Known
+known_by_answers ps (Ok ss) = known_by_settled ps ss.items
+known_by_answers ps (Err _) = []

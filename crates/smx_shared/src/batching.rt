@@ -1,13 +1,13 @@
 //! Lists of calls that are made in one hold.
-ghost use Rattle.std.specs.Prelude.{◌≡◌, ◌≤◌, [], slice_get, vec_capacity};
+ghost use Rattle.std.specs.Prelude.{◌≡◌, ◌≤◌, [], length, slice_get, vec_capacity};
 ghost use Rattle.smx_lane.specs.Conditions.{IsOwn};
-ghost use Rattle.smx_shared.specs.Steps.{AreCollected, AreTaken, length_in};
+ghost use Rattle.smx_shared.specs.Steps.{AreCollected, AreTaken, AreBrought, length_in};
 
 use crate::batch::{BATCH, Collected, Takings};
 use smx_history::{Note, Response};
-use smx_lane::{Lane, Sent};
+use smx_lane::{Lane, Sent, Settled};
 use smx_lock::CriticalSection;
-use smx_pdu::MAX_PDU;
+use smx_pdu::{MAX_PDU, Pdu};
 
 /// The octets of a PDU's header.
 const HEADER: usize = 16;
@@ -89,6 +89,18 @@ fn take_each(lane: &mut Lane, by: u64, now: u64, room: Vec<Sent>) -> Takings
     }
 }
 
+// Brings each of these responses.
+fn answer_each(lane: &mut Lane, by: u64, responses: Vec<Pdu>, room: Vec<Settled>) -> Vec<Settled>
+    requires room { (room.items ≡ []) × (length responses.items ≤ vec_capacity room) }
+    ensures { AreBrought by responses.items lane.old result.items lane.new }
+{
+    let mut settled = room;
+    for response in responses {
+        settled.push_reserved(lane.answer_response(by, response));
+    }
+    settled
+}
+
 // Collects what waits for a client.
 #[derive(Drop)]
 pub(crate) struct CollectingAll {
@@ -140,5 +152,33 @@ impl CriticalSection<Lane, Note> for TakingAll {
     fn run(self, value: &mut Lane, number: u64) -> Takings {
         let TakingAll { now, room } = self;
         take_each(value, number, now, room)
+    }
+}
+
+// Brings responses.
+#[derive(Drop)]
+pub(crate) struct BringingAll {
+    pub(crate) responses: Vec<Pdu>,
+    // Empty, with room for what becomes of each.
+    pub(crate) room: Vec<Settled>,
+}
+
+impl CriticalSection<Lane, Note> for BringingAll {
+    ghost use Rattle.std.specs.Prelude.{◌≡◌, ◌≤◌, [], length, vec_capacity};
+    ghost use Rattle.smx_shared.specs.Batches.{answers_of};
+    ghost use Rattle.smx_shared.specs.Steps.{AreBrought};
+
+    type Answer = Vec<Settled>;
+
+    ghost may = { λ s by lane. (s.room.items ≡ [])
+        × (length s.responses.items ≤ vec_capacity s.room) };
+
+    ghost does = { λ s by old answer new. AreBrought by s.responses.items old answer.items new };
+
+    ghost notes = { λ s by old answer. answers_of by s.responses.items answer.items };
+
+    fn run(self, value: &mut Lane, number: u64) -> Vec<Settled> {
+        let BringingAll { responses, room } = self;
+        answer_each(value, number, responses, room)
     }
 }

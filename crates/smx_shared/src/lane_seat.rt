@@ -1,17 +1,18 @@
 //! A seat on one lane. Each call of the lane is made in one hold of its lock.
-ghost use Rattle.std.specs.Prelude.{◌≡◌, ◌≤◌, [], vec_capacity, MatchResult};
+ghost use Rattle.std.specs.Prelude.{◌≡◌, ◌≤◌, [], length, vec_capacity, MatchResult};
 ghost use Rattle.smx_lane.specs.declared.call.Call.TheVariants as call;
 ghost use Rattle.smx_lock.specs.Fronts.{IsSpent, Refused};
-ghost use Rattle.smx_shared.specs.Batches.{CollectsServe, TakesServe};
+ghost use Rattle.smx_shared.specs.Batches.{CollectsServe, TakesServe, BringsAll};
 ghost use Rattle.smx_shared.specs.Serving.{CallServes, LoadServes, SplitServes, SplitFails, Waited};
 ghost use Rattle.smx_shared.specs.Steps.{MayCall};
 
 use crate::batch::{Collected, Takings};
-use crate::batching::{CollectingAll, TakingAll};
+use crate::batching::{BringingAll, CollectingAll, TakingAll};
 use crate::lane_call::{Calling, LaneCall, Weighing};
 use smx_history::Response;
-use smx_lane::{Lane, Load, Sent};
+use smx_lane::{Lane, Load, Sent, Settled};
 use smx_lock::{SeatInPlace, Spent, TicketLock, TryFault};
+use smx_pdu::Pdu;
 use std::marker::Model;
 use std::sync::Wait;
 
@@ -110,6 +111,26 @@ impl LaneSeat {
         match self.seat.hold(rt, lock, TakingAll { now, room }) {
             Ok(taken) => Ok(taken),
             Err((_, spent)) => Err(spent),
+        }
+    }
+
+    // Brings responses, in one hold, for which it may wait.
+    #[inline(always)]
+    pub(crate) fn answer_all<R: Wait>(
+        &mut self,
+        rt: &R,
+        lock: &TicketLock<Lane>,
+        responses: Vec<Pdu>,
+        room: Vec<Settled>,
+    ) -> Result<Vec<Settled>, (Vec<Pdu>, Spent)>
+        requires lock { self.old.lock ≡ lock.now }
+        requires room { (room.items ≡ []) × (length responses.items ≤ vec_capacity room) }
+        ensures lock { self.new.lock ≡ self.old.lock }
+        ensures served { BringsAll self.old self.new responses.items result }
+    {
+        match self.seat.hold(rt, lock, BringingAll { responses, room }) {
+            Ok(settled) => Ok(settled),
+            Err((section, spent)) => Err((section.responses, spent)),
         }
     }
 

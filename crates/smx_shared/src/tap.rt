@@ -1,7 +1,7 @@
 //! The token that takes from one lane.
-ghost use Rattle.std.specs.Prelude.{◌≡◌, ◌++◌, ◌≤◌, [], vec_capacity, slice_get, Some};
-ghost use Rattle.smx_shared.specs.Taps.{known_of, known_by_take, known_by_takes, known_by_answer};
-ghost use Rattle.smx_shared.specs.Batches.{TakesAll};
+ghost use Rattle.std.specs.Prelude.{◌≡◌, ◌++◌, ◌≤◌, [], length, vec_capacity, slice_get, Some};
+ghost use Rattle.smx_shared.specs.Taps.{known_of, known_by_take, known_by_takes, known_by_answer, known_by_answers};
+ghost use Rattle.smx_shared.specs.Batches.{TakesAll, BringsAll};
 ghost use Rattle.smx_shared.specs.Serving.{Turns, Takes, TriesTake, Brings};
 
 use crate::batch::Takings;
@@ -10,7 +10,7 @@ use crate::fault::{TakeFault, TryTakeFault, TurnFault};
 use crate::lane_call::{Answering, Taking, TurningOver};
 use crate::lane_seat::LaneSeat;
 use smx_history::{Answered, Entry};
-use smx_lane::Sent;
+use smx_lane::{Sent, Settled};
 use smx_lock::{Spent, TryFault};
 use smx_pdu::Pdu;
 use std::alloc::AllocError;
@@ -161,6 +161,34 @@ impl Tap {
         {
             Ok(answered) => Ok(answered),
             Err((made, spent)) => Err((made.response, spent)),
+        }
+    }
+
+    /// Brings responses from upstream to their clients, in one hold, and tells what became of each, in
+    /// their order. It may wait. The list is made in `room`, which is empty and has a place for each; it
+    /// takes no memory.
+    #[inline(always)]
+    pub fn answer_all<R: Wait>(
+        &mut self,
+        at: &Exchange,
+        rt: &R,
+        responses: Vec<Pdu>,
+        room: Vec<Settled>,
+    ) -> Result<Vec<Settled>, (Vec<Pdu>, Spent)>
+        requires lock { slice_get at.now self.old.lane ≡ Some self.old.front.lock }
+        requires room { (room.items ≡ []) × (length responses.items ≤ vec_capacity room) }
+        ensures same { (self.new.lane ≡ self.old.lane)
+            × (self.new.front.lock ≡ self.old.front.lock) }
+        ensures served { BringsAll self.old.front self.new.front responses.items result }
+        ensures known { known_of self.new.front.mine
+            ≡ known_of self.old.front.mine ++ known_by_answers responses.items result }
+    {
+        match self
+            .seat
+            .answer_all(rt, &at.locks[self.lane], responses, room)
+        {
+            Ok(settled) => Ok(settled),
+            Err((responses, spent)) => Err((responses, spent)),
         }
     }
 }

@@ -23,7 +23,7 @@ use Rattle.smx_upstream.specs.declared.event.Event.TheVariants.{Opened, Looked, 
 use Rattle.smx_upstream.specs.declared.event.Span.{Span}
 use Rattle.smx_upstream.specs.declared.event.Span.TheVariants.{Once, Twice}
 use Rattle.smx_upstream.specs.declared.event.Fate.{Fate}
-use Rattle.smx_upstream.specs.Events.{kept_by, fate_worth, event_ends, fills, gives, is_spent_expiry, is_spent_shift, is_spent_take}
+use Rattle.smx_upstream.specs.Events.{kept_by, fate_worth, event_ends, fills, is_spent_expiry, is_spent_shift, may_give_more}
 use Rattle.smx_upstream.specs.Phases.{Phase, Before, Opening, Ready, Written, Clogged, Watched, Clear, CaughtUp, Sweeping, Brimming, MayRead, Failed, Deciding, Closing, Settled, MayTake, HasTried, Stopped, Refrained, Gone, Drained, Wrong, go, from_opening, from_ready, from_written, from_watched, from_sweeping, from_caught_up, from_clear, from_may_read, from_deciding, from_closing, from_settled, from_may_take, phase_of, unless_spent, at_moment, if_so, after_offer, unless_left, when_looked, when_kept, when_judged, when_decided, when_part, when_full, when_read, when_may_read, when_may_take, when_taken, quiet_end, Waits, IsOver, IsTurnEnd, IsTurn, EndsEarly, IsPart, LeadsTo, Faulted, MayWant, Source, Emptied, Ebbed, from_emptied, from_ebbed, going_on, when_filled, source_of, has_end, when_progress, when_halted, filled_or, IsCourse, is_all_decided}
 use Rattle.smx_upstream.specs.Phases.Source.{Earlier}
 use Rattle.smx_upstream.specs.declared.turning.Course.{Course}
@@ -162,9 +162,9 @@ pub cell_taking : (t : Before) (full answer : Bool) → go t (Settled full) (Ask
 unfolding go from_settled
 cell_taking t full answer = refl
 
-pub cell_took : (t : Before) (full gave : Bool) (r : _) → go t (MayTake full gave) (Did (Took r)) ≡ unless_spent (is_spent_take r.value) (when_taken full (gives r.value))
+pub cell_took : (t : Before) (full more : Bool) (r : _) → go t (MayTake full more) (Did (Took r)) ≡ unless_spent (is_err r.value) (when_taken full (may_give_more r.value))
 unfolding go from_may_take
-cell_took t full gave r = refl
+cell_took t full more r = refl
 
 -- a PDU waits just after an answer that is spent
 pub kept_spent : (p : Pdu) (f : Fate) → (fate_worth p f).spent ≡ is_some (kept_by p f)
@@ -275,7 +275,7 @@ taken_end : (quiet full : Bool) → IsTurnEnd true quiet (filled_or full Worked)
 taken_end quiet true = refl
 taken_end quiet false = refl
 
--- the turn ends though the lane gave a request
+-- the turn ends though the lane may have more to give
 pub ends_taken : (bound quiet full : Bool) (end : TurnEnd) (p : Phase) → p ≡ MayTake full true → bound ≡ true → end ≡ filled_or full Worked → IsTurnEnd bound quiet end p
 ends_taken bound quiet full end p same b e = subst (λ (x : Phase). IsTurnEnd bound quiet end x) (sym same)
     (subst (λ (x : Bool). IsTurnEnd x quiet end (MayTake full true)) (sym b) (subst (λ (x : TurnEnd). IsTurnEnd true quiet x (MayTake full true)) (sym e) (taken_end quiet full)))

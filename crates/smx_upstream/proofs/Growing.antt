@@ -1,26 +1,40 @@
--- A take that gave a request leaves more octets to go out, so takes come to an end.
-use Rattle.std.proofs.Common.{◌≡◌, ◌<◌, ◌+◌, ◌-◌, ℕ, List, [], ◌++◌, Bool, true, false, refl, Result, Ok, Err, sym, true≢false, length, length-append, arith}
-use Rattle.std.specs.List.{flat_map}
+-- Requests that a list has leave more octets to go out, so takes come to an end.
+use Rattle.std.proofs.Common.{◌≡◌, ◌<◌, ◌≤◌, ◌+◌, ◌-◌, ◌==◌, ◌&&◌, ℕ, List, [], ◌∷◌, ◌++◌, Bool, true, false, not, refl, Result, Ok, Err, IfOk, sym, true≢false, length, map, is_none, length-append, arith}
+use Rattle.std.proofs.lemmas.Bool.{and_parts}
 use Rattle.smx_pdu.specs.declared.pdu.Pdu.{Pdu}
 use Rattle.smx_pdu.specs.Pdu.{spelling}
 use Rattle.smx_pdu.proofs.Spelling.{length-spelling}
+use Rattle.smx_link.specs.Wiring.{spellings}
+use Rattle.smx_lock.specs.Fronts.{Front}
+use Rattle.smx_lock.specs.declared.faults.Spent.{Spent}
+use Rattle.smx_history.specs.declared.limits.Limits.{Limits}
+use Rattle.smx_history.specs.declared.note.Note.{Note}
 use Rattle.smx_lane.specs.declared.sent.Sent.{Sent}
-use Rattle.smx_shared.specs.declared.fault.TakeFault.{TakeFault}
-use Rattle.smx_turns.specs.Worth.{those}
-use Rattle.smx_upstream.specs.Events.{gives, request_up}
+use Rattle.smx_shared.specs.declared.batch.Takings.{Takings}
+use Rattle.smx_shared.specs.Batches.{TakesAll, octets_of_requests}
+use Rattle.smx_upstream.specs.Events.{face_up, may_give_more, requests_up}
 
-longer : (p : Pdu) (us : List ℕ) → length us < length (us ++ (spelling p ++ []))
-longer p us = omega (arith, length-append us (spelling p ++ []), length-append (spelling p) [], length-spelling p)
+longer : (p : Pdu) (more us : List ℕ) → length us < length (us ++ (spelling p ++ more))
+longer p more us = omega (arith, length-append us (spelling p ++ more), length-append (spelling p) more, length-spelling p)
 
-pub grows : (r : Result Sent TakeFault) (us : List ℕ) → gives r ≡ true → length us < length (us ++ flat_map spelling (those (request_up r)))
-grows (Ok s) us h = longer _ us
+grows_by : (b : Bool) (ss : List Sent) (us : List ℕ) → (b && not (length ss == 0)) ≡ true → length us < length (us ++ spellings (map face_up ss))
+grows_by b [] us h = absurd (true≢false (sym (and_parts b false h).1))
+grows_by b (s ∷ ss) us h = longer (face_up s) (spellings (map face_up ss)) us
+
+pub grows : (r : Result Takings Spent) (us : List ℕ) → may_give_more r ≡ true → length us < length (us ++ spellings (requests_up r))
+grows (Ok b) us h = grows_by (is_none b.stop) b.requests.items us h
 grows (Err e) us h = absurd (true≢false (sym h))
 
--- how much a turn may still take, where its lane gave a request or not
+-- how much a turn may still take, where its lane may have more or not
 abbrev pub left_to_take : Bool → List ℕ → ℕ
 left_to_take true us = 1 + (65536 - length us)
 left_to_take false us = 0
 
-pub takes_end : (gave : Bool) (us us' : List ℕ) → length us < 65536 → (gave ≡ true → length us < length us') → left_to_take gave us' < left_to_take true us
+pub takes_end : (more : Bool) (us us' : List ℕ) → length us < 65536 → (more ≡ true → length us < length us') → left_to_take more us' < left_to_take true us
 takes_end true us us' few more = omega (arith, few, more refl)
 takes_end false us us' few more = omega (arith)
+
+-- the room for one PDU is room for a list
+pub fits : (f g : Front Note Limits) (now room : ℕ) (r : Result Takings Spent) → TakesAll f g now r → 65536 ≤ room → IfOk r (λ b. octets_of_requests b.requests.items ≤ room)
+fits f g now room (Ok b) t enough = omega (arith, t.octets, enough)
+fits f g now room (Err e) t enough = tt

@@ -14,7 +14,7 @@ use Rattle.smx_turns.specs.declared.mark.Mark.TheVariants.{Offered, WriteFailed,
 use Rattle.smx_upstream.specs.declared.event.Event.{Event}
 use Rattle.smx_upstream.specs.declared.event.Event.TheVariants.{Opened, Looked, Judged, Expired, Shifted, Sought, Decided, Took, Broke, LinkEnded}
 use Rattle.smx_upstream.specs.declared.event.Span.TheVariants.{Once, Twice}
-use Rattle.smx_upstream.specs.Events.{is_spent, event_ends, fills, gives}
+use Rattle.smx_upstream.specs.Events.{is_spent, event_ends, fills, may_give_more}
 use Rattle.smx_upstream.specs.Judging.{finds_no_more, judges, AreJudged}
 use Rattle.smx_upstream.specs.Phases.{Phase, Before, Opening, Ready, Written, Watched, Clear, MayRead, Failed, Deciding, Closing, CaughtUp, Sweeping, Settled, MayTake, Exhausted, Wrong, go, from_opening, from_ready, from_written, from_watched, from_sweeping, from_caught_up, from_clear, from_may_read, from_deciding, from_closing, from_settled, from_may_take, phase_of, unless_spent, if_so, after_offer, unless_left, when_gone, when_kept, when_decided, when_part, when_full, when_may_read, when_may_take, when_taken, IsTurn, Source, Emptied, Ebbed, from_emptied, from_ebbed, going_on, when_filled}
 use Rattle.smx_upstream.specs.Phases.Source.{Earlier, Behind}
@@ -82,7 +82,7 @@ plain_may_take : (full b : Bool) → IsPlain (when_may_take full b)
 plain_may_take full true = (refl, refl)
 plain_may_take full false = (refl, refl)
 
-plain_taken : (full gave : Bool) → IsPlain (when_taken full gave)
+plain_taken : (full more : Bool) → IsPlain (when_taken full more)
 plain_taken full true = (refl, refl)
 plain_taken full false = (refl, refl)
 
@@ -177,7 +177,7 @@ plain_settled full _ = (refl, refl)
 
 pub plain_may_take_from : (full : Bool) (s : Step Event) → IsPlain (from_may_take full s)
 unfolding from_may_take
-plain_may_take_from full (Did (Took r)) = by_spent IsPlain (is_spent (Took r)) _ (refl, refl) (plain_taken full (gives r.value))
+plain_may_take_from full (Did (Took r)) = by_spent IsPlain (is_spent (Took r)) _ (refl, refl) (plain_taken full (may_give_more r.value))
 plain_may_take_from full _ = (refl, refl)
 
 -- such a read is the one that leads there

@@ -11,3 +11,4 @@ pub mod Binding
 pub mod Emptied
 pub mod Telling
 pub mod Growing
+pub mod Lists

@@ -17,6 +17,9 @@ use Rattle.smx_shared.specs.declared.fault.TurnFault.TheVariants as turns
 use Rattle.smx_shared.specs.declared.fault.UpFault.{UpFault}
 use Rattle.smx_history.specs.declared.reply.UpRefusal.TheVariants as refusal
 use Rattle.smx_shared.specs.declared.fault.UpFault.TheVariants as ups
+use Rattle.smx_lock.specs.declared.faults.Spent.{Spent}
+use Rattle.smx_shared.specs.declared.batch.Takings.{Takings}
+use Rattle.smx_shared.specs.Batches.{TakesAll}
 use Rattle.smx_shared.specs.Serving.{Takes, ComesUp, Turns}
 use Rattle.smx_shared.specs.Taps.{known_of}
 use Rattle.smx_shared.proofs.Knowing.{turn_known, up_known}
@@ -49,6 +52,10 @@ pub take_seen : (f g : Front Note Limits) (now : ℕ) (r : Result Sent TakeFault
 take_seen f g now (Ok sent) h = served_seen f g h.found h.own h.hold.serves
 take_seen f g now (Err (takes.Refused e)) h = served_seen f g h.found h.own h.hold.serves
 take_seen f g now (Err takes.Spent) h = spent_seen f g h
+
+pub list_seen : (f g : Front Note Limits) (now : ℕ) (r : Result Takings Spent) → TakesAll f g now r → IsPrefix f.seen g.seen
+list_seen f g now (Ok b) h = served_seen f g h.serves.found h.serves.own h.serves.hold.serves
+list_seen f g now (Err e) h = spent_seen f g h
 
 pub shift_seen : (f g : Front Note Limits) (least : ℕ) (r : Result (Option (Vec Entry Global)) TurnFault)
     → Shifts f g least r → IsPrefix f.seen g.seen

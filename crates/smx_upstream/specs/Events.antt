@@ -1,5 +1,5 @@
 -- What an event is worth: what it decided and sends, whom it tells, what it asks the directory, whether nothing came of it, and what it ends.
-use Rattle.std.specs.Prelude.{ℕ, Bool, true, false, ◌&&◌, is_some, List, [], ◌∷◌, ◌++◌, Option, Some, None, Result, Ok, Err, if◌then◌else◌}
+use Rattle.std.specs.Prelude.{ℕ, Bool, true, false, ◌&&◌, not, ◌==◌, length, is_some, is_none, List, [], ◌∷◌, ◌++◌, map, Option, Some, None, Result, Ok, Err, if◌then◌else◌}
 use Rattle.std.specs.List.{flat_map}
 use Rattle.std.specs.Result.{is_err}
 use Rattle.std.specs.declared.vec.Vec.{Vec}
@@ -15,15 +15,15 @@ use Rattle.smx_history.specs.declared.reply.Failed.TheVariants as failed
 use Rattle.smx_history.specs.declared.reply.Answered.{Answered}
 use Rattle.smx_history.specs.declared.reply.Answered.TheVariants as answered
 use Rattle.smx_lane.specs.declared.sent.Sent.{Sent}
+use Rattle.smx_lock.specs.declared.faults.Spent.{Spent as LaneSpent}
 use Rattle.smx_box.specs.declared.fault.Spent.{Spent}
 use Rattle.smx_box.specs.declared.receiver.Got.{Got}
 use Rattle.smx_box.specs.declared.receiver.Got.TheVariants as got
 use Rattle.smx_session.specs.declared.up_act.UpAct.{UpAct}
 use Rattle.smx_session.specs.declared.up_act.UpAct.TheVariants as act
+use Rattle.smx_shared.specs.declared.batch.Takings.{Takings}
 use Rattle.smx_shared.specs.declared.fault.ExpiryFault.{ExpiryFault}
 use Rattle.smx_shared.specs.declared.fault.ExpiryFault.TheVariants as expires
-use Rattle.smx_shared.specs.declared.fault.TakeFault.{TakeFault}
-use Rattle.smx_shared.specs.declared.fault.TakeFault.TheVariants as takes
 use Rattle.smx_shared.specs.declared.fault.TurnFault.{TurnFault}
 use Rattle.smx_shared.specs.declared.fault.TurnFault.TheVariants as turns
 use Rattle.smx_turns.specs.declared.directory.Query.{Query}
@@ -48,19 +48,20 @@ use Rattle.smx_upstream.specs.Rising.{said_last, stays_down}
 abbrev pub face_up : Sent → Pdu
 face_up s = record { command = s.request.command; status = 0; number = s.upstream; body = s.request.body }
 
-abbrev pub request_up : Result Sent TakeFault → Option Pdu
-request_up (Ok s) = Some (face_up s)
-request_up (Err e) = None
+-- those of a list go upstream one after another
+abbrev pub requests_up : Result Takings LaneSpent → List Pdu
+requests_up (Ok b) = map face_up b.requests.items
+requests_up (Err e) = []
 
-abbrev pub is_spent_take : Result Sent TakeFault → Bool
-is_spent_take (Ok s) = false
-is_spent_take (Err (takes.Refused e)) = false
-is_spent_take (Err takes.Spent) = true
+-- whether the lane gave no request
+abbrev pub gives_none : Result Takings LaneSpent → Bool
+gives_none (Ok b) = length b.requests.items == 0
+gives_none (Err e) = true
 
--- whether a take gave a request
-abbrev pub gives : Result Sent TakeFault → Bool
-gives (Ok s) = true
-gives (Err e) = false
+-- whether the list has requests and ended at a limit, so that more may be queued
+abbrev pub may_give_more : Result Takings LaneSpent → Bool
+may_give_more (Ok b) = is_none b.stop && not (length b.requests.items == 0)
+may_give_more (Err e) = false
 
 -- an answer of a client to a message of this link goes upstream under the centre's number, and any other is dropped
 abbrev pub answer_out : Pdu → Option ℕ → List Pdu
@@ -192,7 +193,7 @@ worth (Expired lane span r) = record no_worth { tells = expiry_tells lane r.valu
 worth (Shifted least r) = record no_worth { spent = is_spent_shift r.value }
 worth (Sought r under) = record no_worth { said = got_out r.value under; quiet = finds_nothing r.value; spent = is_err r.value }
 worth (Decided p now a f) = decided_worth p.value a.value f
-worth (Took r) = record (says (request_up r.value)) { spent = is_spent_take r.value }
+worth (Took r) = record no_worth { said = requests_up r.value; quiet = gives_none r.value; spent = is_err r.value }
 worth Broke = record (says (Some nack_of_undecoded)) { ends = Some end.BadLength; breaks = true }
 worth LinkEnded = record no_worth { ends = Some end.LinkEnded }
 worth (Unbound p) = says p.value

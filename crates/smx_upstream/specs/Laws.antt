@@ -5,7 +5,7 @@ use Rattle.std.specs.List.{flat_map}
 use Rattle.smx_pdu.specs.declared.pdu.Pdu.{Pdu}
 use Rattle.smx_history.specs.declared.reply.Answered.{Answered}
 use Rattle.smx_history.specs.declared.reply.Answered.TheVariants as answered
-use Rattle.smx_shared.specs.Taps.{Known, Queued, CameLate, known_of, known_by_take}
+use Rattle.smx_shared.specs.Taps.{Known, Queued, CameLate, known_of, known_by_takes}
 use Rattle.smx_turns.specs.declared.mo_item.MoItem.{MoItem}
 use Rattle.smx_turns.specs.Puts.{contents_in}
 use Rattle.smx_upstream.specs.declared.event.Event.{Event}
@@ -43,7 +43,7 @@ known_by (event.Expired lane span r) = []
 known_by (event.Shifted least r) = []
 known_by (event.Sought r under) = []
 known_by (event.Decided p now a f) = fate_known p.value f
-known_by (event.Took r) = known_by_take r.value
+known_by (event.Took r) = known_by_takes r.value
 known_by event.Broke = []
 known_by event.LinkEnded = []
 known_by (event.Unbound p) = []

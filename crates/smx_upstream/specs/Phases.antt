@@ -13,7 +13,7 @@ use Rattle.smx_turns.specs.declared.step.Step.{Step}
 use Rattle.smx_turns.specs.declared.step.Step.TheVariants.{Asked, Read, Marked, Did}
 use Rattle.smx_turns.specs.Steps.{phase_from}
 use Rattle.smx_turns.specs.Wires.{is_end, some_wait}
-use Rattle.smx_upstream.specs.Events.{event_ends, fills, gives, is_spent}
+use Rattle.smx_upstream.specs.Events.{event_ends, fills, is_spent, may_give_more}
 use Rattle.smx_upstream.specs.declared.wiring.Front.{Front}
 use Rattle.smx_upstream.specs.declared.wiring.Front.TheVariants as front
 use Rattle.smx_upstream.specs.declared.turning.Course.{Course}
@@ -67,9 +67,9 @@ pub data Phase : Type 0 where
   Sweeping : Span → Phase → Phase
   -- no more is decided: no whole PDU is left, or a message filled its client's box
   Settled : Bool → Phase
-  -- the gate said yes to takes; whether a message filled a box, and whether the lane gave a request
+  -- the gate said yes to takes; whether a message filled a box, and whether the lane gave requests as far as a limit
   MayTake : Bool → Bool → Phase
-  -- the lane had none to give; whether a message filled a box
+  -- the lane had none left to give; whether a message filled a box
   HasTried : Bool → Phase
   -- the gate said no to a read
   Stopped : Phase
@@ -236,13 +236,13 @@ unfoldable pub from_settled : Bool → Step Event → Phase
 from_settled full (Asked Taking answer) = when_may_take full answer
 from_settled full _ = Wrong
 
--- a lane that gave a request may be asked for another
+-- a lane that gave requests as far as a limit may be asked for more
 abbrev pub when_taken : Bool → Bool → Phase
 when_taken full true = MayTake full true
 when_taken full false = HasTried full
 
 unfoldable pub from_may_take : Bool → Step Event → Phase
-from_may_take full (Did (Took r)) = unless_spent (is_spent (Took r)) (when_taken full (gives r.value))
+from_may_take full (Did (Took r)) = unless_spent (is_spent (Took r)) (when_taken full (may_give_more r.value))
 from_may_take full _ = Wrong
 
 -- the table of an upstream turn
@@ -293,7 +293,7 @@ IsOver Gone = Unit {0}
 IsOver Drained = Unit {0}
 IsOver _ = ⊥
 
--- how a turn may end: whether the session is bound then, and whether nothing came of the turn; where a lane gave a request and isn't asked for another, as many octets wait as a PDU can have
+-- how a turn may end: whether the session is bound then, and whether nothing came of the turn; where a lane may have more to give and isn't asked for it, as many octets wait as a PDU can have
 abbrev pub IsTurnEnd : Bool → Bool → TurnEnd → Phase → Type 0
 IsTurnEnd bound quiet Done p = IsOver p
 IsTurnEnd bound quiet Filled (Refrained true) = Unit {0}

@@ -21,7 +21,8 @@ use Rattle.smx_session.specs.Moments.{Upstream, act_on, after_pdu, is_bound, enq
 use Rattle.smx_session.specs.declared.up_act.UpAct.{UpAct}
 use Rattle.smx_session.specs.declared.up_act.UpAct.TheVariants as act
 use Rattle.smx_shared.specs.Views.{TapView}
-use Rattle.smx_shared.specs.Serving.{Takes, Expires, AnswerServes, TurnServes, IsTurnFault}
+use Rattle.smx_shared.specs.Batches.{TakesAll}
+use Rattle.smx_shared.specs.Serving.{Expires, AnswerServes, TurnServes, IsTurnFault}
 use Rattle.std.specs.Option.{option_map}
 use Rattle.smx_upstream.specs.declared.age.Age.{Age}
 use Rattle.smx_upstream.specs.Ages.{next_turn, least_shift, time_of}
@@ -136,7 +137,7 @@ Does s (Shifted least r) t = (least ≡ least_shift s.age) × Shifts s.tap.front
 Does s (Sought r under) t = Gets s.answers t.answers r.value × Settles r.value under s.owed t.owed × (t ≡ record s { answers = t.answers; owed = t.owed })
 Does s (Decided p now a f) t = (a.value ≡ act_on s.session p.value) × Becomes p.value a.value f s.tap s.senders t.tap t.senders × Owes s.tap.lane p.value f s.owed t.owed
     × (t ≡ record s { session = after_pdu s.session p.value now; tap = t.tap; senders = t.senders; owed = t.owed })
-Does s (Took r) t = (is_bound s.session.state ≡ true) × Takes s.tap.front t.tap.front s.session.latest r.value × (t.tap.lane ≡ s.tap.lane) × (t ≡ record s { tap = t.tap })
+Does s (Took r) t = (is_bound s.session.state ≡ true) × TakesAll s.tap.front t.tap.front s.session.latest r.value × (t.tap.lane ≡ s.tap.lane) × (t ≡ record s { tap = t.tap })
 Does s Broke t = t ≡ s
 Does s LinkEnded t = t ≡ s
 Does s (Unbound p) t = (p.value ≡ farewell s.session.state)

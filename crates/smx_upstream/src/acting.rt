@@ -1,8 +1,8 @@
 //! What a worker does once: each of these is one event.
-ghost use Rattle.std.specs.Prelude.{◌≡◌, ◌≢◌, ◌≤◌, ◌<◌, [], length, Ok, true, false, None, is_some, slice_get, Some, Err, OnErr, IsSome};
+ghost use Rattle.std.specs.Prelude.{◌≡◌, ◌≢◌, ◌≤◌, ◌<◌, [], length, Ok, true, false, None, is_some, slice_get, Some, Err, OnErr, IsSome, vec_capacity};
 ghost use Rattle.smx_session.specs.Moments.{is_bound};
 ghost use Rattle.smx_turns.specs.Worth.{those};
-ghost use Rattle.smx_upstream.specs.Events.{got_out, request_up, silent_end};
+ghost use Rattle.smx_upstream.specs.Events.{got_out, silent_end};
 ghost use Rattle.smx_turns.specs.Puts.{finds_nothing};
 ghost use Rattle.smx_upstream.specs.Ages.{next_turn};
 ghost use Rattle.smx_upstream.specs.Standing.{Answers, Settles};
@@ -16,14 +16,15 @@ use crate::deciding::{Next, next_of};
 use crate::event::{Event, fills};
 use crate::judging::{silent_end, was_silent};
 use crate::last::last_taken;
-use crate::spent::{gave_unless_spent, gives, is_spent_shift, is_spent_take, unless_spent};
+use crate::saying::{gives_none, may_give_more, say_taken};
+use crate::spent::{is_spent_shift, more_unless_spent, unless_spent};
 use crate::worker::{UpstreamWorker, jot, note};
 use smx_box::{Got, Spent};
 use smx_lane::Sent;
 use smx_link::Link;
 use smx_pdu::Pdu;
 use smx_routes::MoWindow;
-use smx_shared::{Exchange, TakeFault};
+use smx_shared::Exchange;
 use smx_turns::{Directory, Fault, Gate, Log, Outcome};
 use std::snapshot::Snapshot;
 use std::sync::Wait;
@@ -80,21 +81,6 @@ fn answer_in(found: Result<Got<Pdu>, Spent>, under: Option<u32>) -> Option<Pdu>
             None => None,
         },
         Ok(Got::Shut { .. } | Got::Empty) => None,
-        Err(_) => None,
-    }
-}
-
-// What a take sends.
-fn request_in(taken: Result<Sent, TakeFault>) -> Option<Pdu>
-    ensures { result ≡ request_up taken }
-{
-    match taken {
-        Ok(Sent { request, upstream }) => Some(Pdu {
-            command: request.command,
-            status: 0,
-            number: upstream,
-            body: request.body,
-        }),
         Err(_) => None,
     }
 }
@@ -210,19 +196,22 @@ impl<L: Link + Drop> UpstreamWorker<L> {
         unless_spent(note(outcome, &mut self.wire, &mut self.events, log))
     }
 
-    // Asks the lane for a request, where the session is bound. Whether it gave one.
+    // Asks the lane for what is queued, where the session is bound. The requests come in the list that is
+    // passed. Whether the lane gave them as far as a limit, so that it may have more.
     #[inline(always)]
-    pub(crate) fn take_one<R: Wait>(
+    pub(crate) fn take_some<R: Wait>(
         &mut self,
+        list: Vec<Sent>,
         at: &Exchange,
         rt: &R,
         log: &mut Log<Event>,
     ) -> Result<bool, Fault>
         requires room { 65536 ≤ self.old.wire.room }
+        requires list { (list.items ≡ []) × (64 ≤ vec_capacity list) }
         requires bound { is_bound self.old.stand.session.state ≡ true }
         requires lock { slice_get at.now self.old.first.tap.lane
             ≡ Some self.old.first.tap.front.lock }
-        ensures phase { (t : Before) (full gave : _) → phase_of t log.old ≡ MayTake full gave
+        ensures phase { (t : Before) (full more : _) → phase_of t log.old ≡ MayTake full more
             → LeadsTo result (when_taken full) (phase_of t log.new) }
         ensures more { result ≡ Ok true
             → length self.old.wire.unsent < length self.new.wire.unsent }
@@ -238,21 +227,14 @@ impl<L: Link + Drop> UpstreamWorker<L> {
           events = self.new.events;
         } }
     {
-        let taken = self.tap.take(at, rt, self.session.latest());
+        let taken = self.tap.take_all(at, rt, self.session.latest(), list);
         let event = Event::Took(Snapshot::of(&taken));
-        let spent = is_spent_take(&taken);
-        let gave = gives(&taken);
+        let spent = taken.is_err();
+        let more = may_give_more(&taken);
         self.last = last_taken(&taken, self.last);
-        let sent = request_in(taken);
-        let outcome = Outcome {
-            event,
-            quiet: sent.is_none(),
-            sent,
-            ends: None,
-            answer: spent,
-        };
-        let spent = note(outcome, &mut self.wire, &mut self.events, log);
-        gave_unless_spent(gave, spent)
+        jot(event, gives_none(&taken), &mut self.events, log);
+        say_taken(taken, &mut self.wire);
+        more_unless_spent(more, spent)
     }
 
     // Decides the PDU that waits, which waits still where a lane or a box is spent.

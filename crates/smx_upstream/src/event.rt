@@ -6,10 +6,10 @@ use crate::abandoning::Abandoned;
 use crate::losing::Lost;
 use smx_box::{Got, Spent};
 use smx_history::{Answered, Entry, Failed};
-use smx_lane::Sent;
+use smx_lock::Spent as LaneSpent;
 use smx_pdu::Pdu;
 use smx_session::UpAct;
-use smx_shared::{ExpiryFault, TakeFault, Tap, TurnFault, UpFault};
+use smx_shared::{ExpiryFault, Takings, Tap, TurnFault, UpFault};
 use smx_turns::{Deed, Place};
 use std::snapshot::Snapshot;
 
@@ -100,8 +100,8 @@ pub enum Event {
     Sought(Snapshot<Result<Got<Pdu>, Spent>>, Option<u32>),
     /// A PDU was decided at a moment: the session's act, and what became of the PDU.
     Decided(Snapshot<Pdu>, u64, Snapshot<UpAct>, Fate),
-    /// The lane was asked for a request, and gave this.
-    Took(Snapshot<Result<Sent, TakeFault>>),
+    /// The lane was asked for what is queued, and gave this.
+    Took(Snapshot<Result<Takings, LaneSpent>>),
     /// A bad length was answered.
     Broke,
     /// The link has ended, and all that came over it is decided.

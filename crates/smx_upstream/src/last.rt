@@ -3,9 +3,9 @@ ghost use Rattle.std.specs.Prelude.{◌≡◌};
 ghost use Rattle.smx_upstream.specs.Last.{last_request, last_taken};
 
 use crate::worker::UpstreamWorker;
-use smx_lane::Sent;
 use smx_link::Link;
-use smx_shared::TakeFault;
+use smx_lock::Spent;
+use smx_shared::Takings;
 
 /// A request that went upstream: whose it was, and its command.
 #[derive(Clone, Copy, Debug, PartialEq, Eq)]
@@ -16,16 +16,19 @@ pub struct LastRequest {
 
 // The last request, once the lane gave this.
 pub(crate) fn last_taken(
-    taken: &Result<Sent, TakeFault>,
+    taken: &Result<Takings, Spent>,
     last: Option<LastRequest>,
 ) -> Option<LastRequest>
     ensures { result ≡ last_taken taken.now last }
 {
     match taken {
-        Ok(Sent { request, .. }) => Some(LastRequest {
-            client: request.client,
-            command: request.command,
-        }),
+        Ok(Takings { requests, .. }) => match requests.last() {
+            Some(sent) => Some(LastRequest {
+                client: sent.request.client,
+                command: sent.request.command,
+            }),
+            None => last,
+        },
         Err(_) => last,
     }
 }

@@ -15,6 +15,7 @@ mod laws;
 mod losing;
 mod rising;
 mod running;
+mod saying;
 mod spent;
 mod stopping;
 mod turning;

@@ -1,11 +1,10 @@
 //! Answers of a lane or a box that takes no more calls.
 ghost use Rattle.std.specs.Prelude.{◌≡◌, true, Bool, Ok, Err, OnErr};
 ghost use Rattle.smx_upstream.specs.Phases.{Phase, LeadsTo, unless_spent};
-ghost use Rattle.smx_upstream.specs.Events.{gives, is_spent_expiry, is_spent_shift, is_spent_take};
+ghost use Rattle.smx_upstream.specs.Events.{is_spent_expiry, is_spent_shift};
 
 use smx_history::{Entry, Failed};
-use smx_lane::Sent;
-use smx_shared::{ExpiryFault, TakeFault, TurnFault};
+use smx_shared::{ExpiryFault, TurnFault};
 use smx_turns::Fault;
 
 pub(crate) fn is_spent_expiry(failed: &Result<Failed, ExpiryFault>) -> bool
@@ -20,26 +19,14 @@ pub(crate) fn is_spent_shift(entries: &Result<Option<Vec<Entry>>, TurnFault>) ->
     matches!(entries, Err(TurnFault::Spent))
 }
 
-pub(crate) fn is_spent_take(taken: &Result<Sent, TakeFault>) -> bool
-    ensures { result ≡ is_spent_take taken.now }
-{
-    matches!(taken, Err(TakeFault::Spent))
-}
-
-pub(crate) fn gives(taken: &Result<Sent, TakeFault>) -> bool
-    ensures { result ≡ gives taken.now }
-{
-    taken.is_ok()
-}
-
-// Whether a take gave a request, or the fault of a spent lane.
-pub(crate) fn gave_unless_spent(gave: bool, spent: bool) -> Result<bool, Fault>
-    ensures leads { (next : Bool → Phase) (q : Phase) → q ≡ unless_spent spent (next gave)
+// Whether a lane may have more to give, or the fault of a spent lane.
+pub(crate) fn more_unless_spent(more: bool, spent: bool) -> Result<bool, Fault>
+    ensures leads { (next : Bool → Phase) (q : Phase) → q ≡ unless_spent spent (next more)
         → LeadsTo result next q }
     ensures err { OnErr result (result ≡ Err Fault.Spent) }
-    ensures ok { result ≡ Ok true → gave ≡ true }
+    ensures ok { result ≡ Ok true → more ≡ true }
 {
-    if spent { Err(Fault::Spent) } else { Ok(gave) }
+    if spent { Err(Fault::Spent) } else { Ok(more) }
 }
 
 // The fault of a spent call.

@@ -1,5 +1,5 @@
 //! A turn of the upstream worker, part by part.
-ghost use Rattle.std.specs.Prelude.{◌≡◌, ◌≢◌, ◌+◌, ◌≤◌, ◌<◌, ◌++◌, [], true, false, length, slice_get, Some, None, Ok, OnOk, if◌then◌else◌};
+ghost use Rattle.std.specs.Prelude.{◌≡◌, ◌≢◌, ◌+◌, ◌≤◌, ◌<◌, ◌++◌, [], true, false, length, slice_get, Some, None, Ok, OnOk, if◌then◌else◌, vec_capacity};
 ghost use mathlib.Core.List.{IsPrefix};
 ghost use Rattle.smx_frame.specs.Stream.{HasNone};
 ghost use Rattle.smx_session.specs.Moments.{is_bound};
@@ -12,6 +12,7 @@ ghost use Rattle.smx_upstream.specs.Phases.Source.{Earlier};
 use crate::deciding::{Next, Progress};
 use crate::event::{Event, Span};
 use crate::worker::UpstreamWorker;
+use smx_lane::Sent;
 use smx_link::Link;
 use smx_pdu::MAX_PDU;
 use smx_session::UpstreamState;
@@ -257,10 +258,12 @@ impl<L: Link + Drop> UpstreamWorker<L> {
         self.read_on(at, rt, gate, directory, now, log)
     }
 
-    // Takes requests until the lane has none to give, or as many octets wait as a PDU can have.
+    // Takes requests until the lane has none left to give, or as many octets wait as a PDU can have. The
+    // first of them come in the list that is passed.
     fn take_on<R: Wait>(
         &mut self,
         filled: bool,
+        list: Vec<Sent>,
         at: &Exchange,
         rt: &R,
         log: &mut Log<Event>,
@@ -268,6 +271,7 @@ impl<L: Link + Drop> UpstreamWorker<L> {
         requires lock { slice_get at.now self.old.first.tap.lane
             ≡ Some self.old.first.tap.front.lock }
         requires room { 65536 ≤ self.old.wire.room }
+        requires list { (list.items ≡ []) × (64 ≤ vec_capacity list) }
         requires bound { is_bound self.old.stand.session.state ≡ true }
         ensures phase { (t : Before) → phase_of t log.old ≡ MayTake filled false
             → IsTurn true (are_all_quiet log.new) result (phase_of t log.new) }
@@ -287,13 +291,14 @@ impl<L: Link + Drop> UpstreamWorker<L> {
           events = self.new.events;
         } }
     {
-        let mut gave = self.take_one(at, rt, log)?;
-        while gave {
+        let mut more = self.take_some(list, at, rt, log)?;
+        while more {
             if self.wire.unsent() >= MAX_PDU {
                 return Ok(filled_or(filled, TurnEnd::Worked));
             }
             self.make_room()?;
-            gave = self.take_one(at, rt, log)?;
+            let list = self.make_list()?;
+            more = self.take_some(list, at, rt, log)?;
         }
         Ok(filled_or(filled, quiet_end(log.is_quiet())))
     }
@@ -331,6 +336,7 @@ impl<L: Link + Drop> UpstreamWorker<L> {
             × (self.new.first ≡ self.old.first) × (self.new.ends ≡ self.old.ends) }
     {
         self.make_room()?;
+        let list = self.make_list()?;
         let may = ask(log, gate, Point::Taking, turn);
         if !may {
             return Ok(filled_or(filled, TurnEnd::Idle));
@@ -339,7 +345,7 @@ impl<L: Link + Drop> UpstreamWorker<L> {
         if !bound {
             return Ok(filled_or(filled, quiet_end(log.is_quiet())));
         }
-        self.take_on(filled, at, rt, log)
+        self.take_on(filled, list, at, rt, log)
     }
 
     // A turn, whose steps are written down.

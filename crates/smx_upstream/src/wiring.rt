@@ -1,5 +1,5 @@
 //! What a worker does with its link.
-ghost use Rattle.std.specs.Prelude.{◌≡◌, ◌≢◌, ◌==◌, ◌+◌, ◌≤◌, ◌<◌, ◌++◌, [], ◌∷◌, true, false, not, length, Some, None, Ok, Err, OnOk, OnErr, IfOk, IsSome};
+ghost use Rattle.std.specs.Prelude.{◌≡◌, ◌≢◌, ◌==◌, ◌+◌, ◌≤◌, ◌<◌, ◌++◌, [], ◌∷◌, true, false, not, length, Some, None, Ok, Err, OnOk, OnErr, IfOk, IsSome, vec_capacity};
 ghost use Rattle.smx_frame.specs.Stream.{HasNone};
 ghost use Rattle.smx_turns.specs.Steps.{brings_none};
 ghost use Rattle.smx_turns.specs.Wires.{is_end, some_wait, has_ended as has_link_ended};
@@ -14,8 +14,10 @@ ghost use Rattle.smx_upstream.specs.Phases.Source.{Behind};
 
 use crate::event::Event;
 use crate::worker::{UpstreamWorker, note};
+use smx_lane::Sent;
 use smx_link::{Link, Polled, Wire};
 use smx_pdu::Pdu;
+use smx_shared::BATCH;
 use smx_trace::Trace;
 use smx_turns::{End, Fault, Log, Mark, Outcome, Step, is_memory};
 use std::alloc::Global;
@@ -118,6 +120,18 @@ impl<L: Link + Drop> UpstreamWorker<L> {
     {
         match self.wire.make_room() {
             Ok(()) => Ok(()),
+            Err(_) => Err(Fault::NoMemory),
+        }
+    }
+
+    // Makes a list that a lane's requests can be put into.
+    #[inline(always)]
+    pub(crate) fn make_list(&self) -> Result<Vec<Sent>, Fault>
+        ensures room { IfOk result (λ list. (list.items ≡ []) × (64 ≤ vec_capacity list)) }
+        ensures err { OnErr result (result ≡ Err Fault.NoMemory) }
+    {
+        match Vec::with_capacity(self.alloc, BATCH) {
+            Ok(list) => Ok(list),
             Err(_) => Err(Fault::NoMemory),
         }
     }

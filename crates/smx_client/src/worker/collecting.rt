@@ -1,9 +1,8 @@
 //! The first part of a turn: what waits is offered, and each lane is asked for its responses.
-ghost use Rattle.std.specs.Prelude.{◌≡◌, ◌≢◌, ◌≤◌, ◌<◌, ℕ, List, [], length, true, false, not, ◌==◌, None, Some, Ok, IfOk, OnOk, OnErr};
+ghost use Rattle.std.specs.Prelude.{◌≡◌, ◌≢◌, ◌≤◌, ◌<◌, ℕ, List, [], length, true, false, not, ◌==◌, None, Some, Ok, IfOk, IsOkAnd, OnOk, OnErr, vec_capacity};
 ghost use Rattle.smx_shared.specs.Views.{locks_of};
 ghost use Rattle.smx_turns.specs.declared.directory.Query.{Query};
 ghost use Rattle.smx_client.specs.Scenes.{scene_of, Moves};
-ghost use Rattle.smx_client.specs.Events.{response_out};
 ghost use Rattle.smx_client.specs.Table.{Before, Phase, phase_of, AtLane, MayCollect, after_collect, IsOffered, IsCollectedFrom, IsGathered, IsPart};
 ghost use Rattle.smx_client.specs.Turns.{Leads};
 ghost use Rattle.smx_turns.specs.Wires.{some_wait};
@@ -12,11 +11,13 @@ use super::ClientWorker;
 use crate::event::{Event, Progress};
 use crate::ledger::{ask, mark, note};
 use crate::saying::say_found;
+use smx_history::Response;
 use smx_link::{Link, Wire};
 use smx_lock::Spent;
-use smx_pdu::{MAX_PDU, Pdu};
-use smx_shared::Exchange;
+use smx_pdu::MAX_PDU;
+use smx_shared::{BATCH, Collected, Exchange};
 use smx_turns::{Fault, Gate, Log, Mark, Point};
+use std::alloc::Global;
 use std::snapshot::Snapshot;
 use std::sync::Wait;
 
@@ -33,15 +34,25 @@ fn differ(a: usize, b: usize) -> bool
     a != b
 }
 
-// How far a turn comes by what a lane gave: whether it gave a response.
-fn gave_unless_spent(found: &Result<Option<Pdu>, Spent>) -> Result<bool, Fault>
+// How far a turn comes by what a lane gave: whether it may have more.
+fn more_unless_spent(found: &Result<Collected, Spent>) -> Result<bool, Fault>
     ensures phase { (lane : ℕ) → IsCollectedFrom lane result (after_collect lane found.now) }
-    ensures some { result ≡ Ok true → response_out found.now ≢ [] }
+    ensures more { result ≡ Ok true → IsOkAnd found.now (λ b. b.more ≡ true) }
 {
     match found {
-        Ok(Some(_)) => Ok(true),
-        Ok(None) => Ok(false),
+        Ok(collected) => Ok(collected.more),
         Err(_) => Err(Fault::Spent),
+    }
+}
+
+// A list for what one hold gives.
+fn list_for_one_hold(alloc: Global) -> Result<Vec<Response>, Fault>
+    ensures list { IfOk result (λ list. (list.items ≡ []) × (64 ≤ vec_capacity list)) }
+    ensures err { OnErr result (result ≡ Err Fault.NoMemory) }
+{
+    match Vec::with_capacity(alloc, BATCH) {
+        Ok(list) => Ok(list),
+        Err(_) => Err(Fault::NoMemory),
     }
 }
 
@@ -96,16 +107,18 @@ impl<'d, L: Link + Drop> ClientWorker<'d, L> {
         self.wire.unsent() >= MAX_PDU
     }
 
-    // Asks a lane for the client's oldest response. Whether it gave one.
-    fn collect_one<R: Wait>(
+    // Asks a lane for what waits for the client, by one hold. Whether it may have more.
+    fn collect_some<R: Wait>(
         &mut self,
         at: &Exchange,
         rt: &R,
         lane: usize,
+        list: Vec<Response>,
         log: &mut Log<Event>,
     ) -> Result<bool, Fault>
         requires locks { locks_of self.old.origin.port.value.fronts ≡ at.now }
         requires lane { lane < length self.old.origin.port.value.fronts }
+        requires list { (list.items ≡ []) × (64 ≤ vec_capacity list) }
         requires room { 65536 ≤ self.old.wire.room }
         requires below { length self.old.wire.unsent < 65536 }
         ensures moves { Moves L.offered L.polls L.failures self.old log.old self.new log.new }
@@ -123,16 +136,16 @@ impl<'d, L: Link + Drop> ClientWorker<'d, L> {
           events = self.new.events;
         } }
     {
-        let found = self.port.collect(at, rt, lane);
+        let found = self.port.collect_all(at, rt, lane, list);
         let event = Event::Collected(lane, Snapshot::of(&found));
-        let gave = gave_unless_spent(&found);
+        let more = more_unless_spent(&found);
         let none = say_found(&mut self.wire, found);
         note(&mut self.events, log, event, none);
-        gave
+        more
     }
 
-    // Asks a lane for the client's responses until it has none. True where as many octets wait as
-    // a PDU can have.
+    // Asks a lane for the client's responses, a list by each hold, until it has none. True where as many
+    // octets wait as a PDU can have.
     fn collect_lane<R: Wait>(
         &mut self,
         at: &Exchange,
@@ -162,7 +175,8 @@ impl<'d, L: Link + Drop> ClientWorker<'d, L> {
                 return Ok(true);
             }
             self.make_room()?;
-            if !self.collect_one(at, rt, lane, log)? {
+            let list = list_for_one_hold(self.alloc)?;
+            if !self.collect_some(at, rt, lane, list, log)? {
                 return Ok(false);
             }
         }

@@ -1,15 +1,18 @@
 //! Responses on their way to the clients.
-ghost use Rattle.std.specs.Prelude.{◌≡◌, [], ◌∷◌, IfSome, IfNone};
+ghost use Rattle.std.specs.Prelude.{◌≡◌, [], ◌∷◌, IfSome, IfNone, Some};
+ghost use Rattle.std.specs.List.{find};
 ghost use Rattle.std.specs.Option.{option_copied};
 ghost use Rattle.smx_lane.specs.Calls.{GoesOn};
 ghost use Rattle.smx_lane.specs.Conditions.{IsOwn};
 ghost use Rattle.smx_history.specs.Answering.{IsAnswered, IsCollected, oldest_in};
 ghost use Rattle.smx_history.specs.History.{note};
-ghost use Rattle.smx_history.specs.Replies.{member_with};
+ghost use Rattle.smx_history.specs.Replies.{answers_place, member_with};
+ghost use Rattle.smx_history.specs.declared.place.Place.{Place};
 ghost use Rattle.smx_history.specs.declared.note.Event.TheVariants.{Collect};
 ghost use Rattle.smx_history.proofs.Updates.{response_for};
 
 use super::Lane;
+use crate::settled::Settled;
 use smx_history::{Answered, Entry, Kind, Place, Response};
 use smx_pdu::Pdu;
 
@@ -57,27 +60,52 @@ pub(super) fn facing(place: &Place, response: Pdu) -> Response
 }
 
 impl Lane {
-    /// Settles the place that a response answers, and puts the response into its client's box.
+    /// Settles the place that a response answers, and puts the response into its client's box. The ordinal is that of
+    /// the request.
     #[inline(always)]
-    pub fn answer(&mut self, by: u64, response: Pdu) -> Answered
-        ensures answered { IsAnswered self.old by response result self.new }
+    pub fn answer_response(&mut self, by: u64, response: Pdu) -> Settled
+        ensures answered { IsAnswered self.old by response result.answered self.new }
+        ensures ordinal { (q : Place) → find (answers_place response) self.old.window ≡ Some q
+            → q.ordinal ≡ result.ordinal }
         ensures limits { self.new.limits ≡ self.old.limits }
     {
         let Some(place) = self.window.find(response.number, response.command) else {
-            return Answered::Unknown(response);
+            return Settled {
+                answered: Answered::Unknown(response),
+                ordinal: 0,
+            };
         };
         self.window.remove(response.number);
-        let client = place.client;
+        let Place {
+            client,
+            ordinal,
+            ..
+        } = place;
         let entry = settling(Kind::Answer, by, &place, &response);
         if !self.roster.put(client, facing(&place, response)) {
             self.entries.push_reserved(Entry {
                 kind: Kind::Late,
                 ..entry
             });
-            return Answered::Late { client };
+            return Settled {
+                answered: Answered::Late { client },
+                ordinal,
+            };
         }
         self.entries.push_reserved(entry);
-        Answered::Queued { client }
+        Settled {
+            answered: Answered::Queued { client },
+            ordinal,
+        }
+    }
+
+    /// Settles the place that a response answers, and puts the response into its client's box.
+    #[inline(always)]
+    pub fn answer(&mut self, by: u64, response: Pdu) -> Answered
+        ensures answered { IsAnswered self.old by response result self.new }
+        ensures limits { self.new.limits ≡ self.old.limits }
+    {
+        self.answer_response(by, response).answered
     }
 
     /// The client's oldest response, as it is to see it, where one waits.

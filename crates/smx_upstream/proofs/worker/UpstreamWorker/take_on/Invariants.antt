@@ -4,9 +4,9 @@ use Rattle.smx_upstream.specs.Phases.{phase_of, Before, MayTake, when_taken}
 use Rattle.smx_upstream.proofs.Growing.{left_to_take}
 use Rattle.smx_upstream.proofs.worker.UpstreamWorker.take_on.Given as goal
 
-abbrev pub invariant-loop-gave : goal.invariant-loop-gave
-invariant-loop-gave g l = record {
-  phase : (t : Before) → phase_of t l.fn.log ≡ MayTake l.fn.filled false → phase_of t l.log ≡ when_taken l.fn.filled l.gave;
+abbrev pub invariant-loop-more : goal.invariant-loop-more
+invariant-loop-more g l = record {
+  phase : (t : Before) → phase_of t l.fn.log ≡ MayTake l.fn.filled false → phase_of t l.log ≡ when_taken l.fn.filled l.more;
   goes : Moves g.L.Link.offered g.L.Link.polls g.L.Link.failures l.fn.self l.fn.log l.self l.log;
   same : l.self ≡ record l.fn.self {
     wire = record l.fn.self.wire { said = l.self.wire.said; unsent = l.self.wire.unsent; room = l.self.wire.room };
@@ -16,5 +16,5 @@ invariant-loop-gave g l = record {
   };
 }
 
-abbrev pub decreases-loop-gave : goal.decreases-loop-gave
-decreases-loop-gave g l = left_to_take l.gave l.self.wire.unsent
+abbrev pub decreases-loop-more : goal.decreases-loop-more
+decreases-loop-more g l = left_to_take l.more l.self.wire.unsent

@@ -38,6 +38,10 @@ pub returns-in_err-make_room-clause-phase : goal.returns-in_err-make_room-clause
 returns-in_err-make_room-clause-phase g c = λ t was.
     turn_err _ _ _ _ _ c.from_residual.ensures.0 c.from_residual.ensures.1 (wanted _ _ _ (Settled c.args.filled) c.in_err-make_room.ensures.err refl was tt)
 
+pub returns-in_err-list-clause-phase : goal.returns-in_err-list-clause-phase
+returns-in_err-list-clause-phase g c = λ t was.
+    turn_err _ _ _ _ _ c.from_residual-in_err-list.ensures.0 c.from_residual-in_err-list.ensures.1 (wanted _ _ _ (Settled c.args.filled) c.in_err-list.ensures.err refl was tt)
+
 pub returns-clause-phase : goal.returns-clause-phase
 returns-clause-phase g c = λ t was.
     subst (λ b. IsTurn b (are_all_quiet c.take_on.new.log) c.take_on.result (phase_of t c.take_on.new.log))

@@ -1,4 +1,4 @@
-use Rattle.std.proofs.Common.{arith, ◌≡◌, refl, sym, ◌∙◌, ap, None}
+use Rattle.std.proofs.Common.{arith, ◌≡◌, refl, sym, ◌∙◌, ap, None, Some}
 use Rattle.std.specs.List.{find}
 use Rattle.smx_history.specs.declared.note.Event.TheVariants as event
 use Rattle.smx_history.specs.History.{entry_by}
@@ -11,7 +11,7 @@ use Rattle.smx_history.proofs.LateAgrees.{AgreesWith-late}
 use Rattle.smx_lane.specs.Private.Places.{Places}
 use Rattle.smx_lane.proofs.Answering.{answered_at}
 use Rattle.smx_lane.proofs.Refusing.{some_row}
-use Rattle.smx_lane.proofs.lane.Lane.answer.Goals as goal
+use Rattle.smx_lane.proofs.lane.Lane.answer_response.Goals as goal
 
 pub put-requires-clause-room : goal.put-requires-clause-room
 put-requires-clause-room c = λ m found.
@@ -95,3 +95,8 @@ returns-clause-answered c =
       λ h was. rw (removed.2, c.push_reserved-2.ensures.items, c.settling-entry.ensures, ms)
           (AgreesWith-answered h v c.args.by p q removed.0 row.0 (rw c.self.view_is was) place.within place.is place.number place.command row.1 room),
     )
+
+pub returns-in_default-clause-ordinal : goal.returns-in_default-clause-ordinal
+returns-in_default-clause-ordinal c = λ q is.
+    let h : None ≡ Some q = sym c.in_default.is ∙ c.find.ensures.found ∙ ap (λ (x : Content). find (answers_place c.args.response) x.window) c.self.view_is ∙ is in
+    cc
