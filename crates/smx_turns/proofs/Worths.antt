@@ -15,7 +15,7 @@ pub any_push : {E : Type 0} (f : E → Bool) (es es' : List E) (e : E) → es' �
 any_push f es es' e grown = ap (list_any f) grown ∙ list_any-append f es (e ∷ []) ∙ ap (λ b. list_any f es || b) (or-false (f e))
 
 module _ {E : Type 0} (worth : E → Worth) where
-  ins_push : (es es' : List E) (e : E) → es' ≡ es ++ e ∷ [] → ins worth es' ≡ ins worth es ++ (worth e).decided
+  pub ins_push : (es es' : List E) (e : E) → es' ≡ es ++ e ∷ [] → ins worth es' ≡ ins worth es ++ (worth e).decided
   unfolding ins
   ins_push es es' e grown = ap (flat_map (λ x. (worth x).decided)) grown ∙ pushed (λ x. (worth x).decided) es e
 

@@ -16,7 +16,7 @@ use Rattle.smx_session.specs.declared.up_act.UpAct.{UpAct}
 use Rattle.smx_session.specs.declared.up_act.UpAct.TheVariants as act
 use Rattle.smx_session.specs.UpstreamTable.{UpstreamCell, upstream_row, upstream_cell, upstream_decision}
 use Rattle.smx_session.specs.UpstreamTable.UpstreamCell.{bind_answer, failed, answered, closed, to_lane, mo, answer, leave, nack, ignore}
-use Rattle.smx_session.specs.Moments.{Upstream, act_on, is_bound, state_after_stop}
+use Rattle.smx_session.specs.Moments.{Upstream, act_on, after_pdu, is_bound, state_after_stop}
 use Rattle.smx_shared.specs.Views.{TapView}
 use Rattle.smx_turns.specs.declared.mo_item.MoItem.{MoItem}
 use Rattle.smx_turns.specs.Runs.{Runs}
@@ -25,7 +25,7 @@ use Rattle.smx_upstream.specs.declared.event.Event.TheVariants as event
 use Rattle.smx_upstream.specs.declared.event.Fate.{Fate}
 use Rattle.smx_upstream.specs.declared.event.Fate.TheVariants as fate
 use Rattle.smx_upstream.specs.Events.{got_out}
-use Rattle.smx_upstream.specs.Standing.{Stand, Does, Becomes, Settles, Owes, HoldNone}
+use Rattle.smx_upstream.specs.Standing.{Stand, Does, Becomes, Settles, Owes, HoldNone, after_pdus}
 use Rattle.smx_upstream.specs.Owing.{passed_by, passed}
 
 -- what the answer to a bind comes to
@@ -72,6 +72,10 @@ no_message row.Unknown p h = absurd (cc h)
 binding_takes_none : (u : Upstream) (p : Pdu) → u.state ≡ Binding → act_on u p ≡ act.Mo → ⊥
 binding_takes_none u p b is = no_message (upstream_row u.bind.kind p.command p.number) p
     (subst (λ (s : UpstreamState). (upstream_decision (upstream_cell (upstream_row u.bind.kind p.command p.number) s) s p).0 ≡ act.Mo) b is)
+
+were_binding : (u : Upstream) (ps : List Pdu) (now : ℕ) → (after_pdus u ps now).state ≡ Binding → u.state ≡ Binding
+were_binding u [] now h = h
+were_binding u (p ∷ ps) now h = was_binding _ u.state p (were_binding (after_pdu u p now) ps now h)
 
 was_stopped : (s : UpstreamState) → state_after_stop s ≡ Binding → s ≡ Binding
 was_stopped Binding h = refl
@@ -120,6 +124,9 @@ module _ (s : Stand) where
   step t (event.Decided p now a f) d b =
       let was = was_binding _ s.session.state p.value (sym (ap (λ x. x.session.state) d.3) ∙ b) in
       (was, λ none. (refl, subst HoldNone (sym (fate_none s.tap.lane p.value a.value f s.tap s.senders t.tap t.senders s.owed t.owed (λ is. binding_takes_none s.session p.value was (sym d.0 ∙ is)) d.1 d.2)) none))
+  step t (event.Brought ps now lane r) d b =
+      let was = were_binding s.session ps.value.items now (sym (ap (λ x. x.session.state) d.4) ∙ b) in
+      (was, λ none. (refl, subst HoldNone (sym (ap (λ x. x.owed) d.4)) none))
   step t (event.Took r) d b = absurd (bound_no s.session.state (sym (ap (λ x. x.session.state) d.3) ∙ b) d.0)
   step t event.Broke d b = same t event.Broke refl (ap (λ x. x.session.state) d) (ap (λ x. x.owed) d) b
   step t event.LinkEnded d b = same t event.LinkEnded refl (ap (λ x. x.session.state) d) (ap (λ x. x.owed) d) b

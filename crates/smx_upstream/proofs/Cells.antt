@@ -19,7 +19,7 @@ use Rattle.smx_turns.proofs.Logged.{phase_push}
 use Rattle.smx_turns.proofs.Wires.{clear_so}
 use Rattle.smx_turns.specs.declared.mark.Mark.TheVariants.{Offered, WriteFailed, Full, Part}
 use Rattle.smx_upstream.specs.declared.event.Event.{Event}
-use Rattle.smx_upstream.specs.declared.event.Event.TheVariants.{Opened, Looked, Judged, Expired, Shifted, Sought, Decided, Took, Broke, LinkEnded}
+use Rattle.smx_upstream.specs.declared.event.Event.TheVariants.{Opened, Looked, Judged, Expired, Shifted, Sought, Decided, Brought, Took, Broke, LinkEnded}
 use Rattle.smx_upstream.specs.declared.event.Span.{Span}
 use Rattle.smx_upstream.specs.declared.event.Span.TheVariants.{Once, Twice}
 use Rattle.smx_upstream.specs.declared.event.Fate.{Fate}
@@ -141,6 +141,10 @@ cell_read t r = refl
 pub cell_decided : (t : Before) (s : Source) (p : _) (now : _) (a : _) (f : _) → go t (Deciding s) (Did (Decided p now a f)) ≡ at_moment t now (unless_spent (fate_worth p.value f).spent (when_decided s (event_ends (Decided p now a f)) (fills f)))
 unfolding go from_deciding
 cell_decided t s p now a f = refl
+
+pub cell_brought : (t : Before) (s : Source) (ps : _) (now lane : _) (r : _) → go t (Deciding s) (Did (Brought ps now lane r)) ≡ at_moment t now (unless_spent (is_err r.value) (Deciding (going_on s)))
+unfolding go from_deciding
+cell_brought t s ps now lane r = refl
 
 pub cell_broke : (t : Before) (s : Source) → go t (Deciding s) (Did Broke) ≡ Closing
 unfolding go from_deciding

@@ -16,7 +16,7 @@ use Rattle.smx_turns.specs.Scenes.{fault_of, faults}
 use Rattle.smx_turns.specs.Steps.{phase_from}
 use Rattle.smx_turns.proofs.Filters.{all_offers, all_faults}
 use Rattle.smx_upstream.specs.declared.event.Event.{Event}
-use Rattle.smx_upstream.specs.declared.event.Event.TheVariants.{Opened, Judged, Expired, Decided, Broke}
+use Rattle.smx_upstream.specs.declared.event.Event.TheVariants.{Opened, Judged, Expired, Decided, Brought, Broke}
 use Rattle.smx_upstream.specs.declared.event.Span.{Span}
 use Rattle.smx_upstream.specs.declared.event.Span.TheVariants.{Once, Twice}
 use Rattle.smx_upstream.specs.Events.{worth, is_spent, event_ends, fills}
@@ -65,6 +65,7 @@ calm_may_read _ well = refl
 calm_deciding : (t : Before) (source : Source) (s : Step Event) → Calm (from_deciding t source s)
 unfolding from_deciding
 calm_deciding t source (Did (Decided p now a f)) = by_if Calm (now == t.now) _ refl (by_spent Calm (is_spent (Decided p now a f)) _ refl (calm_decided source (event_ends (Decided p now a f)) (fills f)))
+calm_deciding t source (Did (Brought ps now lane r)) = by_if Calm (now == t.now) _ refl (by_spent Calm (is_spent (Brought ps now lane r)) _ refl refl)
 calm_deciding t source (Did Broke) = refl
 calm_deciding t source (Marked Part) = calm_part source
 calm_deciding t source (Marked Full) = (plain_full source).1

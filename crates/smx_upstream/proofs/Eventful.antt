@@ -1,5 +1,5 @@
 -- One event more, and what a worker keeps.
-use Rattle.std.proofs.Common.{arith, max, ◌≡◌, ℕ, List, [], ◌∷◌, ◌++◌, Bool, true, false, true≢false, Option, IfSome, Some, None, Result, if◌then◌else◌, slice_get, sym, ◌∙◌, ap, refl, subst}
+use Rattle.std.proofs.Common.{arith, max, ◌≡◌, ℕ, List, [], ◌∷◌, ◌++◌, Bool, true, false, true≢false, Option, IfSome, Some, None, Result, if◌then◌else◌, slice_get, sym, ◌∙◌, ap, refl, subst, append_assoc}
 use Rattle.std.proofs.Math.Bool.{or-false}
 use Rattle.std.proofs.lemmas.List.{append-nil}
 use Rattle.std.specs.List.{flat_map, list_any}
@@ -30,7 +30,7 @@ use Rattle.smx_upstream.specs.declared.age.Age.{Age}
 use Rattle.smx_upstream.specs.declared.event.Event.{Event}
 use Rattle.smx_upstream.specs.declared.event.Fate.{Fate}
 use Rattle.smx_turns.specs.Worth.{those, ins, outs, has_broken}
-use Rattle.smx_turns.proofs.Worths.{ending_push, heard_push, outs_push}
+use Rattle.smx_turns.proofs.Worths.{ending_push, heard_push, ins_push, outs_push}
 use Rattle.smx_turns.proofs.Breaking.{BadKept, still_bad, unbroken}
 use Rattle.smx_turns.specs.declared.end.End.{End}
 use Rattle.smx_turns.specs.Endings.{or_end, ending_of}
@@ -52,12 +52,12 @@ goes_on (Some end) = refl
 pub ends_so : (o end : Option End) → o ≡ None → end ≡ or_end o end
 ends_so o end none = sym (ap (λ x. or_end x end) none)
 
--- a worker that did one thing more
-pub did : {L : Type 0} (w w' : Working L) (e : Event) → IsWorker w → w'.events ≡ w.events ++ e ∷ [] → w'.wire.heard ≡ w.wire.heard → (worth e).decided ++ those w'.held ≡ those w.held
+-- a worker that did one thing more, and has heard what it decided and what waits
+heard_and_did : {L : Type 0} (w w' : Working L) (e : Event) → IsWorker w → w'.events ≡ w.events ++ e ∷ [] → w'.wire.heard ≡ ins worth w'.events ++ those w'.held
     → w'.wire.said ≡ w.wire.said ++ (worth e).said → w'.first ≡ w.first → Does w.stand e w'.stand → (w'.ending ≡ None → w'.wire.failed ≡ None) → w'.ending ≡ or_end w.ending (worth e).ends → BadKept (worth e).breaks w.wire w'.wire → w'.last ≡ last_after w.last e → IsSameLane w.stand.tap w'.stand.tap → IsWorker w'
 unfolding last_request
-did w w' e was grown heard settled said first does on ends bad last tap = record {
-  heard = heard_push worth w.wire.heard w'.wire.heard w.events w'.events e w.held w'.held grown was.heard heard settled;
+heard_and_did w w' e was grown heard said first does on ends bad last tap = record {
+  heard = heard;
   said = said ∙ ap (λ l. l ++ (worth e).said) was.said ∙ sym (outs_push worth w.events w'.events e grown);
   runs = chain_push Does w'.first w.stand w'.stand w.events w'.events e grown does (subst_first w.first w'.first (sym first) was.runs);
   tap = (tap.0 ∙ was.tap.0 ∙ ap (λ (s : Stand). s.tap.lane) (sym first), tap.1 ∙ was.tap.1 ∙ ap (λ (s : Stand). s.tap.front.lock) (sym first));
@@ -70,6 +70,18 @@ did w w' e was grown heard settled said first does on ends bad last tap = record
   where
     subst_first : (a b : Stand) → a ≡ b → ∥ Runs Does a w.events w.stand ∥₁ → ∥ Runs Does b w.events w.stand ∥₁
     subst_first a b same r = subst (λ (x : Stand). ∥ Runs Does x w.events w.stand ∥₁) same r
+
+-- a worker that did one thing more
+pub did : {L : Type 0} (w w' : Working L) (e : Event) → IsWorker w → w'.events ≡ w.events ++ e ∷ [] → w'.wire.heard ≡ w.wire.heard → (worth e).decided ++ those w'.held ≡ those w.held
+    → w'.wire.said ≡ w.wire.said ++ (worth e).said → w'.first ≡ w.first → Does w.stand e w'.stand → (w'.ending ≡ None → w'.wire.failed ≡ None) → w'.ending ≡ or_end w.ending (worth e).ends → BadKept (worth e).breaks w.wire w'.wire → w'.last ≡ last_after w.last e → IsSameLane w.stand.tap w'.stand.tap → IsWorker w'
+did w w' e was grown heard settled = heard_and_did w w' e was grown (heard_push worth w.wire.heard w'.wire.heard w.events w'.events e w.held w'.held grown was.heard heard settled)
+
+-- so did one that heard more PDUs, and decided all behind the one that waited
+pub did_hearing : {L : Type 0} (w w' : Working L) (e : Event) (ps : List Pdu) → IsWorker w → w'.events ≡ w.events ++ e ∷ [] → w'.wire.heard ≡ w.wire.heard ++ ps → (worth e).decided ≡ those w.held ++ ps → w'.held ≡ None
+    → w'.wire.said ≡ w.wire.said ++ (worth e).said → w'.first ≡ w.first → Does w.stand e w'.stand → (w'.ending ≡ None → w'.wire.failed ≡ None) → w'.ending ≡ or_end w.ending (worth e).ends → BadKept (worth e).breaks w.wire w'.wire → w'.last ≡ last_after w.last e → IsSameLane w.stand.tap w'.stand.tap → IsWorker w'
+did_hearing w w' e ps was grown heard decided none = heard_and_did w w' e was grown
+    (heard ∙ ap (λ l. l ++ ps) was.heard ∙ append_assoc (ins worth w.events) (those w.held) ps ∙ ap (λ l. ins worth w.events ++ l) (sym decided)
+    ∙ sym (ins_push worth w.events w'.events e grown) ∙ sym (append-nil (ins worth w'.events)) ∙ ap (λ o. ins worth w'.events ++ those o) (sym none))
 
 -- the lock of its tap, as it is now and as it was handed over
 abbrev IsAt : List (LockId Limits) → TapView → Type 0

@@ -12,7 +12,7 @@ use Rattle.smx_turns.specs.declared.step.Step.TheVariants.{Asked, Read, Marked, 
 use Rattle.smx_turns.specs.Steps.{phase_from}
 use Rattle.smx_turns.specs.declared.mark.Mark.TheVariants.{Offered, WriteFailed, Full, Part}
 use Rattle.smx_upstream.specs.declared.event.Event.{Event}
-use Rattle.smx_upstream.specs.declared.event.Event.TheVariants.{Opened, Looked, Judged, Expired, Shifted, Sought, Decided, Took, Broke, LinkEnded}
+use Rattle.smx_upstream.specs.declared.event.Event.TheVariants.{Opened, Looked, Judged, Expired, Shifted, Sought, Decided, Brought, Took, Broke, LinkEnded}
 use Rattle.smx_upstream.specs.declared.event.Span.TheVariants.{Once, Twice}
 use Rattle.smx_upstream.specs.Events.{is_spent, event_ends, fills, may_give_more}
 use Rattle.smx_upstream.specs.Judging.{finds_no_more, judges, AreJudged}
@@ -149,6 +149,7 @@ plain_emptied _ = (refl, refl)
 deciding_none : (t : Before) (source : Source) (s : Step Event) → Needless (Deciding source) → Needless (from_deciding t source s)
 unfolding from_deciding
 deciding_none t source (Did (Decided p now a f)) h = by_if Needless (now == t.now) _ refl (by_spent Needless (is_spent (Decided p now a f)) _ refl (no_decided source (event_ends (Decided p now a f)) (fills f) h))
+deciding_none t source (Did (Brought ps now lane r)) h = by_if Needless (now == t.now) _ refl (by_spent Needless (is_spent (Brought ps now lane r)) _ refl (no_more source h))
 deciding_none t source (Did Broke) h = refl
 deciding_none t source (Marked Part) h = no_part source h
 deciding_none t source (Marked Full) h = (plain_full source).0

@@ -26,7 +26,7 @@ use Rattle.smx_history.specs.declared.reply.Failed.{Failed}
 use Rattle.smx_shared.specs.declared.fault.ExpiryFault.{ExpiryFault}
 use Rattle.smx_shared.specs.declared.fault.ExpiryFault.TheVariants as expires
 use Rattle.smx_shared.specs.Taps.{known_of}
-use Rattle.smx_shared.proofs.ListServing.{all_known}
+use Rattle.smx_shared.proofs.ListServing.{all_known, all_answers_known}
 use Rattle.smx_shared.proofs.Knowing.{answers_known, turn_known, expiry_known}
 use Rattle.smx_turns.specs.declared.mo_item.MoItem.{MoItem}
 use Rattle.smx_turns.specs.Puts.{AtIndex, Puts, contents, contents_in}
@@ -37,7 +37,7 @@ use Rattle.smx_upstream.specs.declared.event.Fate.{Fate}
 use Rattle.smx_upstream.specs.declared.event.Fate.TheVariants as fate
 use Rattle.smx_upstream.specs.Ages.{time_of}
 use Rattle.smx_upstream.specs.Standing.{Stand, Does, Becomes, Shifts, item_for}
-use Rattle.smx_upstream.proofs.Seen.{nothing, rise_note, self, longer, served_seen, spent_seen, list_seen, shift_seen, rise_seen}
+use Rattle.smx_upstream.proofs.Seen.{nothing, rise_note, self, longer, served_seen, spent_seen, list_seen, brought_seen, shift_seen, rise_seen}
 use Rattle.smx_upstream.proofs.Surrender.{gave_note, gave_seen}
 use Rattle.smx_upstream.specs.Laws.{answer_known, fate_known, known_by, knowns, fate_put, put_by, puts_at, KeepsTokens}
 
@@ -74,6 +74,7 @@ note_step s t (event.Expired lane span r) d = nothing _ _ (expiry_known s.tap.fr
 note_step s t (event.Shifted least r) d = nothing _ _ (shift_note s.tap.front t.tap.front least r.value d.1)
 note_step s t (event.Sought r under) d = nothing _ _ (ap (λ x. known_of x.tap.front.mine) d.2)
 note_step s t (event.Decided p now a f) d = fate_note p.value a.value f s.tap s.senders t.tap t.senders d.1
+note_step s t (event.Brought ps now lane r) d = all_answers_known s.tap.front t.tap.front ps.value.items r.value d.1
 note_step s t (event.Took r) d = all_known s.tap.front t.tap.front s.session.latest r.value d.1
 note_step s t event.Broke d = nothing _ _ (ap (λ x. known_of x.tap.front.mine) d)
 note_step s t event.LinkEnded d = nothing _ _ (ap (λ x. known_of x.tap.front.mine) d)
@@ -109,6 +110,7 @@ seen_step s t (event.Expired lane span r) d = expiry_seen s.tap.front t.tap.fron
 seen_step s t (event.Shifted least r) d = shift_seen s.tap.front t.tap.front least r.value d.1
 seen_step s t (event.Sought r under) d = self _ _ (ap (λ x. x.tap.front.seen) d.2)
 seen_step s t (event.Decided p now a f) d = fate_seen p.value a.value f s.tap s.senders t.tap t.senders d.1
+seen_step s t (event.Brought ps now lane r) d = brought_seen s.tap.front t.tap.front ps.value.items r.value d.1
 seen_step s t (event.Took r) d = list_seen s.tap.front t.tap.front s.session.latest r.value d.1
 seen_step s t event.Broke d = self _ _ (ap (λ x. x.tap.front.seen) d)
 seen_step s t event.LinkEnded d = self _ _ (ap (λ x. x.tap.front.seen) d)
@@ -137,6 +139,7 @@ lane_step s t (event.Expired lane span r) d = d.2
 lane_step s t (event.Shifted least r) d = d.2
 lane_step s t (event.Sought r under) d = ap (λ x. x.tap.lane) d.2
 lane_step s t (event.Decided p now a f) d = fate_lane p.value a.value f s.tap s.senders t.tap t.senders d.1
+lane_step s t (event.Brought ps now lane r) d = d.3
 lane_step s t (event.Took r) d = d.2
 lane_step s t event.Broke d = ap (λ x. x.tap.lane) d
 lane_step s t event.LinkEnded d = ap (λ x. x.tap.lane) d
@@ -183,6 +186,7 @@ put_step slot s t (event.Expired lane span r) d = nothing _ _ (ap (λ x. content
 put_step slot s t (event.Shifted least r) d = nothing _ _ (ap (λ x. contents_in (slice_get x.senders slot)) d.3)
 put_step slot s t (event.Sought r under) d = nothing _ _ (ap (λ x. contents_in (slice_get x.senders slot)) d.2)
 put_step slot s t (event.Decided p now a f) d = fate_puts slot p.value a.value f s.tap s.senders t.tap t.senders d.1
+put_step slot s t (event.Brought ps now lane r) d = nothing _ _ (ap (λ x. contents_in (slice_get x.senders slot)) d.4)
 put_step slot s t (event.Took r) d = nothing _ _ (ap (λ x. contents_in (slice_get x.senders slot)) d.3)
 put_step slot s t event.Broke d = nothing _ _ (ap (λ x. contents_in (slice_get x.senders slot)) d)
 put_step slot s t event.LinkEnded d = nothing _ _ (ap (λ x. contents_in (slice_get x.senders slot)) d)

@@ -3,6 +3,7 @@ pub mod Cells
 pub mod Judgements
 pub mod Counts
 pub mod Seen
+pub mod AnswerLists
 pub mod Surrender
 pub mod Keeping
 pub mod Clocking

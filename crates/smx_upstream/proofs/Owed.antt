@@ -138,6 +138,7 @@ module _ (answer message : ℕ → ℕ → Bool) (suits : Suits answer message) 
   step s t (event.Shifted least r) d = kept s.owed t.owed (ap (λ x. x.owed) d.3)
   step s t (event.Sought r under) d = got_owes r.value under s.owed t.owed d.1
   step s t (event.Decided p now a f) d = fate_owes s.tap.lane p.value f s.owed t.owed d.2
+  step s t (event.Brought ps now lane r) d = kept s.owed t.owed (ap (λ x. x.owed) d.4)
   step s t (event.Took r) d = kept s.owed t.owed (ap (λ x. x.owed) d.3)
   step s t event.Broke d = kept s.owed t.owed (ap (λ x. x.owed) d)
   step s t event.LinkEnded d = kept s.owed t.owed (ap (λ x. x.owed) d)

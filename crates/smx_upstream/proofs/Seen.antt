@@ -6,7 +6,9 @@ use Rattle.smx_lock.specs.Fronts.{Front, Serves, IsSpent}
 use Rattle.smx_history.specs.declared.limits.Limits.{Limits}
 use Rattle.smx_history.specs.declared.note.Note.{Note}
 use Rattle.smx_lane.specs.Kept.{writer}
+use Rattle.smx_pdu.specs.declared.pdu.Pdu.{Pdu}
 use Rattle.smx_lane.specs.declared.sent.Sent.{Sent}
+use Rattle.smx_lane.specs.declared.settled.Settled.{Settled}
 use Rattle.smx_shared.specs.declared.fault.TakeFault.{TakeFault}
 use Rattle.smx_shared.specs.declared.fault.TakeFault.TheVariants as takes
 use Rattle.std.specs.declared.vec.Vec.{Vec}
@@ -19,7 +21,7 @@ use Rattle.smx_history.specs.declared.reply.UpRefusal.TheVariants as refusal
 use Rattle.smx_shared.specs.declared.fault.UpFault.TheVariants as ups
 use Rattle.smx_lock.specs.declared.faults.Spent.{Spent}
 use Rattle.smx_shared.specs.declared.batch.Takings.{Takings}
-use Rattle.smx_shared.specs.Batches.{TakesAll}
+use Rattle.smx_shared.specs.Batches.{TakesAll, BringsAll}
 use Rattle.smx_shared.specs.Serving.{Takes, ComesUp, Turns}
 use Rattle.smx_shared.specs.Taps.{known_of}
 use Rattle.smx_shared.proofs.Knowing.{turn_known, up_known}
@@ -56,6 +58,10 @@ take_seen f g now (Err takes.Spent) h = spent_seen f g h
 pub list_seen : (f g : Front Note Limits) (now : ℕ) (r : Result Takings Spent) → TakesAll f g now r → IsPrefix f.seen g.seen
 list_seen f g now (Ok b) h = served_seen f g h.serves.found h.serves.own h.serves.hold.serves
 list_seen f g now (Err e) h = spent_seen f g h
+
+pub brought_seen : (f g : Front Note Limits) (ps : List Pdu) (r : Result (Vec Settled Global) (Vec Pdu Global × Spent)) → BringsAll f g ps r → IsPrefix f.seen g.seen
+brought_seen f g ps (Ok ss) h = served_seen f g h.serves.found h.serves.own h.serves.hold.serves
+brought_seen f g ps (Err e) h = spent_seen f g h.1
 
 pub shift_seen : (f g : Front Note Limits) (least : ℕ) (r : Result (Option (Vec Entry Global)) TurnFault)
     → Shifts f g least r → IsPrefix f.seen g.seen

@@ -15,6 +15,7 @@ use Rattle.smx_history.specs.declared.reply.Failed.TheVariants as failed
 use Rattle.smx_history.specs.declared.reply.Answered.{Answered}
 use Rattle.smx_history.specs.declared.reply.Answered.TheVariants as answered
 use Rattle.smx_lane.specs.declared.sent.Sent.{Sent}
+use Rattle.smx_lane.specs.declared.settled.Settled.{Settled}
 use Rattle.smx_lock.specs.declared.faults.Spent.{Spent as LaneSpent}
 use Rattle.smx_box.specs.declared.fault.Spent.{Spent}
 use Rattle.smx_box.specs.declared.receiver.Got.{Got}
@@ -37,7 +38,7 @@ use Rattle.smx_turns.specs.declared.end.End.TheVariants as end
 use Rattle.smx_turns.specs.Endings.{or_end}
 use Rattle.smx_turns.specs.Worth.{Worth, no_worth, spent_worth, says}
 use Rattle.smx_upstream.specs.declared.event.Event.{Event}
-use Rattle.smx_upstream.specs.declared.event.Event.TheVariants.{Began, Opened, Looked, Judged, Expired, Shifted, Sought, Decided, Took, Broke, LinkEnded, Unbound, GaveUp}
+use Rattle.smx_upstream.specs.declared.event.Event.TheVariants.{Began, Opened, Looked, Judged, Expired, Shifted, Sought, Decided, Brought, Took, Broke, LinkEnded, Unbound, GaveUp}
 use Rattle.smx_upstream.specs.declared.abandoning.Round.{Round}
 use Rattle.smx_upstream.specs.declared.losing.Lost.{Lost}
 use Rattle.smx_upstream.specs.declared.event.Fate.{Fate}
@@ -148,6 +149,14 @@ answer_tells lane (answered.Queued c) = Client c lane ∷ []
 answer_tells lane (answered.Late c) = Client c lane ∷ []
 answer_tells lane (answered.Unknown back) = []
 
+-- whose requests the answers of a list settled
+abbrev pub settled_tells : ℕ → List Settled → List Party
+settled_tells lane ss = flat_map (λ s. answer_tells lane s.answered) ss
+
+abbrev pub brought_tells : ℕ → Result (Vec Settled Global) (Vec Pdu Global × LaneSpent) → List Party
+brought_tells lane (Ok ss) = settled_tells lane ss.items
+brought_tells lane (Err e) = []
+
 -- a message that no client gets is answered with this status
 abbrev pub refused_worth : Pdu → ℕ → Worth
 refused_worth p status = says (Some (refusal p.command status p.number))
@@ -193,6 +202,7 @@ worth (Expired lane span r) = record no_worth { tells = expiry_tells lane r.valu
 worth (Shifted least r) = record no_worth { spent = is_spent_shift r.value }
 worth (Sought r under) = record no_worth { said = got_out r.value under; quiet = finds_nothing r.value; spent = is_err r.value }
 worth (Decided p now a f) = decided_worth p.value a.value f
+worth (Brought ps now lane r) = record no_worth { decided = ps.value.items; tells = brought_tells lane r.value; quiet = false; spent = is_err r.value }
 worth (Took r) = record no_worth { said = requests_up r.value; quiet = gives_none r.value; spent = is_err r.value }
 worth Broke = record (says (Some nack_of_undecoded)) { ends = Some end.BadLength; breaks = true }
 worth LinkEnded = record no_worth { ends = Some end.LinkEnded }

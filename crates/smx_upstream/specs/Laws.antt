@@ -5,7 +5,7 @@ use Rattle.std.specs.List.{flat_map}
 use Rattle.smx_pdu.specs.declared.pdu.Pdu.{Pdu}
 use Rattle.smx_history.specs.declared.reply.Answered.{Answered}
 use Rattle.smx_history.specs.declared.reply.Answered.TheVariants as answered
-use Rattle.smx_shared.specs.Taps.{Known, Queued, CameLate, known_of, known_by_takes}
+use Rattle.smx_shared.specs.Taps.{Known, Queued, CameLate, known_of, known_by_takes, known_by_answers}
 use Rattle.smx_turns.specs.declared.mo_item.MoItem.{MoItem}
 use Rattle.smx_turns.specs.Puts.{contents_in}
 use Rattle.smx_upstream.specs.declared.event.Event.{Event}
@@ -43,6 +43,7 @@ known_by (event.Expired lane span r) = []
 known_by (event.Shifted least r) = []
 known_by (event.Sought r under) = []
 known_by (event.Decided p now a f) = fate_known p.value f
+known_by (event.Brought ps now lane r) = known_by_answers ps.value.items r.value
 known_by (event.Took r) = known_by_takes r.value
 known_by event.Broke = []
 known_by event.LinkEnded = []
@@ -74,6 +75,7 @@ put_by slot lane (event.Expired at span r) = []
 put_by slot lane (event.Shifted least r) = []
 put_by slot lane (event.Sought r under) = []
 put_by slot lane (event.Decided p now a f) = fate_put slot lane p.value f
+put_by slot lane (event.Brought ps now at r) = []
 put_by slot lane (event.Took r) = []
 put_by slot lane event.Broke = []
 put_by slot lane event.LinkEnded = []

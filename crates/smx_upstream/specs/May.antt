@@ -9,7 +9,7 @@ use Rattle.smx_turns.specs.declared.step.Step.TheVariants.{Asked, Read, Marked, 
 use Rattle.smx_turns.specs.Scenes.{Scene as SceneOf}
 use Rattle.smx_turns.specs.Wires.{has_ended}
 use Rattle.smx_upstream.specs.declared.event.Event.{Event}
-use Rattle.smx_upstream.specs.declared.event.Event.TheVariants.{Decided, Broke, LinkEnded}
+use Rattle.smx_upstream.specs.declared.event.Event.TheVariants.{Decided, Brought, Broke, LinkEnded}
 use Rattle.smx_upstream.specs.Standing.{Stand}
 
 -- what a turn may change
@@ -33,6 +33,7 @@ MayMark a (Entered account whole) = ⊥
 -- a PDU is decided, or a bad length answered, only there; and the link has ended only where its last read said so
 abbrev pub MayDo : Scene → Event → Type 0
 MayDo a (Decided p now act f) = MayDecide a.polls a.unsent
+MayDo a (Brought ps now lane r) = MayDecide a.polls a.unsent
 MayDo a Broke = MayDecide a.polls a.unsent
 MayDo a LinkEnded = has_ended a.polls ≡ true
 MayDo a _ = Unit {0}

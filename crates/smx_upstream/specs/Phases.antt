@@ -24,7 +24,7 @@ use Rattle.smx_upstream.specs.declared.deciding.Progress.{Progress}
 use Rattle.smx_upstream.specs.declared.deciding.Progress.TheVariants as progress
 use Rattle.smx_turns.specs.declared.mark.Mark.TheVariants.{Offered, WriteFailed, Full, Part}
 use Rattle.smx_upstream.specs.declared.event.Event.{Event}
-use Rattle.smx_upstream.specs.declared.event.Event.TheVariants.{Opened, Looked, Judged, Expired, Shifted, Sought, Decided, Took, Broke, LinkEnded}
+use Rattle.smx_upstream.specs.declared.event.Event.TheVariants.{Opened, Looked, Judged, Expired, Shifted, Sought, Decided, Brought, Took, Broke, LinkEnded}
 use Rattle.smx_upstream.specs.declared.event.Span.{Span}
 use Rattle.smx_upstream.specs.declared.event.Span.TheVariants.{Once, Twice}
 
@@ -214,6 +214,7 @@ from_may_read _ = Wrong
 
 unfoldable pub from_deciding : Before → Source → Step Event → Phase
 from_deciding t s (Did (Decided p now a f)) = at_moment t now (unless_spent (is_spent (Decided p now a f)) (when_decided s (event_ends (Decided p now a f)) (fills f)))
+from_deciding t s (Did (Brought ps now lane r)) = at_moment t now (unless_spent (is_spent (Brought ps now lane r)) (Deciding (going_on s)))
 from_deciding t s (Did Broke) = Closing
 from_deciding t s (Marked Part) = when_part s
 from_deciding t s (Marked Full) = when_full s

@@ -1,8 +1,10 @@
 -- What a worker stands on, and what each event does to it.
-use Rattle.std.specs.Prelude.{Bool, true, ◌&&◌, nat_lt, ◌≡◌, ◌≢◌, ◌≤◌, ◌++◌, [], ◌∷◌, ℕ, List, length, slice_get, Option, Some, None, Result, Ok, Err, MatchResult}
+use Rattle.std.specs.Prelude.{Bool, true, ◌&&◌, ◌-◌, nat_le, nat_lt, ◌≡◌, ◌≢◌, ◌≤◌, ◌++◌, [], ◌∷◌, ℕ, List, length, slice_get, Option, Some, None, Result, Ok, Err, MatchResult}
 use Rattle.smx_pdu.specs.declared.pdu.Pdu.{Pdu}
 use Rattle.smx_pdu.specs.declared.body_fault.BodyFault.{BodyFault}
 use Rattle.smx_pdu.specs.Reading.{destination_at}
+use Rattle.smx_pdu.specs.Command.{is_forwarded}
+use Rattle.smx_pdu.specs.declared.command.TheConstants.{RESPONSE}
 use Rattle.std.specs.declared.vec.Vec.{Vec}
 use Rattle.std.specs.declared.alloc.Global.{Global}
 use Rattle.smx_lock.specs.Fronts.{Front, IsSpent}
@@ -21,7 +23,7 @@ use Rattle.smx_session.specs.Moments.{Upstream, act_on, after_pdu, is_bound, enq
 use Rattle.smx_session.specs.declared.up_act.UpAct.{UpAct}
 use Rattle.smx_session.specs.declared.up_act.UpAct.TheVariants as act
 use Rattle.smx_shared.specs.Views.{TapView}
-use Rattle.smx_shared.specs.Batches.{TakesAll}
+use Rattle.smx_shared.specs.Batches.{TakesAll, BringsAll}
 use Rattle.smx_shared.specs.Serving.{Expires, AnswerServes, TurnServes, IsTurnFault}
 use Rattle.std.specs.Option.{option_map}
 use Rattle.smx_upstream.specs.declared.age.Age.{Age}
@@ -33,7 +35,7 @@ use Rattle.smx_turns.specs.declared.directory.Place.{Place}
 use Rattle.smx_turns.specs.declared.mo_item.MoItem.{MoItem}
 use Rattle.smx_turns.specs.Puts.{AtIndex, Puts, FindsFull, FindsSpent, Gets}
 use Rattle.smx_upstream.specs.declared.event.Event.{Event}
-use Rattle.smx_upstream.specs.declared.event.Event.TheVariants.{Began, Opened, Looked, Judged, Expired, Shifted, Sought, Decided, Took, Broke, LinkEnded, Unbound, GaveUp}
+use Rattle.smx_upstream.specs.declared.event.Event.TheVariants.{Began, Opened, Looked, Judged, Expired, Shifted, Sought, Decided, Brought, Took, Broke, LinkEnded, Unbound, GaveUp}
 use Rattle.smx_upstream.specs.declared.event.Fate.{Fate}
 use Rattle.smx_upstream.specs.declared.event.Fate.TheVariants as fate
 
@@ -125,6 +127,20 @@ Shifts f g least r = MatchResult r (λ o. TurnServes f g least (option_map (λ e
 abbrev pub was_silent : Upstream → ℕ → Bool
 was_silent u now = nat_lt u.latest now && is_silent u u.latest
 
+-- a request's response (SMPP 3.4, section 5.1.2.1), of those that are passed on
+abbrev pub is_answer : ℕ → Bool
+is_answer command = nat_le RESPONSE command && is_forwarded (command - RESPONSE)
+
+-- the session after PDUs that it heard at one moment, one behind the other
+abbrev pub after_pdus : Upstream → List Pdu → ℕ → Upstream
+after_pdus u [] now = u
+after_pdus u (p ∷ ps) now = after_pdus (after_pdu u p now) ps now
+
+-- and each of them goes to the lane
+abbrev pub GoToLane : Upstream → List Pdu → ℕ → Type 0
+GoToLane u [] now = Unit {0}
+GoToLane u (p ∷ ps) now = (act_on u p ≡ act.ToLane) × GoToLane (after_pdu u p now) ps now
+
 -- what an event does
 abbrev pub Does : Stand → Event → Stand → Type 0
 Does s (Began p) t = (p.value ≡ bind_of s.session) × (t ≡ s)
@@ -137,6 +153,8 @@ Does s (Shifted least r) t = (least ≡ least_shift s.age) × Shifts s.tap.front
 Does s (Sought r under) t = Gets s.answers t.answers r.value × Settles r.value under s.owed t.owed × (t ≡ record s { answers = t.answers; owed = t.owed })
 Does s (Decided p now a f) t = (a.value ≡ act_on s.session p.value) × Becomes p.value a.value f s.tap s.senders t.tap t.senders × Owes s.tap.lane p.value f s.owed t.owed
     × (t ≡ record s { session = after_pdu s.session p.value now; tap = t.tap; senders = t.senders; owed = t.owed })
+Does s (Brought ps now lane r) t = GoToLane s.session ps.value.items now × BringsAll s.tap.front t.tap.front ps.value.items r.value × (lane ≡ s.tap.lane) × (t.tap.lane ≡ s.tap.lane)
+    × (t ≡ record s { session = after_pdus s.session ps.value.items now; tap = t.tap })
 Does s (Took r) t = (is_bound s.session.state ≡ true) × TakesAll s.tap.front t.tap.front s.session.latest r.value × (t.tap.lane ≡ s.tap.lane) × (t ≡ record s { tap = t.tap })
 Does s Broke t = t ≡ s
 Does s LinkEnded t = t ≡ s

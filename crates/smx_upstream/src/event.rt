@@ -6,6 +6,7 @@ use crate::abandoning::Abandoned;
 use crate::losing::Lost;
 use smx_box::{Got, Spent};
 use smx_history::{Answered, Entry, Failed};
+use smx_lane::Settled;
 use smx_lock::Spent as LaneSpent;
 use smx_pdu::Pdu;
 use smx_session::UpAct;
@@ -100,6 +101,9 @@ pub enum Event {
     Sought(Snapshot<Result<Got<Pdu>, Spent>>, Option<u32>),
     /// A PDU was decided at a moment: the session's act, and what became of the PDU.
     Decided(Snapshot<Pdu>, u64, Snapshot<UpAct>, Fate),
+    /// Responses that were read one behind the other, which the session passes on at this moment. The
+    /// lane of this number was brought all, and said this of each.
+    Brought(Snapshot<Vec<Pdu>>, u64, usize, Snapshot<Result<Vec<Settled>, (Vec<Pdu>, LaneSpent)>>),
     /// The lane was asked for what is queued, and gave this.
     Took(Snapshot<Result<Takings, LaneSpent>>),
     /// A bad length was answered.

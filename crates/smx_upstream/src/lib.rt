@@ -4,6 +4,7 @@
 mod abandoning;
 mod acting;
 mod age;
+mod bringing;
 mod carry;
 mod deciding;
 mod event;
