@@ -18,6 +18,7 @@ use std::sync::Wait;
 
 mod comparing;
 mod full;
+mod lists;
 mod loads;
 mod making;
 mod scenes;
