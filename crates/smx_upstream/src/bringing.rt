@@ -116,16 +116,17 @@ pub(crate) fn lists(alloc: Global) -> Option<(Vec<Pdu>, Vec<Settled>)>
 }
 
 impl<L: Link + Drop> UpstreamWorker<L> {
-    // Whether the PDU that waits goes to the lane, and those behind it may with it.
+    // Whether the PDU that waits goes to the lane, and the next one with it.
     #[inline(always)]
     pub(crate) fn holds_answer(&self) -> bool
         ensures { result ≡ true → (is_bound self.now.stand.session.state ≡ true)
             × (p : Pdu) × (self.now.held ≡ Some p) × (is_answer p.command ≡ true) }
     {
-        match &self.held {
-            Some(pdu) => self.session.state() == UpstreamState::Bound && is_answer(pdu.command),
-            None => false,
-        }
+        let Some(pdu) = &self.held else {
+            return false;
+        };
+        let follows = matches!(self.wire.next_command(), Some(command) if is_answer(command));
+        follows && is_answer(pdu.command) && self.session.state() == UpstreamState::Bound
     }
 
     // Brings the response that waits, and those that stand behind it, to the lane.
