@@ -161,6 +161,7 @@ impl Framer {
     /// The next whole PDU, where there is one. It allocates at most once, for the PDU's body. The first
     /// bad length is answered once the PDUs before it are out, as soon as its four octets stand
     /// there; from then on it is the answer of each call.
+    #[inline(always)]
     pub fn next_pdu(&mut self) -> Result<Option<Pdu>, FrameFault>
         ensures some { IfOk result
             (λ found. IfSome found

@@ -30,6 +30,7 @@ impl Spares {
     }
 
     // Keeps a list, where there is room for it and it isn't large. One without memory is worth nothing.
+    #[inline(always)]
     pub fn add(&mut self, list: Vec<u8>) {
         let room = list.capacity();
         if room == 0 || room > OCTETS || self.lists.len() >= self.most {

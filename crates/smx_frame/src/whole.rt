@@ -8,6 +8,7 @@ use std::alloc::AllocError;
 
 // Reads octets that are a whole PDU by their length field, with the body in this list: only memory can
 // be wanting.
+#[inline(always)]
 pub fn decode_whole(list: Vec<u8>, octets: &[u8]) -> Result<Pdu, AllocError>
     requires least { 16 ≤ length octets.now }
     requires most { length octets.now ≤ 65536 }

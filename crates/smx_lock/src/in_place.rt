@@ -47,6 +47,7 @@ impl<S: Kept> SeatInPlace<S> {
     }
 
     /// Runs the section in one hold, for which it may wait. At a refusal the section comes back.
+    #[inline(always)]
     pub fn hold<R: Wait, C: CriticalSection<S, S::Note>>(
         &mut self,
         rt: &R,
@@ -165,6 +166,7 @@ fn standing<S: Kept>(seat: Option<LockSeat<S>>) -> LockSeat<S>
 }
 
 // Runs the section in a hold, and ends it.
+#[inline(always)]
 fn run<S: Kept, C: CriticalSection<S, S::Note>>(
     lock: &TicketLock<S>,
     from: Held<S>,

@@ -12,6 +12,7 @@ use std::alloc::{AllocError, Global};
 pub const MAX_PDU: usize = 65_536;
 
 // The list with these octets alone.
+#[inline(always)]
 fn refilled(mut list: Vec<u8>, octets: &[u8]) -> Result<Vec<u8>, AllocError>
     ensures items { IfOk result (λ list. list.items ≡ octets.now) }
 {
@@ -44,6 +45,7 @@ pub fn decode(alloc: Global, octets: &[u8]) -> Result<Pdu, PduFault>
 
 /// The same, with the body in a list that is used again, whose octets go. It allocates only where the
 /// body has no room there.
+#[inline(always)]
 pub fn decode_into(list: Vec<u8>, octets: &[u8]) -> Result<Pdu, PduFault>
     ensures found { IfOk result (λ p. Spells p octets.now) }
     ensures short { IsErrOf result (PduFault.Short (length octets.now)) ↔ (length octets.now < 16) }
