@@ -110,6 +110,7 @@ fn append_within(out: &mut Vec<u8>, octets: &[u8])
 }
 
 // Writes a PDU's octets at the end, where there is room for so many.
+#[inline(always)]
 fn append_pdu(pdu: &Pdu, out: &mut Vec<u8>)
     requires { vec_len out.old + (16 + length pdu.now.body) ≤ vec_capacity out.old }
     ensures items { out.new.items ≡ out.old.items ++ spelling pdu.now }
@@ -213,6 +214,7 @@ impl<L: Link + Drop> Wire<L> {
 
     /// Says a PDU that there is room for, and leaves the rest of the room: so several PDUs are said once
     /// room was made. It takes no memory.
+    #[inline(always)]
     pub fn say_within(&mut self, pdu: &Pdu)
         requires room { 16 + length pdu.now.body ≤ self.old.room }
         ensures said { self.new.said ≡ self.old.said ++ pdu.now ∷ [] }
@@ -264,6 +266,7 @@ impl<L: Link + Drop> Wire<L> {
         ensures command { IfSome result (λ k. (p : Pdu) (rest : List ℕ)
             → TakesFirst 65536 self.now.rest p rest → p.command ≡ k) }
         ensures whole { IfSome result (λ k. fault_at 65536 self.now.rest ≡ None) }
+        ensures none { result ≡ None → HasNone 65536 self.now.rest }
     {
         let octets = self.framer.rest();
         let first = octets.first_chunk::<16>()?;
@@ -280,6 +283,7 @@ impl<L: Link + Drop> Wire<L> {
 
     /// Hears the next whole PDU, where there is one. The fault is that of a bad length, which ends
     /// the stream, or `NoMemory` for the PDU's body.
+    #[inline(always)]
     pub fn hear(&mut self) -> Result<Option<Pdu>, FrameFault>
         ensures some { IfOk result
             (λ found. IfSome found (λ p. (self.new.heard ≡ self.old.heard ++ p ∷ [])
