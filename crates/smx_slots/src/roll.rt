@@ -1,17 +1,22 @@
 //! Which client has which slot.
-ghost use Rattle.std.specs.Prelude.{◌≡◌, [], Some, None, true, false, IfOk, IfErr};
+ghost use Rattle.std.specs.Prelude.{◌≡◌, [], Some, None, true, false, IfOk, IfErr, IfSome};
 ghost use Rattle.smx_slots.specs.Rolls.{slot_of, may_add, SetsSlot};
 ghost use Rattle.smx_slots.specs.Private.Sorted.{IsAt, IsGap};
 
 use std::alloc::{AllocError, Global};
 use std::marker::Model;
 
+/// How many guesses there are: a power of 2, four times as many as clients can be connected.
+const GUESSES: u64 = 1_024;
+
 /// The clients, each with its slot. Contracts see for how many memory was taken, and both in the order of
-/// the clients' numbers.
+/// the clients' numbers. By its number each client has a guess where its row is, which it may share with
+/// others. The row there tells whose it is, so a wrong guess costs a search and no more.
 #[derive(Drop)]
 pub struct Roll {
     most: usize,
     rows: Vec<(u64, usize)>,
+    guesses: Vec<usize>,
 }
 
 impl Model for Roll {
@@ -25,14 +30,29 @@ impl Model for Roll {
     ghost invariant = { IsSorted };
 }
 
+// Where the client's guess is.
+fn guess_of(client: u64) -> usize {
+    (client % GUESSES) as usize
+}
+
+// Notes where the rows from this place on are: the guess of each is right now, but where a later one shares it.
+fn note(guesses: &mut [usize], rows: &[(u64, usize)], from: usize) {
+    for at in from..rows.len() {
+        if let Some(guess) = guesses.get_mut(guess_of(rows[at].0)) {
+            *guess = at;
+        }
+    }
+}
+
 impl Roll {
-    /// No client. It takes the memory for so many.
+    /// No client. It takes the memory for so many, and for the guesses.
     pub fn new(alloc: Global, most: usize) -> Result<Roll, AllocError>
         ensures { IfOk result (λ roll. roll ≡ record { most = most; rows = [] }) }
     {
         Ok(Roll {
             most,
             rows: Vec::with_capacity(alloc, most)?,
+            guesses: vec![in alloc; 0; GUESSES as usize]?,
         })
     }
 
@@ -44,13 +64,39 @@ impl Roll {
         self.rows.binary_search_by_key(&client, |&(c, _)| c)
     }
 
-    /// The slot of a client: it looks at no more rows than the count of clients has digits in base 2.
-    pub fn slot(&self, client: u64) -> Option<usize>
+    // The client's slot, where its guess is right.
+    #[inline(always)]
+    fn guessed(&self, client: u64) -> Option<usize>
+        ensures { IfSome result (λ slot. slot_of self.now.rows client ≡ Some slot) }
+    {
+        let guess = *self.guesses.get(guess_of(client))?;
+        match self.rows.get(guess) {
+            Some(&(c, slot)) if c == client => Some(slot),
+            _ => None,
+        }
+    }
+
+    // The client's slot, by a search.
+    #[cold]
+    #[inline(never)]
+    fn searched(&self, client: u64) -> Option<usize>
         ensures { result ≡ slot_of self.now.rows client }
     {
         match self.place(client) {
             Ok(at) => Some(self.rows[at].1),
             Err(_) => None,
+        }
+    }
+
+    /// The slot of a client. It looks at one row where the client's guess is right, and else at no more
+    /// besides than the count of clients has digits in base 2.
+    #[inline(always)]
+    pub fn slot(&self, client: u64) -> Option<usize>
+        ensures { result ≡ slot_of self.now.rows client }
+    {
+        match self.guessed(client) {
+            Some(slot) => Some(slot),
+            None => self.searched(client),
         }
     }
 
@@ -69,7 +115,9 @@ impl Roll {
         if self.rows.len() >= self.most {
             return false;
         }
-        self.rows.insert(at, (client, slot)).is_ok()
+        let is_added = self.rows.insert(at, (client, slot)).is_ok();
+        note(self.guesses.as_mut_slice(), self.rows.as_slice(), at);
+        is_added
     }
 
     /// The client has no slot any more.
@@ -81,6 +129,7 @@ impl Roll {
             Err(_) => return,
             Ok(at) => {
                 self.rows.remove(at);
+                note(self.guesses.as_mut_slice(), self.rows.as_slice(), at);
             }
         }
     }

@@ -28,7 +28,7 @@ returns-clause-may c =
     let gap : IsGap rows c.args.client c.in-Err.at = subst (λ (l : Listing). IsGap l.rows c.args.client c.in-Err.at) (sym c.self.view_is) c.in-Err.ensures.absent in
     let none : slot_of rows c.args.client ≡ None = no_slot _ _ _ gap in
     let low : length rows < c.self.inside.most = grind (arith, common_steps) in
-    let inserted : c.is_ok.result ≡ true = grind (arith, common_steps, c.self.invariant.room, low) in
+    let inserted : c.is_ok-is_added.result ≡ true = grind (arith, common_steps, c.self.invariant.room, low) in
     rw (← c.self.view_is, none) (inserted ∙ sym (lt-ltb _ _ low))
 
 pub returns-clause-added : goal.returns-clause-added

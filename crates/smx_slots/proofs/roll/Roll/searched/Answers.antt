@@ -3,7 +3,7 @@ use Rattle.std.proofs.lemmas.List.{get_or_default}
 use Rattle.smx_slots.specs.Rolls.{Listing}
 use Rattle.smx_slots.specs.Private.Sorted.{IsRising}
 use Rattle.smx_slots.proofs.Pairs.{slot_at, no_slot}
-use Rattle.smx_slots.proofs.roll.Roll.slot.Goals as goal
+use Rattle.smx_slots.proofs.roll.Roll.searched.Goals as goal
 
 pub returns-in-Ok : goal.returns-in-Ok
 returns-in-Ok c =
