@@ -11,32 +11,26 @@ use Rattle.std.proofs.lemmas.Bool.{cases_Bool, le-leb, lt-leb, ne_eqb, eqb-true}
 use Rattle.std.proofs.lemmas.Map.Steps.{set_value_same}
 use Rattle.std.proofs.lemmas.Bool.Decides.{nat_tests}
 use Rattle.std.proofs.lemmas.List.Sums.{sum_by-cons}
-use Rattle.std.proofs.lemmas.List.{map-append}
+use Rattle.std.proofs.lemmas.List.{map-append, length-map}
 use Rattle.smx_history.specs.Prefixes.{RiseAbove}
 use Rattle.smx_history.specs.Contents.{Member}
 use Rattle.smx_history.specs.Replies.{member_with}
 use Rattle.smx_history.proofs.Updates.{new_row, with_row, without}
 use Rattle.smx_history.proofs.Keeping.{map-with_row}
 use Rattle.smx_history.proofs.RetireAgrees.{rise_part}
-use Rattle.smx_lane.specs.declared.roster.Row.{Row}
+use Rattle.smx_lane.specs.declared.seats.Row.{Row}
 use Rattle.smx_lane.specs.declared.roster.Roster.TheInside.{Inside}
 use Rattle.smx_lane.specs.Members.{refusal_by, waiting_of}
 use Rattle.smx_history.specs.declared.reply.Refusal.{Refusal}
 use Rattle.smx_history.specs.declared.reply.Refusal.TheVariants.{ClientFull}
 use Rattle.smx_lane.specs.Roster.{member_in, KeepsRows}
+use Rattle.smx_lane.specs.Private.Seats.{is_client, place_of, rows_in, rows_of, KeepsSeats, HasSameSeats}
+use Rattle.smx_lane.proofs.Seating.{same_client, same-clients, clients, placed, looked-up, not-there, rows-changed, rows-same, KeepsSeats-changed, KeepsSeats-same}
+use Rattle.slab.specs.Slab.{get, with_value, Updates}
+use Rattle.slab.proofs.SlabLemmas.{Updates-with_value}
 
 abbrev pub Entries : Type 0
 Entries = List (ℕ × Row)
-
-abbrev pub is_client : ℕ → ℕ → Bool
-is_client c k = is_at (nat_cmp c) k
-
-swapped : (c k : ℕ) → (c == k) ≡ (k == c)
-swapped c k = grind (arith, nat_tests)
-
--- a key is the client's where they are equal
-same_client : (c k : ℕ) → (k == c) ≡ is_client c k
-same_client c k = sym (swapped c k) ∙ sym (unsigned_tied c k)
 
 -- what a look-up finds is the client's member
 pub row_found : (c : ℕ) (es : Entries) (r : Row) → lookup (is_client c) es ≡ Some r → member_with c (map member_in es) ≡ Some (member_in (c, r))
@@ -144,33 +138,44 @@ pub All-added : (P : ℕ × Row → Type 0) (es : Entries) (e : ℕ × Row) → 
 All-added P [] e all one = (one, tt)
 All-added P (x ∷ es) e all one = (all.0, All-added P es e all.1 one)
 
+-- a change of the row at the client's place, as the members show it
+pub members-written : (a : Inside) (f : Member → Member) (c at : ℕ) (r new : Row) → KeepsRows a → place_of c a.seats ≡ Some at → get a.seats.rows at ≡ Some r → member_in (c, new) ≡ f (member_in (c, r))
+    → map member_in (rows_in (with_value a.seats.rows at new) a.seats.keys.entries) ≡ with_row c f (map member_in (rows_of a.seats))
+members-written a f c at r new keeps found is change =
+    let updates = Updates-with_value a.seats.rows at new (ap is_some is) in
+    ap (map member_in) (rows-changed a.seats (with_value a.seats.rows at new) c at new keeps.seats found updates)
+    ∙ changed_row f c 0 (rows_of a.seats) r new (looked-up a.seats c at r keeps.seats found is) keeps.clients change
+
 -- a change of one row that leaves the places of its box
-pub KeepsRows-changed : (a b : Inside) (f : Member → Member) (c : ℕ) (r new : Row) → KeepsRows a
-    → ((x : Member) → (f x).client ≡ x.client) → lookup (is_client c) a.rows.entries ≡ Some r → member_in (c, new) ≡ f (member_in (c, r))
-    → new.waiting.capacity ≡ r.waiting.capacity → b.places ≡ a.places → b.rows.entries ≡ set_value (is_client c) a.rows.entries new
-    → b.waiting + length r.waiting.items ≡ a.waiting + length new.waiting.items → KeepsRows b
-KeepsRows-changed a b f c r new keeps same found change places same_places entries count =
-    let es = a.rows.entries in
+pub KeepsRows-written : (a b : Inside) (f : Member → Member) (c at : ℕ) (r new : Row) → KeepsRows a → ((x : Member) → (f x).client ≡ x.client)
+    → place_of c a.seats ≡ Some at → get a.seats.rows at ≡ Some r → member_in (c, new) ≡ f (member_in (c, r)) → new.client ≡ r.client → new.waiting.capacity ≡ r.waiting.capacity
+    → b.places ≡ a.places → b.seats.keys.entries ≡ a.seats.keys.entries → b.seats.rows ≡ with_value a.seats.rows at new → b.waiting + length r.waiting.items ≡ a.waiting + length new.waiting.items → KeepsRows b
+KeepsRows-written a b f c at r new keeps same found is change client places same_places keys rows count =
+    let es = rows_of a.seats in
     let box : ℕ → ℕ × Row → Type 0 = λ n e. e.1.waiting.capacity ≡ n in
-    let old = All-row (box a.places) c es r keeps.boxes found in
-    let sums = waiting-changed c es r new found in
-    let ms = changed_row f c 0 es r new found keeps.clients change in
+    let updates = Updates-with_value a.seats.rows at new (ap is_some is) in
+    let there = looked-up a.seats c at r keeps.seats found is in
+    let old = All-row (box a.places) c es r keeps.boxes there in
+    let sums = waiting-changed c es r new there in
+    let ms = changed_row f c 0 es r new there keeps.clients change in
+    let written = rows-changed a.seats (with_value a.seats.rows at new) c at new keeps.seats found updates in
+    let entries : rows_of b.seats ≡ set_value (is_client c) es new = ap (rows_in b.seats.rows) keys ∙ ap (λ s. rows_in s a.seats.keys.entries) rows ∙ written in
     record {
+      seats = KeepsSeats-changed a.seats b.seats at r new keeps.seats keys (subst (λ s. Updates a.seats.rows s at (Some new)) (sym rows) updates) is client;
       boxes = rw (entries, same_places) (All-set (box a.places) c es new (λ _. places ∙ old.1) keeps.boxes);
       clients = rw (entries, ms, map-with_row (λ x. x.client) f c same (map member_in es)) keeps.clients;
       waiting = rw entries (omega (arith, sums, count, keeps.waiting));
     }
 
--- a row that is written back as it was found
-pub unchanged : (c : ℕ) (es written : Entries) (r new : Row) → lookup (is_client c) es ≡ Some r → new ≡ r → written ≡ set_value (is_client c) es new → written ≡ es
-unchanged c es written r new found same is = is ∙ ap (set_value (is_client c) es) same ∙ set_value_same (is_client c) es r found
+-- the place has the member's row
+pub at-place : (a : Inside) (c at : ℕ) → KeepsRows a → place_of c a.seats ≡ Some at → IsSome (get a.seats.rows at)
+at-place a c at keeps found = ap is_some (placed a.seats c at keeps.seats found).1
 
-pub KeepsRows-unchanged : (a b : Inside) → KeepsRows a → b.places ≡ a.places → b.rows.entries ≡ a.rows.entries → b.waiting ≡ a.waiting → KeepsRows b
-KeepsRows-unchanged a b keeps places entries count = record {
-  boxes = rw (entries, places) keeps.boxes;
-  clients = rw entries keeps.clients;
-  waiting = rw entries (count ∙ keeps.waiting);
-}
+pub member-at : (a : Inside) (c at : ℕ) (r : Row) → KeepsRows a → place_of c a.seats ≡ Some at → get a.seats.rows at ≡ Some r → member_with c (map member_in (rows_of a.seats)) ≡ Some (member_in (c, r))
+member-at a c at r keeps found is = row_found c (rows_of a.seats) r (looked-up a.seats c at r keeps.seats found is)
+
+pub no-member : (a : Inside) (c : ℕ) → KeepsRows a → place_of c a.seats ≡ None → member_with c (map member_in (rows_of a.seats)) ≡ None
+no-member a c keeps missing = row_missing c (rows_of a.seats) (not-there a.seats c keeps.seats missing)
 
 -- numbers above c leave all rows
 without-above : (ms : List Member) (c low : ℕ) → c ≤ low → RiseAbove low (map (λ m. m.client) ms) → without c ms ≡ ms
@@ -208,37 +213,22 @@ waiting-removed c (e ∷ es) r found = elim (cases_Bool (is_client c e.0)) [
 ]
 
 -- the roster without the client's row
-pub KeepsRows-removed : (a b : Inside) (c : ℕ) (r : Row) → KeepsRows a → lookup (is_client c) a.rows.entries ≡ Some r
-    → b.places ≡ a.places → b.rows.entries ≡ remove_entry (is_client c) a.rows.entries → b.waiting + length r.waiting.items ≡ a.waiting → KeepsRows b
-KeepsRows-removed a b c r keeps found same_places entries count =
-    let es = a.rows.entries in
+pub KeepsRows-removed : (a b : Inside) (c : ℕ) (r : Row) → KeepsRows a → KeepsSeats b.seats → lookup (is_client c) (rows_of a.seats) ≡ Some r
+    → b.places ≡ a.places → rows_of b.seats ≡ remove_entry (is_client c) (rows_of a.seats) → b.waiting + length r.waiting.items ≡ a.waiting → KeepsRows b
+KeepsRows-removed a b c r keeps seats found same_places entries count =
+    let es = rows_of a.seats in
     let ms = map member_in es in
     let sums = waiting-removed c es r found in
     record {
+      seats = seats;
       boxes = rw (entries, same_places) (All-removed (λ (e : ℕ × Row). e.1.waiting.capacity ≡ a.places) c es keeps.boxes);
       clients = rw (entries, removed_row c 0 es keeps.clients) (rise_part (λ (m : Member). m.client) (λ m. not (m.client == c)) 0 ms keeps.clients);
       waiting = rw entries (omega (arith, sums, count, keeps.waiting));
     }
 
--- a client above all others comes last
-greater : (c k : ℕ) → k < c → (a b d : Entries) → match_ordering (nat_cmp c k) a b d ≡ d
-greater c k lt a b d = grind (arith, nat_tests)
-
-above : (c low : ℕ) (es : Entries) (r : Row) → RiseAbove low (map (λ m. m.client) (map member_in es ++ member_in (c, r) ∷ [])) → low < c
-above c low [] r rise = rise.0
-above c low (e ∷ es) r rise = omega (arith, rise.0, above c e.0 es r rise.1)
-
-pub added_row : (c low : ℕ) (es : Entries) (r : Row) (ms : List Member) → RiseAbove low (map (λ m. m.client) (map member_in es ++ ms)) → ms ≡ member_in (c, r) ∷ [] → insert_entry nat_cmp es c r ≡ es ++ (c, r) ∷ []
-added_row c low [] r ms rise is = refl
-added_row c low (e ∷ es) r ms rise is =
-    let lt : e.0 < c = above c e.0 es r (subst (λ (xs : List Member). RiseAbove e.0 (map (λ m. m.client) (map member_in es ++ xs))) is rise.1) in
-    greater c e.0 lt _ _ _ ∙ ap (λ xs. e ∷ xs) (added_row c e.0 es r ms rise.1 is)
-
 -- the new row, as the members show it
-pub added_shows : (by c : ℕ) (es : Entries) (r : Row) → RiseAbove 0 (map (λ m. m.client) (map member_in es ++ new_row by c ∷ [])) → member_in (c, r) ≡ new_row by c → map member_in (insert_entry nat_cmp es c r) ≡ map member_in es ++ new_row by c ∷ []
-added_shows by c es r rise is =
-    ap (map member_in) (added_row c 0 es r (new_row by c ∷ []) rise (ap (λ m. m ∷ []) (sym is)))
-    ∙ map-append member_in es ((c, r) ∷ []) ∙ ap (λ m. map member_in es ++ m ∷ []) is
+pub added_shows : (by c : ℕ) (es : Entries) (r : Row) → member_in (c, r) ≡ new_row by c → map member_in (es ++ (c, r) ∷ []) ≡ map member_in es ++ new_row by c ∷ []
+added_shows by c es r is = map-append member_in es ((c, r) ∷ []) ∙ ap (λ m. map member_in es ++ m ∷ []) is
 
 waiting-added : (by c : ℕ) (ms : List Member) → waiting_of (ms ++ new_row by c ∷ []) ≡ waiting_of ms
 waiting-added by c [] = refl
@@ -246,31 +236,66 @@ waiting-added by c (m ∷ ms) =
     omega (arith, waiting-added by c ms, sum_by-cons (λ (x : Member). length x.waiting) m ms, sum_by-cons (λ (x : Member). length x.waiting) m (ms ++ new_row by c ∷ []))
 
 -- the roster with one row more
-pub KeepsRows-added : (a b : Inside) (by c : ℕ) (r : Row) → KeepsRows a → RiseAbove 0 (map (λ m. m.client) (map member_in a.rows.entries ++ new_row by c ∷ [])) → member_in (c, r) ≡ new_row by c → r.waiting.capacity ≡ a.places
-    → b.places ≡ a.places → b.rows.entries ≡ insert_entry nat_cmp a.rows.entries c r → b.waiting ≡ a.waiting → KeepsRows b
-KeepsRows-added a b by c r keeps rise is places same_places entries count =
-    let es = a.rows.entries in
-    let last = added_row c 0 es r (new_row by c ∷ []) rise (ap (λ m. m ∷ []) (sym is)) in
-    let shows = added_shows by c es r rise is in
+pub KeepsRows-added : (a b : Inside) (by c : ℕ) (r : Row) → KeepsRows a → KeepsSeats b.seats → RiseAbove 0 (map (λ m. m.client) (map member_in (rows_of a.seats) ++ new_row by c ∷ []))
+    → member_in (c, r) ≡ new_row by c → r.waiting.capacity ≡ a.places
+    → b.places ≡ a.places → rows_of b.seats ≡ rows_of a.seats ++ (c, r) ∷ [] → b.waiting ≡ a.waiting → KeepsRows b
+KeepsRows-added a b by c r keeps seats rise is places same_places entries count =
+    let es = rows_of a.seats in
+    let shows = added_shows by c es r is in
     record {
-      boxes = rw (entries, last, same_places) (All-added (λ (e : ℕ × Row). e.1.waiting.capacity ≡ a.places) es (c, r) keeps.boxes places);
+      seats = seats;
+      boxes = rw (entries, same_places) (All-added (λ (e : ℕ × Row). e.1.waiting.capacity ≡ a.places) es (c, r) keeps.boxes places);
       clients = rw (entries, shows) rise;
       waiting = rw (entries, shows) (omega (arith, waiting-added by c (map member_in es), count, keeps.waiting));
     }
 
+-- the clients of the members are the keys
+clients-are : (es : Entries) → map (λ m. m.client) (map member_in es) ≡ map (λ (e : ℕ × Row). e.0) es
+clients-are [] = refl
+clients-are (e ∷ es) = ap (λ cs. e.0 ∷ cs) (clients-are es)
+
+pub keys-rise : (a : Inside) (by c : ℕ) → KeepsRows a → RiseAbove 0 (map (λ m. m.client) (map member_in (rows_of a.seats) ++ new_row by c ∷ [])) → RiseAbove 0 (clients a.seats.keys.entries ++ c ∷ [])
+keys-rise a by c keeps rise =
+    let es = rows_of a.seats in
+    let same = clients-are es ∙ same-clients a.seats.rows a.seats.keys.entries keeps.seats.there in
+    subst (λ cs. RiseAbove 0 (cs ++ c ∷ [])) same (rw (map-append (λ (m : Member). m.client) (map member_in es) (new_row by c ∷ [])) at rise)
+
+-- there are as many members as keys
+pub as-many : (a : Inside) → KeepsRows a → length (map member_in (rows_of a.seats)) ≡ length a.seats.keys.entries
+as-many a keeps =
+    let es = rows_of a.seats in
+    let keys = a.seats.keys.entries in
+    length-map es member_in ∙ sym (length-map es (λ e. e.0)) ∙ ap length (same-clients a.seats.rows keys keeps.seats.there) ∙ length-map keys (λ e. e.0)
+
+-- what is read at the client's place is the member's row
+pub found-member : (a : Inside) (c at : ℕ) (o : Option (Bor Row)) → KeepsRows a → place_of c a.seats ≡ Some at → option_copied o ≡ get a.seats.rows at
+    → MatchOption o (member_with c (map member_in (rows_of a.seats)) ≡ None) (λ row. member_with c (map member_in (rows_of a.seats)) ≡ Some (member_in (c, row.now)))
+found-member a c at None keeps found is = let bad : false ≡ true = ap is_some is ∙ at-place a c at keeps found in cc
+found-member a c at (Some row) keeps found is = member-at a c at row.now keeps found (sym is)
+
 -- the box has its places
-pub box_places : (a : Inside) (c : ℕ) (r : Row) → KeepsRows a → lookup (is_client c) a.rows.entries ≡ Some r → r.waiting.capacity ≡ a.places
-box_places a c r keeps found = (All-row (λ (e : ℕ × Row). e.1.waiting.capacity ≡ a.places) c a.rows.entries r keeps.boxes found).1
+pub box_places : (a : Inside) (c at : ℕ) (r : Row) → KeepsRows a → place_of c a.seats ≡ Some at → get a.seats.rows at ≡ Some r → r.waiting.capacity ≡ a.places
+box_places a c at r keeps found is = (All-row (λ (e : ℕ × Row). e.1.waiting.capacity ≡ a.places) c (rows_of a.seats) r keeps.boxes (looked-up a.seats c at r keeps.seats found is)).1
+
+-- what waits in the box is counted
+pub box_counts : (a : Inside) (c at : ℕ) (r : Row) → KeepsRows a → place_of c a.seats ≡ Some at → get a.seats.rows at ≡ Some r → length r.waiting.items ≤ a.waiting
+box_counts a c at r keeps found is = omega (arith, keeps.waiting, row_waits c (rows_of a.seats) r (looked-up a.seats c at r keeps.seats found is))
 
 -- the first element and the rest
 pub front_is : {X : Type 0} (xs : List X) (x : X) → slice_get xs 0 ≡ Some x → xs ≡ x ∷ drop 1 xs
 front_is [] x h = cc
 front_is (y ∷ xs) x h = let same : y ≡ x = cc in ap (λ z. z ∷ xs) same
 
--- the row that a look-up finds, where it finds one
-pub found_row : (c : ℕ) (es : Entries) (o : Option (Bor Row)) → option_copied o ≡ lookup (is_client c) es → MatchOption o (member_with c (map member_in es) ≡ None) (λ row. member_with c (map member_in es) ≡ Some (member_in (c, row.now)))
-found_row c es None is = row_missing c es (sym is)
-found_row c es (Some row) is = row_found c es row.now (sym is)
+-- the same rows at the same places
+pub KeepsRows-same : (a b : Inside) → KeepsRows a → HasSameSeats a.seats b.seats → b.places ≡ a.places → b.waiting ≡ a.waiting → KeepsRows b
+KeepsRows-same a b keeps same places count =
+    let rows = rows-same a.seats b.seats same in
+    record {
+      seats = KeepsSeats-same a.seats b.seats keeps.seats same;
+      boxes = rw (rows, places) keeps.boxes;
+      clients = rw rows keeps.clients;
+      waiting = rw rows (count ∙ keeps.waiting);
+    }
 
 -- which refusal it is, from what the code tests
 pub refused_row : (places : ℕ) (by_lane : Option Refusal) (m : Member) → places ≤ m.pending → refusal_by places by_lane (Some m) ≡ Some ClientFull
@@ -284,9 +309,10 @@ pub none_dropped : {X : Type 0} (xs : List X) → slice_get xs 0 ≡ None → dr
 none_dropped [] h = refl
 none_dropped (x ∷ xs) h = cc
 
--- a look-up finds the row of each member
-pub has_row : (c : ℕ) (es : Entries) → IsSome (member_with c (map member_in es)) → IsSome (lookup (is_client c) es)
-has_row c es there = (elim (lookup (is_client c) es) as (λ o. lookup (is_client c) es ≡ o → IsSome o) [
-  | None ↦ λ e. let missing = row_missing c es e in let no : false ≡ true = sym (ap is_some missing) ∙ there in cc
-  | Some r ↦ λ e. refl
-]) refl
+-- each member has a place
+pub has_place : (a : Inside) (c : ℕ) → KeepsRows a → IsSome (member_with c (map member_in (rows_of a.seats))) → IsSome (place_of c a.seats)
+has_place a c keeps there = by (place_of c a.seats) refl
+  where
+    by : (o : Option ℕ) → place_of c a.seats ≡ o → IsSome o
+    by None e = let no : false ≡ true = sym (ap is_some (no-member a c keeps e)) ∙ there in cc
+    by (Some at) e = refl

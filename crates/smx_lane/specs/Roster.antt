@@ -1,19 +1,21 @@
 -- What the fields of a roster show, and what they keep. No clause of a public function cites these.
 use Rattle.std.specs.Prelude.{◌≡◌, ℕ, map}
 use Rattle.std.specs.List.{AllByRecursion}
-use Rattle.smx_lane.specs.declared.roster.Row.{Row}
+use Rattle.smx_lane.specs.declared.seats.Row.{Row}
 use Rattle.smx_lane.specs.declared.roster.Roster.TheInside.{Inside}
 use Rattle.smx_history.specs.Contents.{Member}
 use Rattle.smx_history.specs.Prefixes.{RiseAbove}
 use Rattle.smx_lane.specs.Members.{Clients, waiting_of}
+use Rattle.smx_lane.specs.Private.Seats.{rows_of, KeepsSeats}
 
 abbrev pub member_in : ℕ × Row → Member
 member_in e = record { client = e.0; by = e.1.by; last = e.1.last; pending = e.1.pending; waiting = e.1.waiting.items }
 
 abbrev pub clients_of : Inside → Clients
-clients_of a = record { places = a.places; members = map member_in a.rows.entries }
+clients_of a = record { places = a.places; members = map member_in (rows_of a.seats) }
 
 pub record KeepsRows (a : Inside) : Type 0 where
-  pub boxes : AllByRecursion (λ (e : ℕ × Row). e.1.waiting.capacity ≡ a.places) a.rows.entries
-  pub clients : RiseAbove 0 (map (λ m. m.client) (map member_in a.rows.entries))
-  pub waiting : a.waiting ≡ waiting_of (map member_in a.rows.entries)
+  pub seats : KeepsSeats a.seats
+  pub boxes : AllByRecursion (λ (e : ℕ × Row). e.1.waiting.capacity ≡ a.places) (rows_of a.seats)
+  pub clients : RiseAbove 0 (map (λ m. m.client) (map member_in (rows_of a.seats)))
+  pub waiting : a.waiting ≡ waiting_of (map member_in (rows_of a.seats))

@@ -10,6 +10,7 @@ mod load;
 mod numbers;
 mod roster;
 mod rows;
+mod seats;
 mod sent;
 mod settled;
 mod window;

@@ -9,29 +9,18 @@ ghost use Rattle.smx_history.proofs.Updates.{with_row, new_row, without};
 ghost use Rattle.smx_lane.specs.Members.{row_refusal, waiting_of};
 ghost use Rattle.smx_lane.specs.Roster.{member_in};
 
+use crate::seats::{Row, Seats};
 use circular_buffer::HeapCircularBuffer;
 use smx_history::{Refusal, Response};
 use std::alloc::{AllocError, Global};
-use std::collections::BTreeMap;
 use std::marker::Model;
 
-// What a client has, and the box of its responses.
-#[derive(Drop)]
-pub(crate) struct Row {
-    pub(crate) by: u64,
-    // The ordinal of its last accept, or 0.
-    pub(crate) last: u64,
-    // How many of its requests were accepted and not collected.
-    pending: u32,
-    waiting: HeapCircularBuffer<Response, Global>,
-}
-
-// The rows of the clients, by their numbers, each with a box of so many places. Whoever leaves moves no other's row.
+// The rows of the clients, each with a box of so many places.
 #[derive(Drop)]
 pub(crate) struct Roster {
     places: u32,
     alloc: Global,
-    rows: BTreeMap<u64, Row>,
+    seats: Seats,
     // How many responses wait in all boxes.
     waiting: usize,
 }
@@ -56,7 +45,7 @@ impl Roster {
         Roster {
             places,
             alloc,
-            rows: BTreeMap::new(alloc),
+            seats: Seats::new(alloc),
             waiting: 0,
         }
     }
@@ -70,7 +59,7 @@ impl Roster {
     pub(crate) fn len(&self) -> usize
         ensures { result ≡ length self.now.members }
     {
-        self.rows.len()
+        self.seats.len()
     }
 
     // How many responses wait in all boxes.
@@ -85,7 +74,8 @@ impl Roster {
         ensures { MatchOption result (member_with client self.now.members ≡ None)
             (λ row. member_with client self.now.members ≡ Some (member_in (client, row.now))) }
     {
-        self.rows.get(&client)
+        let at = self.seats.place(client)?;
+        self.seats.rows.get(at)
     }
 
     // Adds a client above all others, with an empty box.
@@ -97,12 +87,13 @@ impl Roster {
     {
         let waiting = HeapCircularBuffer::with_capacity(self.alloc, self.places as usize)?;
         let row = Row {
+            client,
             by,
             last: 0,
             pending: 0,
             waiting,
         };
-        self.rows.insert(client, row)?;
+        self.seats.push(self.alloc, row)?;
         Ok(())
     }
 
@@ -123,9 +114,10 @@ impl Roster {
         }) }
         ensures err { OnErr result (self.new ≡ self.old) }
     {
-        let Some(row) = self.rows.get_mut(&client) else {
+        let Some(at) = self.seats.place(client) else {
             return Err(Refusal::NotAdmitted);
         };
+        let row = &mut self.seats.rows[at];
         if row.pending >= self.places {
             return Err(Refusal::ClientFull);
         }
@@ -152,9 +144,10 @@ impl Roster {
         ensures absent { IsFalse result → member_with client self.old.members ≡ None }
         ensures same { IsFalse result → self.new ≡ self.old }
     {
-        let Some(row) = self.rows.get_mut(&client) else {
+        let Some(at) = self.seats.place(client) else {
             return false;
         };
+        let row = &mut self.seats.rows[at];
         match row.waiting.try_push_back(response) {
             Ok(()) => {}
             Err(_) => unreachable!(),
@@ -168,8 +161,8 @@ impl Roster {
     pub(crate) fn oldest(&self, client: u64) -> Option<&Response>
         ensures { option_copied result ≡ oldest_in (member_with client self.now.members) }
     {
-        let row = self.rows.get(&client)?;
-        row.waiting.front()
+        let at = self.seats.place(client)?;
+        self.seats.rows[at].waiting.front()
     }
 
     // Takes the oldest response out of the box of the client, where the client is there and has one.
@@ -187,7 +180,8 @@ impl Roster {
         }) }
         ensures none { IfNone result (self.new ≡ self.old) }
     {
-        let row = self.rows.get_mut(&client)?;
+        let at = self.seats.place(client)?;
+        let row = &mut self.seats.rows[at];
         let response = row.waiting.pop_front()?;
         row.pending -= 1;
         self.waiting -= 1;
@@ -199,7 +193,7 @@ impl Roster {
         requires { IsSome (member_with client self.old.members) }
         ensures { self.new ≡ record self.old { members = without client self.old.members } }
     {
-        let row = self.rows.remove(&client).unwrap();
+        let row = self.seats.remove(client);
         self.waiting -= row.waiting.len();
     }
 }

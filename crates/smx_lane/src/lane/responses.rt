@@ -1,5 +1,5 @@
 //! Responses on their way to the clients.
-ghost use Rattle.std.specs.Prelude.{◌≡◌, [], ◌∷◌, IfSome, IfNone, Some};
+ghost use Rattle.std.specs.Prelude.{◌≡◌, [], ◌∷◌, IfSome, IfNone, Some, None};
 ghost use Rattle.std.specs.List.{find};
 ghost use Rattle.std.specs.Option.{option_copied};
 ghost use Rattle.smx_lane.specs.Calls.{GoesOn};
@@ -67,6 +67,7 @@ impl Lane {
         ensures answered { IsAnswered self.old by response result.answered self.new }
         ensures ordinal { (q : Place) → find (answers_place response) self.old.window ≡ Some q
             → q.ordinal ≡ result.ordinal }
+        ensures none { find (answers_place response) self.old.window ≡ None → result.ordinal ≡ 0 }
         ensures limits { self.new.limits ≡ self.old.limits }
     {
         let Some(place) = self.window.find(response.number, response.command) else {

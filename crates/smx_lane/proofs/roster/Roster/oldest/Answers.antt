@@ -1,15 +1,18 @@
 use Rattle.std.proofs.Common.{sym, ◌∙◌, ap}
 use Rattle.std.specs.Option.{option_copied}
 use Rattle.smx_history.specs.Answering.{oldest_in}
-use Rattle.smx_lane.proofs.ClientRows.{row_found, row_missing}
+use Rattle.smx_lane.proofs.ClientRows.{at-place, member-at, no-member}
 use Rattle.smx_lane.proofs.roster.Roster.oldest.Goals as goal
 
-pub returns-in_err-row : goal.returns-in_err-row
-returns-in_err-row c =
-    let missing = row_missing c.args.client c.self.inside.rows.entries (sym c.get.ensures.value ∙ ap option_copied c.in_err-row.was) in
+pub returns-in_err-at : goal.returns-in_err-at
+returns-in_err-at c =
+    let missing = no-member c.self.inside c.args.client c.self.invariant (sym c.place.ensures ∙ c.in_err-at.was) in
     rw (← c.self.view_is) (ap option_copied c.from_residual.ensures ∙ sym (ap oldest_in missing))
+
+pub index-requires : goal.index-requires
+index-requires c = at-place c.self.inside c.args.client c.in_ok-at.at c.self.invariant (sym c.place.ensures ∙ c.in_ok-at.was)
 
 pub returns : goal.returns
 returns c =
-    let found = sym c.get.ensures.value ∙ ap option_copied c.in_ok-row.was in
-    rw (← c.self.view_is) (c.front.ensures ∙ sym (ap oldest_in (row_found c.args.client c.self.inside.rows.entries c.in_ok-row.row.now found)))
+    let member = member-at c.self.inside c.args.client c.in_ok-at.at c.index.result.now c.self.invariant (sym c.place.ensures ∙ c.in_ok-at.was) c.index.ensures in
+    rw (← c.self.view_is) (c.front.ensures ∙ sym (ap oldest_in member))
