@@ -1,15 +1,10 @@
 -- Rows by their clients, as the members show them.
-use Rattle.std.proofs.Common.{◌≡◌, ◌<◌, ◌≤◌, ◌+◌, ◌==◌, ℕ, Bool, true, false, not, List, [], ◌∷◌, ◌++◌, length, map, drop, refl, sym, ◌∙◌, ap, arith, Option, Some, None, MatchOption, is_some, subst, slice_get, inl, inr}
+use Rattle.std.proofs.Common.{◌≡◌, ◌<◌, ◌≤◌, ◌+◌, ◌==◌, ℕ, true, false, not, List, [], ◌∷◌, ◌++◌, length, map, drop, refl, sym, ◌∙◌, ap, arith, Option, Some, None, MatchOption, is_some, subst, slice_get, inl, inr}
 use Rattle.std.specs.List.{AllByRecursion}
 use Rattle.std.specs.Option.{IsSome, option_copied}
 use denote.Ref.{Bor}
 use Rattle.std.specs.Map.{lookup, set_value, remove_entry}
-use Rattle.std.specs.Ordering.{nat_cmp, match_ordering}
-use Rattle.std.specs.Cmp.{unsigned_tied}
-use Rattle.std.specs.BTreeMap.{insert_entry, is_at}
 use Rattle.std.proofs.lemmas.Bool.{cases_Bool, le-leb, lt-leb, ne_eqb, eqb-true}
-use Rattle.std.proofs.lemmas.Map.Steps.{set_value_same}
-use Rattle.std.proofs.lemmas.Bool.Decides.{nat_tests}
 use Rattle.std.proofs.lemmas.List.Sums.{sum_by-cons}
 use Rattle.std.proofs.lemmas.List.{map-append, length-map}
 use Rattle.smx_history.specs.Prefixes.{RiseAbove}
@@ -24,8 +19,8 @@ use Rattle.smx_lane.specs.Members.{refusal_by, waiting_of}
 use Rattle.smx_history.specs.declared.reply.Refusal.{Refusal}
 use Rattle.smx_history.specs.declared.reply.Refusal.TheVariants.{ClientFull}
 use Rattle.smx_lane.specs.Roster.{member_in, KeepsRows}
-use Rattle.smx_lane.specs.Private.Seats.{is_client, place_of, rows_in, rows_of, KeepsSeats, HasSameSeats}
-use Rattle.smx_lane.proofs.Seating.{same_client, same-clients, clients, placed, looked-up, not-there, rows-changed, rows-same, KeepsSeats-changed, KeepsSeats-same}
+use Rattle.smx_lane.specs.Private.Seats.{is_client, place_of, rows_in, rows_of, KeepsSeats}
+use Rattle.smx_lane.proofs.Seating.{same_client, same-clients, clients, placed, looked-up, not-there, rows-changed, KeepsSeats-changed}
 use Rattle.slab.specs.Slab.{get, with_value, Updates}
 use Rattle.slab.proofs.SlabLemmas.{Updates-with_value}
 
@@ -134,10 +129,6 @@ All-removed P c (e ∷ es) all = elim (cases_Bool (is_client c e.0)) [
   | inr other ↦ rw other (all.0, All-removed P c es all.1)
 ]
 
-pub All-added : (P : ℕ × Row → Type 0) (es : Entries) (e : ℕ × Row) → AllByRecursion P es → P e → AllByRecursion P (es ++ e ∷ [])
-All-added P [] e all one = (one, tt)
-All-added P (x ∷ es) e all one = (all.0, All-added P es e all.1 one)
-
 -- a change of the row at the client's place, as the members show it
 pub members-written : (a : Inside) (f : Member → Member) (c at : ℕ) (r new : Row) → KeepsRows a → place_of c a.seats ≡ Some at → get a.seats.rows at ≡ Some r → member_in (c, new) ≡ f (member_in (c, r))
     → map member_in (rows_in (with_value a.seats.rows at new) a.seats.keys.entries) ≡ with_row c f (map member_in (rows_of a.seats))
@@ -226,29 +217,6 @@ KeepsRows-removed a b c r keeps seats found same_places entries count =
       waiting = rw entries (omega (arith, sums, count, keeps.waiting));
     }
 
--- the new row, as the members show it
-pub added_shows : (by c : ℕ) (es : Entries) (r : Row) → member_in (c, r) ≡ new_row by c → map member_in (es ++ (c, r) ∷ []) ≡ map member_in es ++ new_row by c ∷ []
-added_shows by c es r is = map-append member_in es ((c, r) ∷ []) ∙ ap (λ m. map member_in es ++ m ∷ []) is
-
-waiting-added : (by c : ℕ) (ms : List Member) → waiting_of (ms ++ new_row by c ∷ []) ≡ waiting_of ms
-waiting-added by c [] = refl
-waiting-added by c (m ∷ ms) =
-    omega (arith, waiting-added by c ms, sum_by-cons (λ (x : Member). length x.waiting) m ms, sum_by-cons (λ (x : Member). length x.waiting) m (ms ++ new_row by c ∷ []))
-
--- the roster with one row more
-pub KeepsRows-added : (a b : Inside) (by c : ℕ) (r : Row) → KeepsRows a → KeepsSeats b.seats → RiseAbove 0 (map (λ m. m.client) (map member_in (rows_of a.seats) ++ new_row by c ∷ []))
-    → member_in (c, r) ≡ new_row by c → r.waiting.capacity ≡ a.places
-    → b.places ≡ a.places → rows_of b.seats ≡ rows_of a.seats ++ (c, r) ∷ [] → b.waiting ≡ a.waiting → KeepsRows b
-KeepsRows-added a b by c r keeps seats rise is places same_places entries count =
-    let es = rows_of a.seats in
-    let shows = added_shows by c es r is in
-    record {
-      seats = seats;
-      boxes = rw (entries, same_places) (All-added (λ (e : ℕ × Row). e.1.waiting.capacity ≡ a.places) es (c, r) keeps.boxes places);
-      clients = rw (entries, shows) rise;
-      waiting = rw (entries, shows) (omega (arith, waiting-added by c (map member_in es), count, keeps.waiting));
-    }
-
 -- the clients of the members are the keys
 clients-are : (es : Entries) → map (λ m. m.client) (map member_in es) ≡ map (λ (e : ℕ × Row). e.0) es
 clients-are [] = refl
@@ -285,17 +253,6 @@ box_counts a c at r keeps found is = omega (arith, keeps.waiting, row_waits c (r
 pub front_is : {X : Type 0} (xs : List X) (x : X) → slice_get xs 0 ≡ Some x → xs ≡ x ∷ drop 1 xs
 front_is [] x h = cc
 front_is (y ∷ xs) x h = let same : y ≡ x = cc in ap (λ z. z ∷ xs) same
-
--- the same rows at the same places
-pub KeepsRows-same : (a b : Inside) → KeepsRows a → HasSameSeats a.seats b.seats → b.places ≡ a.places → b.waiting ≡ a.waiting → KeepsRows b
-KeepsRows-same a b keeps same places count =
-    let rows = rows-same a.seats b.seats same in
-    record {
-      seats = KeepsSeats-same a.seats b.seats keeps.seats same;
-      boxes = rw (rows, places) keeps.boxes;
-      clients = rw rows keeps.clients;
-      waiting = rw rows (count ∙ keeps.waiting);
-    }
 
 -- which refusal it is, from what the code tests
 pub refused_row : (places : ℕ) (by_lane : Option Refusal) (m : Member) → places ≤ m.pending → refusal_by places by_lane (Some m) ≡ Some ClientFull

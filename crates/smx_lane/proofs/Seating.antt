@@ -1,5 +1,5 @@
 -- Rows in a slab, by the places that the keys tell.
-use Rattle.std.proofs.Common.{◌≡◌, ◌≢◌, ◌<◌, ◌≤◌, ◌==◌, ℕ, Bool, true, false, List, [], ◌∷◌, ◌++◌, length, map, refl, sym, ◌∙◌, ap, arith, Option, Some, None, IsSome, subst, inl, inr, cond}
+use Rattle.std.proofs.Common.{◌≡◌, ◌≢◌, ◌<◌, ◌≤◌, ◌==◌, ℕ, true, false, List, [], ◌∷◌, ◌++◌, map, refl, sym, ◌∙◌, ap, arith, Option, Some, None, inl, inr, cond}
 use Rattle.std.specs.Prelude.{slice_index_or}
 use Rattle.std.specs.List.{AllByRecursion}
 use Rattle.std.specs.Map.{lookup, set_value, remove_entry}
@@ -12,7 +12,7 @@ use Rattle.slab.specs.Slab.{Slab, get, Updates}
 use Rattle.smx_history.specs.Prefixes.{RiseAbove}
 use Rattle.smx_lane.specs.declared.seats.Row.{Row}
 use Rattle.smx_lane.specs.declared.seats.Seats.{Seats}
-use Rattle.smx_lane.specs.Private.Seats.{is_client, client_of, client_at, place_of, row_by, rows_in, rows_of, KeepsSeats, HasSameSeats}
+use Rattle.smx_lane.specs.Private.Seats.{is_client, client_of, client_at, place_of, rows_in, rows_of, KeepsSeats, HasSameSeats}
 
 abbrev pub Keys : Type 0
 Keys = List (ℕ × ℕ)

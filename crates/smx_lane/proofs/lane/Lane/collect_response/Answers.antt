@@ -1,5 +1,4 @@
-use Rattle.std.proofs.Common.{arith, ◌≡◌, ◌<◌, ◌-◌, drop, length, Some, refl, sym, ◌∙◌, ap}
-use Rattle.smx_history.specs.Contents.{Content}
+use Rattle.std.proofs.Common.{arith, ◌≡◌, ◌<◌, ◌-◌, drop, length, Some, sym, ◌∙◌, ap}
 use Rattle.smx_history.specs.Replies.{member_with}
 use Rattle.smx_history.specs.Answering.{oldest_in}
 use Rattle.smx_history.proofs.Room.{FitsBox}

@@ -1,7 +1,4 @@
-use Rattle.std.proofs.Common.{refl, ap, ◌∙◌}
-use Rattle.smx_lane.specs.declared.seats.Row.{Row}
-use Rattle.smx_lane.specs.Private.Seats.{rows_of}
-use Rattle.smx_lane.proofs.ClientRows.{added_shows, keys-rise, KeepsRows-added}
+use Rattle.smx_lane.proofs.ClientRows.{keys-rise}
 use Rattle.smx_lane.proofs.roster.Roster.add.Goals as goal
 
 pub push-requires-clause-above : goal.push-requires-clause-above

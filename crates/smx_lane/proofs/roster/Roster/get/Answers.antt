@@ -3,7 +3,7 @@ use Rattle.smx_history.specs.Contents.{Member}
 use Rattle.smx_history.specs.Answering.{oldest_in}
 use Rattle.smx_lane.specs.declared.seats.Row.{Row}
 use Rattle.smx_lane.specs.Roster.{member_in}
-use Rattle.smx_lane.proofs.ClientRows.{at-place, member-at, no-member, members-written, box_counts, none_dropped, front_is, KeepsRows-written}
+use Rattle.smx_lane.proofs.ClientRows.{at-place, member-at, no-member, members-written, box_counts, front_is, KeepsRows-written}
 use Rattle.smx_lane.proofs.roster.Roster.get.Goals as goal
 
 pub returns-in_err-at-clause-oldest : goal.returns-in_err-at-clause-oldest

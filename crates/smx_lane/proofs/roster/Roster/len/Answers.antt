@@ -1,4 +1,4 @@
-use Rattle.std.proofs.Common.{sym, ◌∙◌, ap, length}
+use Rattle.std.proofs.Common.{sym, ◌∙◌}
 use Rattle.smx_lane.proofs.ClientRows.{as-many}
 use Rattle.smx_lane.proofs.roster.Roster.len.Goals as goal
 

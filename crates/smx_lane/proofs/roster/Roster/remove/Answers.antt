@@ -1,4 +1,4 @@
-use Rattle.std.proofs.Common.{sym, ◌∙◌, refl, arith}
+use Rattle.std.proofs.Common.{refl, arith}
 use Rattle.smx_lane.specs.Private.Seats.{rows_of}
 use Rattle.smx_lane.proofs.ClientRows.{has_place, row_waits, KeepsRows-removed, removed_row}
 use Rattle.smx_lane.proofs.roster.Roster.remove.Goals as goal
