@@ -2,7 +2,7 @@
 ghost use Rattle.std.specs.Prelude.{◌≡◌, ◌==◌, ℕ, IsSome, IfOk, Some, None, OnOk, OnErr, nat_eq, slice_index_or, if◌then◌else◌};
 ghost use Rattle.std.specs.HashMap.{get};
 ghost use Rattle.std.specs.Option.{option_copied};
-ghost use Rattle.smx_slots.specs.Private.Entries.{entry_at, place_of, entry_of, is_free_for, SetsEntry, HasSameEntries};
+ghost use Rattle.smx_slots.specs.Private.Entries.{entry_at, place_of, entry_of, is_free_for, settled_entry, SetsEntry, HasSameEntries};
 
 use std::alloc::{AllocError, Global};
 use std::collections::HashMap;
@@ -59,6 +59,19 @@ fn is_free_for(row: Option<Row>, client: u64) -> bool
     match row {
         Some(row) => row.client == client,
         None => true,
+    }
+}
+
+// What is known of a client once one of its requests is settled.
+fn settled_entry(entry: Option<Entry>) -> Option<Entry>
+    ensures { result ≡ settled_entry entry }
+{
+    match entry {
+        Some(entry) if entry.here || entry.requests > 1 => Some(Entry {
+            requests: entry.requests.saturating_sub(1),
+            ..entry
+        }),
+        _ => None,
     }
 }
 
@@ -161,5 +174,40 @@ impl Entries {
             self.rows[at] = None;
         }
         self.others.remove(&client);
+    }
+
+    // Settles a request of a client that has no row, or that is forgotten then.
+    #[cold]
+    #[inline(never)]
+    fn settle_other(&mut self, client: u64) -> Option<Entry>
+        ensures before { result ≡ entry_at client self.old }
+        ensures settled { SetsEntry (settled_entry result) self.old client self.new }
+    {
+        let entry = self.get(client);
+        match settled_entry(entry) {
+            Some(fewer) => self.change(client, fewer),
+            None => self.remove(client),
+        }
+        entry
+    }
+
+    // Settles a request of the client, and gives what was known of it before. It takes no memory.
+    #[inline(always)]
+    pub(crate) fn settle(&mut self, client: u64) -> Option<Entry>
+        ensures before { result ≡ entry_at client self.old }
+        ensures settled { SetsEntry (settled_entry result) self.old client self.new }
+    {
+        let at = place_of(client);
+        let entry = entry_of(self.row(client), client);
+        match settled_entry(entry) {
+            Some(fewer) => {
+                self.rows[at] = Some(Row {
+                    client,
+                    entry: fewer,
+                });
+                entry
+            }
+            None => self.settle_other(client),
+        }
     }
 }

@@ -194,20 +194,11 @@ impl Ledger {
     pub fn settled(&mut self, client: u64)
         ensures { self.new ≡ with_settled client self.old }
     {
-        let Some(entry) = self.clients.get(client) else {
+        let Some(entry) = self.clients.settle(client) else {
             return;
         };
         if entry.requests == 0 {
             return;
-        }
-        let fewer = Entry {
-            requests: entry.requests - 1,
-            ..entry
-        };
-        if fewer.here || fewer.requests > 0 {
-            self.clients.change(client, fewer);
-        } else {
-            self.clients.remove(client);
         }
         self.requests[entry.key] = self.requests[entry.key].saturating_sub(1);
         self.total = self.total.saturating_sub(1);

@@ -1,5 +1,5 @@
 -- What a table of clients shows.
-use Rattle.std.specs.Prelude.{◌≡◌, ◌==◌, ◌%◌, ℕ, List, Bool, true, Option, Some, None, nat_eq, slice_index_or, if◌then◌else◌}
+use Rattle.std.specs.Prelude.{◌≡◌, ◌==◌, ◌%◌, ◌-◌, ◌||◌, ℕ, List, Bool, true, nat_lt, Option, Some, None, nat_eq, slice_index_or, if◌then◌else◌}
 use Rattle.std.specs.Option.{option_or}
 use Rattle.std.specs.HashMap.{get}
 use Rattle.smx_slots.specs.declared.entries.Entries.{Entries}
@@ -19,6 +19,11 @@ entry_of client (Some row) = if row.client == client then Some row.entry else No
 abbrev pub is_free_for : ℕ → Option Row → Bool
 is_free_for client None = true
 is_free_for client (Some row) = row.client == client
+
+-- what is known of a client once one of its requests is settled: nothing where it is gone and had no other
+abbrev pub settled_entry : Option Entry → Option Entry
+settled_entry None = None
+settled_entry (Some e) = if e.here || nat_lt 1 e.requests then Some (record e { requests = e.requests - 1 }) else None
 
 -- what is known of the client, where these are the rows and so much is known of those that aren't there
 abbrev pub entry_in : List (Option Row) → (ℕ → Option Entry) → ℕ → Option Entry
