@@ -13,14 +13,14 @@ use Rattle.smx_history.specs.Replies.{member_with}
 use Rattle.smx_history.proofs.Updates.{new_row, with_row, without}
 use Rattle.smx_history.proofs.Keeping.{map-with_row}
 use Rattle.smx_history.proofs.RetireAgrees.{rise_part}
-use Rattle.smx_lane.specs.declared.seats.Row.{Row}
+use Rattle.smx_lane.specs.declared.client_rows.Row.{Row}
 use Rattle.smx_lane.specs.declared.roster.Roster.TheInside.{Inside}
 use Rattle.smx_lane.specs.Members.{refusal_by, waiting_of}
 use Rattle.smx_history.specs.declared.reply.Refusal.{Refusal}
 use Rattle.smx_history.specs.declared.reply.Refusal.TheVariants.{ClientFull}
 use Rattle.smx_lane.specs.Roster.{member_in, KeepsRows}
-use Rattle.smx_lane.specs.Private.Seats.{is_client, place_of, rows_in, rows_of, KeepsSeats}
-use Rattle.smx_lane.proofs.Seating.{same_client, same-clients, clients, placed, looked-up, not-there, rows-changed, KeepsSeats-changed}
+use Rattle.smx_lane.specs.Private.ClientRows.{is_client, place_of, rows_in, rows_of, KeepsClientRows}
+use Rattle.smx_lane.proofs.ClientPlaces.{same_client, same-clients, clients, placed, looked-up, not-there, rows-changed, KeepsClientRows-changed}
 use Rattle.slab.specs.Slab.{get, with_value, Updates}
 use Rattle.slab.proofs.SlabLemmas.{Updates-with_value}
 
@@ -130,43 +130,43 @@ All-removed P c (e ∷ es) all = elim (cases_Bool (is_client c e.0)) [
 ]
 
 -- a change of the row at the client's place, as the members show it
-pub members-written : (a : Inside) (f : Member → Member) (c at : ℕ) (r new : Row) → KeepsRows a → place_of c a.seats ≡ Some at → get a.seats.rows at ≡ Some r → member_in (c, new) ≡ f (member_in (c, r))
-    → map member_in (rows_in (with_value a.seats.rows at new) a.seats.keys.entries) ≡ with_row c f (map member_in (rows_of a.seats))
+pub members-written : (a : Inside) (f : Member → Member) (c at : ℕ) (r new : Row) → KeepsRows a → place_of c a.table ≡ Some at → get a.table.rows at ≡ Some r → member_in (c, new) ≡ f (member_in (c, r))
+    → map member_in (rows_in (with_value a.table.rows at new) a.table.keys.entries) ≡ with_row c f (map member_in (rows_of a.table))
 members-written a f c at r new keeps found is change =
-    let updates = Updates-with_value a.seats.rows at new (ap is_some is) in
-    ap (map member_in) (rows-changed a.seats (with_value a.seats.rows at new) c at new keeps.seats found updates)
-    ∙ changed_row f c 0 (rows_of a.seats) r new (looked-up a.seats c at r keeps.seats found is) keeps.clients change
+    let updates = Updates-with_value a.table.rows at new (ap is_some is) in
+    ap (map member_in) (rows-changed a.table (with_value a.table.rows at new) c at new keeps.table found updates)
+    ∙ changed_row f c 0 (rows_of a.table) r new (looked-up a.table c at r keeps.table found is) keeps.clients change
 
 -- a change of one row that leaves the places of its box
 pub KeepsRows-written : (a b : Inside) (f : Member → Member) (c at : ℕ) (r new : Row) → KeepsRows a → ((x : Member) → (f x).client ≡ x.client)
-    → place_of c a.seats ≡ Some at → get a.seats.rows at ≡ Some r → member_in (c, new) ≡ f (member_in (c, r)) → new.client ≡ r.client → new.waiting.capacity ≡ r.waiting.capacity
-    → b.places ≡ a.places → b.seats.keys.entries ≡ a.seats.keys.entries → b.seats.rows ≡ with_value a.seats.rows at new → b.waiting + length r.waiting.items ≡ a.waiting + length new.waiting.items → KeepsRows b
+    → place_of c a.table ≡ Some at → get a.table.rows at ≡ Some r → member_in (c, new) ≡ f (member_in (c, r)) → new.client ≡ r.client → new.waiting.capacity ≡ r.waiting.capacity
+    → b.places ≡ a.places → b.table.keys.entries ≡ a.table.keys.entries → b.table.rows ≡ with_value a.table.rows at new → b.waiting + length r.waiting.items ≡ a.waiting + length new.waiting.items → KeepsRows b
 KeepsRows-written a b f c at r new keeps same found is change client places same_places keys rows count =
-    let es = rows_of a.seats in
+    let es = rows_of a.table in
     let box : ℕ → ℕ × Row → Type 0 = λ n e. e.1.waiting.capacity ≡ n in
-    let updates = Updates-with_value a.seats.rows at new (ap is_some is) in
-    let there = looked-up a.seats c at r keeps.seats found is in
+    let updates = Updates-with_value a.table.rows at new (ap is_some is) in
+    let there = looked-up a.table c at r keeps.table found is in
     let old = All-row (box a.places) c es r keeps.boxes there in
     let sums = waiting-changed c es r new there in
     let ms = changed_row f c 0 es r new there keeps.clients change in
-    let written = rows-changed a.seats (with_value a.seats.rows at new) c at new keeps.seats found updates in
-    let entries : rows_of b.seats ≡ set_value (is_client c) es new = ap (rows_in b.seats.rows) keys ∙ ap (λ s. rows_in s a.seats.keys.entries) rows ∙ written in
+    let written = rows-changed a.table (with_value a.table.rows at new) c at new keeps.table found updates in
+    let entries : rows_of b.table ≡ set_value (is_client c) es new = ap (rows_in b.table.rows) keys ∙ ap (λ s. rows_in s a.table.keys.entries) rows ∙ written in
     record {
-      seats = KeepsSeats-changed a.seats b.seats at r new keeps.seats keys (subst (λ s. Updates a.seats.rows s at (Some new)) (sym rows) updates) is client;
+      table = KeepsClientRows-changed a.table b.table at r new keeps.table keys (subst (λ s. Updates a.table.rows s at (Some new)) (sym rows) updates) is client;
       boxes = rw (entries, same_places) (All-set (box a.places) c es new (λ _. places ∙ old.1) keeps.boxes);
       clients = rw (entries, ms, map-with_row (λ x. x.client) f c same (map member_in es)) keeps.clients;
       waiting = rw entries (omega (arith, sums, count, keeps.waiting));
     }
 
 -- the place has the member's row
-pub at-place : (a : Inside) (c at : ℕ) → KeepsRows a → place_of c a.seats ≡ Some at → IsSome (get a.seats.rows at)
-at-place a c at keeps found = ap is_some (placed a.seats c at keeps.seats found).1
+pub at-place : (a : Inside) (c at : ℕ) → KeepsRows a → place_of c a.table ≡ Some at → IsSome (get a.table.rows at)
+at-place a c at keeps found = ap is_some (placed a.table c at keeps.table found).1
 
-pub member-at : (a : Inside) (c at : ℕ) (r : Row) → KeepsRows a → place_of c a.seats ≡ Some at → get a.seats.rows at ≡ Some r → member_with c (map member_in (rows_of a.seats)) ≡ Some (member_in (c, r))
-member-at a c at r keeps found is = row_found c (rows_of a.seats) r (looked-up a.seats c at r keeps.seats found is)
+pub member-at : (a : Inside) (c at : ℕ) (r : Row) → KeepsRows a → place_of c a.table ≡ Some at → get a.table.rows at ≡ Some r → member_with c (map member_in (rows_of a.table)) ≡ Some (member_in (c, r))
+member-at a c at r keeps found is = row_found c (rows_of a.table) r (looked-up a.table c at r keeps.table found is)
 
-pub no-member : (a : Inside) (c : ℕ) → KeepsRows a → place_of c a.seats ≡ None → member_with c (map member_in (rows_of a.seats)) ≡ None
-no-member a c keeps missing = row_missing c (rows_of a.seats) (not-there a.seats c keeps.seats missing)
+pub no-member : (a : Inside) (c : ℕ) → KeepsRows a → place_of c a.table ≡ None → member_with c (map member_in (rows_of a.table)) ≡ None
+no-member a c keeps missing = row_missing c (rows_of a.table) (not-there a.table c keeps.table missing)
 
 -- numbers above c leave all rows
 without-above : (ms : List Member) (c low : ℕ) → c ≤ low → RiseAbove low (map (λ m. m.client) ms) → without c ms ≡ ms
@@ -204,14 +204,14 @@ waiting-removed c (e ∷ es) r found = elim (cases_Bool (is_client c e.0)) [
 ]
 
 -- the roster without the client's row
-pub KeepsRows-removed : (a b : Inside) (c : ℕ) (r : Row) → KeepsRows a → KeepsSeats b.seats → lookup (is_client c) (rows_of a.seats) ≡ Some r
-    → b.places ≡ a.places → rows_of b.seats ≡ remove_entry (is_client c) (rows_of a.seats) → b.waiting + length r.waiting.items ≡ a.waiting → KeepsRows b
-KeepsRows-removed a b c r keeps seats found same_places entries count =
-    let es = rows_of a.seats in
+pub KeepsRows-removed : (a b : Inside) (c : ℕ) (r : Row) → KeepsRows a → KeepsClientRows b.table → lookup (is_client c) (rows_of a.table) ≡ Some r
+    → b.places ≡ a.places → rows_of b.table ≡ remove_entry (is_client c) (rows_of a.table) → b.waiting + length r.waiting.items ≡ a.waiting → KeepsRows b
+KeepsRows-removed a b c r keeps table found same_places entries count =
+    let es = rows_of a.table in
     let ms = map member_in es in
     let sums = waiting-removed c es r found in
     record {
-      seats = seats;
+      table = table;
       boxes = rw (entries, same_places) (All-removed (λ (e : ℕ × Row). e.1.waiting.capacity ≡ a.places) c es keeps.boxes);
       clients = rw (entries, removed_row c 0 es keeps.clients) (rise_part (λ (m : Member). m.client) (λ m. not (m.client == c)) 0 ms keeps.clients);
       waiting = rw entries (omega (arith, sums, count, keeps.waiting));
@@ -222,32 +222,32 @@ clients-are : (es : Entries) → map (λ m. m.client) (map member_in es) ≡ map
 clients-are [] = refl
 clients-are (e ∷ es) = ap (λ cs. e.0 ∷ cs) (clients-are es)
 
-pub keys-rise : (a : Inside) (by c : ℕ) → KeepsRows a → RiseAbove 0 (map (λ m. m.client) (map member_in (rows_of a.seats) ++ new_row by c ∷ [])) → RiseAbove 0 (clients a.seats.keys.entries ++ c ∷ [])
+pub keys-rise : (a : Inside) (by c : ℕ) → KeepsRows a → RiseAbove 0 (map (λ m. m.client) (map member_in (rows_of a.table) ++ new_row by c ∷ [])) → RiseAbove 0 (clients a.table.keys.entries ++ c ∷ [])
 keys-rise a by c keeps rise =
-    let es = rows_of a.seats in
-    let same = clients-are es ∙ same-clients a.seats.rows a.seats.keys.entries keeps.seats.there in
+    let es = rows_of a.table in
+    let same = clients-are es ∙ same-clients a.table.rows a.table.keys.entries keeps.table.there in
     subst (λ cs. RiseAbove 0 (cs ++ c ∷ [])) same (rw (map-append (λ (m : Member). m.client) (map member_in es) (new_row by c ∷ [])) at rise)
 
 -- there are as many members as keys
-pub as-many : (a : Inside) → KeepsRows a → length (map member_in (rows_of a.seats)) ≡ length a.seats.keys.entries
+pub as-many : (a : Inside) → KeepsRows a → length (map member_in (rows_of a.table)) ≡ length a.table.keys.entries
 as-many a keeps =
-    let es = rows_of a.seats in
-    let keys = a.seats.keys.entries in
-    length-map es member_in ∙ sym (length-map es (λ e. e.0)) ∙ ap length (same-clients a.seats.rows keys keeps.seats.there) ∙ length-map keys (λ e. e.0)
+    let es = rows_of a.table in
+    let keys = a.table.keys.entries in
+    length-map es member_in ∙ sym (length-map es (λ e. e.0)) ∙ ap length (same-clients a.table.rows keys keeps.table.there) ∙ length-map keys (λ e. e.0)
 
 -- what is read at the client's place is the member's row
-pub found-member : (a : Inside) (c at : ℕ) (o : Option (Bor Row)) → KeepsRows a → place_of c a.seats ≡ Some at → option_copied o ≡ get a.seats.rows at
-    → MatchOption o (member_with c (map member_in (rows_of a.seats)) ≡ None) (λ row. member_with c (map member_in (rows_of a.seats)) ≡ Some (member_in (c, row.now)))
+pub found-member : (a : Inside) (c at : ℕ) (o : Option (Bor Row)) → KeepsRows a → place_of c a.table ≡ Some at → option_copied o ≡ get a.table.rows at
+    → MatchOption o (member_with c (map member_in (rows_of a.table)) ≡ None) (λ row. member_with c (map member_in (rows_of a.table)) ≡ Some (member_in (c, row.now)))
 found-member a c at None keeps found is = let bad : false ≡ true = ap is_some is ∙ at-place a c at keeps found in cc
 found-member a c at (Some row) keeps found is = member-at a c at row.now keeps found (sym is)
 
 -- the box has its places
-pub box_places : (a : Inside) (c at : ℕ) (r : Row) → KeepsRows a → place_of c a.seats ≡ Some at → get a.seats.rows at ≡ Some r → r.waiting.capacity ≡ a.places
-box_places a c at r keeps found is = (All-row (λ (e : ℕ × Row). e.1.waiting.capacity ≡ a.places) c (rows_of a.seats) r keeps.boxes (looked-up a.seats c at r keeps.seats found is)).1
+pub box_places : (a : Inside) (c at : ℕ) (r : Row) → KeepsRows a → place_of c a.table ≡ Some at → get a.table.rows at ≡ Some r → r.waiting.capacity ≡ a.places
+box_places a c at r keeps found is = (All-row (λ (e : ℕ × Row). e.1.waiting.capacity ≡ a.places) c (rows_of a.table) r keeps.boxes (looked-up a.table c at r keeps.table found is)).1
 
 -- what waits in the box is counted
-pub box_counts : (a : Inside) (c at : ℕ) (r : Row) → KeepsRows a → place_of c a.seats ≡ Some at → get a.seats.rows at ≡ Some r → length r.waiting.items ≤ a.waiting
-box_counts a c at r keeps found is = omega (arith, keeps.waiting, row_waits c (rows_of a.seats) r (looked-up a.seats c at r keeps.seats found is))
+pub box_counts : (a : Inside) (c at : ℕ) (r : Row) → KeepsRows a → place_of c a.table ≡ Some at → get a.table.rows at ≡ Some r → length r.waiting.items ≤ a.waiting
+box_counts a c at r keeps found is = omega (arith, keeps.waiting, row_waits c (rows_of a.table) r (looked-up a.table c at r keeps.table found is))
 
 -- the first element and the rest
 pub front_is : {X : Type 0} (xs : List X) (x : X) → slice_get xs 0 ≡ Some x → xs ≡ x ∷ drop 1 xs
@@ -267,9 +267,9 @@ none_dropped [] h = refl
 none_dropped (x ∷ xs) h = cc
 
 -- each member has a place
-pub has_place : (a : Inside) (c : ℕ) → KeepsRows a → IsSome (member_with c (map member_in (rows_of a.seats))) → IsSome (place_of c a.seats)
-has_place a c keeps there = by (place_of c a.seats) refl
+pub has_place : (a : Inside) (c : ℕ) → KeepsRows a → IsSome (member_with c (map member_in (rows_of a.table))) → IsSome (place_of c a.table)
+has_place a c keeps there = by (place_of c a.table) refl
   where
-    by : (o : Option ℕ) → place_of c a.seats ≡ o → IsSome o
+    by : (o : Option ℕ) → place_of c a.table ≡ o → IsSome o
     by None e = let no : false ≡ true = sym (ap is_some (no-member a c keeps e)) ∙ there in cc
     by (Some at) e = refl

@@ -6,7 +6,7 @@ use Rattle.smx_history.specs.declared.response.Response.{Response}
 use Rattle.smx_history.specs.Contents.{Content, Member}
 use Rattle.smx_history.specs.Replies.{accept_refusal, member_with, refusal_for}
 use Rattle.smx_history.specs.Answering.{oldest_in}
-use Rattle.smx_lane.specs.declared.seats.Row.{Row}
+use Rattle.smx_lane.specs.declared.client_rows.Row.{Row}
 use Rattle.smx_lane.specs.Members.{lane_refusal, refusal_by}
 use Rattle.smx_lane.specs.Roster.{member_in}
 use Rattle.smx_lane.proofs.ClientRows.{front_is}

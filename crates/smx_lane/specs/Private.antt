@@ -2,5 +2,5 @@
 pub mod Ages
 pub mod Places
 pub mod Rows
-pub mod Seats
+pub mod ClientRows
 pub mod Window

@@ -3,6 +3,7 @@
 
 mod ages;
 mod call;
+mod client_rows;
 mod fault;
 mod kept;
 mod lane;
@@ -10,7 +11,6 @@ mod load;
 mod numbers;
 mod roster;
 mod rows;
-mod seats;
 mod sent;
 mod settled;
 mod window;

@@ -9,7 +9,7 @@ ghost use Rattle.smx_history.proofs.Updates.{with_row, new_row, without};
 ghost use Rattle.smx_lane.specs.Members.{row_refusal, waiting_of};
 ghost use Rattle.smx_lane.specs.Roster.{member_in};
 
-use crate::seats::{Row, Seats};
+use crate::client_rows::{ClientRows, Row};
 use circular_buffer::HeapCircularBuffer;
 use smx_history::{Refusal, Response};
 use std::alloc::{AllocError, Global};
@@ -20,7 +20,7 @@ use std::marker::Model;
 pub(crate) struct Roster {
     places: u32,
     alloc: Global,
-    seats: Seats,
+    table: ClientRows,
     // How many responses wait in all boxes.
     waiting: usize,
 }
@@ -45,7 +45,7 @@ impl Roster {
         Roster {
             places,
             alloc,
-            seats: Seats::new(alloc),
+            table: ClientRows::new(alloc),
             waiting: 0,
         }
     }
@@ -59,7 +59,7 @@ impl Roster {
     pub(crate) fn len(&self) -> usize
         ensures { result ≡ length self.now.members }
     {
-        self.seats.len()
+        self.table.len()
     }
 
     // How many responses wait in all boxes.
@@ -74,8 +74,8 @@ impl Roster {
         ensures { MatchOption result (member_with client self.now.members ≡ None)
             (λ row. member_with client self.now.members ≡ Some (member_in (client, row.now))) }
     {
-        let at = self.seats.place(client)?;
-        self.seats.rows.get(at)
+        let at = self.table.place(client)?;
+        self.table.rows.get(at)
     }
 
     // Adds a client above all others, with an empty box.
@@ -93,7 +93,7 @@ impl Roster {
             pending: 0,
             waiting,
         };
-        self.seats.push(self.alloc, row)?;
+        self.table.push(self.alloc, row)?;
         Ok(())
     }
 
@@ -114,10 +114,10 @@ impl Roster {
         }) }
         ensures err { OnErr result (self.new ≡ self.old) }
     {
-        let Some(at) = self.seats.place(client) else {
+        let Some(at) = self.table.place(client) else {
             return Err(Refusal::NotAdmitted);
         };
-        let row = &mut self.seats.rows[at];
+        let row = &mut self.table.rows[at];
         if row.pending >= self.places {
             return Err(Refusal::ClientFull);
         }
@@ -144,10 +144,10 @@ impl Roster {
         ensures absent { IsFalse result → member_with client self.old.members ≡ None }
         ensures same { IsFalse result → self.new ≡ self.old }
     {
-        let Some(at) = self.seats.place(client) else {
+        let Some(at) = self.table.place(client) else {
             return false;
         };
-        let row = &mut self.seats.rows[at];
+        let row = &mut self.table.rows[at];
         match row.waiting.try_push_back(response) {
             Ok(()) => {}
             Err(_) => unreachable!(),
@@ -161,8 +161,8 @@ impl Roster {
     pub(crate) fn oldest(&self, client: u64) -> Option<&Response>
         ensures { option_copied result ≡ oldest_in (member_with client self.now.members) }
     {
-        let at = self.seats.place(client)?;
-        self.seats.rows[at].waiting.front()
+        let at = self.table.place(client)?;
+        self.table.rows[at].waiting.front()
     }
 
     // Takes the oldest response out of the box of the client, where the client is there and has one.
@@ -180,8 +180,8 @@ impl Roster {
         }) }
         ensures none { IfNone result (self.new ≡ self.old) }
     {
-        let at = self.seats.place(client)?;
-        let row = &mut self.seats.rows[at];
+        let at = self.table.place(client)?;
+        let row = &mut self.table.rows[at];
         let response = row.waiting.pop_front()?;
         row.pending -= 1;
         self.waiting -= 1;
@@ -193,7 +193,7 @@ impl Roster {
         requires { IsSome (member_with client self.old.members) }
         ensures { self.new ≡ record self.old { members = without client self.old.members } }
     {
-        let row = self.seats.remove(client);
+        let row = self.table.remove(client);
         self.waiting -= row.waiting.len();
     }
 }

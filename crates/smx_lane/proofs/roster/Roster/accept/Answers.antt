@@ -1,6 +1,6 @@
 use Rattle.std.proofs.Common.{arith, ◌+◌, refl, sym, ◌∙◌, ap}
 use Rattle.smx_history.specs.Contents.{Member}
-use Rattle.smx_lane.specs.declared.seats.Row.{Row}
+use Rattle.smx_lane.specs.declared.client_rows.Row.{Row}
 use Rattle.smx_lane.specs.Members.{refusal_by}
 use Rattle.smx_lane.specs.Roster.{member_in}
 use Rattle.smx_lane.proofs.ClientRows.{at-place, member-at, no-member, members-written, refused_row, refused_by_lane, KeepsRows-written}

@@ -1,7 +1,7 @@
 use Rattle.std.proofs.Common.{◌≡◌, ◌+◌, ◌-◌, length, drop, refl, sym, ◌∙◌, ap, arith}
 use Rattle.smx_history.specs.Contents.{Member}
 use Rattle.smx_history.specs.Answering.{oldest_in}
-use Rattle.smx_lane.specs.declared.seats.Row.{Row}
+use Rattle.smx_lane.specs.declared.client_rows.Row.{Row}
 use Rattle.smx_lane.specs.Roster.{member_in}
 use Rattle.smx_lane.proofs.ClientRows.{at-place, member-at, no-member, members-written, box_counts, front_is, KeepsRows-written}
 use Rattle.smx_lane.proofs.roster.Roster.get.Goals as goal

@@ -1,6 +1,6 @@
 use Rattle.std.proofs.Common.{true, false, ◌≡◌, ◌+◌, [], ◌∷◌, ◌++◌, length, length-append, is_some, refl, sym, ◌∙◌, ap, arith}
 use Rattle.smx_history.specs.Contents.{Member}
-use Rattle.smx_lane.specs.declared.seats.Row.{Row}
+use Rattle.smx_lane.specs.declared.client_rows.Row.{Row}
 use Rattle.smx_lane.specs.Roster.{member_in}
 use Rattle.smx_lane.proofs.ClientRows.{at-place, member-at, no-member, members-written, box_places, KeepsRows-written}
 use Rattle.smx_lane.proofs.roster.Roster.put.Goals as goal

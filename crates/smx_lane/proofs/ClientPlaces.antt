@@ -10,9 +10,9 @@ use Rattle.std.proofs.lemmas.Bool.{cases_Bool, cases_eq, ne_eqb, eq-eqb, eqb-tru
 use Rattle.std.proofs.lemmas.Bool.Decides.{nat_tests}
 use Rattle.slab.specs.Slab.{Slab, get, Updates}
 use Rattle.smx_history.specs.Prefixes.{RiseAbove}
-use Rattle.smx_lane.specs.declared.seats.Row.{Row}
-use Rattle.smx_lane.specs.declared.seats.Seats.{Seats}
-use Rattle.smx_lane.specs.Private.Seats.{is_client, client_of, client_at, place_of, rows_in, rows_of, KeepsSeats, HasSameSeats}
+use Rattle.smx_lane.specs.declared.client_rows.Row.{Row}
+use Rattle.smx_lane.specs.declared.client_rows.ClientRows.{ClientRows}
+use Rattle.smx_lane.specs.Private.ClientRows.{is_client, client_of, client_at, place_of, rows_in, rows_of, KeepsClientRows, HasSameRows}
 
 abbrev pub Keys : Type 0
 Keys = List (ℕ × ℕ)
@@ -262,8 +262,8 @@ changed-there s n [] same there = tt
 changed-there s n (e ∷ keys) same there = (same e.1 ∙ there.0, changed-there s n keys same there.1)
 
 -- the same rows at the same places
-pub KeepsSeats-same : (s n : Seats) → KeepsSeats s → HasSameSeats s n → KeepsSeats n
-KeepsSeats-same s n keeps same =
+pub KeepsClientRows-same : (s n : ClientRows) → KeepsClientRows s → HasSameRows s n → KeepsClientRows n
+KeepsClientRows-same s n keeps same =
     let at : (j : ℕ) → client_at n.rows j ≡ client_at s.rows j = λ j. ap (λ slots. client_of (slice_index_or slots j None)) same.rows in
     record {
       rise = rw same.keys keeps.rise;
@@ -275,11 +275,11 @@ same-rows : (s n : Slab Row) (keys : Keys) → ((j : ℕ) → get n j ≡ get s 
 same-rows s n [] same = refl
 same-rows s n (e ∷ keys) same = rw (same e.1, same-rows s n keys same) refl
 
-pub rows-same : (s n : Seats) → HasSameSeats s n → rows_of n ≡ rows_of s
+pub rows-same : (s n : ClientRows) → HasSameRows s n → rows_of n ≡ rows_of s
 rows-same s n same = ap (rows_in n.rows) same.keys ∙ same-rows s.rows n.rows s.keys.entries (λ j. ap (λ slots. slice_index_or slots j None) same.rows)
 
-pub KeepsSeats-changed : (s n : Seats) (at : ℕ) (r new : Row) → KeepsSeats s → n.keys.entries ≡ s.keys.entries → Updates s.rows n.rows at (Some new) → get s.rows at ≡ Some r → new.client ≡ r.client → KeepsSeats n
-KeepsSeats-changed s n at r new keeps keys updates was client =
+pub KeepsClientRows-changed : (s n : ClientRows) (at : ℕ) (r new : Row) → KeepsClientRows s → n.keys.entries ≡ s.keys.entries → Updates s.rows n.rows at (Some new) → get s.rows at ≡ Some r → new.client ≡ r.client → KeepsClientRows n
+KeepsClientRows-changed s n at r new keeps keys updates was client =
     let same = λ (j : ℕ). changed-client s.rows n.rows at j r new updates was client in
     record {
       rise = rw keys keeps.rise;
@@ -287,9 +287,9 @@ KeepsSeats-changed s n at r new keeps keys updates was client =
       known = λ j c is. rw keys (keeps.known j c (sym (same j) ∙ is));
     }
 
-pub KeepsSeats-added : (s n : Seats) (c at : ℕ) (r : Row) → KeepsSeats s → RiseAbove 0 (clients s.keys.entries ++ c ∷ []) → r.client ≡ c → get s.rows at ≡ None
-    → n.keys.entries ≡ insert_entry nat_cmp s.keys.entries c at → Updates s.rows n.rows at (Some r) → KeepsSeats n
-KeepsSeats-added s n c at r keeps rise client vacant entries updates =
+pub KeepsClientRows-added : (s n : ClientRows) (c at : ℕ) (r : Row) → KeepsClientRows s → RiseAbove 0 (clients s.keys.entries ++ c ∷ []) → r.client ≡ c → get s.rows at ≡ None
+    → n.keys.entries ≡ insert_entry nat_cmp s.keys.entries c at → Updates s.rows n.rows at (Some r) → KeepsClientRows n
+KeepsClientRows-added s n c at r keeps rise client vacant entries updates =
     let old = s.keys.entries in
     let keys : n.keys.entries ≡ old ++ (c, at) ∷ [] = entries ∙ added-last c 0 at old rise in
     let known : (j d : ℕ) → client_at n.rows j ≡ Some d → lookup (is_client d) (old ++ (c, at) ∷ []) ≡ Some j = λ j d is. elim (cases_eq j at) [
@@ -305,13 +305,13 @@ KeepsSeats-added s n c at r keeps rise client vacant entries updates =
       known = λ j d is. rw keys (known j d is);
     }
 
-pub rows-added : (s : Seats) (n : Slab Row) (keys : Keys) (c at : ℕ) (r : Row) → KeepsSeats s → RiseAbove 0 (clients s.keys.entries ++ c ∷ []) → get s.rows at ≡ None
+pub rows-added : (s : ClientRows) (n : Slab Row) (keys : Keys) (c at : ℕ) (r : Row) → KeepsClientRows s → RiseAbove 0 (clients s.keys.entries ++ c ∷ []) → get s.rows at ≡ None
     → keys ≡ insert_entry nat_cmp s.keys.entries c at → Updates s.rows n at (Some r) → rows_in n keys ≡ rows_of s ++ (c, r) ∷ []
 rows-added s n keys c at r keeps rise vacant entries updates =
     ap (rows_in n) (entries ∙ added-last c 0 at s.keys.entries rise) ∙ added-rows s.rows n c at s.keys.entries r updates vacant keeps.there
 
-pub KeepsSeats-removed : (s n : Seats) (c at : ℕ) → KeepsSeats s → place_of c s ≡ Some at → n.keys.entries ≡ remove_entry (is_client c) s.keys.entries → Updates s.rows n.rows at None → KeepsSeats n
-KeepsSeats-removed s n c at keeps found entries updates =
+pub KeepsClientRows-removed : (s n : ClientRows) (c at : ℕ) → KeepsClientRows s → place_of c s ≡ Some at → n.keys.entries ≡ remove_entry (is_client c) s.keys.entries → Updates s.rows n.rows at None → KeepsClientRows n
+KeepsClientRows-removed s n c at keeps found entries updates =
     let old = s.keys.entries in
     let known : (j d : ℕ) → client_at n.rows j ≡ Some d → lookup (is_client d) (remove_entry (is_client c) old) ≡ Some j = λ j d is.
     let other : j ≢ at = λ h. let no : None ≡ Some d = sym (ap (client_at n.rows) h ∙ ap client_of updates.changed) ∙ is in cc in
@@ -325,21 +325,21 @@ KeepsSeats-removed s n c at keeps found entries updates =
       known = λ j d is. rw entries (known j d is);
     }
 
-pub rows-removed : (s : Seats) (n : Slab Row) (keys : Keys) (c at : ℕ) → KeepsSeats s → place_of c s ≡ Some at → keys ≡ remove_entry (is_client c) s.keys.entries → Updates s.rows n at None
+pub rows-removed : (s : ClientRows) (n : Slab Row) (keys : Keys) (c at : ℕ) → KeepsClientRows s → place_of c s ≡ Some at → keys ≡ remove_entry (is_client c) s.keys.entries → Updates s.rows n at None
     → rows_in n keys ≡ remove_entry (is_client c) (rows_of s)
 rows-removed s n keys c at keeps found entries updates =
     ap (rows_in n) entries ∙ removed-rows s.rows n c at 0 s.keys.entries updates.others keeps.there keeps.rise found
 
-pub rows-changed : (s : Seats) (n : Slab Row) (c at : ℕ) (new : Row) → KeepsSeats s → place_of c s ≡ Some at → Updates s.rows n at (Some new)
+pub rows-changed : (s : ClientRows) (n : Slab Row) (c at : ℕ) (new : Row) → KeepsClientRows s → place_of c s ≡ Some at → Updates s.rows n at (Some new)
     → rows_in n s.keys.entries ≡ set_value (is_client c) (rows_of s) new
 rows-changed s n c at new keeps found updates = changed-rows s.rows n c at 0 s.keys.entries new updates keeps.there keeps.rise found
 
 -- the row that the place has
-pub placed : (s : Seats) (c at : ℕ) → KeepsSeats s → place_of c s ≡ Some at → (r : Row) × (get s.rows at ≡ Some r) × (r.client ≡ c)
+pub placed : (s : ClientRows) (c at : ℕ) → KeepsClientRows s → place_of c s ≡ Some at → (r : Row) × (get s.rows at ≡ Some r) × (r.client ≡ c)
 placed s c at keeps found = row-at s.rows at c (place-there s.rows c at s.keys.entries keeps.there found)
 
-pub looked-up : (s : Seats) (c at : ℕ) (r : Row) → KeepsSeats s → place_of c s ≡ Some at → get s.rows at ≡ Some r → lookup (is_client c) (rows_of s) ≡ Some r
+pub looked-up : (s : ClientRows) (c at : ℕ) (r : Row) → KeepsClientRows s → place_of c s ≡ Some at → get s.rows at ≡ Some r → lookup (is_client c) (rows_of s) ≡ Some r
 looked-up s c at r keeps found is = row-there s.rows c at s.keys.entries r keeps.there found is
 
-pub not-there : (s : Seats) (c : ℕ) → KeepsSeats s → place_of c s ≡ None → lookup (is_client c) (rows_of s) ≡ None
+pub not-there : (s : ClientRows) (c : ℕ) → KeepsClientRows s → place_of c s ≡ None → lookup (is_client c) (rows_of s) ≡ None
 not-there s c keeps missing = row-absent s.rows c s.keys.entries keeps.there missing

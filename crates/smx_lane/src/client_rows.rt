@@ -3,7 +3,7 @@ ghost use Rattle.std.specs.Prelude.{◌≡◌, [], ◌∷◌, ◌++◌, length, 
 ghost use Rattle.std.specs.Map.{lookup, remove_entry};
 ghost use Rattle.slab.specs.Slab.{HasRoomFor};
 ghost use Rattle.smx_history.specs.Prefixes.{RiseAbove};
-ghost use Rattle.smx_lane.specs.Private.Seats.{client_at, is_client, place_of, rows_of, KeepsSeats, HasSameSeats};
+ghost use Rattle.smx_lane.specs.Private.ClientRows.{client_at, is_client, place_of, rows_of, KeepsClientRows, HasSameRows};
 
 use circular_buffer::HeapCircularBuffer;
 use slab::Slab;
@@ -29,7 +29,7 @@ const GUESSES: u64 = 512;
 // Rows that stay in their places while others come and go. A client's row is mostly where the guess for its number
 // says, and else the keys tell its place.
 #[derive(Drop)]
-pub(crate) struct Seats {
+pub(crate) struct ClientRows {
     pub(crate) rows: Slab<Row>,
     keys: BTreeMap<u64, usize>,
     // The places of the last clients that came, by the remainders of their numbers. Empty before the first one.
@@ -41,13 +41,13 @@ fn guess_of(client: u64) -> usize {
     (client % GUESSES) as usize
 }
 
-impl Seats {
+impl ClientRows {
     // No rows. The memory for the guesses is taken with the first one.
-    pub(crate) fn new(alloc: Global) -> Seats
+    pub(crate) fn new(alloc: Global) -> ClientRows
         ensures keys { result.keys.entries ≡ [] }
         ensures rows { result.rows.slots ≡ [] }
     {
-        Seats {
+        ClientRows {
             rows: Slab::new(alloc),
             keys: BTreeMap::new(alloc),
             guesses: Vec::new(alloc),
@@ -85,7 +85,7 @@ impl Seats {
     // The place of the client's row.
     #[inline(always)]
     pub(crate) fn place(&self, client: u64) -> Option<usize>
-        requires { KeepsSeats self.now }
+        requires { KeepsClientRows self.now }
         ensures { result ≡ place_of client self.now }
     {
         match self.guess(client) {
@@ -97,7 +97,7 @@ impl Seats {
     // Takes the memory for one row more, except that for its key.
     fn reserve(&mut self, alloc: Global) -> Result<(), AllocError>
         ensures room { OnOk result (HasRoomFor self.new.rows 1) }
-        ensures same { HasSameSeats self.old self.new }
+        ensures same { HasSameRows self.old self.new }
     {
         if self.guesses.is_empty() {
             self.guesses = vec![in alloc; 0; GUESSES as usize]?;
@@ -107,12 +107,12 @@ impl Seats {
 
     // Adds the row of a client above all others.
     pub(crate) fn push(&mut self, alloc: Global, row: Row) -> Result<(), AllocError>
-        requires keeps { KeepsSeats self.old }
+        requires keeps { KeepsClientRows self.old }
         requires above { RiseAbove 0 (map (λ e. e.0) self.old.keys.entries ++ row.client ∷ []) }
-        ensures keeps { OnOk result (KeepsSeats self.new) }
+        ensures keeps { OnOk result (KeepsClientRows self.new) }
         ensures rows { OnOk result
             (rows_of self.new ≡ rows_of self.old ++ (row.client, row) ∷ []) }
-        ensures err { OnErr result (HasSameSeats self.old self.new) }
+        ensures err { OnErr result (HasSameRows self.old self.new) }
     {
         self.reserve(alloc)?;
         let at = self.rows.vacant_key();
@@ -127,9 +127,9 @@ impl Seats {
 
     // Takes out the row of the client.
     pub(crate) fn remove(&mut self, client: u64) -> Row
-        requires keeps { KeepsSeats self.old }
+        requires keeps { KeepsClientRows self.old }
         requires there { IsSome (place_of client self.old) }
-        ensures keeps { KeepsSeats self.new }
+        ensures keeps { KeepsClientRows self.new }
         ensures row { lookup (is_client client) (rows_of self.old) ≡ Some result }
         ensures rows { rows_of self.new ≡ remove_entry (is_client client) (rows_of self.old) }
     {

@@ -1,6 +1,6 @@
 use Rattle.std.proofs.Common.{sym, ◌∙◌, ap, is_some}
-use Rattle.smx_lane.proofs.Seating.{placed, looked-up, KeepsSeats-removed, rows-removed}
-use Rattle.smx_lane.proofs.seats.Seats.remove.Goals as goal
+use Rattle.smx_lane.proofs.ClientPlaces.{placed, looked-up, KeepsClientRows-removed, rows-removed}
+use Rattle.smx_lane.proofs.client_rows.ClientRows.remove.Goals as goal
 
 pub remove-requires-2 : goal.remove-requires-2
 remove-requires-2 c =
@@ -11,7 +11,7 @@ remove-requires-2 c =
 pub returns-clause-keeps : goal.returns-clause-keeps
 returns-clause-keeps c =
     let found = sym c.remove.ensures.value ∙ c.unwrap-at.ensures in
-    KeepsSeats-removed c.args.self.now _ c.args.client c.unwrap-at.result c.requires.keeps found c.remove.ensures.entries c.remove-2.ensures.updates
+    KeepsClientRows-removed c.args.self.now _ c.args.client c.unwrap-at.result c.requires.keeps found c.remove.ensures.entries c.remove-2.ensures.updates
 
 pub returns-clause-row : goal.returns-clause-row
 returns-clause-row c =

@@ -6,8 +6,8 @@ use Rattle.std.specs.Ordering.{nat_cmp}
 use Rattle.std.specs.BTreeMap.{is_at}
 use Rattle.slab.specs.Slab.{Slab, get}
 use Rattle.smx_history.specs.Prefixes.{RiseAbove}
-use Rattle.smx_lane.specs.declared.seats.Row.{Row}
-use Rattle.smx_lane.specs.declared.seats.Seats.{Seats}
+use Rattle.smx_lane.specs.declared.client_rows.Row.{Row}
+use Rattle.smx_lane.specs.declared.client_rows.ClientRows.{ClientRows}
 
 abbrev pub is_client : ℕ → ℕ → Bool
 is_client c k = is_at (nat_cmp c) k
@@ -21,7 +21,7 @@ abbrev pub client_at : Slab Row → ℕ → Option ℕ
 client_at rows place = client_of (get rows place)
 
 -- the place that the keys tell
-abbrev pub place_of : ℕ → Seats → Option ℕ
+abbrev pub place_of : ℕ → ClientRows → Option ℕ
 place_of c s = lookup (is_client c) s.keys.entries
 
 abbrev pub row_by : ℕ → Option Row → Option (ℕ × Row)
@@ -32,16 +32,16 @@ row_by c None = None
 abbrev pub rows_in : Slab Row → List (ℕ × ℕ) → List (ℕ × Row)
 rows_in rows keys = filter_map (λ (e : ℕ × ℕ). row_by e.0 (get rows e.1)) keys
 
-abbrev pub rows_of : Seats → List (ℕ × Row)
+abbrev pub rows_of : ClientRows → List (ℕ × Row)
 rows_of s = rows_in s.rows s.keys.entries
 
 -- the keys rise; at the place of each is its client's row, and each row is at the place of its client
-pub record KeepsSeats (s : Seats) : Type 0 where
+pub record KeepsClientRows (s : ClientRows) : Type 0 where
   pub rise : RiseAbove 0 (map (λ (e : ℕ × ℕ). e.0) s.keys.entries)
   pub there : AllByRecursion (λ (e : ℕ × ℕ). client_at s.rows e.1 ≡ Some e.0) s.keys.entries
   pub known : (place c : ℕ) → client_at s.rows place ≡ Some c → place_of c s ≡ Some place
 
 -- the same rows at the same places
-pub record HasSameSeats (old new : Seats) : Type 0 where
+pub record HasSameRows (old new : ClientRows) : Type 0 where
   pub rows : new.rows.slots ≡ old.rows.slots
   pub keys : new.keys.entries ≡ old.keys.entries
