@@ -52,7 +52,7 @@ pub none : (k : ℕ) → AreBy k []
 unfolding AreBy
 none k = λ j d lt. absurd (omega arith)
 
-shifts_by : (b : Bool) (k : ℕ) (own : List Note) → AreBy k own → AreBy k (shifts_where b k ++ own)
+pub shifts_by : (b : Bool) (k : ℕ) (own : List Note) → AreBy k own → AreBy k (shifts_where b k ++ own)
 unfolding AreBy
 shifts_by true k own h = All-append (λ n. writer n ≡ k) (shift k ∷ []) own (one_shift k) h
 shifts_by false k own h = h

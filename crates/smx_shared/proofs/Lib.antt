@@ -3,6 +3,7 @@ pub mod Holding
 pub mod OwnNotes
 pub mod Passing
 mod Submitting
+pub mod ListSubmitting
 pub mod PortInvariants
 pub mod Leaving
 pub mod Rounds

@@ -29,7 +29,8 @@ use Rattle.smx_history.proofs.Taking.{any_none}
 use Rattle.smx_shared.proofs.Lists.{All-in_filter, All-at, any_weaken}
 use Rattle.smx_shared.specs.Serving.{OneHold}
 use Rattle.smx_shared.specs.Ports.{IsMemberBy}
-use Rattle.smx_shared.specs.Steps.{IsBelow}
+use Rattle.smx_lane.specs.Conditions.{IsNext}
+use Rattle.smx_shared.specs.Steps.{IsBelow, MayAccept}
 
 by_is : (by : ℕ) (e : Event) → (entry_by by e).by ≡ by
 by_is by (event.Admit c) = refl
@@ -255,3 +256,41 @@ has_row f g c found own v met same hold member refused = has_row_at (member_with
     has_row_at : (o : Option Member) → member_with c v.members ≡ o → refusal_for met o ≡ Some NotAdmitted → ⊥
     has_row_at (Some m) e r = not_admitted met m r
     has_row_at None e r = row_there f g c found own v hold member e
+
+-- what the seat finds in a hold lets the client submit from n on
+pub present_for : (f : Front Note Limits) (h : Hold Content Note Limits) (c n : ℕ) → Finds writer limits_of suits f h → IsMemberBy c f → IsBelow n f → MayAccept h.value h.number c n
+present_for f h c n found member below =
+    let es = entries_of h.found in
+    let a : AgreesWith h.found h.value = found.agrees in
+    let mine : filter (λ e. e.by == h.number) es ≡ entries_of f.mine = own_entries h.number h.found ∙ ap entries_of (found.own ∙ found.mine) in
+    let admitted : is_admitted h.number c es ≡ true = any_in_filter (λ e. e.by == h.number) (λ e. is_admit e.kind && ((e.client == c) && (e.by == h.number))) es
+    (ap (is_admitted h.number c) mine ∙ ap (λ k. is_admitted k c (entries_of f.mine)) found.number ∙ member.admitted) in (
+      h.found,
+      a,
+      record {
+        admitted = admitted;
+        stays = stays_own es c h.number a.legal.rules.membership a.legal.rules.standing admitted (ap (is_retired c) mine ∙ member.stays);
+        below = accepts_own (λ e. e.ordinal < n) es c h.number a.legal.rules.membership a.legal.rules.standing admitted
+            (subst (λ xs. AllByRecursion (λ (e : Entry). e.ordinal < n) (accepts xs)) (sym mine) (below_entries n f.mine below));
+      },
+    )
+
+-- so its next request keeps to the condition of an accept
+pub next_of : (v : Content) (k c n : ℕ) → MayAccept v k c n → 0 < n → IsNext v k c n
+next_of v k c n may pos =
+    let es = entries_of may.0 in
+    let a : AgreesWith may.0 v = may.1 in
+    each_row (λ e. (is_admitted e.by e.client es ≡ true) × (is_retired e.client es ≡ false)) (λ m. m.client ≡ c → (m.last < n) × (m.by ≡ k)) may.0 v
+    (λ e served same. (
+      subst (λ l. l < n) (sym (ap (λ d. last_or 0 (map (λ x. x.ordinal) (accepts_of d es))) same)) (last_below n 0 (accepts_of c es) pos may.2.below),
+      server es c k e.by a.legal.rules.membership may.2.admitted (ap (λ d. is_admitted e.by d es) (sym same) ∙ served.0),
+    ))
+    (present_served es) a.after
+
+-- and isn't refused for want of a row
+pub row_for : (v met : Content) (k c n : ℕ) → met.members ≡ v.members → MayAccept v k c n → accept_refusal met c ≡ Some NotAdmitted → ⊥
+row_for v met k c n same may refused = row_for_at (member_with c v.members) refl (subst (λ ms. refusal_for met (member_with c ms) ≡ Some NotAdmitted) same refused)
+  where
+    row_for_at : (o : Option Member) → member_with c v.members ≡ o → refusal_for met o ≡ Some NotAdmitted → ⊥
+    row_for_at (Some m) e r = not_admitted met m r
+    row_for_at None e r = both_ways (is_present c may.0) (absent may.0 v c may.1 e) (is_present-any may.0 c ∙ present_in (entries_of may.0) c k may.2.admitted may.2.stays)

@@ -42,10 +42,10 @@ pub record Grows (c n : ℕ) (named : List Accepted) (old new : List (Front Note
       × (requests ns ≡ requests_on k c n named)
   pub within : AllByRecursion (λ a. a.lane < length old) named
 
-entries_more : (a b : List Note) → entries_of (a ++ b) ≡ entries_of a ++ entries_of b
+pub entries_more : (a b : List Note) → entries_of (a ++ b) ≡ entries_of a ++ entries_of b
 entries_more a b = entries_of-append a b
 
-none_both : (a b : Bool) → a ≡ false → b ≡ false → (a || b) ≡ false
+pub none_both : (a b : Bool) → a ≡ false → b ≡ false → (a || b) ≡ false
 none_both true b h g = cc
 none_both false b h g = g
 
@@ -107,7 +107,7 @@ member_more c f g ns m number mine stays =
       stays = ap (is_retired c) is ∙ list_any-append (λ e. is_retire e.kind && (e.client == c)) (entries_of f.mine) (entries_of ns) ∙ none_both _ _ m.stays stays;
     }
 
-requests_more : (k c n : ℕ) (xs ys : List Accepted) → requests_on k c n (xs ++ ys) ≡ requests_on k c n xs ++ requests_on k c (n + length xs) ys
+pub requests_more : (k c n : ℕ) (xs ys : List Accepted) → requests_on k c n (xs ++ ys) ≡ requests_on k c n xs ++ requests_on k c (n + length xs) ys
 requests_more k c n [] ys = ap (λ i. requests_on k c i ys) (omega arith)
 requests_more k c n (a ∷ xs) ys = requests_more_at (a.lane == k) (requests_more k c (n + 1) xs ys ∙ ap (λ i. requests_on k c (n + 1) xs ++ requests_on k c i ys) (omega arith))
   where

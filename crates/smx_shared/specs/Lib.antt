@@ -6,6 +6,7 @@ pub mod Taps
 pub mod Offers
 pub mod Ports
 pub mod Submits
+pub mod Landings
 pub mod Collecting
 pub mod Leaving
 pub mod Loads

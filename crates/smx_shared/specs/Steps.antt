@@ -1,8 +1,10 @@
 -- What private functions ask and promise: the notes of one hold, and a turn of one lane. No contract
 -- of a public function cites this file.
-use Rattle.std.specs.Prelude.{◌≡◌, ◌<◌, ◌≤◌, ℕ, Bool, List, [], ◌∷◌, ◌++◌, Option, Some, None, Ok, slice_get, All, map, length, true}
+use Rattle.std.specs.Prelude.{◌≡◌, ◌<◌, ◌≤◌, ◌+◌, ◌^◌, ℕ, Bool, List, [], ◌∷◌, ◌++◌, Option, Some, None, Result, Ok, Err, slice_get, All, map, length, true, false}
+use Rattle.std.specs.Global.{Vec}
 use Rattle.std.specs.List.{AllByRecursion}
-use Rattle.smx_lock.specs.Fronts.{Front, Hold, Finds}
+use Rattle.smx_lock.specs.Fronts.{Front, Hold, Finds, IsSpent}
+use Rattle.smx_lock.specs.declared.faults.Spent.{Spent}
 use Rattle.smx_history.specs.declared.limits.Limits.{Limits}
 use Rattle.smx_history.specs.declared.note.Note.{Note}
 use Rattle.smx_history.specs.declared.note.Event.TheVariants as event
@@ -16,8 +18,9 @@ use Rattle.smx_history.specs.Answering.{oldest_in, failing}
 use Rattle.smx_history.specs.Replies.{answers_place, member_with, expired_in}
 use Rattle.smx_lane.specs.declared.call.Call.TheVariants as call
 use Rattle.smx_lane.specs.declared.call.Reply.TheVariants as reply
-use Rattle.smx_history.specs.History.{note, shift, requests}
-use Rattle.smx_history.specs.Contents.{Content}
+use Rattle.smx_history.specs.Entries.{accepts_of, is_admitted, is_retired}
+use Rattle.smx_history.specs.History.{note, shift, requests, entries_of}
+use Rattle.smx_history.specs.Contents.{Content, AgreesWith}
 use Rattle.smx_lane.specs.declared.call.Call.{Call}
 use Rattle.smx_lane.specs.declared.call.Reply.{Reply}
 use Rattle.smx_lane.specs.Taking.{taking}
@@ -31,6 +34,8 @@ use Rattle.smx_shared.specs.declared.batch.Takings.{Takings}
 use Rattle.smx_shared.specs.Batches.{collect_calls, collect_replies, CollectEnds, octets_of_responses, take_calls, take_replies, TakeEnds, octets_of_requests, octets_with, answer_calls, answer_replies, answers_of}
 use Rattle.smx_shared.specs.Ports.{IsMemberBy}
 use Rattle.smx_shared.specs.Roomy.{lane_met, shifts_before, shifts_where}
+use Rattle.smx_shared.specs.declared.accepting.Landings.{Landings as Landed}
+use Rattle.smx_shared.specs.Landings.{LandEach, LandsServe, accepted_each}
 
 abbrev pub answer_notes : ℕ → Pdu → Option Place → List Note
 answer_notes by p (Some q) = note by (event.Answer q.client q.ordinal p) ∷ []
@@ -139,3 +144,29 @@ HasAdmitted c f = (shifted : Bool) × (f.mine ≡ shifts_where shifted f.number 
 -- so are those of each seat
 abbrev pub HaveAdmitted : ℕ → List (Front Note Limits) → Type 0
 HaveAdmitted c fronts = (k : ℕ) (f : Front Note Limits) → slice_get fronts k ≡ Some f → HasAdmitted c f
+
+-- in this history the client was admitted by the seat with this number, has not retired, and its accepts have ordinals below n
+pub record IsPresentFor (by c n : ℕ) (h : List Note) : Type 0 where
+  pub admitted : is_admitted by c (entries_of h) ≡ true
+  pub stays : is_retired c (entries_of h) ≡ false
+  pub below : AllByRecursion (λ e. e.ordinal < n) (accepts_of c (entries_of h))
+
+-- such is a history that the lane agrees with
+abbrev pub MayAccept : Content → ℕ → ℕ → ℕ → Type 0
+MayAccept v by c n = (h : List Note) × AgreesWith h v × IsPresentFor by c n h
+
+-- whatever the seat finds in a hold, the client may submit there from ordinal n on
+abbrev pub MaySubmit : Front Note Limits → ℕ → ℕ → Type 0
+MaySubmit f c n = (h : Hold Content Note Limits) → Finds writer limits_of suits f h → MayAccept h.value h.number c n
+
+-- the seat with this number made the client's offers, from ordinal n on
+pub record AreLanded (by c n : ℕ) (os : List Offer) (old : Content) (b : Landed) (new : Content) : Type 0 where
+  pub each : LandEach by c n old os b.landings.items new
+  pub limits : new.limits ≡ old.limits
+  pub next : b.next ≡ n + length (accepted_each os b.landings.items)
+  pub top : b.next ≤ 2 ^ 62 + 1
+
+-- one hold served a client's list, and tells its next ordinal; or the tickets are spent and the offers come back
+abbrev pub ServesList : Front Note Limits → Front Note Limits → ℕ → ℕ → List Offer → Result Landed (Vec Offer × Spent) → Type 0
+ServesList f g c n os (Ok b) = LandsServe f g c n os b.landings.items × (b.next ≡ n + length (accepted_each os b.landings.items)) × (b.next ≤ 2 ^ 62 + 1)
+ServesList f g c n os (Err e) = (e.0.items ≡ os) × IsSpent f g

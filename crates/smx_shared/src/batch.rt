@@ -1,5 +1,7 @@
 //! What one hold of a lane gives for a list of calls.
 
+use crate::fault::SubmitFault;
+use crate::offer::Offer;
 use smx_history::{Response, TakeRefusal};
 use smx_lane::Sent;
 
@@ -20,4 +22,13 @@ pub struct Takings {
     pub requests: Vec<Sent>,
     /// Why the lane gave no more. None where the hold ended at a limit, so that more may be queued.
     pub stop: Option<TakeRefusal>,
+}
+
+/// What became of one offer of a list.
+#[derive(Debug, Drop)]
+pub struct Landing {
+    /// The lane that accepted it; or the offer, and why no lane did.
+    pub landed: Result<usize, (Offer, SubmitFault)>,
+    /// Whether the lane's history was full, so that the lane was turned over first.
+    pub turned: bool,
 }

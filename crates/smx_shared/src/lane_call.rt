@@ -81,14 +81,17 @@ impl CriticalSection<Lane, Note> for Weighing {
     }
 }
 
-// Turns the lane over where its history is full, for a call that wants room there.
-fn make_room(lane: &mut Lane, by: u64)
+// Turns the lane over where its history is full, for a call that wants room there. Whether it was.
+pub(crate) fn make_room(lane: &mut Lane, by: u64) -> bool
+    ensures turned { result ≡ not (has_room lane.old) }
     ensures met { lane.new ≡ turned_where (not (has_room lane.old)) lane.old }
     ensures agrees { GoesOn lane.old (shifts_where (not (has_room lane.old)) by) lane.new }
 {
-    if !lane.has_room() {
+    let full = !lane.has_room();
+    if full {
         lane.let_go(by);
     }
+    full
 }
 
 #[derive(Drop)]

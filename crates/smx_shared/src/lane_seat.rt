@@ -1,14 +1,16 @@
 //! A seat on one lane. Each call of the lane is made in one hold of its lock.
-ghost use Rattle.std.specs.Prelude.{◌≡◌, ◌≤◌, [], length, vec_capacity, MatchResult};
+ghost use Rattle.std.specs.Prelude.{◌≡◌, ◌≤◌, ◌<◌, ◌^◌, ◌+◌, [], length, vec_capacity, MatchResult};
 ghost use Rattle.smx_lane.specs.declared.call.Call.TheVariants as call;
 ghost use Rattle.smx_lock.specs.Fronts.{IsSpent, Refused};
 ghost use Rattle.smx_shared.specs.Batches.{CollectsServe, TakesServe, BringsAll};
 ghost use Rattle.smx_shared.specs.Serving.{CallServes, LoadServes, SplitServes, SplitFails, Waited};
-ghost use Rattle.smx_shared.specs.Steps.{MayCall};
+ghost use Rattle.smx_shared.specs.Steps.{MayCall, MaySubmit, ServesList};
 
-use crate::batch::{Collected, Takings};
+use crate::accepting::{AcceptingAll, Landings};
+use crate::batch::{Collected, Landing, Takings};
 use crate::batching::{BringingAll, CollectingAll, TakingAll};
 use crate::lane_call::{Calling, LaneCall, Weighing};
+use crate::offer::Offer;
 use smx_history::Response;
 use smx_lane::{Lane, Load, Sent, Settled};
 use smx_lock::{SeatInPlace, Spent, TicketLock, TryFault};
@@ -131,6 +133,36 @@ impl LaneSeat {
         match self.seat.hold(rt, lock, BringingAll { responses, room }) {
             Ok(settled) => Ok(settled),
             Err((section, spent)) => Err((section.responses, spent)),
+        }
+    }
+
+    // Submits a client's list, in one hold, for which it may wait.
+    #[inline(always)]
+    pub(crate) fn submit_all<R: Wait>(
+        &mut self,
+        rt: &R,
+        lock: &TicketLock<Lane>,
+        client: u64,
+        first: u64,
+        offers: Vec<Offer>,
+        room: Vec<Landing>,
+    ) -> Result<Landings, (Vec<Offer>, Spent)>
+        requires lock { self.old.lock ≡ lock.now }
+        requires may { MaySubmit self.old client first }
+        requires first { (0 < first) × (first ≤ 2 ^ 62 + 1) }
+        requires room { (room.items ≡ []) × (length offers.items ≤ vec_capacity room) }
+        ensures lock { self.new.lock ≡ self.old.lock }
+        ensures served { ServesList self.old self.new client first offers.items result }
+    {
+        let section = AcceptingAll {
+            client,
+            first,
+            offers,
+            room,
+        };
+        match self.seat.hold(rt, lock, section) {
+            Ok(landings) => Ok(landings),
+            Err((section, spent)) => Err((section.offers, spent)),
         }
     }
 

@@ -8,6 +8,7 @@
 //! it leaves again a third time.
 #![tactic(auto)]
 
+mod accepting;
 mod admit;
 mod batch;
 mod batching;
@@ -17,6 +18,7 @@ mod exchange;
 mod fault;
 mod lane_call;
 mod lane_seat;
+mod naming;
 mod offer;
 mod opening;
 mod port;
@@ -27,7 +29,7 @@ mod tap;
 mod token;
 mod unmade;
 
-pub use batch::{BATCH, Collected, Takings};
+pub use batch::{BATCH, Collected, Landing, Takings};
 pub use departed::Departed;
 pub use door::Door;
 pub use exchange::Exchange;

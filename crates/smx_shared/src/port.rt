@@ -1,23 +1,26 @@
 //! The token of a client, with a seat on each lane.
-ghost use Rattle.std.specs.Prelude.{◌≡◌, true, false, List, [], ◌++◌, ◌<◌, ◌≤◌, ◌^◌, length, vec_capacity, IfOk, IfErr, OnOk, OnErr};
+ghost use Rattle.std.specs.Prelude.{◌≡◌, ◌+◌, true, false, List, [], ◌++◌, ◌<◌, ◌≤◌, ◌^◌, length, vec_capacity, IfOk, IfErr, OnOk, OnErr};
 ghost use Rattle.smx_shared.specs.Views.{locks_of};
-ghost use Rattle.smx_shared.specs.Offers.{Accepted, accepted_by, request_for};
-ghost use Rattle.smx_shared.specs.Steps.{offer_of, HaveAdmitted};
+ghost use Rattle.smx_shared.specs.Landings.{SubmitsAll, accepted_all};
+ghost use Rattle.smx_shared.specs.Offers.{Accepted, accepted_by};
+ghost use Rattle.smx_shared.specs.Steps.{HaveAdmitted};
 ghost use Rattle.smx_shared.specs.Ports.{IsPort, HasAccepted};
 ghost use Rattle.smx_shared.specs.Leaving.{HasLeft};
 ghost use Rattle.smx_shared.specs.Collecting.{Collects, CollectsAll, TriesCollect};
 ghost use Rattle.smx_shared.specs.Submits.{Submitted, Refuses};
 
-use crate::batch::Collected;
+use crate::accepting::Landings;
+use crate::batch::{Collected, Landing};
 use crate::departed::Departed;
 use crate::exchange::Exchange;
 use crate::fault::SubmitFault;
 use crate::lane_call::Collecting;
 use crate::lane_seat::LaneSeat;
+use crate::naming::{named, unnamed};
 use crate::offer::Offer;
 use crate::retire::retire_all;
 use crate::submit::try_ring;
-use smx_history::{Request, Response};
+use smx_history::Response;
 use smx_lock::{Spent, TryFault};
 use smx_pdu::Pdu;
 use smx_ticket_core::MOST;
@@ -49,32 +52,6 @@ impl Model for Port {
 
     ghost invariant = { λ p. IsPort
         (record { client = p.client; first = p.first; next = p.next; fronts = p.seats.items }) };
-}
-
-fn named(client: u64, ordinal: u64, offer: Offer) -> Request
-    ensures { result ≡ request_for client ordinal offer }
-{
-    let Offer { own, command, body } = offer;
-    Request {
-        client,
-        ordinal,
-        own,
-        command,
-        body,
-    }
-}
-
-fn unnamed(request: Request) -> Offer
-    ensures { result ≡ offer_of request }
-{
-    let Request {
-        client: _,
-        ordinal: _,
-        own,
-        command,
-        body,
-    } = request;
-    Offer { own, command, body }
 }
 
 impl Port {
@@ -123,6 +100,39 @@ impl Port {
                 Ok(lane)
             }
             Err((request, fault)) => Err((unnamed(request), fault)),
+        }
+    }
+
+    /// Submits each of these to the one lane, in order and in one hold, and tells what became of each.
+    /// Where the tickets are spent they come back. It may wait. The list is made in `room`, which is
+    /// empty and has a place for each; it takes no memory.
+    pub fn submit_all<R: Wait>(
+        &mut self,
+        at: &Exchange,
+        rt: &R,
+        offers: Vec<Offer>,
+        room: Vec<Landing>,
+    ) -> Result<Vec<Landing>, (Vec<Offer>, Spent)>
+        requires locks { locks_of self.old.fronts ≡ at.now }
+        requires lane { length self.old.fronts ≡ 1 }
+        requires room { (room.items ≡ []) × (length offers.items ≤ vec_capacity room) }
+        ensures served { SubmitsAll self.old offers.items self.new result }
+        ensures same { self.new ≡ record self.old {
+          next = self.old.next + length (accepted_all offers.items result);
+          fronts = self.new.fronts;
+        } }
+        ensures listed { (all : List Accepted) → HasAccepted self.old all
+            → HasAccepted self.new (all ++ accepted_all offers.items result) }
+        ensures locks { locks_of self.new.fronts ≡ locks_of self.old.fronts }
+    {
+        let client = self.client;
+        let next = self.next;
+        match self.seats[0].submit_all(rt, &at.locks[0], client, next, offers, room) {
+            Ok(Landings { landings, next }) => {
+                self.next = next;
+                Ok(landings)
+            }
+            Err((offers, spent)) => Err((offers, spent)),
         }
     }
 

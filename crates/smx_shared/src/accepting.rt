@@ -1,0 +1,131 @@
+//! A list of offers that are made in one hold.
+ghost use Rattle.std.specs.Prelude.{◌≡◌, ◌≤◌, ◌<◌, ◌^◌, ◌+◌, [], length, vec_capacity};
+ghost use Rattle.smx_shared.specs.Landings.{LandsSo, landing_notes, ordinal_after};
+ghost use Rattle.smx_shared.specs.Offers.{request_for};
+ghost use Rattle.smx_lane.specs.Calls.{GoesOn};
+ghost use Rattle.smx_shared.specs.Steps.{AreLanded, MayAccept};
+
+use crate::batch::Landing;
+use crate::fault::SubmitFault;
+use crate::lane_call::make_room;
+use crate::naming::{named, unnamed};
+use crate::offer::Offer;
+use smx_history::Note;
+use smx_lane::Lane;
+use smx_lock::CriticalSection;
+use smx_ticket_core::MOST;
+
+// What became of a list of offers, and the client's next ordinal.
+#[derive(Drop)]
+pub(crate) struct Landings {
+    pub(crate) landings: Vec<Landing>,
+    pub(crate) next: u64,
+}
+
+// Offers this to the lane for the client, as its request of that ordinal.
+fn accept_one(lane: &mut Lane, by: u64, client: u64, ordinal: u64, offer: Offer) -> Landing
+    requires may { MayAccept lane.old by client ordinal }
+    requires ordinal { 0 < ordinal }
+    requires top { ordinal ≤ 2 ^ 62 + 1 }
+    ensures lands { LandsSo by client ordinal offer lane.old result lane.new }
+    ensures agrees { GoesOn lane.old
+        (landing_notes by (request_for client ordinal offer) result) lane.new }
+    ensures limits { lane.new.limits ≡ lane.old.limits }
+    ensures may { MayAccept lane.new by client (ordinal_after ordinal offer result) }
+    ensures top { ordinal_after ordinal offer result ≤ 2 ^ 62 + 1 }
+{
+    if ordinal > MOST {
+        return Landing {
+            landed: Err((offer, SubmitFault::Exhausted)),
+            turned: false,
+        };
+    }
+    let request = named(client, ordinal, offer);
+    let turned = make_room(lane, by);
+    match lane.accept(by, request) {
+        Ok(()) => Landing {
+            landed: Ok(0),
+            turned,
+        },
+        Err((back, _)) => Landing {
+            landed: Err((unnamed(back), SubmitFault::AllFull)),
+            turned,
+        },
+    }
+}
+
+// The ordinal after one that was offered so.
+fn ordinal_past(ordinal: u64, landing: &Landing) -> u64
+    requires { ordinal ≤ 2 ^ 62 + 1 }
+    ensures { (offer : Offer) → result ≡ ordinal_after ordinal offer landing.now }
+{
+    match &landing.landed {
+        Ok(_) => ordinal + 1,
+        Err(_) => ordinal,
+    }
+}
+
+// Offers each of these to the lane for the client, from that ordinal on.
+fn accept_each(
+    lane: &mut Lane,
+    by: u64,
+    client: u64,
+    first: u64,
+    offers: Vec<Offer>,
+    room: Vec<Landing>,
+) -> Landings
+    requires may { MayAccept lane.old by client first }
+    requires first { (0 < first) × (first ≤ 2 ^ 62 + 1) }
+    requires room { (room.items ≡ []) × (length offers.items ≤ vec_capacity room) }
+    ensures { AreLanded by client first offers.items lane.old result lane.new }
+{
+    let mut landings = room;
+    let mut ordinal = first;
+    for offer in offers {
+        let landing = accept_one(lane, by, client, ordinal, offer);
+        ordinal = ordinal_past(ordinal, &landing);
+        landings.push_reserved(landing);
+    }
+    Landings {
+        landings,
+        next: ordinal,
+    }
+}
+
+// Submits a client's list.
+#[derive(Drop)]
+pub(crate) struct AcceptingAll {
+    pub(crate) client: u64,
+    pub(crate) first: u64,
+    pub(crate) offers: Vec<Offer>,
+    // Empty, with room for what becomes of each.
+    pub(crate) room: Vec<Landing>,
+}
+
+impl CriticalSection<Lane, Note> for AcceptingAll {
+    ghost use Rattle.std.specs.Prelude.{◌≡◌, ◌≤◌, ◌<◌, ◌^◌, ◌+◌, [], length, vec_capacity};
+    ghost use Rattle.smx_shared.specs.Landings.{landings_of};
+    ghost use Rattle.smx_shared.specs.Steps.{AreLanded, MayAccept};
+
+    type Answer = Landings;
+
+    ghost may = { λ s by lane. MayAccept lane by s.client s.first
+        × (0 < s.first) × (s.first ≤ 2 ^ 62 + 1) × (s.room.items ≡ [])
+        × (length s.offers.items ≤ vec_capacity s.room) };
+
+    ghost does = { λ s by old answer new.
+        AreLanded by s.client s.first s.offers.items old answer new };
+
+    ghost notes = { λ s by old answer.
+        landings_of by s.client s.first s.offers.items answer.landings.items };
+
+    fn run(self, value: &mut Lane, number: u64) -> Landings {
+        let AcceptingAll {
+            client,
+            first,
+            offers,
+            room,
+        } = self;
+        accept_each(value, number, client, first, offers, room)
+    }
+}
