@@ -1,22 +1,23 @@
 -- What a gate answers in a turn, and what comes of what it is told.
-use Rattle.std.specs.Prelude.{◌≡◌, ◌+◌, ℕ, Bool, true, false, not, ◌&&◌, ◌||◌, List, [], ◌∷◌, Option, Some, min, slice_get}
+use Rattle.std.specs.Prelude.{◌≡◌, ◌+◌, ℕ, Bool, true, false, not, ◌&&◌, ◌||◌, List, [], ◌∷◌, Option, Some, min, slice_get, if◌then◌else◌}
 use Rattle.std.specs.Option.{option_map_or}
 use Rattle.smx_turns.specs.declared.gate.Party.{Party}
 use Rattle.smx_turns.specs.declared.gate.Party.TheVariants as party
 use Rattle.smx_turns.specs.declared.gate.Point.{Point}
 use Rattle.smx_turns.specs.declared.gate.Point.TheVariants as point
 use Rattle.smx_slots.specs.declared.client_bell.ClientTurn.{ClientTurn}
-use Rattle.smx_slots.specs.Ledger.{Book, account_of, may_bind, may_request, with_client, with_accepted, with_settled}
+use Rattle.smx_slots.specs.Ledger.{Book, account_of, may_bind, may_request_beside, with_client, with_accepted, with_settled}
 
--- what a turn of a client's worker changes by its questions: the ledger, the account by which the client was bound, whether a bind was refused, and whether there was no memory for one
+-- what a turn of a client's worker changes by its questions: the ledger, the account by which the client was bound, whether a bind was refused, whether there was no memory for one, and to how many requests leave was given since a submit was last asked for
 pub record Visit : Type 0 where
   pub book : Book
   pub account : Option ℕ
   pub refused : Bool
   pub lacked : Bool
+  pub leaves : ℕ
 
-abbrev pub visit : Book → Option ℕ → Bool → Bool → Visit
-visit book account refused lacked = record { book = book; account = account; refused = refused; lacked = lacked }
+abbrev pub visit : Book → Option ℕ → Bool → Bool → ℕ → Visit
+visit book account refused lacked leaves = record { book = book; account = account; refused = refused; lacked = lacked; leaves = leaves }
 
 -- whether the client may be bound by the account with this index
 abbrev pub may_bind_at : ℕ → ℕ → Book → Bool
@@ -37,8 +38,8 @@ abbrev pub Answers : ClientTurn → Point → Visit → Bool → Visit → Type 
 Answers turn point.Reading old answer new = (answer ≡ turn.may_read) × (new ≡ old)
 Answers turn (point.Binding index) old answer new = Binds turn.client index old answer new
 Answers turn point.Refusing old answer new = (answer ≡ (turn.may_refuse && not old.refused)) × (new ≡ record old { refused = old.refused || answer })
-Answers turn point.Admitting old answer new = (answer ≡ may_request turn.client (account_of turn.client old.book.movements) old.book) × (new ≡ old)
-Answers turn point.Submitting old answer new = (answer ≡ true) × (new ≡ old)
+Answers turn point.Admitting old answer new = (answer ≡ may_request_beside old.leaves turn.client (account_of turn.client old.book.movements) old.book) × (new ≡ record old { leaves = if answer then old.leaves + 1 else old.leaves })
+Answers turn point.Submitting old answer new = (answer ≡ true) × (new ≡ record old { leaves = 0 })
 Answers turn (point.Collecting lane) old answer new = new ≡ old
 Answers turn point.Taking old answer new = (answer ≡ true) × (new ≡ old)
 

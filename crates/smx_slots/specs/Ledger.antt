@@ -102,6 +102,11 @@ abbrev pub may_request : ℕ → Option ℕ → Book → Bool
 may_request client None book = false
 may_request client (Some key) book = not book.draining && is_bound client book.movements && is_below (requests_limit key book) (count_of key book.movements)
 
+-- the same beside so many requests that have leave and aren't accepted yet; with none it is as above
+abbrev pub may_request_beside : ℕ → ℕ → Option ℕ → Book → Bool
+may_request_beside leaves client None book = false
+may_request_beside leaves client (Some key) book = not book.draining && is_bound client book.movements && is_below (requests_limit key book) (count_of key book.movements + leaves)
+
 -- whether one more of the client can be counted
 abbrev pub is_countable : ℕ → Option ℕ → List Movement → Bool
 is_countable client None movements = false

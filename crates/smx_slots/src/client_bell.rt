@@ -1,9 +1,10 @@
 //! What a turn of a client's worker asks and tells the loop.
-ghost use Rattle.std.specs.Prelude.{◌≡◌, ◌++◌, ◌∷◌, [], ◌&&◌, ◌||◌, ℕ, Some, None, true, false, not};
+ghost use Rattle.std.specs.Prelude.{◌≡◌, ◌+◌, ◌++◌, ◌∷◌, [], ◌&&◌, ◌||◌, ℕ, Some, None, true, false, not, if◌then◌else◌};
 ghost use Rattle.smx_turns.specs.declared.gate.Point.TheVariants.{Collecting};
 ghost use Rattle.smx_slots.specs.Schedules.{with_ready};
 ghost use Rattle.smx_slots.specs.Hints.{has_hint, with_hint, hinted_by, emptied_by, leave_by};
 ghost use Rattle.smx_slots.specs.Rolls.{slot_of};
+ghost use Rattle.smx_slots.specs.Ledger.{account_of, may_request_beside};
 ghost use Rattle.smx_slots.specs.Bells.{visit, may_bind_at, bound_at, Answers, book_after, party_number, has_told};
 
 use crate::hints::Hints;
@@ -26,8 +27,9 @@ pub struct ClientTurn {
 
 /// Lets a client's worker go on, and notes who has something to do, and which requests are under way.
 /// Parties are numbered: the lanes, then the clients' slots. It asks the ledger whether the client may be
-/// bound and may have one more request under way, it refuses one bind in a turn at most, and it lets the
-/// worker collect from the lanes of which its client was told since that found them empty.
+/// bound and may have one more request under way, beside those to which it gave leave since it was last
+/// asked before a submit; it refuses one bind in a turn at most, and it lets the worker collect from the
+/// lanes of which its client was told since that found them empty.
 #[derive(Drop)]
 pub struct ClientBell<'a> {
     lanes: usize,
@@ -41,6 +43,8 @@ pub struct ClientBell<'a> {
     account: Option<usize>,
     refused: bool,
     lacked: bool,
+    // To how many requests it gave leave since it was last asked before a submit.
+    leaves: u64,
     asked: Trace<Question>,
     told: Trace<Party>,
     rang: bool,
@@ -59,7 +63,8 @@ impl<'a> ClientBell<'a> {
         ensures turn { (result.turn ≡ turn) × (result.lanes ≡ lanes) }
         ensures hints { (result.hints.now ≡ hints.old) × (result.leave ≡ None) }
         ensures begins { visit result.ledger.now result.account result.refused result.lacked
-            ≡ visit ledger.old None false false }
+            result.leaves
+            ≡ visit ledger.old None false false 0 }
         ensures parties { (result.schedule.now ≡ schedule.old) × (result.roll.now ≡ roll.now) }
         ensures traces { (result.asked ≡ []) × (result.told ≡ []) }
     {
@@ -74,6 +79,7 @@ impl<'a> ClientBell<'a> {
             account: None,
             refused: false,
             lacked: false,
+            leaves: 0,
             asked: Trace::new(),
             told: Trace::new(),
             rang: false,
@@ -160,6 +166,28 @@ fn refuse(refused: &mut bool, may_refuse: bool) -> bool
     true
 }
 
+// Whether one more request may be under way beside those that have leave. A yes counts as one more.
+fn admit(ledger: &Ledger, leaves: &mut u64, client: u64) -> bool
+    ensures may { result ≡ may_request_beside leaves.old client
+        (account_of client ledger.now.movements) ledger.now }
+    ensures noted { leaves.new ≡ (if result then leaves.old + 1 else leaves.old) }
+{
+    let admitted = ledger.admits_beside(client, *leaves);
+    if admitted {
+        *leaves += 1;
+    }
+    admitted
+}
+
+// Before a submit the count of leaves begins anew.
+fn submit(leaves: &mut u64) -> bool
+    ensures always { result ≡ true }
+    ensures noted { leaves.new ≡ 0 }
+{
+    *leaves = 0;
+    true
+}
+
 // Of the lane from which the worker had leave to collect there is no hint, where this turn goes on.
 fn empty(hints: &mut Hints, leave: Option<(usize, u64)>, slot: usize, turn: u64)
     ensures { hints.new ≡ emptied_by slot turn leave hints.old }
@@ -194,9 +222,11 @@ impl Gate for ClientBell<'_> {
         } ∷ [] }
         ensures told { self.new.told ≡ self.old.told }
         ensures answers { Answers self.old.turn point
-            (visit self.old.ledger.now self.old.account self.old.refused self.old.lacked)
+            (visit self.old.ledger.now self.old.account self.old.refused self.old.lacked
+            self.old.leaves)
             result
-            (visit self.new.ledger.now self.new.account self.new.refused self.new.lacked) }
+            (visit self.new.ledger.now self.new.account self.new.refused self.new.lacked
+            self.new.leaves) }
 
         // A lane is collected from just where there is a hint, which goes once the turn asks again.
         ensures hinted { (lane : ℕ) → point ≡ Collecting lane
@@ -225,9 +255,10 @@ impl Gate for ClientBell<'_> {
                 account,
             ),
             Point::Refusing => refuse(&mut self.refused, may_refuse),
-            Point::Admitting => self.ledger.admits(client),
+            Point::Admitting => admit(self.ledger, &mut self.leaves, client),
             Point::Collecting(lane) => self.hints.has(slot, lane),
-            Point::Submitting | Point::Taking => true,
+            Point::Submitting => submit(&mut self.leaves),
+            Point::Taking => true,
         };
         self.leave = leave_by(turn, point, answer);
         self.asked = self.asked.and(&Question {
@@ -252,7 +283,8 @@ impl Gate for ClientBell<'_> {
             ≡ hinted_by (slot_of self.old.roll.now.rows) party self.old.hints.now }
         ensures roll { (self.new.roll.now ≡ self.old.roll.now) × (self.new.leave ≡ self.old.leave) }
         ensures answers { (self.new.account ≡ self.old.account)
-            × (self.new.refused ≡ self.old.refused) × (self.new.lacked ≡ self.old.lacked) }
+            × (self.new.refused ≡ self.old.refused) × (self.new.lacked ≡ self.old.lacked)
+            × (self.new.leaves ≡ self.old.leaves) }
     {
         let number = party_number(self.lanes, self.roll, self.hints, party);
         self.schedule.add(number);

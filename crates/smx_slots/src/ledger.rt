@@ -2,11 +2,11 @@
 ghost use Rattle.std.specs.Prelude.{◌≡◌, [], ◌++◌, ◌≤◌, ◌<◌, length, false, true, if◌then◌else◌, slice_get, replicate, All, IfOk, OnOk, OnErr};
 ghost use Rattle.std.specs.List.{range_with_len};
 ghost use Rattle.std.specs.Option.{option_map_or};
-ghost use Rattle.smx_slots.specs.Ledger.{with_client, without_client, with_accepted, with_settled, may_bind, may_request, account_of, requests_of, is_known, count_of, bound_of, total_of, renewed};
+ghost use Rattle.smx_slots.specs.Ledger.{with_client, without_client, with_accepted, with_settled, may_bind, may_request, may_request_beside, account_of, requests_of, is_known, count_of, bound_of, total_of, renewed, greatest_count};
 
 use crate::accounts::{accounts_of, with_zeros};
 use crate::entries::{Entries, Entry};
-use crate::limits::{AccountLimits, is_below};
+use crate::limits::{AccountLimits, is_below, is_below_beside};
 use crate::movement::Movement;
 use smx_trace::Trace;
 use std::alloc::{AllocError, Global};
@@ -160,6 +160,26 @@ impl Ledger {
         !self.draining
             && entry.here
             && is_below(self.limits[entry.key].requests, self.requests[entry.key])
+    }
+
+    /// Whether one more request of the client may be under way, beside so many that have leave and aren't
+    /// accepted yet.
+    pub fn admits_beside(&self, client: u64, leaves: u64) -> bool
+        ensures beside { result ≡ may_request_beside leaves client
+            (account_of client self.now.movements) self.now }
+        ensures few { result ≡ true → leaves < greatest_count }
+    {
+        let Some(entry) = self.clients.get(client) else {
+            return false;
+        };
+        if self.draining || !entry.here {
+            return false;
+        }
+        is_below_beside(
+            self.limits[entry.key].requests,
+            self.requests[entry.key],
+            leaves,
+        )
     }
 
     /// A lane accepted a request of the client. Nothing changes where it isn't bound, or a count is as great

@@ -1,5 +1,5 @@
 //! What an account may have.
-ghost use Rattle.std.specs.Prelude.{◌≡◌, ◌<◌, true};
+ghost use Rattle.std.specs.Prelude.{◌≡◌, ◌<◌, ◌+◌, true};
 ghost use Rattle.smx_slots.specs.Ledger.{is_below, greatest_count};
 
 /// What an account may have at a time: so many bound clients, and so many requests of theirs that were
@@ -18,5 +18,16 @@ pub(crate) fn is_below(limit: Option<u32>, count: u64) -> bool
     match limit {
         Some(most) => count < u64::from(most),
         None => count < u64::MAX,
+    }
+}
+
+// The same beside so many others.
+pub(crate) fn is_below_beside(limit: Option<u32>, count: u64, others: u64) -> bool
+    ensures below { result ≡ is_below limit (count + others) }
+    ensures room { result ≡ true → count + others < greatest_count }
+{
+    match count.checked_add(others) {
+        Some(all) => is_below(limit, all),
+        None => false,
     }
 }
