@@ -1,6 +1,5 @@
 -- Requests that a list has leave more octets to go out, so takes come to an end.
-use Rattle.std.proofs.Common.{◌≡◌, ◌<◌, ◌≤◌, ◌+◌, ◌-◌, ◌==◌, ◌&&◌, ℕ, List, [], ◌∷◌, ◌++◌, Bool, true, false, not, refl, Result, Ok, Err, IfOk, sym, true≢false, length, map, is_none, length-append, arith}
-use Rattle.std.proofs.lemmas.Bool.{and_parts}
+use Rattle.std.proofs.Common.{◌≡◌, ◌<◌, ◌≤◌, ◌+◌, ◌-◌, ℕ, List, [], ◌∷◌, ◌++◌, Bool, true, false, Option, Some, None, refl, Result, Ok, Err, IfOk, sym, true≢false, length, map, is_none, length-append, arith}
 use Rattle.smx_pdu.specs.declared.pdu.Pdu.{Pdu}
 use Rattle.smx_pdu.specs.Pdu.{spelling}
 use Rattle.smx_pdu.proofs.Spelling.{length-spelling}
@@ -9,6 +8,7 @@ use Rattle.smx_lock.specs.Fronts.{Front}
 use Rattle.smx_lock.specs.declared.faults.Spent.{Spent}
 use Rattle.smx_history.specs.declared.limits.Limits.{Limits}
 use Rattle.smx_history.specs.declared.note.Note.{Note}
+use Rattle.smx_history.specs.declared.reply.TakeRefusal.{TakeRefusal}
 use Rattle.smx_lane.specs.declared.sent.Sent.{Sent}
 use Rattle.smx_shared.specs.declared.batch.Takings.{Takings}
 use Rattle.smx_shared.specs.Batches.{TakesAll, octets_of_requests}
@@ -17,13 +17,18 @@ use Rattle.smx_upstream.specs.Events.{face_up, may_give_more, requests_up}
 longer : (p : Pdu) (more us : List ℕ) → length us < length (us ++ (spelling p ++ more))
 longer p more us = omega (arith, length-append us (spelling p ++ more), length-append (spelling p) more, length-spelling p)
 
-grows_by : (b : Bool) (ss : List Sent) (us : List ℕ) → (b && not (length ss == 0)) ≡ true → length us < length (us ++ spellings (map face_up ss))
-grows_by b [] us h = absurd (true≢false (sym (and_parts b false h).1))
-grows_by b (s ∷ ss) us h = longer (face_up s) (spellings (map face_up ss)) us
+grows_by : (ss : List Sent) (us : List ℕ) → 0 < length ss → length us < length (us ++ spellings (map face_up ss))
+grows_by [] us some = absurd (omega (arith, some))
+grows_by (s ∷ ss) us some = longer (face_up s) (spellings (map face_up ss)) us
 
-pub grows : (r : Result Takings Spent) (us : List ℕ) → may_give_more r ≡ true → length us < length (us ++ spellings (requests_up r))
-grows (Ok b) us h = grows_by (is_none b.stop) b.requests.items us h
-grows (Err e) us h = absurd (true≢false (sym h))
+has_none : (o : Option TakeRefusal) → is_none o ≡ true → o ≡ None
+has_none None h = refl
+has_none (Some r) h = absurd (true≢false (sym h))
+
+-- a list that may be followed by another has a request
+pub grows : (f g : Front Note Limits) (now : ℕ) (r : Result Takings Spent) (us : List ℕ) → TakesAll f g now r → may_give_more r ≡ true → length us < length (us ++ spellings (requests_up r))
+grows f g now (Ok b) us t h = grows_by b.requests.items us (t.some (has_none b.stop h))
+grows f g now (Err e) us t h = absurd (true≢false (sym h))
 
 -- how much a turn may still take, where its lane may have more or not
 abbrev pub left_to_take : Bool → List ℕ → ℕ

@@ -61,7 +61,7 @@ gives_none (Err e) = true
 
 -- whether the list has requests and ended at a limit, so that more may be queued
 abbrev pub may_give_more : Result Takings LaneSpent → Bool
-may_give_more (Ok b) = is_none b.stop && not (length b.requests.items == 0)
+may_give_more (Ok b) = is_none b.stop
 may_give_more (Err e) = false
 
 -- an answer of a client to a message of this link goes upstream under the centre's number, and any other is dropped

@@ -20,12 +20,12 @@ pub(crate) fn gives_none(taken: &Result<Takings, Spent>) -> bool
     }
 }
 
-// Whether the list has requests and ended at a limit, so that more may be queued.
+// Whether the list ended at a limit, so that more may be queued.
 pub(crate) fn may_give_more(taken: &Result<Takings, Spent>) -> bool
     ensures { result ≡ may_give_more taken.now }
 {
     match taken {
-        Ok(Takings { requests, stop }) => stop.is_none() && !requests.is_empty(),
+        Ok(Takings { stop, .. }) => stop.is_none(),
         Err(_) => false,
     }
 }

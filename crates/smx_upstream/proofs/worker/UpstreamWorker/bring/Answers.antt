@@ -1,4 +1,4 @@
-use Rattle.std.proofs.Common.{◌≡◌, ◌++◌, Some, false, true, refl, sym, ap, ◌∙◌, subst}
+use Rattle.std.proofs.Common.{◌≡◌, ◌≤◌, ◌++◌, length, Some, false, true, refl, sym, ap, ◌∙◌, subst}
 use Rattle.std.proofs.lemmas.List.{append-nil}
 use Rattle.std.specs.Result.{is_err}
 use Rattle.smx_session.specs.Moments.{is_bound}
@@ -25,12 +25,13 @@ invariant_of-self g c =
     let held : c.self.inside.held ≡ Some p = sym c.take.ensures.value ∙ c.in-Some.is in
     let all = ap (λ v. v.items) c.of-read.ensures ∙ listed c.args.empty.0.items c.push_reserved.new.self.items c.gather.new.responses.items heard.0 p c.requires.empty.0 c.push_reserved.ensures.items heard.1 in
     let on = ap (λ w. w.ending) c.self.view_is ∙ c.requires.goes_on in
+    let few = subst (λ v. length v.items ≤ 64) (sym c.of-read.ensures) c.gather.ensures.few in
     let answer = waits_so c.self.inside.held c.requires.answer.0 p (ap (λ w. w.held) c.self.view_is ∙ c.requires.answer.1) c.requires.answer.2 held in
     let brings = subst (λ v. BringsAll c.self.inside.tap.front c.answer_all-brought.new.self.front v.items c.of.result.value) (sym c.of-read.ensures)
     (subst (λ r. BringsAll c.self.inside.tap.front c.answer_all-brought.new.self.front c.gather.new.responses.items r) (sym c.of.ensures) c.answer_all-brought.ensures.served) in
     did_hearing _ _ e heard.0 c.self.invariant c.jot.ensures.events heard.2 (all ∙ ap (λ o. those o ++ heard.0) (sym held)) c.take.ensures.after
     (ap (λ w. w.said) c.gather.ensures.same ∙ sym (append-nil _)) refl
-    (brought_does _ _ c.of-read.result c.args.now c.lane-lane.result c.of.result p heard.0 all (ap (λ w. is_bound w.stand.session.state) c.self.view_is ∙ c.requires.bound) (answer, heard.3) c.on_pdu.ensures.session brings c.lane-lane.ensures c.answer_all-brought.ensures.same.0 refl)
+    (brought_does _ _ c.of-read.result c.args.now c.lane-lane.result c.of.result p heard.0 all (ap (λ w. is_bound w.stand.session.state) c.self.view_is ∙ c.requires.bound) (answer, heard.3) c.on_pdu.ensures.session brings c.lane-lane.ensures c.answer_all-brought.ensures.same.0 refl few)
     (λ h. ap (λ w. w.failed) c.gather.ensures.same ∙ c.self.invariant.goes_on h) (goes_on c.self.inside.ending)
     (record { stays = none_bad c.self.inside.wire (c.self.invariant.goes_on on); met = λ h. let no : false ≡ true = h in cc }) refl c.answer_all-brought.ensures.same
 
@@ -47,10 +48,11 @@ returns-clause-goes g c =
     let p = c.in-Some.first in
     let held : c.self.inside.held ≡ Some p = sym c.take.ensures.value ∙ c.in-Some.is in
     let all = ap (λ v. v.items) c.of-read.ensures ∙ listed c.args.empty.0.items c.push_reserved.new.self.items c.gather.new.responses.items heard.0 p c.requires.empty.0 c.push_reserved.ensures.items heard.1 in
+    let few = subst (λ v. length v.items ≤ 64) (sym c.of-read.ensures) c.gather.ensures.few in
     let answer = waits_so c.self.inside.held c.requires.answer.0 p (ap (λ w. w.held) c.self.view_is ∙ c.requires.answer.1) c.requires.answer.2 held in
     let brings = subst (λ v. BringsAll c.self.inside.tap.front c.answer_all-brought.new.self.front v.items c.of.result.value) (sym c.of-read.ensures)
     (subst (λ r. BringsAll c.self.inside.tap.front c.answer_all-brought.new.self.front c.gather.new.responses.items r) (sym c.of.ensures) c.answer_all-brought.ensures.served) in
-    let does = brought_does _ _ c.of-read.result c.args.now c.lane-lane.result c.of.result p heard.0 all (ap (λ w. is_bound w.stand.session.state) c.self.view_is ∙ c.requires.bound) (answer, heard.3) c.on_pdu.ensures.session brings c.lane-lane.ensures c.answer_all-brought.ensures.same.0 refl in
+    let does = brought_does _ _ c.of-read.result c.args.now c.lane-lane.result c.of.result p heard.0 all (ap (λ w. is_bound w.stand.session.state) c.self.view_is ∙ c.requires.bound) (answer, heard.3) c.on_pdu.ensures.session brings c.lane-lane.ensures c.answer_all-brought.ensures.same.0 refl few in
     rw (← c.self.view_is)
     (λ turn queries. goes_by turn _ _ _ _ (Did e) c.jot.ensures.log (subst (λ w. MayDecide (g.L.Link.polls w.wire.link) w.wire.unsent) (sym c.self.view_is) c.requires.may)
     (happens g.L.Link.offered g.L.Link.polls g.L.Link.failures Does worth _ _ _ _ _ _ _ _ _ _ _ _ _ _ e does c.tell_all-spent.ensures.asked

@@ -31,7 +31,7 @@ returns-clause-phase g c = λ t full more was.
     ∙ ap (λ b. unless_spent c.is_err-spent.result (when_taken full b)) (ap may_give_more c.of.ensures ∙ sym c.may_give_more-more.ensures))
 
 pub returns-clause-more : goal.returns-clause-more
-returns-clause-more g c = rw (← c.self.view_is) (λ given. subst (λ us. length c.self.inside.wire.unsent < length us) (sym c.say_taken.ensures.unsent) (grows c.take_all-taken.result _ (sym c.may_give_more-more.ensures ∙ c.more_unless_spent.ensures.ok given)))
+returns-clause-more g c = rw (← c.self.view_is) (λ given. subst (λ us. length c.self.inside.wire.unsent < length us) (sym c.say_taken.ensures.unsent) (grows _ _ _ c.take_all-taken.result _ c.take_all-taken.ensures.served (sym c.may_give_more-more.ensures ∙ c.more_unless_spent.ensures.ok given)))
 
 pub take_all-taken-requires : goal.take_all-taken-requires
 take_all-taken-requires g c = record { lock = lock_now _ _ _ c.self.view_is c.self.invariant c.requires.lock; room = c.requires.list }
