@@ -16,6 +16,8 @@ use Rattle.smx_session.specs.declared.enquiry.Enquiry.{Enquiry}
 use Rattle.smx_shared.specs.declared.offer.Offer.{Offer}
 use Rattle.smx_shared.specs.declared.fault.SubmitFault.{SubmitFault}
 use Rattle.smx_shared.specs.declared.batch.Collected.{Collected as Batch}
+use Rattle.smx_shared.specs.declared.batch.Landing.{Landing}
+use Rattle.std.specs.Global.{Vec}
 use Rattle.smx_link.specs.declared.link.Polled.{Polled}
 use Rattle.smx_link.specs.declared.link.LinkFault.{LinkFault}
 use Rattle.smx_turns.specs.declared.gate.Point.TheVariants.{Reading, Binding, Refusing, Admitting, Submitting, Collecting}
@@ -29,7 +31,7 @@ use Rattle.smx_client.specs.declared.stage.Stage.{Stage}
 use Rattle.smx_client.specs.declared.stage.Stage.TheVariants.{Open, Drained, Closed}
 use Rattle.smx_turns.specs.declared.mark.Mark.TheVariants.{Offered, WriteFailed, Waited, NoRoom, Part, Entered, Full as Clogs}
 use Rattle.smx_client.specs.declared.reply.Reply.{Reply}
-use Rattle.smx_client.specs.declared.event.Event.TheVariants.{Decided, Broke, Collected, PutAgain, Heard, Expired, Looked, LinkEnded, Got as Fetched}
+use Rattle.smx_client.specs.declared.event.Event.TheVariants.{Decided, Broke, Collected, PutAgain, Heard, Expired, Looked, Forwarded, LinkEnded, Got as Fetched}
 use Rattle.smx_client.specs.declared.event.Fate.TheVariants.{Submitted, Barred, Settled as Settles}
 use Rattle.smx_client.specs.declared.event.Delivery.{Delivery}
 use Rattle.smx_client.specs.declared.event.Progress.{Progress}
@@ -40,7 +42,7 @@ use Rattle.smx_shared.specs.Views.{PortView}
 use Rattle.smx_turns.specs.Rounds.{last_end}
 use Rattle.smx_turns.specs.Wires.{some_wait}
 use Rattle.smx_turns.proofs.Logged.{phase_push}
-use Rattle.smx_client.specs.Table.{Before, Phase, Opening, AtLane, MayCollect, Clear, Draining, MayRead, Hearing, Ageing, Looking, Gone, Deciding, MayBind, MayRefuse, Admitted, Barring, MaySubmit, Unentered, Settled, Stopped, Clogged, Closing, Ending, Over, Failed, Wrong, step_of, phase_of, go, from_opening, when_offered, when_written, halts, from_lane, when_may_collect, from_boxing, from_collecting, from_draining, from_clear, from_may_read, from_hearing, from_ageing, from_looking, from_deciding, from_admitted, from_barring, from_may_submit, from_entering, from_closing, is_same_leave, after_reply, after_got, after_collect, after_read, after_expired, is_given_at, after_look, after_bind, Faulted, EndsIn, Stands, IsAt}
+use Rattle.smx_client.specs.Table.{Before, Phase, Opening, AtLane, MayCollect, Clear, Draining, MayRead, Hearing, Ageing, Looking, Gone, Deciding, MayBind, MayRefuse, Admitted, Barring, MaySubmit, when_admitted, Unentered, Settled, Stopped, Clogged, Closing, Ending, Over, Failed, Wrong, step_of, phase_of, go, from_opening, when_offered, when_written, halts, from_lane, when_may_collect, from_boxing, from_collecting, from_draining, from_clear, from_may_read, from_hearing, from_ageing, from_looking, from_deciding, from_admitted, from_barring, from_may_submit, from_entering, from_closing, is_same_leave, after_reply, after_got, after_collect, after_read, after_expired, is_given_at, after_look, after_bind, Faulted, EndsIn, Stands, IsAt}
 
 -- one step more
 pub phase_more : (t : Before) (ss ss' : List step_of) (s : step_of) (p : Phase) → ss' ≡ ss ++ s ∷ [] → phase_of t ss ≡ p → phase_of t ss' ≡ go t p s
@@ -171,21 +173,25 @@ module _ (t : Before) where
   unfolding go from_deciding
   no_refuse ended = refl
 
-  pub yes_admit : (ended : Bool) → go t (Deciding ended) (Asked Admitting true) ≡ Admitted ended
+  pub yes_submit : (ended : Bool) → go t (Deciding ended) (Asked Submitting true) ≡ MaySubmit ended
   unfolding go from_deciding
-  yes_admit ended = refl
-
-  pub no_admit : (ended : Bool) → go t (Deciding ended) (Asked Admitting false) ≡ Barring ended leave.Request
-  unfolding go from_deciding
-  no_admit ended = refl
-
-  pub yes_submit : (ended : Bool) → go t (Admitted ended) (Asked Submitting true) ≡ MaySubmit ended
-  unfolding go from_admitted
   yes_submit ended = refl
 
-  pub no_submit : (ended : Bool) → go t (Admitted ended) (Asked Submitting false) ≡ Stopped
-  unfolding go from_admitted
+  pub no_submit : (ended : Bool) → go t (Deciding ended) (Asked Submitting false) ≡ Stopped
+  unfolding go from_deciding
   no_submit ended = refl
+
+  pub yes_admit : (ended : Bool) → go t (MaySubmit ended) (Asked Admitting true) ≡ Admitted ended 1
+  unfolding go from_may_submit
+  yes_admit ended = refl
+
+  pub no_admit : (ended : Bool) → go t (MaySubmit ended) (Asked Admitting false) ≡ Barring ended leave.Request
+  unfolding go from_may_submit
+  no_admit ended = refl
+
+  pub more_admit : (ended : Bool) (n : ℕ) (answer : Bool) → go t (Admitted ended n) (Asked Admitting answer) ≡ when_admitted ended n answer
+  unfolding go from_admitted
+  more_admit ended n answer = refl
 
   same_leave : (l : Ask) → is_same_leave l l ≡ true
   same_leave (leave.Bind i) = eq-eqb i i refl
@@ -212,9 +218,13 @@ module _ (t : Before) where
   unfolding go from_deciding
   settles ended p a found reply = refl
 
-  pub submits : (ended : Bool) (p : Snapshot Pdu) (a : Snapshot Act) (o : Snapshot Offer) (r : Snapshot (Result ℕ (Offer × SubmitFault))) → go t (MaySubmit ended) (Did (Decided p a (Submitted o r))) ≡ Deciding ended
-  unfolding go from_may_submit
+  pub submits : (ended : Bool) (p : Snapshot Pdu) (a : Snapshot Act) (o : Snapshot Offer) (r : Snapshot (Result ℕ (Offer × SubmitFault))) → go t (Admitted ended 1) (Did (Decided p a (Submitted o r))) ≡ Deciding ended
+  unfolding go from_admitted
   submits ended p a o r = refl
+
+  pub forwards : (ended : Bool) (n : ℕ) (ps : List Pdu) (os : Snapshot (Vec Offer)) (r : Snapshot (Result (Vec Landing) (Vec Offer × Spent))) → length ps ≡ n → go t (Admitted ended n) (Did (Forwarded ps os r)) ≡ Deciding ended
+  unfolding go from_admitted
+  forwards ended n ps os r all = ap (λ b. if b then Deciding ended else Wrong) (eq-eqb (length ps) n all)
 
   enters : (ended : Bool) (account : ℕ) (whole : Bool) → from_entering ended account (Marked (Entered account whole)) ≡ (if whole then Deciding ended else Unentered)
   unfolding from_entering

@@ -1,5 +1,5 @@
 -- Each event as one step of the parts, said of plain values.
-use Rattle.std.proofs.Common.{◌≡◌, ◌<◌, ℕ, List, [], ◌∷◌, ◌++◌, length, sym, ◌∙◌, ap, refl, subst, Option, Some, None, Result}
+use Rattle.std.proofs.Common.{◌≡◌, ◌≤◌, ◌<◌, ℕ, List, [], ◌∷◌, ◌++◌, length, sym, ◌∙◌, ap, refl, subst, Option, Some, None, Result}
 use Rattle.std.proofs.lemmas.List.{append-nil}
 use Rattle.std.specs.declared.snapshot.Snapshot.{Snapshot}
 use Rattle.smx_pdu.specs.declared.pdu.Pdu.{Pdu}
@@ -19,6 +19,9 @@ use Rattle.smx_shared.specs.Ports.{HasAccepted}
 use Rattle.smx_shared.specs.declared.offer.Offer.{Offer}
 use Rattle.smx_shared.specs.declared.fault.SubmitFault.{SubmitFault}
 use Rattle.smx_shared.specs.declared.batch.Collected.{Collected as Batch}
+use Rattle.smx_shared.specs.declared.batch.Landing.{Landing}
+use Rattle.smx_shared.specs.Landings.{accepted_all}
+use Rattle.std.specs.Global.{Vec}
 use Rattle.smx_box.specs.declared.receiver.Got.{Got}
 use Rattle.smx_box.specs.Boxes.{Sending, Receiving}
 use Rattle.smx_routes.specs.Window.{Window}
@@ -27,14 +30,14 @@ use Rattle.smx_turns.specs.Worth.{those}
 use Rattle.smx_client.specs.declared.desk.Desk.{Desk}
 use Rattle.smx_client.specs.declared.reply.Parked.{Parked}
 use Rattle.smx_client.specs.declared.reply.Reply.{Reply}
-use Rattle.smx_client.specs.declared.event.Event.TheVariants.{Decided, Broke, Collected, PutAgain, Heard, Expired, Looked, Unbound, LinkEnded, Got as Fetched}
+use Rattle.smx_client.specs.declared.event.Event.TheVariants.{Decided, Broke, Collected, PutAgain, Heard, Expired, Looked, Unbound, Forwarded, LinkEnded, Got as Fetched}
 use Rattle.smx_client.specs.declared.event.Fate.TheVariants.{Own, Submitted, Barred, Settled}
 use Rattle.smx_client.specs.declared.event.Delivery.{Delivery}
 use Rattle.smx_client.specs.Replies.{PutSo, SettlesSo, ExpiresSo, Parks, put_in, parked_on, on_lane}
-use Rattle.smx_client.specs.Events.{act_out, refusal_out, response_out, enquiry_out, got_out, got_answers, settled_out, expired_answers}
+use Rattle.smx_client.specs.Events.{act_out, refusal_out, refusals_out, response_out, enquiry_out, got_out, got_answers, settled_out, expired_answers}
 use Rattle.smx_client.proofs.Bindings.{submits_by, settles_by}
 use Rattle.smx_client.proofs.Replying.{put_count, settles_count, expires_count, delivery_count}
-use Rattle.smx_client.specs.Parts.{parts, Does, Suits, fate_session, collect_step, submit_step, settle_step, expire_step, got_step, Gets, delivery_senders, delivery_parks, IsOfferOf}
+use Rattle.smx_client.specs.Parts.{parts, Does, Suits, fate_session, collect_step, submit_step, settle_step, expire_step, got_step, Gets, delivery_senders, delivery_parks, IsOfferOf, AreOffersOf, AreForwarded, list_step}
 
 -- nothing is put, and nothing is to be answered
 still : (l : List (Option Pdu)) → l ≡ l ++ []
@@ -207,6 +210,24 @@ module _ (d : Desk) (said said' : List Pdu) (s : Client) (w : Window) (i : Recei
     port = step;
     lists = lists;
     session = (session.0, session.1, ap (λ o. record s { account = o }) (submits_by a.value o r s.account session.1));
+    window = refl;
+    inbox = refl;
+    senders = refl;
+    answers = λ k within. same_put x h k;
+    parked = refl;
+    desk = refl;
+    lanes = refl;
+  }
+
+  -- requests went to the one lane in one hold
+  pub forwarded : (p p' : PortView) (ps : List Pdu) (os : Snapshot (Vec Offer)) (r : Snapshot (Result (Vec Landing) (Vec Offer × Spent))) → said' ≡ said ++ refusals_out ps r.value
+      → (length ps ≤ 16) × AreOffersOf ps os.value.items × list_step os.value.items r.value p p' → ((all : List Accepted) → HasAccepted p all → HasAccepted p' (all ++ accepted_all os.value.items r.value))
+      → AreForwarded d.accounts.items s ps → Does (parts d said p s w i x h) (Forwarded ps os r) (parts d said' p' s w i x h)
+  forwarded p p' ps os r says step lists session = record {
+    says = says;
+    port = step;
+    lists = lists;
+    session = (session, refl);
     window = refl;
     inbox = refl;
     senders = refl;

@@ -243,7 +243,7 @@ asked_request : (o : Option ℕ) (s : ClientState) (p : Pdu) → request_asks o 
 asked_request None s p e = refl
 asked_request (Some status) s p e = absurd (cc)
 
-request_cell : (c : ClientCell) (accounts : List Login) (account : Option ℕ) (s : ClientState) (p : Pdu) → cell_asks c accounts account p ≡ Some Request → client_decision c accounts account s p ≡ (act.Forward, s)
+pub request_cell : (c : ClientCell) (accounts : List Login) (account : Option ℕ) (s : ClientState) (p : Pdu) → cell_asks c accounts account p ≡ Some Request → client_decision c accounts account s p ≡ (act.Forward, s)
 request_cell (checks k) accounts account s p e = absurd (request_bind (check_bind accounts p.body) e)
 request_cell (answer status) accounts account s p e = absurd (cc)
 request_cell nack accounts account s p e = absurd (cc)

@@ -16,3 +16,4 @@ pub mod Serving
 pub mod Faults
 pub mod Lengthening
 pub mod Lists
+pub mod RequestLists

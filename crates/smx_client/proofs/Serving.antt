@@ -1,5 +1,5 @@
 -- What a worker keeps by one event more.
-use Rattle.std.proofs.Common.{◌≡◌, ◌≢◌, ◌<◌, ℕ, List, [], ◌∷◌, ◌++◌, length, Bool, true, true≢false, Option, Some, None, IsSome, Result, sym, ◌∙◌, ap, refl, subst}
+use Rattle.std.proofs.Common.{◌≡◌, ◌≢◌, ◌<◌, ℕ, List, [], ◌∷◌, ◌++◌, length, Bool, true, true≢false, Option, Some, None, IsSome, Result, sym, ◌∙◌, ap, refl, subst, append_assoc}
 use Rattle.smx_pdu.specs.declared.pdu.Pdu.{Pdu}
 use Rattle.smx_frame.specs.Stream.{HasNone}
 use Rattle.smx_link.specs.declared.link.Polled.{Polled}
@@ -11,11 +11,11 @@ use Rattle.smx_session.specs.declared.ask.Ask.{Ask}
 use Rattle.smx_session.specs.declared.client_state.ClientState.{ClientState}
 use Rattle.smx_session.specs.declared.client_state.ClientState.TheVariants.{Ended}
 use Rattle.smx_turns.specs.Wires.{has_ended}
-use Rattle.smx_turns.specs.Worth.{those}
+use Rattle.smx_turns.specs.Worth.{ins, those}
 use Rattle.smx_turns.proofs.Breaking.{BadKept, still_bad}
 use Rattle.smx_turns.proofs.Chains.{chain_push}
 use Rattle.smx_turns.proofs.Logged.{phase_push}
-use Rattle.smx_turns.proofs.Worths.{ending_push, heard_push}
+use Rattle.smx_turns.proofs.Worths.{ending_push, heard_push, ins_push}
 use Rattle.smx_turns.specs.Endings.{or_end}
 use Rattle.smx_client.specs.Refusals.{refused_after, last_refused}
 use Rattle.smx_client.specs.declared.event.Event.{Event}
@@ -53,14 +53,14 @@ module _ {L : Type 0} (polls : L → List (Result Polled LinkFault)) where
       → s ≡ Closed → c' ≢ Ended → (b ≡ true) × (has_ended (polls l') ≡ true)
   stops_closed l l' s c c' b link stopped was at going = as_closed l l' s c b link was at (λ e. going (stopped ∙ ap client_state_after_stop e))
 
-  -- it did one thing more, which reads nothing
-  pub did : (v w : Serving L) (e : Event) → IsServing polls v → w.wire.link ≡ v.wire.link → w.wire.start ≡ v.wire.start → w.stage ≡ v.stage → first_of w ≡ first_of v → locks_of w.port.fronts ≡ locks_of v.port.fronts → w.events ≡ v.events ++ e ∷ []
-      → w.ending ≡ or_end v.ending (worth e).ends → w.refused ≡ refused_after v.refused e → w.wire.heard ≡ v.wire.heard → (worth e).decided ++ those w.held ≡ those v.held → Does (parts_of v) e (parts_of w)
+  -- it did one thing more, and what was heard is what was decided and one that waits
+  heard_and_did : (v w : Serving L) (e : Event) → IsServing polls v → w.wire.link ≡ v.wire.link → w.wire.start ≡ v.wire.start → w.stage ≡ v.stage → first_of w ≡ first_of v → locks_of w.port.fronts ≡ locks_of v.port.fronts → w.events ≡ v.events ++ e ∷ []
+      → w.ending ≡ or_end v.ending (worth e).ends → w.refused ≡ refused_after v.refused e → w.wire.heard ≡ ins worth w.events ++ those w.held → Does (parts_of v) e (parts_of w)
       → (w.settled ≡ true → (w.held ≡ None) × HasNone 65536 w.wire.rest) → BadKept (worth e).breaks v.wire w.wire
       → (w.stage ≡ Closed → w.session.state ≢ Ended → (w.settled ≡ true) × (has_ended (polls w.wire.link) ≡ true)) → IsServing polls w
   unfolding last_refused
-  did v w e was link start stage first locks grown ends refuses heard decided does settled bad closed = record {
-    heard = heard_push worth v.wire.heard w.wire.heard v.events w.events e v.held w.held grown was.heard heard decided;
+  heard_and_did v w e was link start stage first locks grown ends refuses heard does settled bad closed = record {
+    heard = heard;
     runs = chain_push Does (first_of w) (parts_of v) (parts_of w) v.events w.events e grown does (subst (λ (a : Parts). Chain a v.events (parts_of v)) (sym first) was.runs);
     settled = settled;
     locks = locks ∙ was.locks ∙ sym (ap (λ (a : Parts). locks_of a.port.fronts) first);
@@ -71,6 +71,24 @@ module _ {L : Type 0} (polls : L → List (Result Polled LinkFault)) where
     drained = λ at. ap (λ l. has_ended (polls l)) link ∙ was.drained (sym stage ∙ at);
     closed = closed;
   }
+
+  -- it did one thing more, which reads nothing
+  pub did : (v w : Serving L) (e : Event) → IsServing polls v → w.wire.link ≡ v.wire.link → w.wire.start ≡ v.wire.start → w.stage ≡ v.stage → first_of w ≡ first_of v → locks_of w.port.fronts ≡ locks_of v.port.fronts → w.events ≡ v.events ++ e ∷ []
+      → w.ending ≡ or_end v.ending (worth e).ends → w.refused ≡ refused_after v.refused e → w.wire.heard ≡ v.wire.heard → (worth e).decided ++ those w.held ≡ those v.held → Does (parts_of v) e (parts_of w)
+      → (w.settled ≡ true → (w.held ≡ None) × HasNone 65536 w.wire.rest) → BadKept (worth e).breaks v.wire w.wire
+      → (w.stage ≡ Closed → w.session.state ≢ Ended → (w.settled ≡ true) × (has_ended (polls w.wire.link) ≡ true)) → IsServing polls w
+  did v w e was link start stage first locks grown ends refuses heard decided =
+      heard_and_did v w e was link start stage first locks grown ends refuses (heard_push worth v.wire.heard w.wire.heard v.events w.events e v.held w.held grown was.heard heard decided)
+
+  -- or which heard these and decided them with the one that waited, and now another waits
+  pub did_hearing : (v w : Serving L) (e : Event) (ps : List Pdu) → IsServing polls v → w.wire.link ≡ v.wire.link → w.wire.start ≡ v.wire.start → w.stage ≡ v.stage → first_of w ≡ first_of v → locks_of w.port.fronts ≡ locks_of v.port.fronts → w.events ≡ v.events ++ e ∷ []
+      → w.ending ≡ or_end v.ending (worth e).ends → w.refused ≡ refused_after v.refused e → w.wire.heard ≡ v.wire.heard ++ ps ++ those w.held → (worth e).decided ≡ those v.held ++ ps → Does (parts_of v) e (parts_of w)
+      → (w.settled ≡ true → (w.held ≡ None) × HasNone 65536 w.wire.rest) → BadKept (worth e).breaks v.wire w.wire
+      → (w.stage ≡ Closed → w.session.state ≢ Ended → (w.settled ≡ true) × (has_ended (polls w.wire.link) ≡ true)) → IsServing polls w
+  did_hearing v w e ps was link start stage first locks grown ends refuses heard decided =
+      heard_and_did v w e was link start stage first locks grown ends refuses
+      (heard ∙ ap (λ l. l ++ ps ++ those w.held) was.heard
+      ∙ ap (λ l. l ++ those w.held) (append_assoc (ins worth v.events) (those v.held) ps ∙ ap (λ l. ins worth v.events ++ l) (sym decided) ∙ sym (ins_push worth v.events w.events e grown)))
 
   -- the same session, and the same PDU that waits
   pub holds_on : (v w : Serving L) → IsServing polls v → w ≡ record v { session = w.session; held = w.held } → w.session ≡ v.session → w.held ≡ v.held → IsServing polls w

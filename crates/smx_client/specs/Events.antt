@@ -16,6 +16,9 @@ use Rattle.smx_shared.specs.declared.offer.Offer.{Offer}
 use Rattle.smx_shared.specs.declared.fault.SubmitFault.{SubmitFault}
 use Rattle.smx_shared.specs.declared.fault.SubmitFault.TheVariants as submit
 use Rattle.smx_shared.specs.declared.batch.Collected.{Collected as Batch}
+use Rattle.smx_shared.specs.declared.batch.Landing.{Landing}
+use Rattle.smx_shared.specs.Landings.{accepted_all}
+use Rattle.std.specs.Global.{Vec}
 use Rattle.smx_shared.specs.Offers.{Accepted, accepted_by}
 use Rattle.smx_lock.specs.declared.faults.Spent.{Spent}
 use Rattle.smx_box.specs.declared.fault.Spent.{Spent as BoxSpent}
@@ -29,7 +32,7 @@ use Rattle.smx_turns.specs.declared.end.End.TheVariants as end
 use Rattle.smx_turns.specs.Puts.{finds_nothing}
 use Rattle.smx_turns.specs.Worth.{Worth, no_worth, says}
 use Rattle.smx_client.specs.declared.event.Event.{Event}
-use Rattle.smx_client.specs.declared.event.Event.TheVariants.{Decided, Broke, Collected, PutAgain, Heard, Expired, Looked, Unbound, LinkEnded, Got as Fetched}
+use Rattle.smx_client.specs.declared.event.Event.TheVariants.{Decided, Broke, Collected, PutAgain, Heard, Expired, Looked, Unbound, Forwarded, LinkEnded, Got as Fetched}
 use Rattle.smx_client.specs.declared.event.Fate.{Fate}
 use Rattle.smx_client.specs.declared.event.Fate.TheVariants.{Own, Submitted, Barred, Settled}
 use Rattle.smx_client.specs.declared.event.Delivery.{Delivery}
@@ -85,6 +88,16 @@ abbrev pub refusal_out : Pdu → Result ℕ (Offer × SubmitFault) → List Pdu
 refusal_out p (Ok lane) = []
 refusal_out p (Err e) = refusal_of (why_unaccepted e.1) p.command p.number ∷ []
 
+-- those of a list, in order
+abbrev pub refusals_each : List Pdu → List Landing → List Pdu
+refusals_each (p ∷ ps) (l ∷ ls) = refusal_out p l.landed ++ refusals_each ps ls
+refusals_each _ _ = []
+
+-- where no ticket is left each is refused
+abbrev pub refusals_out : List Pdu → Result (Vec Landing) (Vec Offer × Spent) → List Pdu
+refusals_out ps (Ok ls) = refusals_each ps ls.items
+refusals_out ps (Err e) = map (λ p. refusal_of UsedUp p.command p.number) ps
+
 -- the PDUs of responses
 abbrev pub pdus_of : List Response → List Pdu
 pdus_of rs = map (λ r. r.pdu) rs
@@ -123,6 +136,7 @@ event_accepts (Heard now) = []
 event_accepts (Expired until found reply) = []
 event_accepts (Looked now e) = []
 event_accepts (Unbound p) = []
+event_accepts (Forwarded ps os r) = accepted_all os.value.items r.value
 event_accepts LinkEnded = []
 
 abbrev pub settled_out : ℕ → Pdu → Option (ℕ × ℕ) → List (Option Pdu)
@@ -159,6 +173,7 @@ event_answers k (Heard now) = []
 event_answers k (Expired until found reply) = expired_answers k found
 event_answers k (Looked now e) = []
 event_answers k (Unbound p) = []
+event_answers k (Forwarded ps os r) = []
 event_answers k LinkEnded = []
 
 -- the lane, where its return box took an answer
@@ -172,6 +187,11 @@ lane_told lane reply.Nobody = []
 abbrev pub submit_told : Result ℕ (Offer × SubmitFault) → List Party
 submit_told (Ok lane) = party.Lane lane ∷ []
 submit_told (Err e) = []
+
+-- and for each of a list
+abbrev pub landings_told : Result (Vec Landing) (Vec Offer × Spent) → List Party
+landings_told (Ok ls) = flat_map (λ l. submit_told l.landed) ls.items
+landings_told (Err e) = []
 
 abbrev pub settled_told : Option (ℕ × ℕ) → Reply → List Party
 settled_told None reply = []
@@ -251,6 +271,7 @@ worth (Heard now) = record no_worth { quiet = false }
 worth (Expired until found reply) = record no_worth { tells = expired_told found reply; quiet = is_none found; spent = is_spent_reply reply }
 worth (Looked now e) = record no_worth { said = enquiry_out e.value; quiet = is_not_due e.value; ends = silent_end (is_unanswered e.value) }
 worth (Unbound p) = says p.value
+worth (Forwarded ps os r) = record no_worth { decided = ps; said = refusals_out ps r.value; tells = landings_told r.value; quiet = false; spent = is_err r.value }
 worth LinkEnded = record no_worth { ends = Some end.LinkEnded }
 
 -- whether nothing came of it

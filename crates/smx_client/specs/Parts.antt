@@ -1,5 +1,5 @@
 -- The parts of a worker, and what an event does to them.
-use Rattle.std.specs.Prelude.{◌≡◌, ◌<◌, ◌++◌, length, ℕ, List, [], ◌∷◌, Option, Some, None, Result, Ok, Err}
+use Rattle.std.specs.Prelude.{◌≡◌, ◌≤◌, ◌<◌, ◌+◌, ◌++◌, length, ℕ, List, [], ◌∷◌, Option, Some, None, Result, Ok, Err}
 use Rattle.smx_pdu.specs.declared.pdu.Pdu.{Pdu}
 use Rattle.smx_session.specs.Login.{Login}
 use Rattle.smx_pdu.specs.Answers.{nack_of_undecoded}
@@ -16,6 +16,11 @@ use Rattle.smx_shared.specs.Offers.{Accepted}
 use Rattle.smx_shared.specs.Ports.{HasAccepted}
 use Rattle.smx_shared.specs.Collecting.{CollectsAll}
 use Rattle.smx_shared.specs.Submits.{Submitted as Lands, Refuses}
+use Rattle.smx_shared.specs.Landings.{SubmitsAll, accepted_all}
+use Rattle.smx_shared.specs.declared.batch.Landing.{Landing}
+use Rattle.std.specs.Global.{Vec}
+use Rattle.std.specs.List.{AllByRecursion}
+use Rattle.smx_session.specs.declared.ask.Ask.TheVariants.{Request}
 use Rattle.smx_shared.specs.declared.offer.Offer.{Offer}
 use Rattle.smx_shared.specs.declared.fault.SubmitFault.{SubmitFault}
 use Rattle.smx_shared.specs.declared.batch.Collected.{Collected as Batch}
@@ -29,7 +34,7 @@ use Rattle.smx_turns.specs.declared.mo_item.MoItem.{MoItem}
 use Rattle.smx_client.specs.declared.desk.Desk.{Desk}
 use Rattle.smx_client.specs.declared.reply.Parked.{Parked}
 use Rattle.smx_client.specs.declared.event.Event.{Event}
-use Rattle.smx_client.specs.declared.event.Event.TheVariants.{Decided, Broke, Collected, PutAgain, Heard, Expired, Looked, Unbound, LinkEnded, Got as Fetched}
+use Rattle.smx_client.specs.declared.event.Event.TheVariants.{Decided, Broke, Collected, PutAgain, Heard, Expired, Looked, Unbound, Forwarded, LinkEnded, Got as Fetched}
 use Rattle.smx_client.specs.declared.event.Fate.{Fate}
 use Rattle.smx_client.specs.declared.event.Fate.TheVariants.{Own, Submitted, Barred, Settled}
 use Rattle.smx_client.specs.declared.event.Delivery.{Delivery}
@@ -47,6 +52,20 @@ pub record IsOfferOf (p : Pdu) (o : Offer) : Type 0 where
 abbrev pub submit_step : Offer → Result ℕ (Offer × SubmitFault) → PortView → PortView → Type 0
 submit_step o (Ok lane) v w = Lands v o w lane
 submit_step o (Err e) v w = (e.0 ≡ o) × Refuses v o w e.1
+
+-- the offers are the requests that these PDUs ask for, one each and in order
+abbrev pub AreOffersOf : List Pdu → List Offer → Type 0
+AreOffersOf [] [] = Unit {0}
+AreOffersOf (p ∷ ps) (o ∷ os) = IsOfferOf p o × AreOffersOf ps os
+AreOffersOf _ _ = ⊥
+
+-- what a list of submits did to a port with one lane, by one hold
+abbrev pub list_step : List Offer → Result (Vec Landing) (Vec Offer × Spent) → PortView → PortView → Type 0
+list_step os r v w = (length v.fronts ≡ 1) × SubmitsAll v os w r × (w ≡ record v { next = v.next + length (accepted_all os r); fronts = w.fronts })
+
+-- each of these PDUs has to have a request's leave, and is forwarded by the session, which stays as it is
+abbrev pub AreForwarded : List Login → Client → List Pdu → Type 0
+AreForwarded accounts s ps = AllByRecursion (λ p. (client_asks accounts s.account s.state p ≡ Some Request) × (client_decides accounts s.account s.state p ≡ (act.Forward, s.state))) ps
 
 -- what the list of collects on lane k did to the port, by one hold
 abbrev pub collect_step : ℕ → Result Batch Spent → PortView → PortView → Type 0
@@ -68,6 +87,7 @@ port_step v (Heard now) w = w ≡ v
 port_step v (Expired until found reply) w = w ≡ v
 port_step v (Looked now e) w = w ≡ v
 port_step v (Unbound p) w = w ≡ v
+port_step v (Forwarded ps os r) w = (length ps ≤ 16) × AreOffersOf ps os.value.items × list_step os.value.items r.value v w
 port_step v LinkEnded w = w ≡ v
 
 -- what may become of a PDU under that act
@@ -95,6 +115,7 @@ session_step accounts s (Heard now) t = t ≡ after_octets s now
 session_step accounts s (Expired until found reply) t = t ≡ s
 session_step accounts s (Looked now e) t = (e.value ≡ client_enquiry s now) × (t ≡ after_client_moment s now)
 session_step accounts s (Unbound p) t = (p.value ≡ client_farewell s.state) × (t ≡ record s { state = client_state_after_stop s.state })
+session_step accounts s (Forwarded ps os r) t = AreForwarded accounts s ps × (t ≡ s)
 session_step accounts s LinkEnded t = t ≡ s
 session_step accounts s (Collected k r) t = t ≡ s
 session_step accounts s (Fetched g d) t = t ≡ s
@@ -141,6 +162,7 @@ window_step w (Heard now) u = u ≡ w
 window_step w (Expired until found reply) u = expire_step until found w u
 window_step w (Looked now e) u = u ≡ w
 window_step w (Unbound p) u = u ≡ w
+window_step w (Forwarded ps os r) u = u ≡ w
 window_step w LinkEnded u = u ≡ w
 
 -- which delivery an item gets: dropped where its lane has no sender, refused where it is for another client
@@ -167,6 +189,7 @@ inbox_step client lanes a (Heard now) b = b ≡ a
 inbox_step client lanes a (Expired until found reply) b = b ≡ a
 inbox_step client lanes a (Looked now e) b = b ≡ a
 inbox_step client lanes a (Unbound p) b = b ≡ a
+inbox_step client lanes a (Forwarded ps os r) b = b ≡ a
 inbox_step client lanes a LinkEnded b = b ≡ a
 
 abbrev pub fate_senders : Pdu → Fate → List (Sending Pdu) → List (Sending Pdu) → Type 0
@@ -191,6 +214,7 @@ senders_step h ss (Heard now) tt = tt ≡ ss
 senders_step h ss (Expired until found reply) tt = ExpiresSo found reply ss tt
 senders_step h ss (Looked now e) tt = tt ≡ ss
 senders_step h ss (Unbound p) tt = tt ≡ ss
+senders_step h ss (Forwarded ps os r) tt = tt ≡ ss
 senders_step h ss LinkEnded tt = tt ≡ ss
 
 abbrev pub fate_parks : Fate → Option Parked → Option Parked → Type 0
@@ -215,6 +239,7 @@ parked_step h (Heard now) i = i ≡ h
 parked_step h (Expired until found reply) i = (h ≡ None) × Parks reply i
 parked_step h (Looked now e) i = i ≡ h
 parked_step h (Unbound p) i = i ≡ h
+parked_step h (Forwarded ps os r) i = i ≡ h
 parked_step h LinkEnded i = i ≡ h
 
 pub record Parts : Type 0 where

@@ -31,7 +31,7 @@ use Rattle.smx_turns.specs.declared.mark.Mark.TheVariants.{Offered, WriteFailed,
 use Rattle.smx_client.specs.declared.reply.Reply.{Reply}
 use Rattle.smx_client.specs.declared.reply.Reply.TheVariants as reply
 use Rattle.smx_client.specs.declared.event.Event.{Event}
-use Rattle.smx_client.specs.declared.event.Event.TheVariants.{Decided, Broke, Collected, PutAgain, Heard, Expired, Looked, LinkEnded, Got as Fetched}
+use Rattle.smx_client.specs.declared.event.Event.TheVariants.{Decided, Broke, Collected, PutAgain, Heard, Expired, Looked, Forwarded, LinkEnded, Got as Fetched}
 use Rattle.smx_client.specs.declared.event.Fate.{Fate}
 use Rattle.smx_client.specs.declared.event.Fate.TheVariants.{Own, Submitted, Barred, Settled as Settles}
 use Rattle.smx_client.specs.declared.event.Delivery.{Delivery}
@@ -70,12 +70,12 @@ pub data Phase : Type 0 where
   MayBind : Bool → ℕ → Phase
   -- the gate said yes to the refusal of a bind
   MayRefuse : Bool → Phase
-  -- the gate said yes to a request more
-  Admitted : Bool → Phase
-  -- the gate gave no such leave
-  Barring : Bool → Ask → Phase
   -- the gate said yes to a submit
   MaySubmit : Bool → Phase
+  -- and then to so many requests more
+  Admitted : Bool → ℕ → Phase
+  -- the gate gave no such leave
+  Barring : Bool → Ask → Phase
   -- the client has bound with this account, and is to be sent messages
   Entering : Bool → ℕ → Phase
   -- there was no memory for all prefixes
@@ -286,8 +286,8 @@ from_deciding ended (Asked (Binding i) true) = MayBind ended i
 from_deciding ended (Asked (Binding i) false) = Barring ended (leave.Bind i)
 from_deciding ended (Asked Refusing true) = MayRefuse ended
 from_deciding ended (Asked Refusing false) = Stopped
-from_deciding ended (Asked Admitting true) = Admitted ended
-from_deciding ended (Asked Admitting false) = Barring ended leave.Request
+from_deciding ended (Asked Submitting true) = MaySubmit ended
+from_deciding ended (Asked Submitting false) = Stopped
 from_deciding ended (Did (Decided p a f)) = after_fate ended a.value f
 from_deciding ended (Did (Broke a)) = Closing
 from_deciding ended (Marked Part) = if ended then Wrong else Settled
@@ -311,11 +311,22 @@ unfoldable pub from_may_refuse : Bool → step_of → Phase
 from_may_refuse ended (Did (Decided p a Own)) = when_refused ended a.value
 from_may_refuse ended _ = Wrong
 
--- a request that may be one more is submitted only after one more yes
-unfoldable pub from_admitted : Bool → step_of → Phase
-from_admitted ended (Asked Submitting true) = MaySubmit ended
-from_admitted ended (Asked Submitting false) = Stopped
-from_admitted ended _ = Wrong
+-- each request that is submitted may be one more
+unfoldable pub from_may_submit : Bool → step_of → Phase
+from_may_submit ended (Asked Admitting true) = Admitted ended 1
+from_may_submit ended (Asked Admitting false) = Barring ended leave.Request
+from_may_submit ended _ = Wrong
+
+-- one that may not, behind others, is left for later
+abbrev pub when_admitted : Bool → ℕ → Bool → Phase
+when_admitted ended n true = Admitted ended (n + 1)
+when_admitted ended n false = Admitted ended n
+
+unfoldable pub from_admitted : Bool → ℕ → step_of → Phase
+from_admitted ended n (Asked Admitting answer) = when_admitted ended n answer
+from_admitted ended n (Did (Decided p a (Submitted o r))) = if n == 1 then Deciding ended else Wrong
+from_admitted ended n (Did (Forwarded ps os r)) = if length ps == n then Deciding ended else Wrong
+from_admitted ended n _ = Wrong
 
 abbrev pub is_same_leave : Ask → Ask → Bool
 is_same_leave (leave.Bind i) (leave.Bind j) = i == j
@@ -326,10 +337,6 @@ is_same_leave _ _ = false
 unfoldable pub from_barring : Bool → Ask → step_of → Phase
 from_barring ended l (Did (Decided p a (Barred m))) = if is_same_leave m l then Deciding ended else Wrong
 from_barring ended l _ = Wrong
-
-unfoldable pub from_may_submit : Bool → step_of → Phase
-from_may_submit ended (Did (Decided p a (Submitted o r))) = Deciding ended
-from_may_submit ended _ = Wrong
 
 unfoldable pub from_entering : Bool → ℕ → step_of → Phase
 from_entering ended account (Marked (Entered i whole)) = if i == account then (if whole then Deciding ended else Unentered) else Wrong
@@ -355,7 +362,7 @@ go t Looking s = from_looking t.now s
 go t (Deciding ended) s = from_deciding ended s
 go t (MayBind ended i) s = from_may_bind ended i s
 go t (MayRefuse ended) s = from_may_refuse ended s
-go t (Admitted ended) s = from_admitted ended s
+go t (Admitted ended n) s = from_admitted ended n s
 go t (Barring ended l) s = from_barring ended l s
 go t (MaySubmit ended) s = from_may_submit ended s
 go t (Entering ended account) s = from_entering ended account s
@@ -465,7 +472,7 @@ abbrev pub with_leave : Bool → Option Ask → Phase
 with_leave ended None = Deciding ended
 with_leave ended (Some (leave.Bind i)) = MayBind ended i
 with_leave ended (Some leave.RefusedBind) = MayRefuse ended
-with_leave ended (Some leave.Request) = Admitted ended
+with_leave ended (Some leave.Request) = Admitted ended 1
 
 -- what the session's decision leads to; an answer to a message is still to be dealt with
 abbrev pub after_verdict : Bool → Verdict → Phase

@@ -5,7 +5,7 @@ use Rattle.smx_turns.specs.declared.mark.Mark.TheVariants.{Offered, WriteFailed,
 use Rattle.smx_turns.specs.declared.step.Step.TheVariants.{Asked, Read, Marked, Did}
 use Rattle.smx_turns.specs.Scenes.{Scene, Changed, LeadsOn}
 use Rattle.smx_client.specs.declared.event.Event.{Event}
-use Rattle.smx_client.specs.declared.event.Event.TheVariants.{Decided, Broke, Collected, PutAgain, Heard, Expired, Looked, Unbound, LinkEnded, Got as Fetched}
+use Rattle.smx_client.specs.declared.event.Event.TheVariants.{Decided, Broke, Collected, PutAgain, Heard, Expired, Looked, Unbound, Forwarded, LinkEnded, Got as Fetched}
 use Rattle.smx_client.specs.Events.{worth}
 use Rattle.smx_client.specs.Parts.{Parts, Does}
 use Rattle.smx_client.specs.Prefixes.{Adds, account_prefixes}
@@ -22,6 +22,7 @@ Fits unsent (Heard now) = Unit {0}
 Fits unsent (Expired until found reply) = Unit {0}
 Fits unsent (Looked now e) = length unsent < 65536
 Fits unsent (Unbound p) = Unit {0}
+Fits unsent (Forwarded ps os r) = length unsent < 65536
 Fits unsent LinkEnded = length unsent < 65536
 
 -- there is room where no whole PDU is left, the window has none where no item is got, and the prefixes that an account has are entered in order

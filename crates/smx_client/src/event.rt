@@ -6,7 +6,8 @@ use smx_box::{Got, Spent as BoxSpent};
 use smx_lock::Spent;
 use smx_pdu::Pdu;
 use smx_session::{Act, Ask, Enquiry, Kind};
-use smx_shared::{Collected, Offer, SubmitFault};
+use smx_shared::{Collected, Landing, Offer, SubmitFault};
+use smx_trace::Trace;
 use smx_turns::{Deed, MoItem};
 use std::snapshot::Snapshot;
 
@@ -39,6 +40,13 @@ pub enum Delivery {
 pub enum Event {
     /// A PDU that was read, the session's act, and what became of it.
     Decided(Snapshot<Pdu>, Snapshot<Act>, Fate),
+    /// PDUs that were read one behind the other were offered so to the one lane, and this is what the
+    /// port answered.
+    Forwarded(
+        Trace<Pdu>,
+        Snapshot<Vec<Offer>>,
+        Snapshot<Result<Vec<Landing>, (Vec<Offer>, Spent)>>,
+    ),
     /// A bad length was met, and this is the session's act.
     Broke(Snapshot<Act>),
     /// A lane was asked for what waits, and gave this.

@@ -7,6 +7,7 @@ mod ending;
 mod event;
 mod leaver;
 mod ledger;
+mod listing;
 mod prefixes;
 mod reply;
 mod saying;

@@ -116,7 +116,7 @@ pub(crate) fn is_unanswered(enquiry: &Enquiry) -> bool
     matches!(enquiry, Enquiry::Unanswered)
 }
 
-fn why_unaccepted(fault: SubmitFault) -> Unaccepted
+pub(crate) fn why_unaccepted(fault: SubmitFault) -> Unaccepted
     ensures { result ≡ why_unaccepted fault }
 {
     match fault {
@@ -146,6 +146,7 @@ pub(crate) fn say_refusal<L: Link + Drop>(
 }
 
 // Tells the lane that accepted a request.
+#[inline(always)]
 pub(crate) fn tell_accepted<G: Gate>(gate: &mut G, landed: &Result<usize, (Offer, SubmitFault)>)
     ensures told { G.told gate.new ≡ G.told gate.old ++ submit_told landed.now }
     ensures asked { G.asked gate.new ≡ G.asked gate.old }

@@ -38,6 +38,7 @@ mod boxing;
 mod closing;
 mod collecting;
 mod deciding;
+mod forwarding;
 mod heeding;
 mod running;
 mod stopping;

@@ -83,6 +83,7 @@ impl Ages {
     }
 
     // Sees that there is room for one more: where there is none, it lists those alone that are in their rows.
+    #[inline(always)]
     pub(crate) fn make_room(&mut self, rows: &Rows)
         requires few { length rows.now < self.old.places }
         requires before { (k : ℕ) (q : Place) → slice_get rows.now k ≡ Some (Some q)

@@ -98,6 +98,7 @@ fn bind_asks(accounts: &[Account], body: &[u8]) -> Ask
 }
 
 // What leave a request asks for that the rules bar so.
+#[inline(always)]
 fn request_asks(ruled_out: Option<u32>) -> Option<Ask>
     ensures { result ≡ request_asks ruled_out }
 {
@@ -162,6 +163,7 @@ impl ClientSession {
 
     /// What leave is asked for before the PDU is decided: a bind's, by its checks, or that of a
     /// request which goes to a lane. It takes no memory.
+    #[inline(always)]
     pub fn asks(&self, pdu: &Pdu, accounts: &[Account]) -> Option<Ask>
         ensures { result ≡ client_asks accounts.now self.now.account self.now.state pdu.now }
     {

@@ -36,6 +36,7 @@ pub enum ClientRow {
     Unknown,
 }
 
+#[inline(always)]
 pub(crate) fn client_row(command: u32) -> ClientRow
     ensures { result ≡ client_row command }
 {

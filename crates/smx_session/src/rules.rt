@@ -80,6 +80,7 @@ impl Rules {
     }
 
     // The status that answers a request which they bar.
+    #[inline(always)]
     #[tactic(auto, unfolding(crate::specs::Rules::ruled_out))]
     pub(crate) fn ruled_out(self, pdu: &Pdu) -> Option<u32>
         ensures { result ≡ ruled_out self pdu.now }
@@ -92,6 +93,7 @@ impl Rules {
 }
 
 // The status that answers a request whose body isn't readable where it must be.
+#[inline(always)]
 fn unreadable_status(bodies: Bodies, pdu: &Pdu) -> Option<u32>
     ensures { result ≡ unreadable_status bodies pdu.now }
 {
@@ -105,6 +107,7 @@ fn unreadable_status(bodies: Bodies, pdu: &Pdu) -> Option<u32>
 }
 
 // The rules of the account with this index, where there is one.
+#[inline(always)]
 pub(crate) fn rules_of(accounts: &[Account], account: Option<usize>) -> Rules
     ensures { result ≡ rules_of accounts.now account }
 {

@@ -1,13 +1,11 @@
 -- A list of offers in one hold.
 use Rattle.std.proofs.Common.{◌≡◌, ◌≢◌, ◌<◌, ◌≤◌, ◌+◌, ◌^◌, ◌==◌, ◌&&◌, ℕ, Bool, true, false, cond, not, List, [], ◌∷◌, ◌++◌, length, set, slice_get, filter, Some, Ok, Err, Result, refl, sym, ◌∙◌, ap, subst, arith, length-append, append_assoc, if◌then◌else◌}
 use Rattle.std.specs.List.{AllByRecursion}
-use Rattle.std.specs.Global.{Vec}
 use Rattle.std.proofs.lemmas.List.{append-nil}
 use Rattle.std.proofs.lemmas.List.Elements.{All-append, filter-append, filter_map-append}
 use Rattle.std.proofs.lemmas.List.Folds.{list_any-append}
 use Rattle.std.proofs.lemmas.Bool.{eq-eqb, ne_eqb}
-use Rattle.smx_lock.specs.Fronts.{Front, Hold, Finds, IsSpent, MayLeave, Runs, holding}
-use Rattle.smx_lock.specs.declared.faults.Spent as spent
+use Rattle.smx_lock.specs.Fronts.{Front, Hold, IsSpent, MayLeave, Runs, holding}
 use Rattle.smx_history.specs.declared.entry.Entry.{Entry}
 use Rattle.smx_history.specs.declared.limits.Limits.{Limits}
 use Rattle.smx_history.specs.declared.note.Note.{Note}
@@ -18,7 +16,6 @@ use Rattle.smx_history.specs.History.{entries_of, note, request_in, requests}
 use Rattle.smx_history.specs.Contents.{Content, AgreesWith}
 use Rattle.smx_history.proofs.ListPushes.{any_kept}
 use Rattle.smx_history.specs.declared.reply.Refusal.{Refusal}
-use Rattle.smx_history.specs.declared.reply.Refusal.TheVariants.{HistoryFull}
 use Rattle.smx_lane.specs.declared.call.Call.TheVariants as call
 use Rattle.smx_lane.specs.declared.call.Reply.TheVariants as reply
 use Rattle.std.specs.Prelude.{MatchResult, OnErr, OnOk, None}
@@ -32,7 +29,7 @@ use Rattle.smx_shared.specs.declared.accepting.Landings.{Landings}
 use Rattle.smx_shared.specs.declared.batch.Landing.{Landing}
 use Rattle.smx_shared.specs.declared.offer.Offer.{Offer}
 use Rattle.smx_shared.specs.declared.fault.SubmitFault.{SubmitFault}
-use Rattle.smx_shared.specs.Landings.{LandEach, LandsAs, LandsServe, LandsSo, accept_notes, accepted_all, accepted_each, landing_notes, landings_of, ordinal_after}
+use Rattle.smx_shared.specs.Landings.{LandEach, LandsAs, LandsServe, LandsSo, accept_notes, accepted_each, landing_notes, landings_of, ordinal_after}
 use Rattle.smx_shared.specs.declared.fault.SubmitFault.TheVariants as fault
 use Rattle.smx_shared.specs.Offers.{accepted_by, request_for, requests_on}
 use Rattle.smx_shared.specs.Roomy.{finds_full, lane_met, shifts_before, shifts_where, turned_where}

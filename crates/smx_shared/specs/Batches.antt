@@ -73,14 +73,14 @@ abbrev pub body_in : Option Response → Option (List ℕ)
 body_in None = None
 body_in (Some r) = Some r.pdu.body
 
--- more may wait only where 64 were collected, or where the next would make more than 65,536 octets
+-- more may wait only where 16 were collected, or where the next would make more than 65,536 octets
 abbrev pub CollectEnds : ℕ → Collected → Content → Type 0
-CollectEnds c b v = b.more ≡ true → (length b.responses.items ≡ 64) ⊎ Exceeds (octets_of_responses b.responses.items) (body_in (oldest_in (member_with c v.members)))
+CollectEnds c b v = b.more ≡ true → (length b.responses.items ≡ 16) ⊎ Exceeds (octets_of_responses b.responses.items) (body_in (oldest_in (member_with c v.members)))
 
 -- a list of collects
 pub record CollectsServe (f g : Front Note Limits) (c : ℕ) (b : Collected) : Type 0 where
   pub serves : BatchServes f g (collect_calls f.number c b) (collect_replies b) (CollectEnds c b)
-  pub count : length b.responses.items ≤ 64
+  pub count : length b.responses.items ≤ 16
   pub some : b.more ≡ true → 0 < length b.responses.items
   pub octets : octets_of_responses b.responses.items ≤ 65536
 
@@ -103,14 +103,14 @@ abbrev pub body_of : Option Request → Option (List ℕ)
 body_of None = None
 body_of (Some r) = Some r.body
 
--- the lane was asked until it refused, or 64 were taken, or the next would make more than 65,536 octets
+-- the lane was asked until it refused, or 16 were taken, or the next would make more than 65,536 octets
 abbrev pub TakeEnds : Takings → Content → Type 0
-TakeEnds b v = b.stop ≡ None → (length b.requests.items ≡ 64) ⊎ Exceeds (octets_of_requests b.requests.items) (body_of (slice_get v.queue 0))
+TakeEnds b v = b.stop ≡ None → (length b.requests.items ≡ 16) ⊎ Exceeds (octets_of_requests b.requests.items) (body_of (slice_get v.queue 0))
 
 -- a list of takes
 pub record TakesServe (f g : Front Note Limits) (now : ℕ) (b : Takings) : Type 0 where
   pub serves : BatchServes f g (take_calls f.number now b) (take_replies b) (TakeEnds b)
-  pub count : length b.requests.items ≤ 64
+  pub count : length b.requests.items ≤ 16
   pub some : b.stop ≡ None → 0 < length b.requests.items
   pub octets : octets_of_requests b.requests.items ≤ 65536
 

@@ -92,7 +92,7 @@ collects_of by c rs = map (λ r. note by (event.Collect c r.ordinal)) rs
 pub record AreCollected (by c : ℕ) (old : Content) (b : Collected) (new : Content) : Type 0 where
   pub ran : Ran old (collect_calls by c b) (collect_replies b) (collects_of by c b.responses.items) new
   pub limits : new.limits ≡ old.limits
-  pub count : length b.responses.items ≤ 64
+  pub count : length b.responses.items ≤ 16
   pub some : b.more ≡ true → 0 < length b.responses.items
   pub octets : octets_of_responses b.responses.items ≤ 65536
   pub ends : CollectEnds c b new
@@ -110,7 +110,7 @@ takes_of old by now ss = map (taking old by now) ss
 pub record AreTaken (by now : ℕ) (old : Content) (b : Takings) (new : Content) : Type 0 where
   pub ran : Ran old (take_calls by now b) (take_replies b) (takes_of old by now b.requests.items) new
   pub limits : new.limits ≡ old.limits
-  pub count : length b.requests.items ≤ 64
+  pub count : length b.requests.items ≤ 16
   pub some : b.stop ≡ None → 0 < length b.requests.items
   pub octets : octets_of_requests b.requests.items ≤ 65536
   pub ends : TakeEnds b new

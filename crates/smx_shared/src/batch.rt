@@ -6,9 +6,9 @@ use smx_history::{Response, TakeRefusal};
 use smx_lane::Sent;
 
 /// The most calls that a list has.
-pub const BATCH: usize = 64;
+pub const BATCH: usize = 16;
 
-/// The responses of one hold, the oldest first: at most 64, and at most 65,536 octets of PDUs.
+/// The responses of one hold, the oldest first: at most 16, and at most 65,536 octets of PDUs.
 #[derive(Debug, Drop)]
 pub struct Collected {
     pub responses: Vec<Response>,
@@ -16,7 +16,7 @@ pub struct Collected {
     pub more: bool,
 }
 
-/// The requests of one hold, the oldest first: at most 64, and at most 65,536 octets of PDUs.
+/// The requests of one hold, the oldest first: at most 16, and at most 65,536 octets of PDUs.
 #[derive(Debug, Drop)]
 pub struct Takings {
     pub requests: Vec<Sent>,

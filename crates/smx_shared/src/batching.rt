@@ -15,7 +15,7 @@ const HEADER: usize = 16;
 // Collects the client's responses from a box, as many as a list has.
 fn collect_each(lane: &mut Lane, by: u64, client: u64, room: Vec<Response>) -> Collected
     requires own { IsOwn lane.old by client }
-    requires room { (room.items ≡ []) × (BATCH ≤ vec_capacity room) }
+    requires room { (room.items ≡ []) × (16 ≤ vec_capacity room) }
     ensures { AreCollected by client lane.old result lane.new }
 {
     let mut responses = room;
@@ -59,7 +59,7 @@ fn next_length(lane: &Lane) -> usize
 
 // Takes from the queue, as many requests as a list has.
 fn take_each(lane: &mut Lane, by: u64, now: u64, room: Vec<Sent>) -> Takings
-    requires room { (room.items ≡ []) × (BATCH ≤ vec_capacity room) }
+    requires room { (room.items ≡ []) × (16 ≤ vec_capacity room) }
     ensures { AreTaken by now lane.old result lane.new }
 {
     let mut requests = room;
@@ -117,7 +117,7 @@ impl CriticalSection<Lane, Note> for CollectingAll {
     type Answer = Collected;
 
     ghost may = { λ s by lane. IsOwn lane by s.client × (s.room.items ≡ [])
-        × (64 ≤ vec_capacity s.room) };
+        × (16 ≤ vec_capacity s.room) };
 
     ghost does = { λ s by old answer new. AreCollected by s.client old answer new };
 
@@ -143,7 +143,7 @@ impl CriticalSection<Lane, Note> for TakingAll {
 
     type Answer = Takings;
 
-    ghost may = { λ s by lane. (s.room.items ≡ []) × (64 ≤ vec_capacity s.room) };
+    ghost may = { λ s by lane. (s.room.items ≡ []) × (16 ≤ vec_capacity s.room) };
 
     ghost does = { λ s by old answer new. AreTaken by s.now old answer new };
 

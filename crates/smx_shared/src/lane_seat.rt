@@ -85,7 +85,7 @@ impl LaneSeat {
         room: Vec<Response>,
     ) -> Result<Collected, Spent>
         requires lock { self.old.lock ≡ lock.now }
-        requires room { (room.items ≡ []) × (64 ≤ vec_capacity room) }
+        requires room { (room.items ≡ []) × (16 ≤ vec_capacity room) }
         requires may { MayCall self.old (λ by. call.Collect by client) }
         ensures lock { self.new.lock ≡ self.old.lock }
         ensures served { Waited (CollectsServe self.old self.new client) self.old self.new result }
@@ -106,7 +106,7 @@ impl LaneSeat {
         room: Vec<Sent>,
     ) -> Result<Takings, Spent>
         requires lock { self.old.lock ≡ lock.now }
-        requires room { (room.items ≡ []) × (64 ≤ vec_capacity room) }
+        requires room { (room.items ≡ []) × (16 ≤ vec_capacity room) }
         ensures lock { self.new.lock ≡ self.old.lock }
         ensures served { Waited (TakesServe self.old self.new now) self.old self.new result }
     {

@@ -159,8 +159,8 @@ impl Port {
     }
 
     /// What waits for the client on the lane, the oldest first, with the client's own numbers: at most
-    /// 64 responses, and at most 65,536 octets of PDUs, in one hold. It may wait. The list is made in
-    /// `room`, which is empty and has 64 places; it takes no memory.
+    /// 16 responses, and at most 65,536 octets of PDUs, in one hold. It may wait. The list is made in
+    /// `room`, which is empty and has 16 places; it takes no memory.
     #[inline(always)]
     pub fn collect_all<R: Wait>(
         &mut self,
@@ -171,7 +171,7 @@ impl Port {
     ) -> Result<Collected, Spent>
         requires locks { locks_of self.old.fronts ≡ at.now }
         requires lane { lane < length self.old.fronts }
-        requires room { (room.items ≡ []) × (64 ≤ vec_capacity room) }
+        requires room { (room.items ≡ []) × (16 ≤ vec_capacity room) }
         ensures served { CollectsAll lane self.old self.new result }
         ensures same { self.new ≡ record self.old { fronts = self.new.fronts } }
         ensures listed { (all : List Accepted) → HasAccepted self.old all

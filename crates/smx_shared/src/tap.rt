@@ -69,9 +69,9 @@ impl Tap {
         }
     }
 
-    /// Takes what is queued, the oldest first: at most 64 requests, and at most 65,536 octets of PDUs,
+    /// Takes what is queued, the oldest first: at most 16 requests, and at most 65,536 octets of PDUs,
     /// in one hold. The moment is as in `take`. It may wait. The list is made in `room`, which is empty
-    /// and has 64 places; it takes no memory.
+    /// and has 16 places; it takes no memory.
     #[inline(always)]
     pub fn take_all<R: Wait>(
         &mut self,
@@ -81,7 +81,7 @@ impl Tap {
         room: Vec<Sent>,
     ) -> Result<Takings, Spent>
         requires lock { slice_get at.now self.old.lane ≡ Some self.old.front.lock }
-        requires room { (room.items ≡ []) × (64 ≤ vec_capacity room) }
+        requires room { (room.items ≡ []) × (16 ≤ vec_capacity room) }
         ensures same { (self.new.lane ≡ self.old.lane)
             × (self.new.front.lock ≡ self.old.front.lock) }
         ensures served { TakesAll self.old.front self.new.front now result }

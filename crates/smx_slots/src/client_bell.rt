@@ -214,6 +214,7 @@ impl Gate for ClientBell<'_> {
 
     ghost told = { λ b. b.told };
 
+    #[inline(always)]
     fn at(&mut self, point: Point, turn: u64) -> bool
         ensures asked { self.new.asked ≡ self.old.asked ++ record {
           point = point;

@@ -164,6 +164,7 @@ impl Ledger {
 
     /// Whether one more request of the client may be under way, beside so many that have leave and aren't
     /// accepted yet.
+    #[inline(always)]
     pub fn admits_beside(&self, client: u64, leaves: u64) -> bool
         ensures beside { result ≡ may_request_beside leaves client
             (account_of client self.now.movements) self.now }
@@ -184,6 +185,7 @@ impl Ledger {
 
     /// A lane accepted a request of the client. Nothing changes where it isn't bound, or a count is as great
     /// as one can be. It takes no memory.
+    #[inline(always)]
     pub fn accepted(&mut self, client: u64)
         ensures { self.new ≡ with_accepted client self.old }
     {

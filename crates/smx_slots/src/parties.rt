@@ -10,6 +10,7 @@ use smx_turns::Party;
 
 // The number of a party behind so many lanes; that of a client that is gone is above all. What a client is
 // told is noted.
+#[inline(always)]
 pub(crate) fn party_number(lanes: usize, roll: &Roll, hints: &mut Hints, party: Party) -> usize
     ensures number { result ≡ party_number lanes (slot_of roll.now.rows) party }
     ensures hints { hints.new ≡ hinted_by (slot_of roll.now.rows) party hints.old }

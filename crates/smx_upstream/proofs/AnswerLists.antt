@@ -130,7 +130,7 @@ waits_so o p q is h also = let same : p ≡ q = cc in subst (λ x. is_answer x.c
 
 -- so a list was brought
 pub brought_does : (s t : Stand) (ps : Snapshot (Vec Pdu)) (now lane : ℕ) (r : Snapshot (Result (Vec Settled) (Vec Pdu × Spent))) (p : Pdu) (qs : List Pdu) → ps.value.items ≡ p ∷ qs → is_bound s.session.state ≡ true → AreAnswers (p ∷ qs)
-    → t.session ≡ after_pdu s.session p now → BringsAll s.tap.front t.tap.front ps.value.items r.value → lane ≡ s.tap.lane → t.tap.lane ≡ s.tap.lane → t ≡ record s { session = t.session; tap = t.tap } → length ps.value.items ≤ 64 → Does s (Brought ps now lane r) t
+    → t.session ≡ after_pdu s.session p now → BringsAll s.tap.front t.tap.front ps.value.items r.value → lane ≡ s.tap.lane → t.tap.lane ≡ s.tap.lane → t ≡ record s { session = t.session; tap = t.tap } → length ps.value.items ≤ 16 → Does s (Brought ps now lane r) t
 brought_does s t ps now lane r p qs all bound are session brings at same stands few = (
   subst (λ l. GoToLane s.session l now) (sym all) (all_go s.session (p ∷ qs) now bound are),
   brings,

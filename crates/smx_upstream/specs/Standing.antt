@@ -154,7 +154,7 @@ Does s (Sought r under) t = Gets s.answers t.answers r.value × Settles r.value 
 Does s (Decided p now a f) t = (a.value ≡ act_on s.session p.value) × Becomes p.value a.value f s.tap s.senders t.tap t.senders × Owes s.tap.lane p.value f s.owed t.owed
     × (t ≡ record s { session = after_pdu s.session p.value now; tap = t.tap; senders = t.senders; owed = t.owed })
 Does s (Brought ps now lane r) t = GoToLane s.session ps.value.items now × BringsAll s.tap.front t.tap.front ps.value.items r.value × (lane ≡ s.tap.lane) × (t.tap.lane ≡ s.tap.lane)
-    × (t ≡ record s { session = after_pdus s.session ps.value.items now; tap = t.tap }) × (length ps.value.items ≤ 64)
+    × (t ≡ record s { session = after_pdus s.session ps.value.items now; tap = t.tap }) × (length ps.value.items ≤ 16)
 Does s (Took r) t = (is_bound s.session.state ≡ true) × TakesAll s.tap.front t.tap.front s.session.latest r.value × (t.tap.lane ≡ s.tap.lane) × (t ≡ record s { tap = t.tap })
 Does s Broke t = t ≡ s
 Does s LinkEnded t = t ≡ s

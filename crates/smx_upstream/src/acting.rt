@@ -207,7 +207,7 @@ impl<L: Link + Drop> UpstreamWorker<L> {
         log: &mut Log<Event>,
     ) -> Result<bool, Fault>
         requires room { 65536 ≤ self.old.wire.room }
-        requires list { (list.items ≡ []) × (64 ≤ vec_capacity list) }
+        requires list { (list.items ≡ []) × (16 ≤ vec_capacity list) }
         requires bound { is_bound self.old.stand.session.state ≡ true }
         requires lock { slice_get at.now self.old.first.tap.lane
             ≡ Some self.old.first.tap.front.lock }

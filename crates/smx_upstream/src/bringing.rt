@@ -38,11 +38,11 @@ fn is_answer(command: u32) -> bool
 fn gather<L: Link + Drop>(wire: &mut Wire<L>, responses: &mut Vec<Pdu>)
     requires goes_on { wire.old.failed ≡ None }
     requires one { length responses.old.items ≡ 1 }
-    requires room { 64 ≤ vec_capacity responses.old }
+    requires room { 16 ≤ vec_capacity responses.old }
     ensures heard { (ps : List Pdu) × (responses.new.items ≡ responses.old.items ++ ps)
         × (wire.new.heard ≡ wire.old.heard ++ ps)
         × AllByRecursion (λ p. is_answer p.command ≡ true) ps }
-    ensures few { length responses.new.items ≤ 64 }
+    ensures few { length responses.new.items ≤ 16 }
     ensures less { length wire.new.rest ≤ length wire.old.rest }
     ensures same { wire.new ≡ record wire.old { heard = wire.new.heard; rest = wire.new.rest } }
 {
@@ -103,8 +103,8 @@ fn tell_all<G: Gate>(
 
 // Empty lists for responses and for what becomes of them, where there is memory.
 pub(crate) fn lists(alloc: Global) -> Option<(Vec<Pdu>, Vec<Settled>)>
-    ensures { IfSome result (λ l. (l.0.items ≡ []) × (64 ≤ vec_capacity l.0)
-        × (l.1.items ≡ []) × (64 ≤ vec_capacity l.1)) }
+    ensures { IfSome result (λ l. (l.0.items ≡ []) × (16 ≤ vec_capacity l.0)
+        × (l.1.items ≡ []) × (16 ≤ vec_capacity l.1)) }
 {
     match (
         Vec::with_capacity(alloc, BATCH),
@@ -144,8 +144,8 @@ impl<L: Link + Drop> UpstreamWorker<L> {
         requires answer { (p : Pdu) × (self.old.held ≡ Some p) × (is_answer p.command ≡ true) }
         requires bound { is_bound self.old.stand.session.state ≡ true }
         requires goes_on { self.old.ending ≡ None }
-        requires empty { (empty.0.items ≡ []) × (64 ≤ vec_capacity empty.0)
-            × (empty.1.items ≡ []) × (64 ≤ vec_capacity empty.1) }
+        requires empty { (empty.0.items ≡ []) × (16 ≤ vec_capacity empty.0)
+            × (empty.1.items ≡ []) × (16 ≤ vec_capacity empty.1) }
         requires may { MayDecide (L.polls self.old.wire.link) self.old.wire.unsent }
         ensures phase { (t : Before) (source : _) → t.now ≡ now
             → phase_of t log.old ≡ Deciding source

@@ -271,7 +271,7 @@ impl<L: Link + Drop> UpstreamWorker<L> {
         requires lock { slice_get at.now self.old.first.tap.lane
             ≡ Some self.old.first.tap.front.lock }
         requires room { 65536 ≤ self.old.wire.room }
-        requires list { (list.items ≡ []) × (64 ≤ vec_capacity list) }
+        requires list { (list.items ≡ []) × (16 ≤ vec_capacity list) }
         requires bound { is_bound self.old.stand.session.state ≡ true }
         ensures phase { (t : Before) → phase_of t log.old ≡ MayTake filled false
             → IsTurn true (are_all_quiet log.new) result (phase_of t log.new) }

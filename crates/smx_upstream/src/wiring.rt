@@ -127,7 +127,7 @@ impl<L: Link + Drop> UpstreamWorker<L> {
     // Makes a list that a lane's requests can be put into.
     #[inline(always)]
     pub(crate) fn make_list(&self) -> Result<Vec<Sent>, Fault>
-        ensures room { IfOk result (λ list. (list.items ≡ []) × (64 ≤ vec_capacity list)) }
+        ensures room { IfOk result (λ list. (list.items ≡ []) × (16 ≤ vec_capacity list)) }
         ensures err { OnErr result (result ≡ Err Fault.NoMemory) }
     {
         match Vec::with_capacity(self.alloc, BATCH) {

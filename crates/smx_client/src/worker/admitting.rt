@@ -7,12 +7,13 @@ ghost use Rattle.smx_turns.specs.declared.directory.Query.{Query};
 ghost use Rattle.smx_session.specs.declared.ask.Ask.{Ask};
 ghost use Rattle.smx_client.specs.Scenes.{scene_of};
 ghost use Rattle.smx_client.specs.Serving.{held_asks};
-ghost use Rattle.smx_client.specs.Table.{Before, phase_of, Deciding, Unentered, after_bind, with_leave, IsPart};
+ghost use Rattle.smx_client.specs.Table.{Before, phase_of, Deciding, Unentered, after_bind, with_leave, weight, IsPart};
 ghost use Rattle.smx_client.specs.Turns.{Leads};
 
 use super::ClientWorker;
 use crate::event::{Event, Progress, Verdict};
 use crate::ledger::{ask, mark};
+use crate::listing::lists;
 use crate::prefixes::{add_all, prefixes_at};
 use smx_link::Link;
 use smx_session::{Ask, ClientState, Kind};
@@ -129,8 +130,8 @@ impl<'d, L: Link + Drop> ClientWorker<'d, L> {
         }
     }
 
-    // Submits the request that waits, where the gate gives leave for one more and then for the
-    // submit. `None` where the next one may be decided.
+    // Submits the request that waits, where the gate gives leave for a submit and then for one more, and
+    // those behind it that get leave. `None` where the next one may be decided.
     fn decide_request<R: Wait, G: Gate>(
         &mut self,
         at: &Exchange,
@@ -142,6 +143,7 @@ impl<'d, L: Link + Drop> ClientWorker<'d, L> {
         requires locks { locks_of self.old.origin.port.value.fronts ≡ at.now }
         requires room { 65536 ≤ self.old.wire.room }
         requires below { length self.old.wire.unsent < 65536 }
+        requires goes_on { self.old.wire.failed ≡ None }
         requires asks { held_asks self.old ≡ Some Ask.Request }
         ensures leads { (queries : List Query) → Leads turn
             (scene_of L.offered L.polls L.failures (G.asked gate.old) (G.told gate.old) queries
@@ -152,7 +154,8 @@ impl<'d, L: Link + Drop> ClientWorker<'d, L> {
             log.new }
         ensures phase { (t : Before) (ended : Bool) → phase_of t log.old ≡ Deciding ended
             → IsPart (Deciding ended) (Ok result) (phase_of t log.new) }
-        ensures next { result ≡ None → self.new.held ≡ None }
+        ensures next { result ≡ None → weight self.new.held self.new.wire.rest
+            < weight self.old.held self.old.wire.rest }
         ensures stopped { IfSome result (λ progress. progress ≡ Progress.Stopped) }
         ensures same { self.new ≡ record self.old {
           port = self.new.port;
@@ -160,19 +163,27 @@ impl<'d, L: Link + Drop> ClientWorker<'d, L> {
             said = self.new.wire.said;
             unsent = self.new.wire.unsent;
             room = self.new.wire.room;
+            heard = self.new.wire.heard;
+            rest = self.new.wire.rest;
           };
           held = self.new.held;
           events = self.new.events;
         } }
     {
+        let given = ask(log, gate, Point::Submitting, turn);
+        if !given {
+            return Some(Progress::Stopped);
+        }
         let admitted = ask(log, gate, Point::Admitting, turn);
         if !admitted {
             self.bar(Ask::Request, log);
             return None;
         }
-        let given = ask(log, gate, Point::Submitting, turn);
-        if !given {
-            return Some(Progress::Stopped);
+        if self.is_followed() {
+            if let Some(empty) = lists(self.alloc) {
+                self.forward_all(at, rt, gate, turn, empty, log);
+                return None;
+            }
         }
         self.forward(at, rt, gate, log);
         None
@@ -193,6 +204,7 @@ impl<'d, L: Link + Drop> ClientWorker<'d, L> {
         requires locks { locks_of self.old.origin.port.value.fronts ≡ at.now }
         requires none { self.old.parked ≡ None }
         requires below { length self.old.wire.unsent < 65536 }
+        requires goes_on { self.old.wire.failed ≡ None }
         requires some { IsSome self.old.held }
         ensures leads { Leads turn
             (scene_of L.offered L.polls L.failures (G.asked gate.old) (G.told gate.old) (D.queries
@@ -203,7 +215,8 @@ impl<'d, L: Link + Drop> ClientWorker<'d, L> {
             log.new }
         ensures phase { (t : Before) → phase_of t log.old ≡ Deciding ended
             → IsPart (Deciding ended) result (phase_of t log.new) }
-        ensures next { result ≡ Ok None → (self.new.held ≡ None) × (self.new.parked ≡ None) }
+        ensures next { result ≡ Ok None → (weight self.new.held self.new.wire.rest
+            < weight self.old.held self.old.wire.rest) × (self.new.parked ≡ None) }
         ensures which { (result ≢ Ok (Some Progress.Settled))
             × (result ≢ Ok (Some Progress.Clogged))
             × (result ≢ Ok (Some Progress.Gone)) }
@@ -219,6 +232,8 @@ impl<'d, L: Link + Drop> ClientWorker<'d, L> {
             said = self.new.wire.said;
             unsent = self.new.wire.unsent;
             room = self.new.wire.room;
+            heard = self.new.wire.heard;
+            rest = self.new.wire.rest;
           };
           held = self.new.held;
           parked = self.new.parked;

@@ -47,7 +47,7 @@ fn more_unless_spent(found: &Result<Collected, Spent>) -> Result<bool, Fault>
 
 // A list for what one hold gives.
 fn list_for_one_hold(alloc: Global) -> Result<Vec<Response>, Fault>
-    ensures list { IfOk result (λ list. (list.items ≡ []) × (64 ≤ vec_capacity list)) }
+    ensures list { IfOk result (λ list. (list.items ≡ []) × (16 ≤ vec_capacity list)) }
     ensures err { OnErr result (result ≡ Err Fault.NoMemory) }
 {
     match Vec::with_capacity(alloc, BATCH) {
@@ -118,7 +118,7 @@ impl<'d, L: Link + Drop> ClientWorker<'d, L> {
     ) -> Result<bool, Fault>
         requires locks { locks_of self.old.origin.port.value.fronts ≡ at.now }
         requires lane { lane < length self.old.origin.port.value.fronts }
-        requires list { (list.items ≡ []) × (64 ≤ vec_capacity list) }
+        requires list { (list.items ≡ []) × (16 ≤ vec_capacity list) }
         requires room { 65536 ≤ self.old.wire.room }
         requires below { length self.old.wire.unsent < 65536 }
         ensures moves { Moves L.offered L.polls L.failures self.old log.old self.new log.new }

@@ -9,7 +9,7 @@ ghost use Rattle.smx_turns.specs.declared.directory.Query.{Query};
 ghost use Rattle.smx_turns.specs.Wires.{IsBad};
 ghost use Rattle.smx_client.specs.Scenes.{scene_of, Moves};
 ghost use Rattle.smx_client.specs.Serving.{held_asks};
-ghost use Rattle.smx_client.specs.Table.{Before, Phase, phase_of, Deciding, MaySubmit, Barring, Closing, Settled, after_reply, with_leave, IsAt, IsDecided, IsPart, weight};
+ghost use Rattle.smx_client.specs.Table.{Before, Phase, phase_of, Deciding, Admitted, Barring, Closing, Settled, after_reply, with_leave, IsAt, IsDecided, IsPart, weight};
 ghost use Rattle.smx_client.specs.Turns.{Leads};
 
 use super::ClientWorker;
@@ -279,7 +279,7 @@ impl<'d, L: Link + Drop> ClientWorker<'d, L> {
             (scene_of L.offered L.polls L.failures (G.asked gate.new) (G.told gate.new) queries
             self.new)
             log.new }
-        ensures phase { (t : Before) (ended : Bool) → phase_of t log.old ≡ MaySubmit ended
+        ensures phase { (t : Before) (ended : Bool) → phase_of t log.old ≡ Admitted ended 1
             → phase_of t log.new ≡ Deciding ended }
         ensures same { self.new ≡ record self.old {
           port = self.new.port;

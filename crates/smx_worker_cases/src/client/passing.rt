@@ -55,6 +55,55 @@ fn response_bears_the_clients_number(rt: HostRuntime) {
     lanes_after(&rt, rt.alloc(), setting, &RESPONSE_STEPS);
 }
 
+// Twelve submit_sm that come together, numbers 1 to 12. The lane takes ten of a client's requests: the
+// others are refused with ESME_RMSGQFUL (5.1.3), and the ten answered in their order.
+const TOGETHER: &[u8] = b"\
+    \0\0\0\x11\0\0\0\x04\0\0\0\0\0\0\0\x01s\
+    \0\0\0\x11\0\0\0\x04\0\0\0\0\0\0\0\x02s\
+    \0\0\0\x11\0\0\0\x04\0\0\0\0\0\0\0\x03s\
+    \0\0\0\x11\0\0\0\x04\0\0\0\0\0\0\0\x04s\
+    \0\0\0\x11\0\0\0\x04\0\0\0\0\0\0\0\x05s\
+    \0\0\0\x11\0\0\0\x04\0\0\0\0\0\0\0\x06s\
+    \0\0\0\x11\0\0\0\x04\0\0\0\0\0\0\0\x07s\
+    \0\0\0\x11\0\0\0\x04\0\0\0\0\0\0\0\x08s\
+    \0\0\0\x11\0\0\0\x04\0\0\0\0\0\0\0\x09s\
+    \0\0\0\x11\0\0\0\x04\0\0\0\0\0\0\0\x0as\
+    \0\0\0\x11\0\0\0\x04\0\0\0\0\0\0\0\x0bs\
+    \0\0\0\x11\0\0\0\x04\0\0\0\0\0\0\0\x0cs";
+
+const TWO_REFUSED: &[u8] = b"\
+    \0\0\0\x10\x80\0\0\x04\0\0\0\x14\0\0\0\x0b\
+    \0\0\0\x10\x80\0\0\x04\0\0\0\x14\0\0\0\x0c";
+
+const TEN_ANSWERED: &[u8] = b"\
+    \0\0\0\x12\x80\0\0\x04\0\0\0\0\0\0\0\x011\0\
+    \0\0\0\x12\x80\0\0\x04\0\0\0\0\0\0\0\x021\0\
+    \0\0\0\x12\x80\0\0\x04\0\0\0\0\0\0\0\x031\0\
+    \0\0\0\x12\x80\0\0\x04\0\0\0\0\0\0\0\x041\0\
+    \0\0\0\x12\x80\0\0\x04\0\0\0\0\0\0\0\x051\0\
+    \0\0\0\x12\x80\0\0\x04\0\0\0\0\0\0\0\x061\0\
+    \0\0\0\x12\x80\0\0\x04\0\0\0\0\0\0\0\x071\0\
+    \0\0\0\x12\x80\0\0\x04\0\0\0\0\0\0\0\x081\0\
+    \0\0\0\x12\x80\0\0\x04\0\0\0\0\0\0\0\x091\0\
+    \0\0\0\x12\x80\0\0\x04\0\0\0\0\0\0\0\x0a1\0";
+
+#[test]
+fn requests_that_come_together(rt: HostRuntime) {
+    let pieces = [(0, BIND), (25, TOGETHER)];
+    let setting = Setting::new(0, script(rt.alloc(), 4_096, &pieces));
+    let answers = [Responds(0, b"1\0", 0); 10];
+    let mut steps = Vec::new(rt.alloc());
+    let begin = [Runs(100, RunEnd::Idle), Told(Some(Party::Lane(0)))];
+    let end = [
+        Runs(100, RunEnd::Idle),
+        Closes(&[&BOUND, TWO_REFUSED, TEN_ANSWERED], false),
+    ];
+    for part in [&begin[..], &answers[..], &end[..]] {
+        steps.extend_from_slice(part).expect(&rt, "out of memory");
+    }
+    lanes_after(&rt, rt.alloc(), setting, steps.as_slice());
+}
+
 // Two messages are sent under the numbers 1 and 2. The answer to 1 goes back under the centre's
 // number. Once the client is closed, the message that it didn't answer and the one in its box are
 // answered with 0x64.

@@ -1,4 +1,4 @@
-//! Lists of calls in one hold: at most 64, and at most 65,536 octets of PDUs.
+//! Lists of calls in one hold: at most 16, and at most 65,536 octets of PDUs.
 
 use super::*;
 use crate::hall::last_line;
@@ -6,10 +6,10 @@ use crate::stand::body_of;
 use smx_history::{Answered, Response, TakeRefusal};
 use smx_lane::Settled;
 use smx_pdu::command::{RESPONSE, SUBMIT_SM};
-use smx_shared::{BATCH, Collected, Takings};
+use smx_shared::{BATCH, Collected, Landing, Offer, SubmitFault, Takings};
 use std::test::*;
 
-// A lane that all 70 requests find room on.
+// A lane that all 20 requests find room on.
 const LIMITS: Limits = Limits {
     queue: 100,
     window: 100,
@@ -17,8 +17,8 @@ const LIMITS: Limits = Limits {
     history: 1_000,
 };
 
-// How many requests are one list of 64, and one of 6.
-const REQUESTS: u32 = 70;
+// How many requests are one list of 16, and one of 4.
+const REQUESTS: u32 = 20;
 
 // A client's own number of its request of this ordinal.
 fn own_of(ordinal: u32) -> u32 {
@@ -31,6 +31,27 @@ impl Client<'_> {
         for ordinal in 1..=count {
             let body = body_of(rt, alloc, b"", octets);
             assert!(rt; self.submit(rt, own_of(ordinal), body) == Ok(0));
+        }
+    }
+
+    // Offers so many requests in one list.
+    fn offer_list<R: Wait + Abort>(&mut self, rt: &R, alloc: Global, count: u32) -> Vec<Landing> {
+        let mut offers = Vec::new(alloc);
+        for ordinal in 1..=count {
+            let offer = Offer {
+                own: own_of(ordinal),
+                command: SUBMIT_SM,
+                body: Body::empty(alloc),
+            };
+            offers.push(offer).expect(rt, "out of memory");
+        }
+        let room = Vec::with_capacity(alloc, offers.len()).expect(rt, "out of memory");
+        if self.port.lanes() != 1 {
+            panic!(rt; "there is one lane");
+        }
+        match self.port.submit_all(self.at, rt, offers, room) {
+            Ok(landings) => landings,
+            Err(_) => panic!(rt; "tickets are left"),
         }
     }
 
@@ -111,7 +132,7 @@ fn are_those(requests: &[Sent], first: u32, count: usize) -> bool {
     requests.len() == count
 }
 
-// A client's 70 responses are a list of 64, behind which more may wait, and one of 6, behind which none
+// A client's 20 responses are a list of 16, behind which more may wait, and one of 4, behind which none
 // is left.
 #[test]
 fn client_collects_lists(rt: HostRuntime) {
@@ -127,14 +148,14 @@ fn client_collects_lists(rt: HostRuntime) {
     line.take_each(&rt, REQUESTS);
     line.answer_each(&rt, alloc, REQUESTS, 0);
     let first = client.collect_list(&rt, alloc);
-    assert!(rt; are_to(&first.responses, 1, 64) && first.more);
+    assert!(rt; are_to(&first.responses, 1, 16) && first.more);
     let second = client.collect_list(&rt, alloc);
-    assert!(rt; are_to(&second.responses, 65, 6) && !second.more);
+    assert!(rt; are_to(&second.responses, 17, 4) && !second.more);
     let third = client.collect_list(&rt, alloc);
     assert!(rt; third.responses.is_empty() && !third.more);
 }
 
-// 70 requests are a list of 64, behind which more may be queued, and one of 6, behind which the queue is
+// 20 requests are a list of 16, behind which more may be queued, and one of 4, behind which the queue is
 // empty.
 #[test]
 fn tap_takes_lists(rt: HostRuntime) {
@@ -148,9 +169,9 @@ fn tap_takes_lists(rt: HostRuntime) {
     let mut client = enter(&rt, &exchange, &mut door).expect(&rt, "no client");
     client.submit_list(&rt, alloc, REQUESTS, 0);
     let first = line.take_list(&rt, alloc);
-    assert!(rt; are_those(&first.requests, 1, 64) && first.stop.is_none());
+    assert!(rt; are_those(&first.requests, 1, 16) && first.stop.is_none());
     let second = line.take_list(&rt, alloc);
-    assert!(rt; are_those(&second.requests, 65, 6));
+    assert!(rt; are_those(&second.requests, 17, 4));
     assert!(rt; second.stop == Some(TakeRefusal::QueueEmpty));
 }
 
@@ -238,4 +259,50 @@ fn list_of_answers_is_settled_in_order(rt: HostRuntime) {
     assert!(rt; told(second.collect(&rt, 0)) == Ok(Some((0, 101))));
     assert!(rt; told(first.collect(&rt, 0)) == Ok(Some((0, 102))));
     assert!(rt; told(first.collect(&rt, 0)) == Ok(None));
+}
+
+// The lane accepted the request, and wasn't turned over for it.
+fn has_landed(landing: &Landing) -> bool {
+    matches!(&landing.landed, Ok(0)) && !landing.turned
+}
+
+// The lane was full for the request, which comes back.
+fn came_back(landing: &Landing, own: u32) -> bool {
+    match &landing.landed {
+        Err((offer, SubmitFault::AllFull)) => offer.own == own && !landing.turned,
+        _ => false,
+    }
+}
+
+// Of three offers in one list to a lane that takes two of a client's requests the third comes back. Its
+// ordinal is that of the next that is accepted.
+#[test]
+fn list_of_submits_lands_in_order(rt: HostRuntime) {
+    let alloc = rt.alloc();
+    let limits = Limits {
+        client: 2,
+        ..LIMITS
+    };
+    let Hall {
+        exchange,
+        mut door,
+        taps,
+    } = Hall::new(&rt, alloc, limits, 1, Starts::FIRST);
+    let mut line = last_line(&rt, &exchange, taps);
+    let mut client = enter(&rt, &exchange, &mut door).expect(&rt, "no client");
+    let landings = client.offer_list(&rt, alloc, 3);
+    let [first, second, third] = landings.as_slice() else {
+        panic!(&rt; "each offer is told of");
+    };
+    assert!(rt; has_landed(first) && has_landed(second) && came_back(third, 103));
+    let two = line.take_list(&rt, alloc);
+    assert!(rt; are_those(&two.requests, 1, 2));
+    line.answer_each(&rt, alloc, 2, 0);
+    assert!(rt; client.collect_list(&rt, alloc).responses.len() == 2);
+    assert!(rt; client.submit(&rt, own_of(3), Body::empty(alloc)) == Ok(0));
+    let one = line.take_list(&rt, alloc);
+    let [third] = one.requests.as_slice() else {
+        panic!(&rt; "one request is queued");
+    };
+    assert!(rt; third.request.ordinal == 3 && third.request.own == 103);
 }

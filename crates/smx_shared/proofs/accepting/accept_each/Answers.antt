@@ -1,6 +1,6 @@
 use Rattle.std.proofs.Common.{◌≡◌, ◌++◌, ◌∷◌, List, [], length, length-append, refl, sym, ap, ◌∙◌, subst, arith, append_assoc}
 use Rattle.std.proofs.lemmas.List.{append-nil}
-use Rattle.smx_shared.specs.Landings.{accepted_each, ordinal_after}
+use Rattle.smx_shared.specs.Landings.{accepted_each}
 use Rattle.smx_shared.specs.Offers.{accepted_by}
 use Rattle.smx_shared.specs.Steps.{MayAccept}
 use Rattle.smx_shared.proofs.ListSubmitting.{accepted_push, each_more}

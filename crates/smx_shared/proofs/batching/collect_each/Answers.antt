@@ -78,7 +78,7 @@ loop-preserved c =
 pub returns : goal.returns
 returns c =
     let i = c.loop.invariant in
-    let all : length c.loop.responses.items ≡ 64 = omega (arith, i.count, c.loop.auto.counter-end, c.loop-test.false) in
+    let all : length c.loop.responses.items ≡ 16 = omega (arith, i.count, c.loop.auto.counter-end, c.loop-test.false) in
     record {
       ran = gave_full c.args.by c.args.client c.args.lane.now c.loop.lane record { responses = c.loop.responses; more = true } refl i.gave;
       limits = i.limits;

@@ -12,5 +12,5 @@ invariant-loop l = record {
   octets : l.octets ≡ octets_of_responses l.responses.items;
   within : l.octets ≤ 65536;
   count : length l.responses.items ≡ l.counter;
-  room : 64 ≤ vec_capacity l.responses;
+  room : 16 ≤ vec_capacity l.responses;
 }

@@ -70,7 +70,7 @@ loop-preserved c =
 pub returns : goal.returns
 returns c =
     let i = c.loop.invariant in
-    let all : length c.loop.requests.items ≡ 64 = omega (arith, i.count, c.loop.auto.counter-end, c.loop-test.false) in
+    let all : length c.loop.requests.items ≡ 16 = omega (arith, i.count, c.loop.auto.counter-end, c.loop-test.false) in
     record {
       ran = took_full c.args.by c.args.now c.args.lane.now c.loop.lane record { requests = c.loop.requests; stop = None } refl i.took;
       limits = i.limits;

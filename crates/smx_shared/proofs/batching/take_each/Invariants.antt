@@ -12,5 +12,5 @@ invariant-loop l = record {
   octets : l.octets ≡ octets_of_requests l.requests.items;
   within : l.octets ≤ 65536;
   count : length l.requests.items ≡ l.counter;
-  room : 64 ≤ vec_capacity l.requests;
+  room : 16 ≤ vec_capacity l.requests;
 }

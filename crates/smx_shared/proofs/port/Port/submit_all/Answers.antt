@@ -1,4 +1,4 @@
-use Rattle.std.proofs.Common.{◌≡◌, ◌+◌, ◌++◌, refl, sym, subst, length, set, arith}
+use Rattle.std.proofs.Common.{◌+◌, ◌++◌, refl, sym, subst, length, set, arith}
 use Rattle.std.proofs.lemmas.Option.{slice_get_read}
 use Rattle.smx_shared.specs.Landings.{accepted_each}
 use Rattle.smx_shared.specs.Ports.{HasAccepted, IsPort}

@@ -25,7 +25,7 @@ invariant_of-self g c =
     let held : c.self.inside.held ≡ Some p = sym c.take.ensures.value ∙ c.in-Some.is in
     let all = ap (λ v. v.items) c.of-read.ensures ∙ listed c.args.empty.0.items c.push_reserved.new.self.items c.gather.new.responses.items heard.0 p c.requires.empty.0 c.push_reserved.ensures.items heard.1 in
     let on = ap (λ w. w.ending) c.self.view_is ∙ c.requires.goes_on in
-    let few = subst (λ v. length v.items ≤ 64) (sym c.of-read.ensures) c.gather.ensures.few in
+    let few = subst (λ v. length v.items ≤ 16) (sym c.of-read.ensures) c.gather.ensures.few in
     let answer = waits_so c.self.inside.held c.requires.answer.0 p (ap (λ w. w.held) c.self.view_is ∙ c.requires.answer.1) c.requires.answer.2 held in
     let brings = subst (λ v. BringsAll c.self.inside.tap.front c.answer_all-brought.new.self.front v.items c.of.result.value) (sym c.of-read.ensures)
     (subst (λ r. BringsAll c.self.inside.tap.front c.answer_all-brought.new.self.front c.gather.new.responses.items r) (sym c.of.ensures) c.answer_all-brought.ensures.served) in
@@ -48,7 +48,7 @@ returns-clause-goes g c =
     let p = c.in-Some.first in
     let held : c.self.inside.held ≡ Some p = sym c.take.ensures.value ∙ c.in-Some.is in
     let all = ap (λ v. v.items) c.of-read.ensures ∙ listed c.args.empty.0.items c.push_reserved.new.self.items c.gather.new.responses.items heard.0 p c.requires.empty.0 c.push_reserved.ensures.items heard.1 in
-    let few = subst (λ v. length v.items ≤ 64) (sym c.of-read.ensures) c.gather.ensures.few in
+    let few = subst (λ v. length v.items ≤ 16) (sym c.of-read.ensures) c.gather.ensures.few in
     let answer = waits_so c.self.inside.held c.requires.answer.0 p (ap (λ w. w.held) c.self.view_is ∙ c.requires.answer.1) c.requires.answer.2 held in
     let brings = subst (λ v. BringsAll c.self.inside.tap.front c.answer_all-brought.new.self.front v.items c.of.result.value) (sym c.of-read.ensures)
     (subst (λ r. BringsAll c.self.inside.tap.front c.answer_all-brought.new.self.front c.gather.new.responses.items r) (sym c.of.ensures) c.answer_all-brought.ensures.served) in
