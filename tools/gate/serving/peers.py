@@ -107,7 +107,8 @@ class Proxy:
         self.port, self.folder = port, tempfile.TemporaryDirectory(prefix="smx-serve-")
         self.file = pathlib.Path(self.folder.name) / "smx.toml"
         self.file.write_text(text)
-        self.log = open(f"{self.folder.name}/log", "w+b")
+        # (appended to, as the child writes by this very description, which a read of ours moves)
+        self.log = open(f"{self.folder.name}/log", "a+b")
         how = {"stdin": subprocess.PIPE, "stderr": self.log, "stdout": subprocess.DEVNULL, **how}
         self.child = subprocess.Popen([*(words or [program, "serve"]), str(self.file)], **how)
 
