@@ -1,14 +1,16 @@
 -- The responses of a list are said one after another.
 use Rattle.std.proofs.Common.{◌≡◌, ◌≤◌, ◌+◌, ℕ, List, [], ◌∷◌, ◌++◌, length, sym, ap, ◌∙◌, append_assoc, arith}
+use Rattle.std.proofs.lemmas.Grind.{flat_map-append}
 use Rattle.std.proofs.lemmas.List.{append-nil, map-append}
 use Rattle.std.proofs.lemmas.List.Sums.{sum_by-cons}
 use Rattle.smx_pdu.specs.declared.pdu.Pdu.{Pdu}
 use Rattle.smx_pdu.specs.Pdu.{spelling}
 use Rattle.smx_history.specs.declared.response.Response.{Response}
-use Rattle.smx_link.specs.Wiring.{spellings}
+use Rattle.smx_link.specs.Wiring.{Wiring, spellings}
 use Rattle.smx_shared.specs.Batches.{octets_of_responses, octets_with}
 use Rattle.smx_turns.proofs.Chains.{pushed}
 use Rattle.smx_client.specs.Events.{pdus_of}
+use Rattle.smx_client.specs.Sayings.{Spoke}
 
 -- none was said yet
 pub said_none : (start : List Pdu) (rs : List Response) → rs ≡ [] → start ≡ start ++ pdus_of rs
@@ -40,3 +42,11 @@ room_for_others rs rest r room room' is enough left =
 pub all_said : (all said rest : List Response) → said ++ rest ≡ all → length rest ≡ 0 → said ≡ all
 all_said all said [] e none = sym (append-nil said) ∙ e
 all_said all said (r ∷ rest) e none = absurd (omega arith)
+
+-- what was said in two parts was said
+pub spoke_more : {L : Type 0} (v w x : Wiring L) (ps qs : List Pdu) → Spoke v w ps → Spoke w x qs → Spoke v x (ps ++ qs)
+spoke_more {L = L} v w x ps qs one two = record {
+  said = two.said ∙ ap (λ l. l ++ qs) one.said ∙ append_assoc v.said ps qs;
+  unsent = two.unsent ∙ ap (λ l. l ++ spellings qs) one.unsent ∙ append_assoc v.unsent (spellings ps) (spellings qs) ∙ ap (λ l. v.unsent ++ l) (sym (flat_map-append spelling ps qs));
+  same = two.same ∙ ap (λ (y : Wiring L). record y { said = x.said; unsent = x.unsent; room = x.room }) one.same;
+}

@@ -28,7 +28,7 @@ use Rattle.smx_shared.specs.declared.offer.Offer.{Offer}
 use Rattle.smx_client.specs.Events.{refusal_out, refusals_each, refusals_out, why_unaccepted}
 use Rattle.smx_client.specs.Parts.{AreForwarded, AreOffersOf, Does, IsOfferOf, list_step, parts}
 use Rattle.smx_client.specs.Serving.{asks_in}
-use Rattle.smx_client.specs.Sayings.{back_out, count_of, landed_out, list_out}
+use Rattle.smx_client.specs.Sayings.{back_out, list_length, landed_out, list_out}
 use Rattle.smx_client.specs.declared.desk.Desk.{Desk}
 use Rattle.smx_client.specs.declared.event.Event.TheVariants.{Forwarded}
 use Rattle.smx_client.specs.declared.reply.Parked.{Parked}
@@ -107,7 +107,7 @@ land_count by c n (o ∷ os) [] old new told = absurd told
 land_count by c n (o ∷ os) (l ∷ ls) old new told = ap suc (land_count by c (ordinal_after n o l) os ls told.0 new told.3)
 
 -- as many came of it as were offered
-pub list_count : (v w : PortView) (os : List Offer) (r : Result (Vec Landing) (Vec Offer × Spent)) → SubmitsAll v os w r → count_of r ≡ length os
+pub list_count : (v w : PortView) (os : List Offer) (r : Result (Vec Landing) (Vec Offer × Spent)) → SubmitsAll v os w r → list_length r ≡ length os
 list_count v w os (Ok ls) on = let s = on.5 in land_count on.0.number v.client v.next os ls.items s.old s.new s.told
 list_count v w os (Err e) on = ap length on.0
 

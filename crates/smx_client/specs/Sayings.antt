@@ -39,9 +39,9 @@ abbrev pub list_out : Result (Vec Landing) (Vec Offer × Spent) → List Pdu
 list_out (Ok ls) = flat_map (λ l. landed_out l.landed) ls.items
 list_out (Err e) = map (λ o. back_out o submit.Spent) e.0.items
 
-abbrev pub count_of : Result (Vec Landing) (Vec Offer × Spent) → ℕ
-count_of (Ok ls) = length ls.items
-count_of (Err e) = length e.0.items
+abbrev pub list_length : Result (Vec Landing) (Vec Offer × Spent) → ℕ
+list_length (Ok ls) = length ls.items
+list_length (Err e) = length e.0.items
 
 -- a request was never decided by the session alone
 abbrev pub IsVerdict : Act → Verdict → Type 0

@@ -12,7 +12,7 @@ ghost use Rattle.smx_turns.specs.Scenes.{scene};
 ghost use Rattle.smx_turns.specs.Worth.{those};
 ghost use Rattle.smx_client.specs.Events.{landings_told, submit_told};
 ghost use Rattle.smx_client.specs.Parts.{Parts, AreOffersOf};
-ghost use Rattle.smx_client.specs.Sayings.{Spoke, back_out, landed_out, list_out, count_of};
+ghost use Rattle.smx_client.specs.Sayings.{Spoke, back_out, landed_out, list_out, list_length};
 ghost use Rattle.smx_client.specs.Table.{Before, phase_of, Admitted};
 ghost use Rattle.smx_client.specs.Turns.{Leads};
 ghost use Rattle.smx_shared.specs.declared.fault.SubmitFault.{SubmitFault};
@@ -20,29 +20,45 @@ ghost use Rattle.smx_shared.specs.declared.fault.SubmitFault.{SubmitFault};
 use crate::event::Event;
 use crate::ledger::ask;
 use crate::saying::{offer_of, tell_accepted, why_unaccepted};
-use smx_history::refusal_of;
+use smx_history::{Response, refusal_of};
 use smx_link::{Link, Wire};
 use smx_lock::Spent;
 use smx_pdu::Pdu;
 use smx_pdu::command::is_forwarded;
 use smx_session::{Account, Ask, ClientSession};
-use smx_shared::{BATCH, Landing, Offer, SubmitFault};
+use smx_shared::{BATCH, Landing, Offer, SpareList, SubmitFault};
 use smx_trace::Trace;
 use smx_turns::{Gate, Log, Point};
 use std::alloc::Global;
+use std::collections::VecDeque;
 
 // Empty lists for offers and for what becomes of them.
 pub(crate) type Lists = (Vec<Offer>, Vec<Landing>);
 
+// Lists of which each hold wants one, kept for the next.
+#[derive(Drop)]
+pub(crate) struct SpareLists {
+    pub(crate) offers: SpareList<Offer>,
+    pub(crate) landings: SpareList<Landing>,
+    pub(crate) responses: SpareList<Response>,
+}
+
+impl SpareLists {
+    pub(crate) fn new() -> SpareLists {
+        SpareLists {
+            offers: SpareList::new(),
+            landings: SpareList::new(),
+            responses: SpareList::new(),
+        }
+    }
+}
+
 // Such lists, where there is memory.
-pub(crate) fn lists(alloc: Global) -> Option<Lists>
+pub(crate) fn lists(spares: &mut SpareLists, alloc: Global) -> Option<Lists>
     ensures { IfSome result (λ l. (l.0.items ≡ []) × (16 ≤ vec_capacity l.0)
         × (l.1.items ≡ []) × (16 ≤ vec_capacity l.1)) }
 {
-    match (
-        Vec::with_capacity(alloc, BATCH),
-        Vec::with_capacity(alloc, BATCH),
-    ) {
+    match (spares.offers.list(alloc), spares.landings.list(alloc)) {
         (Ok(offers), Ok(room)) => Some((offers, room)),
         _ => None,
     }
@@ -150,23 +166,26 @@ fn say_landed<L: Link + Drop>(wire: &mut Wire<L>, alloc: Global, landing: &Landi
     }
 }
 
-// Says the answers to those that were refused, in order, and tells the lane for each that was accepted.
+// Says the answers to those that were refused, in order, and tells the lane for each that was accepted. Their
+// list comes back, which is empty.
 fn settle_each<L: Link + Drop, G: Gate>(
     wire: &mut Wire<L>,
     gate: &mut G,
     alloc: Global,
     landings: Vec<Landing>,
-)
+) -> Vec<Landing>
     requires room { 16 * length landings.items ≤ wire.old.room }
     ensures spoke { Spoke wire.old wire.new (flat_map (λ l. landed_out l.landed) landings.items) }
     ensures told { G.told gate.new
         ≡ G.told gate.old ++ flat_map (λ l. submit_told l.landed) landings.items }
     ensures asked { G.asked gate.new ≡ G.asked gate.old }
 {
-    for landing in landings {
+    let mut left = VecDeque::from_vec(landings);
+    while let Some(landing) = left.pop_front() {
         say_landed(wire, alloc, &landing);
         tell_accepted(gate, &landing.landed);
     }
+    left.into_vec()
 }
 
 // The same where no ticket is left.
@@ -185,15 +204,16 @@ pub(crate) fn settle_list<L: Link + Drop, G: Gate>(
     wire: &mut Wire<L>,
     gate: &mut G,
     alloc: Global,
+    spare: &mut SpareList<Landing>,
     landed: Result<Vec<Landing>, (Vec<Offer>, Spent)>,
 )
-    requires room { 16 * count_of landed ≤ wire.old.room }
+    requires room { 16 * list_length landed ≤ wire.old.room }
     ensures spoke { Spoke wire.old wire.new (list_out landed) }
     ensures told { G.told gate.new ≡ G.told gate.old ++ landings_told landed }
     ensures asked { G.asked gate.new ≡ G.asked gate.old }
 {
     match landed {
-        Ok(landings) => settle_each(wire, gate, alloc, landings),
+        Ok(landings) => spare.keep(settle_each(wire, gate, alloc, landings)),
         Err((offers, Spent)) => say_all_back(wire, alloc, offers),
     }
 }

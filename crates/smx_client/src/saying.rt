@@ -15,9 +15,10 @@ use smx_link::{Link, Wire};
 use smx_lock::Spent;
 use smx_pdu::Pdu;
 use smx_session::{Act, Enquiry};
-use smx_shared::{Collected, Offer, SubmitFault};
+use smx_shared::{Collected, Offer, SpareList, SubmitFault};
 use smx_turns::{Gate, Party};
 use std::alloc::Global;
+use std::collections::VecDeque;
 
 // Says one PDU.
 pub(crate) fn say_one<L: Link + Drop>(wire: &mut Wire<L>, pdu: &Pdu)
@@ -45,20 +46,26 @@ pub(crate) fn say_some<L: Link + Drop>(wire: &mut Wire<L>, said: &Option<Pdu>)
     }
 }
 
-// Says the responses, one after another, and gives each back.
-fn say_each<L: Link + Drop>(wire: &mut Wire<L>, responses: Vec<Response>)
+// Says the responses, one after another, and gives each back, and then their list, which is empty.
+fn say_each<L: Link + Drop>(wire: &mut Wire<L>, responses: Vec<Response>) -> Vec<Response>
     requires room { octets_of_responses responses.items ≤ wire.old.room }
     ensures { Spoke wire.old wire.new (pdus_of responses.items) }
 {
-    for response in responses {
+    let mut left = VecDeque::from_vec(responses);
+    while let Some(response) = left.pop_front() {
         let Response { ordinal: _, pdu } = response;
         wire.say_within(&pdu);
         wire.give_back(pdu);
     }
+    left.into_vec()
 }
 
 // Says the responses that were found, and gives them back. True where there is none.
-pub(crate) fn say_found<L: Link + Drop>(wire: &mut Wire<L>, found: Result<Collected, Spent>) -> bool
+pub(crate) fn say_found<L: Link + Drop>(
+    wire: &mut Wire<L>,
+    spare: &mut SpareList<Response>,
+    found: Result<Collected, Spent>,
+) -> bool
     requires room { IfOk found (λ b. octets_of_responses b.responses.items ≤ wire.old.room) }
     ensures spoke { Spoke wire.old wire.new (response_out found) }
     ensures none { result ≡ is_none_found found }
@@ -66,7 +73,7 @@ pub(crate) fn say_found<L: Link + Drop>(wire: &mut Wire<L>, found: Result<Collec
     match found {
         Ok(Collected { responses, more: _ }) => {
             let none = responses.is_empty();
-            say_each(wire, responses);
+            spare.keep(say_each(wire, responses));
             none
         }
         Err(_) => {

@@ -19,6 +19,7 @@ ghost use Rattle.smx_client.specs.Parts.{parts, Chain};
 use crate::desk::Desk;
 use crate::ending::Refusal;
 use crate::event::Event;
+use crate::listing::SpareLists;
 use crate::reply::Parked;
 use crate::stage::Stage;
 use smx_box::{Receiver, Sender};
@@ -88,6 +89,8 @@ pub struct ClientWorker<'d, L: Link + Drop> {
     ends: Trace<Result<TurnEnd, Fault>>,
     origin: Origin,
     events: Trace<Event>,
+    // No part of what it keeps.
+    spares: SpareLists,
 }
 
 impl<'d, L: Link + Drop> Model for ClientWorker<'d, L> {
@@ -209,6 +212,7 @@ impl<'d, L: Link + Drop> ClientWorker<'d, L> {
             ends: Trace::new(),
             origin,
             events: Trace::new(),
+            spares: SpareLists::new(),
         })
     }
 

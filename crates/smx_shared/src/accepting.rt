@@ -14,12 +14,14 @@ use smx_history::Note;
 use smx_lane::Lane;
 use smx_lock::CriticalSection;
 use smx_ticket_core::MOST;
+use std::collections::VecDeque;
 
-// What became of a list of offers, and the client's next ordinal.
+// What became of a list of offers, which is empty now, and the client's next ordinal.
 #[derive(Drop)]
 pub(crate) struct Landings {
     pub(crate) landings: Vec<Landing>,
     pub(crate) next: u64,
+    pub(crate) offers: Vec<Offer>,
 }
 
 // Offers this to the lane for the client, as its request of that ordinal.
@@ -81,7 +83,8 @@ fn accept_each(
 {
     let mut landings = room;
     let mut ordinal = first;
-    for offer in offers {
+    let mut left = VecDeque::from_vec(offers);
+    while let Some(offer) = left.pop_front() {
         let landing = accept_one(lane, by, client, ordinal, offer);
         ordinal = ordinal_past(ordinal, &landing);
         landings.push_reserved(landing);
@@ -89,6 +92,7 @@ fn accept_each(
     Landings {
         landings,
         next: ordinal,
+        offers: left.into_vec(),
     }
 }
 

@@ -8,6 +8,7 @@ use smx_history::{Note, Response};
 use smx_lane::{Lane, Sent, Settled};
 use smx_lock::CriticalSection;
 use smx_pdu::{MAX_PDU, Pdu};
+use std::collections::VecDeque;
 
 /// The octets of a PDU's header.
 const HEADER: usize = 16;
@@ -89,16 +90,27 @@ fn take_each(lane: &mut Lane, by: u64, now: u64, room: Vec<Sent>) -> Takings
     }
 }
 
+// What became of a list of responses, which is empty now.
+#[derive(Drop)]
+pub(crate) struct Brought {
+    pub(crate) settled: Vec<Settled>,
+    pub(crate) responses: Vec<Pdu>,
+}
+
 // Brings each of these responses.
-fn answer_each(lane: &mut Lane, by: u64, responses: Vec<Pdu>, room: Vec<Settled>) -> Vec<Settled>
+fn answer_each(lane: &mut Lane, by: u64, responses: Vec<Pdu>, room: Vec<Settled>) -> Brought
     requires room { (room.items ≡ []) × (length responses.items ≤ vec_capacity room) }
-    ensures { AreBrought by responses.items lane.old result.items lane.new }
+    ensures { AreBrought by responses.items lane.old result.settled.items lane.new }
 {
     let mut settled = room;
-    for response in responses {
+    let mut left = VecDeque::from_vec(responses);
+    while let Some(response) = left.pop_front() {
         settled.push_reserved(lane.answer_response(by, response));
     }
-    settled
+    Brought {
+        settled,
+        responses: left.into_vec(),
+    }
 }
 
 // Collects what waits for a client.
@@ -168,16 +180,18 @@ impl CriticalSection<Lane, Note> for BringingAll {
     ghost use Rattle.smx_shared.specs.Batches.{answers_of};
     ghost use Rattle.smx_shared.specs.Steps.{AreBrought};
 
-    type Answer = Vec<Settled>;
+    type Answer = Brought;
 
     ghost may = { λ s by lane. (s.room.items ≡ [])
         × (length s.responses.items ≤ vec_capacity s.room) };
 
-    ghost does = { λ s by old answer new. AreBrought by s.responses.items old answer.items new };
+    ghost does = { λ s by old answer new.
+        AreBrought by s.responses.items old answer.settled.items new };
 
-    ghost notes = { λ s by old answer. answers_of by s.responses.items answer.items };
+    ghost notes = { λ s by old answer.
+        answers_of by s.responses.items answer.settled.items };
 
-    fn run(self, value: &mut Lane, number: u64) -> Vec<Settled> {
+    fn run(self, value: &mut Lane, number: u64) -> Brought {
         let BringingAll { responses, room } = self;
         answer_each(value, number, responses, room)
     }

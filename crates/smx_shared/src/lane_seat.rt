@@ -8,9 +8,10 @@ ghost use Rattle.smx_shared.specs.Steps.{MayCall, MaySubmit, ServesList};
 
 use crate::accepting::{AcceptingAll, Landings};
 use crate::batch::{Collected, Landing, Takings};
-use crate::batching::{BringingAll, CollectingAll, TakingAll};
+use crate::batching::{BringingAll, Brought, CollectingAll, TakingAll};
 use crate::lane_call::{Calling, LaneCall, Weighing};
 use crate::offer::Offer;
+use crate::spare::SpareList;
 use smx_history::Response;
 use smx_lane::{Lane, Load, Sent, Settled};
 use smx_lock::{SeatInPlace, Spent, TicketLock, TryFault};
@@ -124,6 +125,7 @@ impl LaneSeat {
         lock: &TicketLock<Lane>,
         responses: Vec<Pdu>,
         room: Vec<Settled>,
+        spare: &mut SpareList<Pdu>,
     ) -> Result<Vec<Settled>, (Vec<Pdu>, Spent)>
         requires lock { self.old.lock ≡ lock.now }
         requires room { (room.items ≡ []) × (length responses.items ≤ vec_capacity room) }
@@ -131,7 +133,10 @@ impl LaneSeat {
         ensures served { BringsAll self.old self.new responses.items result }
     {
         match self.seat.hold(rt, lock, BringingAll { responses, room }) {
-            Ok(settled) => Ok(settled),
+            Ok(Brought { settled, responses }) => {
+                spare.keep(responses);
+                Ok(settled)
+            }
             Err((section, spent)) => Err((section.responses, spent)),
         }
     }

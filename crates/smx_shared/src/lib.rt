@@ -23,6 +23,7 @@ mod offer;
 mod opening;
 mod port;
 mod retire;
+mod spare;
 mod starts;
 mod submit;
 mod tap;
@@ -39,6 +40,7 @@ pub use fault::{
 };
 pub use offer::Offer;
 pub use port::Port;
+pub use spare::SpareList;
 pub use starts::Starts;
 pub use tap::Tap;
 pub use token::{HasSeat, Token};

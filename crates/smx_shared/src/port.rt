@@ -19,6 +19,7 @@ use crate::lane_seat::LaneSeat;
 use crate::naming::{named, unnamed};
 use crate::offer::Offer;
 use crate::retire::retire_all;
+use crate::spare::SpareList;
 use crate::submit::try_ring;
 use smx_history::Response;
 use smx_lock::{Spent, TryFault};
@@ -104,14 +105,15 @@ impl Port {
     }
 
     /// Submits each of these to the one lane, in order and in one hold, and tells what became of each.
-    /// Where the tickets are spent they come back. It may wait. The list is made in `room`, which is
-    /// empty and has a place for each; it takes no memory.
+    /// Where the tickets are spent they come back; else their list, empty, is kept in `spare`. It may wait.
+    /// The list is made in `room`, which is empty and has a place for each; it takes no memory.
     pub fn submit_all<R: Wait>(
         &mut self,
         at: &Exchange,
         rt: &R,
         offers: Vec<Offer>,
         room: Vec<Landing>,
+        spare: &mut SpareList<Offer>,
     ) -> Result<Vec<Landing>, (Vec<Offer>, Spent)>
         requires locks { locks_of self.old.fronts ≡ at.now }
         requires lane { length self.old.fronts ≡ 1 }
@@ -128,8 +130,15 @@ impl Port {
         let client = self.client;
         let next = self.next;
         match self.seats[0].submit_all(rt, &at.locks[0], client, next, offers, room) {
-            Ok(Landings { landings, next }) => {
+            Ok(
+                Landings {
+                    landings,
+                    next,
+                    offers,
+                },
+            ) => {
                 self.next = next;
+                spare.keep(offers);
                 Ok(landings)
             }
             Err((offers, spent)) => Err((offers, spent)),

@@ -9,6 +9,7 @@ use crate::exchange::Exchange;
 use crate::fault::{TakeFault, TryTakeFault, TurnFault};
 use crate::lane_call::{Answering, Taking, TurningOver};
 use crate::lane_seat::LaneSeat;
+use crate::spare::SpareList;
 use smx_history::{Answered, Entry};
 use smx_lane::{Sent, Settled};
 use smx_lock::{Spent, TryFault};
@@ -165,8 +166,8 @@ impl Tap {
     }
 
     /// Brings responses from upstream to their clients, in one hold, and tells what became of each, in
-    /// their order. It may wait. The list is made in `room`, which is empty and has a place for each; it
-    /// takes no memory.
+    /// their order; their list, empty, is kept in `spare`. It may wait. The list is made in `room`, which is
+    /// empty and has a place for each; it takes no memory.
     #[inline(always)]
     pub fn answer_all<R: Wait>(
         &mut self,
@@ -174,6 +175,7 @@ impl Tap {
         rt: &R,
         responses: Vec<Pdu>,
         room: Vec<Settled>,
+        spare: &mut SpareList<Pdu>,
     ) -> Result<Vec<Settled>, (Vec<Pdu>, Spent)>
         requires lock { slice_get at.now self.old.lane ≡ Some self.old.front.lock }
         requires room { (room.items ≡ []) × (length responses.items ≤ vec_capacity room) }
@@ -185,7 +187,7 @@ impl Tap {
     {
         match self
             .seat
-            .answer_all(rt, &at.locks[self.lane], responses, room)
+            .answer_all(rt, &at.locks[self.lane], responses, room, spare)
         {
             Ok(settled) => Ok(settled),
             Err((responses, spent)) => Err((responses, spent)),

@@ -1,5 +1,5 @@
 -- What an event is worth: what it decided and sends, whom it tells, what it asks the directory, whether nothing came of it, and what it ends.
-use Rattle.std.specs.Prelude.{ℕ, Bool, true, false, ◌&&◌, not, ◌==◌, length, is_some, is_none, List, [], ◌∷◌, ◌++◌, map, Option, Some, None, Result, Ok, Err, if◌then◌else◌}
+use Rattle.std.specs.Prelude.{ℕ, Bool, true, false, ◌&&◌, ◌==◌, length, is_some, is_none, List, [], ◌∷◌, ◌++◌, map, Option, Some, None, Result, Ok, Err, if◌then◌else◌}
 use Rattle.std.specs.List.{flat_map}
 use Rattle.std.specs.Result.{is_err}
 use Rattle.std.specs.declared.vec.Vec.{Vec}

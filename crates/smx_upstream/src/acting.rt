@@ -233,7 +233,7 @@ impl<L: Link + Drop> UpstreamWorker<L> {
         let more = may_give_more(&taken);
         self.last = last_taken(&taken, self.last);
         jot(event, gives_none(&taken), &mut self.events, log);
-        say_taken(taken, &mut self.wire);
+        say_taken(taken, &mut self.spares.requests, &mut self.wire);
         more_unless_spent(more, spent)
     }
 

@@ -14,15 +14,16 @@ use crate::event::Event;
 use crate::spent::unless_spent;
 use crate::worker::{UpstreamWorker, jot};
 use smx_history::Answered;
-use smx_lane::Settled;
+use smx_lane::{Sent, Settled};
 use smx_link::{Link, Wire};
 use smx_lock::Spent;
 use smx_pdu::Pdu;
 use smx_pdu::command::{RESPONSE, is_forwarded};
 use smx_session::UpstreamState;
-use smx_shared::{BATCH, Exchange};
+use smx_shared::{BATCH, Exchange, SpareList};
 use smx_turns::{Fault, Gate, Log, Party};
 use std::alloc::Global;
+use std::collections::VecDeque;
 use std::snapshot::Snapshot;
 use std::sync::Wait;
 
@@ -72,20 +73,23 @@ fn tell_one<G: Gate>(gate: &mut G, lane: usize, answered: &Answered)
     }
 }
 
-// The same of each.
-fn tell_each<G: Gate>(gate: &mut G, lane: usize, settled: Vec<Settled>)
+// The same of each. Their list comes back, which is empty.
+fn tell_each<G: Gate>(gate: &mut G, lane: usize, settled: Vec<Settled>) -> Vec<Settled>
     ensures asked { G.asked gate.new ≡ G.asked gate.old }
     ensures told { G.told gate.new ≡ G.told gate.old ++ settled_tells lane settled.items }
 {
-    for one in settled {
+    let mut left = VecDeque::from_vec(settled);
+    while let Some(one) = left.pop_front() {
         tell_one(gate, lane, &one.answered);
     }
+    left.into_vec()
 }
 
 // The same of what the lane said of responses. Whether its tickets are spent.
 fn tell_all<G: Gate>(
     gate: &mut G,
     lane: usize,
+    spare: &mut SpareList<Settled>,
     brought: Result<Vec<Settled>, (Vec<Pdu>, Spent)>,
 ) -> bool
     ensures spent { result ≡ is_err brought }
@@ -94,22 +98,37 @@ fn tell_all<G: Gate>(
 {
     match brought {
         Ok(settled) => {
-            tell_each(gate, lane, settled);
+            spare.keep(tell_each(gate, lane, settled));
             false
         }
         Err(_) => true,
     }
 }
 
+// Lists of which each hold wants one, kept for the next.
+#[derive(Drop)]
+pub(crate) struct SpareLists {
+    pub(crate) responses: SpareList<Pdu>,
+    pub(crate) settled: SpareList<Settled>,
+    pub(crate) requests: SpareList<Sent>,
+}
+
+impl SpareLists {
+    pub(crate) fn new() -> SpareLists {
+        SpareLists {
+            responses: SpareList::new(),
+            settled: SpareList::new(),
+            requests: SpareList::new(),
+        }
+    }
+}
+
 // Empty lists for responses and for what becomes of them, where there is memory.
-pub(crate) fn lists(alloc: Global) -> Option<(Vec<Pdu>, Vec<Settled>)>
+fn lists(spares: &mut SpareLists, alloc: Global) -> Option<(Vec<Pdu>, Vec<Settled>)>
     ensures { IfSome result (λ l. (l.0.items ≡ []) × (16 ≤ vec_capacity l.0)
         × (l.1.items ≡ []) × (16 ≤ vec_capacity l.1)) }
 {
-    match (
-        Vec::with_capacity(alloc, BATCH),
-        Vec::with_capacity(alloc, BATCH),
-    ) {
+    match (spares.responses.list(alloc), spares.settled.list(alloc)) {
         (Ok(responses), Ok(room)) => Some((responses, room)),
         _ => None,
     }
@@ -118,7 +137,7 @@ pub(crate) fn lists(alloc: Global) -> Option<(Vec<Pdu>, Vec<Settled>)>
 impl<L: Link + Drop> UpstreamWorker<L> {
     // Whether the PDU that waits goes to the lane, and the next one with it.
     #[inline(always)]
-    pub(crate) fn holds_answer(&self) -> bool
+    fn holds_answer(&self) -> bool
         ensures { result ≡ true → (is_bound self.now.stand.session.state ≡ true)
             × (p : Pdu) × (self.now.held ≡ Some p) × (is_answer p.command ≡ true) }
     {
@@ -127,6 +146,22 @@ impl<L: Link + Drop> UpstreamWorker<L> {
         };
         let follows = matches!(self.wire.next_command(), Some(command) if is_answer(command));
         follows && is_answer(pdu.command) && self.session.state() == UpstreamState::Bound
+    }
+
+    // Empty lists where the PDU that waits goes to the lane, and the next one with it, and there is memory
+    // for them.
+    #[inline(always)]
+    pub(crate) fn lists_to_bring(&mut self) -> Option<(Vec<Pdu>, Vec<Settled>)>
+        ensures empty { IfSome result (λ l. (l.0.items ≡ []) × (16 ≤ vec_capacity l.0)
+            × (l.1.items ≡ []) × (16 ≤ vec_capacity l.1)) }
+        ensures answer { IfSome result (λ l. (is_bound self.old.stand.session.state ≡ true)
+            × (p : Pdu) × (self.old.held ≡ Some p) × (is_answer p.command ≡ true)) }
+        ensures same { self.new ≡ self.old }
+    {
+        if !self.holds_answer() {
+            return None;
+        }
+        lists(&mut self.spares, self.alloc)
     }
 
     // Brings the response that waits, and those that stand behind it, to the lane.
@@ -177,9 +212,11 @@ impl<L: Link + Drop> UpstreamWorker<L> {
         gather(&mut self.wire, &mut responses);
         let read = Snapshot::of(&responses);
         let lane = self.tap.lane();
-        let brought = self.tap.answer_all(at, rt, responses, room);
+        let brought = self
+            .tap
+            .answer_all(at, rt, responses, room, &mut self.spares.responses);
         let event = Event::Brought(read, now, lane, Snapshot::of(&brought));
-        let spent = tell_all(gate, lane, brought);
+        let spent = tell_all(gate, lane, &mut self.spares.settled, brought);
         jot(event, false, &mut self.events, log);
         unless_spent(spent)
     }

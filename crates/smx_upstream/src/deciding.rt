@@ -7,7 +7,6 @@ ghost use Rattle.smx_upstream.specs.May.{MayDecide};
 ghost use Rattle.smx_upstream.specs.Phases.{phase_of, when_decided, when_next, when_progress, source_of, has_end, link_faults, Before, Source, LeadsTo, Deciding};
 ghost use Rattle.smx_upstream.specs.Phases.Source.{Earlier};
 
-use crate::bringing::lists;
 use crate::event::Event;
 use crate::wiring::Front;
 use crate::worker::UpstreamWorker;
@@ -116,13 +115,11 @@ impl<L: Link + Drop> UpstreamWorker<L> {
             Front::Broken => return Ok(Next::Over),
             Front::Whole => {}
         }
-        if self.holds_answer() {
-            if let Some(empty) = lists(self.alloc) {
-                return match self.bring(at, rt, gate, now, empty, log) {
-                    Ok(()) => Ok(Next::More),
-                    Err(fault) => Err(fault),
-                };
-            }
+        if let Some(empty) = self.lists_to_bring() {
+            return match self.bring(at, rt, gate, now, empty, log) {
+                Ok(()) => Ok(Next::More),
+                Err(fault) => Err(fault),
+            };
         }
         let next = self.decide(at, rt, gate, directory, now, log);
         if self.held.is_some() {

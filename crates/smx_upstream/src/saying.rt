@@ -8,7 +8,8 @@ use smx_lane::Sent;
 use smx_link::{Link, Wire};
 use smx_lock::Spent;
 use smx_pdu::Pdu;
-use smx_shared::Takings;
+use smx_shared::{SpareList, Takings};
+use std::collections::VecDeque;
 
 // Whether the lane gave no request.
 pub(crate) fn gives_none(taken: &Result<Takings, Spent>) -> bool
@@ -43,8 +44,8 @@ fn face_up(sent: Sent) -> Pdu
     }
 }
 
-// Says each of these requests, and gives its body back to the wire.
-fn say_each<L: Link + Drop>(requests: Vec<Sent>, wire: &mut Wire<L>)
+// Says each of these requests, gives its body back to the wire, and gives their list back, which is empty.
+fn say_each<L: Link + Drop>(requests: Vec<Sent>, wire: &mut Wire<L>) -> Vec<Sent>
     requires room { octets_of_requests requests.items ≤ wire.old.room }
     ensures said { wire.new.said ≡ wire.old.said ++ map face_up requests.items }
     ensures unsent { wire.new.unsent
@@ -55,15 +56,21 @@ fn say_each<L: Link + Drop>(requests: Vec<Sent>, wire: &mut Wire<L>)
       room = wire.new.room;
     } }
 {
-    for sent in requests {
+    let mut left = VecDeque::from_vec(requests);
+    while let Some(sent) = left.pop_front() {
         let pdu = face_up(sent);
         wire.say_within(&pdu);
         wire.give_back(pdu);
     }
+    left.into_vec()
 }
 
 // Says what the lane gave, where there is room for it.
-pub(crate) fn say_taken<L: Link + Drop>(taken: Result<Takings, Spent>, wire: &mut Wire<L>)
+pub(crate) fn say_taken<L: Link + Drop>(
+    taken: Result<Takings, Spent>,
+    spare: &mut SpareList<Sent>,
+    wire: &mut Wire<L>,
+)
     requires room { IfOk taken (λ b. octets_of_requests b.requests.items ≤ wire.old.room) }
     ensures said { wire.new.said ≡ wire.old.said ++ requests_up taken }
     ensures unsent { wire.new.unsent ≡ wire.old.unsent ++ spellings (requests_up taken) }
@@ -74,7 +81,7 @@ pub(crate) fn say_taken<L: Link + Drop>(taken: Result<Takings, Spent>, wire: &mu
     } }
 {
     match taken {
-        Ok(Takings { requests, .. }) => say_each(requests, wire),
+        Ok(Takings { requests, .. }) => spare.keep(say_each(requests, wire)),
         Err(_) => {}
     }
 }

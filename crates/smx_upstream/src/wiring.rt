@@ -17,7 +17,6 @@ use crate::worker::{UpstreamWorker, note};
 use smx_lane::Sent;
 use smx_link::{Link, Polled, Wire};
 use smx_pdu::Pdu;
-use smx_shared::BATCH;
 use smx_trace::Trace;
 use smx_turns::{End, Fault, Log, Mark, Outcome, Step, is_memory};
 use std::alloc::Global;
@@ -126,11 +125,12 @@ impl<L: Link + Drop> UpstreamWorker<L> {
 
     // Makes a list that a lane's requests can be put into.
     #[inline(always)]
-    pub(crate) fn make_list(&self) -> Result<Vec<Sent>, Fault>
+    pub(crate) fn make_list(&mut self) -> Result<Vec<Sent>, Fault>
         ensures room { IfOk result (λ list. (list.items ≡ []) × (16 ≤ vec_capacity list)) }
         ensures err { OnErr result (result ≡ Err Fault.NoMemory) }
+        ensures same { self.new ≡ self.old }
     {
-        match Vec::with_capacity(self.alloc, BATCH) {
+        match self.spares.requests.list(self.alloc) {
             Ok(list) => Ok(list),
             Err(_) => Err(Fault::NoMemory),
         }

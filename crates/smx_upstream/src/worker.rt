@@ -12,6 +12,7 @@ ghost use Rattle.smx_upstream.specs.Events.{worth, is_quiet_event};
 ghost use Rattle.smx_upstream.specs.Standing.{bind_of, stand, AreEmptied};
 
 use crate::age::Age;
+use crate::bringing::SpareLists;
 use crate::event::Event;
 use crate::last::LastRequest;
 use smx_box::{Receiver, Sender};
@@ -104,6 +105,8 @@ pub struct UpstreamWorker<L: Link + Drop> {
     pub(crate) steps: Trace<Step<Event>>,
     // How the turns ended.
     pub(crate) ends: Trace<Result<TurnEnd, Fault>>,
+    // No part of what it keeps.
+    pub(crate) spares: SpareLists,
 }
 
 impl<L: Link + Drop> Model for UpstreamWorker<L> {
@@ -292,6 +295,7 @@ impl<L: Link + Drop> UpstreamWorker<L> {
             last: None,
             steps: Trace::new(),
             ends: Trace::new(),
+            spares: SpareLists::new(),
         })
     }
 

@@ -180,7 +180,7 @@ impl<'d, L: Link + Drop> ClientWorker<'d, L> {
             return None;
         }
         if self.is_followed() {
-            if let Some(empty) = lists(self.alloc) {
+            if let Some(empty) = lists(&mut self.spares, self.alloc) {
                 self.forward_all(at, rt, gate, turn, empty, log);
                 return None;
             }

@@ -15,7 +15,7 @@ use smx_history::Response;
 use smx_link::{Link, Wire};
 use smx_lock::Spent;
 use smx_pdu::MAX_PDU;
-use smx_shared::{BATCH, Collected, Exchange};
+use smx_shared::{Collected, Exchange, SpareList};
 use smx_turns::{Fault, Gate, Log, Mark, Point};
 use std::alloc::Global;
 use std::snapshot::Snapshot;
@@ -46,11 +46,11 @@ fn more_unless_spent(found: &Result<Collected, Spent>) -> Result<bool, Fault>
 }
 
 // A list for what one hold gives.
-fn list_for_one_hold(alloc: Global) -> Result<Vec<Response>, Fault>
+fn list_for_one_hold(spare: &mut SpareList<Response>, alloc: Global) -> Result<Vec<Response>, Fault>
     ensures list { IfOk result (λ list. (list.items ≡ []) × (16 ≤ vec_capacity list)) }
     ensures err { OnErr result (result ≡ Err Fault.NoMemory) }
 {
-    match Vec::with_capacity(alloc, BATCH) {
+    match spare.list(alloc) {
         Ok(list) => Ok(list),
         Err(_) => Err(Fault::NoMemory),
     }
@@ -139,7 +139,7 @@ impl<'d, L: Link + Drop> ClientWorker<'d, L> {
         let found = self.port.collect_all(at, rt, lane, list);
         let event = Event::Collected(lane, Snapshot::of(&found));
         let more = more_unless_spent(&found);
-        let none = say_found(&mut self.wire, found);
+        let none = say_found(&mut self.wire, &mut self.spares.responses, found);
         note(&mut self.events, log, event, none);
         more
     }
@@ -175,7 +175,7 @@ impl<'d, L: Link + Drop> ClientWorker<'d, L> {
                 return Ok(true);
             }
             self.make_room()?;
-            let list = list_for_one_hold(self.alloc)?;
+            let list = list_for_one_hold(&mut self.spares.responses, self.alloc)?;
             if !self.collect_some(at, rt, lane, list, log)? {
                 return Ok(false);
             }

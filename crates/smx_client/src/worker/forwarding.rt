@@ -93,9 +93,17 @@ impl<'d, L: Link + Drop> ClientWorker<'d, L> {
         );
         let RequestList { read, offers } = requests;
         let offered = Snapshot::of(&offers);
-        let landed = self.port.submit_all(at, rt, offers, room);
+        let landed = self
+            .port
+            .submit_all(at, rt, offers, room, &mut self.spares.offers);
         let event = Event::Forwarded(read, offered, Snapshot::of(&landed));
-        settle_list(&mut self.wire, gate, self.alloc, landed);
+        settle_list(
+            &mut self.wire,
+            gate,
+            self.alloc,
+            &mut self.spares.landings,
+            landed,
+        );
         self.held = next;
         note(&mut self.events, log, event, false);
     }

@@ -6,7 +6,7 @@ use crate::stand::body_of;
 use smx_history::{Answered, Response, TakeRefusal};
 use smx_lane::Settled;
 use smx_pdu::command::{RESPONSE, SUBMIT_SM};
-use smx_shared::{BATCH, Collected, Landing, Offer, SubmitFault, Takings};
+use smx_shared::{BATCH, Collected, Landing, Offer, SpareList, SubmitFault, Takings};
 use std::test::*;
 
 // A lane that all 20 requests find room on.
@@ -49,7 +49,10 @@ impl Client<'_> {
         if self.port.lanes() != 1 {
             panic!(rt; "there is one lane");
         }
-        match self.port.submit_all(self.at, rt, offers, room) {
+        match self
+            .port
+            .submit_all(self.at, rt, offers, room, &mut SpareList::new())
+        {
             Ok(landings) => landings,
             Err(_) => panic!(rt; "tickets are left"),
         }
@@ -98,7 +101,10 @@ impl Line<'_> {
         responses: Vec<Pdu>,
     ) -> Vec<Settled> {
         let room = Vec::with_capacity(alloc, responses.len()).expect(rt, "out of memory");
-        match self.tap.answer_all(self.at, rt, responses, room) {
+        match self
+            .tap
+            .answer_all(self.at, rt, responses, room, &mut SpareList::new())
+        {
             Ok(settled) => settled,
             Err(_) => panic!(rt; "tickets are left"),
         }

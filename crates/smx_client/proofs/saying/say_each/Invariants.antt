@@ -1,4 +1,5 @@
-use Rattle.std.proofs.Common.{◌≡◌, ◌≤◌, ◌++◌}
+use Rattle.std.proofs.Common.{◌≡◌, ◌≤◌, ◌++◌, List, length}
+use Rattle.smx_history.specs.declared.response.Response.{Response}
 use Rattle.smx_shared.specs.Batches.{octets_of_responses}
 use Rattle.smx_client.specs.Events.{pdus_of}
 use Rattle.smx_client.specs.Sayings.{Spoke}
@@ -6,7 +7,9 @@ use Rattle.smx_client.proofs.saying.say_each.Given as goal
 
 abbrev pub invariant-loop-response : goal.invariant-loop-response
 invariant-loop-response g l = record {
-  left : l.yielded ++ l.response-iterator.rest.items ≡ l.fn.responses.items;
-  room : octets_of_responses l.response-iterator.rest.items ≤ l.wire.room;
-  spoke : Spoke l.fn.wire l.wire (pdus_of l.yielded);
+  made : (rs : List Response) × (rs ++ l.left.items ≡ l.fn.responses.items) × Spoke l.fn.wire l.wire (pdus_of rs);
+  room : octets_of_responses l.left.items ≤ l.wire.room;
 }
+
+abbrev pub decreases-loop-response : goal.decreases-loop-response
+decreases-loop-response g l = length l.left.items

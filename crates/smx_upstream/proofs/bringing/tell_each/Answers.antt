@@ -12,18 +12,37 @@ none_left (x ∷ xs) h = absurd (omega (arith, h))
 pub loop-one-init : goal.loop-one-init
 loop-one-init g c = record {
   asked = refl;
-  told = told_none (λ (s : Settled). answer_tells c.args.lane s.answered) _ [] refl;
-  left = c.into_iter-one-iterator.ensures.into_iter_gives.0;
+  made = ([], c.from_vec-left.ensures.items, told_none (λ (s : Settled). answer_tells c.args.lane s.answered) _ [] refl);
 }
 
 pub loop-one-preserved : goal.loop-one-preserved
 loop-one-preserved g c =
     let i = c.loop-one.invariant in
-    let next = c.in-Some.ensures.steps.0 in
+    let ss = i.made.0 in
+    let one = c.in-Some.one in
+    let next = c.in-Some.ensures.items in
     record {
       asked = c.tell_one.ensures.asked ∙ i.asked;
-      told = told_push (λ (s : Settled). answer_tells c.args.lane s.answered) _ _ _ c.loop-one.yielded _ c.in-Some.one refl c.tell_one.ensures.told i.told;
-      left = append_assoc c.loop-one.yielded (c.in-Some.one ∷ []) c.next.new.self.rest.items ∙ ap (λ xs. c.loop-one.yielded ++ xs) (sym next) ∙ i.left;
+      made = (
+        ss ++ one ∷ [],
+        append_assoc ss (one ∷ []) c.pop_front.new.self.items ∙ ap (λ xs. ss ++ xs) (sym next) ∙ i.made.1,
+        told_push (λ (s : Settled). answer_tells c.args.lane s.answered) _ _ _ ss _ one refl c.tell_one.ensures.told i.made.2,
+      );
+    }
+
+pub loop-one-preserved-in-Some : goal.loop-one-preserved-in-Some
+loop-one-preserved-in-Some g c =
+    let i = c.loop-one.invariant in
+    let ss = i.made.0 in
+    let one = c.in-Some.one in
+    let next = c.in-Some.ensures.items in
+    record {
+      asked = c.tell_one.ensures.asked ∙ i.asked;
+      made = (
+        ss ++ one ∷ [],
+        append_assoc ss (one ∷ []) c.pop_front.new.self.items ∙ ap (λ xs. ss ++ xs) (sym next) ∙ i.made.1,
+        told_push (λ (s : Settled). answer_tells c.args.lane s.answered) _ _ _ ss _ one refl c.tell_one.ensures.told i.made.2,
+      );
     }
 
 pub returns-clause-asked : goal.returns-clause-asked
@@ -31,8 +50,8 @@ returns-clause-asked g c = c.loop-one.invariant.asked
 
 pub returns-clause-told : goal.returns-clause-told
 returns-clause-told g c =
-    let i = c.loop-one.invariant in
-    let rest = c.loop-one.one-iterator.rest in
-    let none = none_left rest.items (omega (arith, c.in-None.ensures.steps.0, rest.ok.0)) in
-    let all = sym (append-nil c.loop-one.yielded) ∙ ap (λ xs. c.loop-one.yielded ++ xs) (sym none) ∙ i.left in
-    i.told ∙ ap (λ ss. g.G.Gate.told c.args.gate.now ++ settled_tells c.args.lane ss) all
+    let made = c.loop-one.invariant.made in
+    let left = c.loop-one.left in
+    let none = none_left left.items (omega (arith, c.in_default.ensures.cases.0, left.ok.0)) in
+    let all = sym (append-nil made.0) ∙ ap (λ xs. made.0 ++ xs) (sym none) ∙ made.1 in
+    made.2 ∙ ap (λ ss. g.G.Gate.told c.args.gate.now ++ settled_tells c.args.lane ss) all

@@ -18,5 +18,5 @@ loop-log-preserved g c = record {
   phase = search rules;
   moves = λ n asked told queries base was.
       c.collect_some.ensures.moves n asked told queries base
-      (subst (λ (w : Serving g.row.L.Denot). Changes n base c.loop-log.log (scene_of g.L.Link.offered g.L.Link.polls g.L.Link.failures asked told queries w)) (sym c.make_room.ensures.same) (c.loop-log.invariant.moves n asked told queries base was));
+      (subst (λ (w : Serving g.row.L.Denot). Changes n base c.loop-log.log (scene_of g.L.Link.offered g.L.Link.polls g.L.Link.failures asked told queries w)) (sym (c.self.view_is ∙ c.make_room.ensures.same)) (c.loop-log.invariant.moves n asked told queries base was));
 }

@@ -10,13 +10,13 @@ use Rattle.smx_upstream.proofs.Cells.{stepped, cell_taking, wanted, turn_err, wa
 use Rattle.smx_upstream.proofs.worker.UpstreamWorker.take_part.Goals as goal
 
 pub returns-then-not-may-clause-goes : goal.returns-then-not-may-clause-goes
-returns-then-not-may-clause-goes g c = λ queries. goes_by c.args.turn _ _ _ _ (Asked Taking c.ask-may.result) c.ask-may.ensures.log c.requires.few (scenes_same c.ask-may.ensures.asked c.ask-may.ensures.told refl (ap (λ w. w.events) c.make_room.ensures.same) (ap (λ w. w.stand) c.make_room.ensures.same) (ap (λ w. w.wire.unsent) c.make_room.ensures.same) (ap (λ w. g.L.Link.offered w.wire.link) c.make_room.ensures.same) (ap (λ w. g.L.Link.polls w.wire.link) c.make_room.ensures.same) (ap (λ w. g.L.Link.failures w.wire.link) c.make_room.ensures.same))
+returns-then-not-may-clause-goes g c = λ queries. goes_by c.args.turn _ _ _ _ (Asked Taking c.ask-may.result) c.ask-may.ensures.log c.requires.few (scenes_same c.ask-may.ensures.asked c.ask-may.ensures.told refl (ap (λ w. w.events) (c.make_list.ensures.same ∙ c.make_room.ensures.same)) (ap (λ w. w.stand) (c.make_list.ensures.same ∙ c.make_room.ensures.same)) (ap (λ w. w.wire.unsent) (c.make_list.ensures.same ∙ c.make_room.ensures.same)) (ap (λ w. g.L.Link.offered w.wire.link) (c.make_list.ensures.same ∙ c.make_room.ensures.same)) (ap (λ w. g.L.Link.polls w.wire.link) (c.make_list.ensures.same ∙ c.make_room.ensures.same)) (ap (λ w. g.L.Link.failures w.wire.link) (c.make_list.ensures.same ∙ c.make_room.ensures.same)))
 
 pub returns-then-not-bound-clause-goes : goal.returns-then-not-bound-clause-goes
-returns-then-not-bound-clause-goes g c = λ queries. goes_by c.args.turn _ _ _ _ (Asked Taking c.ask-may.result) c.ask-may.ensures.log c.requires.few (scenes_same c.ask-may.ensures.asked c.ask-may.ensures.told refl (ap (λ w. w.events) c.make_room.ensures.same) (ap (λ w. w.stand) c.make_room.ensures.same) (ap (λ w. w.wire.unsent) c.make_room.ensures.same) (ap (λ w. g.L.Link.offered w.wire.link) c.make_room.ensures.same) (ap (λ w. g.L.Link.polls w.wire.link) c.make_room.ensures.same) (ap (λ w. g.L.Link.failures w.wire.link) c.make_room.ensures.same))
+returns-then-not-bound-clause-goes g c = λ queries. goes_by c.args.turn _ _ _ _ (Asked Taking c.ask-may.result) c.ask-may.ensures.log c.requires.few (scenes_same c.ask-may.ensures.asked c.ask-may.ensures.told refl (ap (λ w. w.events) (c.make_list.ensures.same ∙ c.make_room.ensures.same)) (ap (λ w. w.stand) (c.make_list.ensures.same ∙ c.make_room.ensures.same)) (ap (λ w. w.wire.unsent) (c.make_list.ensures.same ∙ c.make_room.ensures.same)) (ap (λ w. g.L.Link.offered w.wire.link) (c.make_list.ensures.same ∙ c.make_room.ensures.same)) (ap (λ w. g.L.Link.polls w.wire.link) (c.make_list.ensures.same ∙ c.make_room.ensures.same)) (ap (λ w. g.L.Link.failures w.wire.link) (c.make_list.ensures.same ∙ c.make_room.ensures.same)))
 
 pub returns-clause-goes : goal.returns-clause-goes
-returns-clause-goes g c = λ queries. goes_then c.args.turn _ _ _ _ _ _ (goes_by c.args.turn _ _ _ _ (Asked Taking c.ask-may.result) c.ask-may.ensures.log c.requires.few (scenes_same c.ask-may.ensures.asked c.ask-may.ensures.told refl (ap (λ w. w.events) c.make_room.ensures.same) (ap (λ w. w.stand) c.make_room.ensures.same) (ap (λ w. w.wire.unsent) c.make_room.ensures.same) (ap (λ w. g.L.Link.offered w.wire.link) c.make_room.ensures.same) (ap (λ w. g.L.Link.polls w.wire.link) c.make_room.ensures.same) (ap (λ w. g.L.Link.failures w.wire.link) c.make_room.ensures.same))) (c.take_on.ensures.goes c.args.turn _ _ queries)
+returns-clause-goes g c = λ queries. goes_then c.args.turn _ _ _ _ _ _ (goes_by c.args.turn _ _ _ _ (Asked Taking c.ask-may.result) c.ask-may.ensures.log c.requires.few (scenes_same c.ask-may.ensures.asked c.ask-may.ensures.told refl (ap (λ w. w.events) (c.make_list.ensures.same ∙ c.make_room.ensures.same)) (ap (λ w. w.stand) (c.make_list.ensures.same ∙ c.make_room.ensures.same)) (ap (λ w. w.wire.unsent) (c.make_list.ensures.same ∙ c.make_room.ensures.same)) (ap (λ w. g.L.Link.offered w.wire.link) (c.make_list.ensures.same ∙ c.make_room.ensures.same)) (ap (λ w. g.L.Link.polls w.wire.link) (c.make_list.ensures.same ∙ c.make_room.ensures.same)) (ap (λ w. g.L.Link.failures w.wire.link) (c.make_list.ensures.same ∙ c.make_room.ensures.same)))) (c.take_on.ensures.goes c.args.turn _ _ queries)
 
 pub returns-then-not-may-clause-phase : goal.returns-then-not-may-clause-phase
 returns-then-not-may-clause-phase g c = λ t was.
