@@ -17,6 +17,9 @@ use std::rt::Clock;
 use std::sync::Wait;
 use std::time::Duration;
 
+/// How many passes one reading of the clock may serve.
+const PASSES: u64 = 4;
+
 /// Turns the workers of all lanes and clients.
 #[derive(Drop)]
 pub(crate) struct Loop<'d> {
@@ -134,8 +137,21 @@ impl<'d> Loop<'d> {
         Ok(())
     }
 
-    /// Reads the clock and does what is due then, and makes one pass, or, where nobody is ready,
-    /// waits at most so many milliseconds.
+    // Makes passes until nobody is ready, but not for long, and asks for events in between where that is
+    // due.
+    fn make_passes<R: Wait>(&mut self, rt: &R) -> Result<(), Ended> {
+        for _ in 0..PASSES {
+            if self.queues.schedule.is_empty() {
+                break;
+            }
+            self.look()?;
+            self.pass(rt);
+        }
+        Ok(())
+    }
+
+    /// Reads the clock and does what is due then, makes a few passes, and, where nobody is ready after
+    /// them, waits at most so many milliseconds.
     pub fn round<R: Wait + Clock + Net>(&mut self, rt: &R, timeout: u64) -> Result<(), Ended> {
         let is_due = self.pace.look(rt);
         if self.queues.take_hurry() || is_due {
@@ -144,14 +160,13 @@ impl<'d> Loop<'d> {
         self.open();
         self.let_in(rt);
         self.tell_some(rt);
+        self.make_passes(rt)?;
         if are_idle(&self.lanes, &self.guests, &mut self.queues) {
             let hurries = self.entrance.has_more() || self.survey.is_under_way();
             let time = if hurries { 0 } else { timeout };
             self.pace.waits();
             return self.wait(time);
         }
-        self.look()?;
-        self.pass(rt);
         Ok(())
     }
 
