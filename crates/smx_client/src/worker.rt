@@ -89,7 +89,7 @@ pub struct ClientWorker<'d, L: Link + Drop> {
     ends: Trace<Result<TurnEnd, Fault>>,
     origin: Origin,
     events: Trace<Event>,
-    // No part of what it keeps.
+    // Lists for the next holds, which no contract sees.
     spares: SpareLists,
 }
 

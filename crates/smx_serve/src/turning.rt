@@ -17,8 +17,11 @@ use std::rt::Clock;
 use std::sync::Wait;
 use std::time::Duration;
 
-/// How many passes one reading of the clock may serve.
+/// How many passes one reading of the clock may serve, and how many parties of the first class one of them
+/// may turn that another follows.
 const PASSES: u64 = 4;
+
+const SHORT: usize = 8;
 
 /// Turns the workers of all lanes and clients.
 #[derive(Drop)]
@@ -137,15 +140,19 @@ impl<'d> Loop<'d> {
         Ok(())
     }
 
-    // Makes passes until nobody is ready, but not for long, and asks for events in between where that is
-    // due.
+    // Makes a pass, and a few more where that was short and somebody is ready still. Events are asked for in
+    // between where that is due.
     fn make_passes<R: Wait>(&mut self, rt: &R) -> Result<(), Ended> {
         for _ in 0..PASSES {
             if self.queues.schedule.is_empty() {
                 break;
             }
             self.look()?;
+            let is_short = self.queues.schedule.firsts() <= SHORT;
             self.pass(rt);
+            if !is_short {
+                break;
+            }
         }
         Ok(())
     }

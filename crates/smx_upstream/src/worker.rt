@@ -105,7 +105,7 @@ pub struct UpstreamWorker<L: Link + Drop> {
     pub(crate) steps: Trace<Step<Event>>,
     // How the turns ended.
     pub(crate) ends: Trace<Result<TurnEnd, Fault>>,
-    // No part of what it keeps.
+    // Lists for the next holds, which no contract sees.
     pub(crate) spares: SpareLists,
 }
 
