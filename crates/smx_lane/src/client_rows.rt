@@ -5,9 +5,8 @@ ghost use Rattle.slab.specs.Slab.{HasRoomFor};
 ghost use Rattle.smx_history.specs.Prefixes.{RiseAbove};
 ghost use Rattle.smx_lane.specs.Private.ClientRows.{client_at, is_client, place_of, rows_of, KeepsClientRows, HasSameRows};
 
-use circular_buffer::HeapCircularBuffer;
+use crate::response_box::ResponseBox;
 use slab::Slab;
-use smx_history::Response;
 use std::alloc::{AllocError, Global};
 use std::collections::BTreeMap;
 
@@ -20,7 +19,7 @@ pub(crate) struct Row {
     pub(crate) last: u64,
     // How many of its requests were accepted and not collected.
     pub(crate) pending: u32,
-    pub(crate) waiting: HeapCircularBuffer<Response, Global>,
+    pub(crate) waiting: ResponseBox,
 }
 
 // How many guesses there are: a power of 2, and more than a lane mostly has clients.

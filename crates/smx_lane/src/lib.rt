@@ -9,6 +9,7 @@ mod kept;
 mod lane;
 mod load;
 mod numbers;
+mod response_box;
 mod roster;
 mod rows;
 mod sent;

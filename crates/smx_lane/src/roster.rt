@@ -10,7 +10,7 @@ ghost use Rattle.smx_lane.specs.Members.{row_refusal, waiting_of};
 ghost use Rattle.smx_lane.specs.Roster.{member_in};
 
 use crate::client_rows::{ClientRows, Row};
-use circular_buffer::HeapCircularBuffer;
+use crate::response_box::ResponseBox;
 use smx_history::{Refusal, Response};
 use std::alloc::{AllocError, Global};
 use std::marker::Model;
@@ -85,7 +85,7 @@ impl Roster {
             ≡ record self.old { members = self.old.members ++ new_row by client ∷ [] }) }
         ensures err { OnErr result (self.new ≡ self.old) }
     {
-        let waiting = HeapCircularBuffer::with_capacity(self.alloc, self.places as usize)?;
+        let waiting = ResponseBox::with_capacity(self.alloc, self.places as usize)?;
         let row = Row {
             client,
             by,

@@ -20,6 +20,11 @@ pub struct Remote {
     port: AtomicU64,
 }
 
+// Whether it was set since this was asked. It is asked in each round, so it writes only where it was.
+fn take(mark: &AtomicBool) -> bool {
+    mark.load(Ordering::SeqCst) && mark.swap(false, Ordering::SeqCst)
+}
+
 impl Remote {
     pub(crate) fn new(waker: Waker) -> Remote {
         Remote {
@@ -55,12 +60,12 @@ impl Remote {
 
     // Whether it was asked to say how all stands, since this was asked.
     pub(crate) fn take_telling(&self) -> bool {
-        self.tells.swap(false, Ordering::SeqCst)
+        take(&self.tells)
     }
 
     // The configuration that was read again since this was asked.
     pub(crate) fn take_read<R: Wait>(&self, rt: &R) -> Option<Config> {
-        if self.reloads.swap(false, Ordering::SeqCst) {
+        if take(&self.reloads) {
             self.read.lock(rt).take()
         } else {
             None

@@ -1,5 +1,6 @@
 //! A list of offers that are made in one hold.
-ghost use Rattle.std.specs.Prelude.{◌≡◌, ◌≤◌, ◌<◌, ◌^◌, ◌+◌, [], length, vec_capacity};
+ghost use Rattle.std.specs.Prelude.{◌≡◌, ◌≤◌, ◌<◌, ◌^◌, ◌+◌, ◌++◌, [], ◌∷◌, length, vec_len, vec_capacity};
+ghost use Rattle.smx_shared.specs.declared.batch.Landing.{Landing};
 ghost use Rattle.smx_shared.specs.Landings.{LandsSo, landing_notes, ordinal_after};
 ghost use Rattle.smx_shared.specs.Offers.{request_for};
 ghost use Rattle.smx_lane.specs.Calls.{GoesOn};
@@ -24,46 +25,55 @@ pub(crate) struct Landings {
     pub(crate) offers: Vec<Offer>,
 }
 
-// Offers this to the lane for the client, as its request of that ordinal.
-fn accept_one(lane: &mut Lane, by: u64, client: u64, ordinal: u64, offer: Offer) -> Landing
+// Offers this to the lane for the client, as its request of that ordinal, and notes what became of it
+// behind the others: the ordinal that is next then. Each outcome is written where it stays: a processor
+// waits for one that is moved there, as it lies between gaps.
+fn accept_one(
+    lane: &mut Lane,
+    by: u64,
+    client: u64,
+    ordinal: u64,
+    offer: Offer,
+    landings: &mut Vec<Landing>,
+) -> u64
     requires may { MayAccept lane.old by client ordinal }
     requires ordinal { 0 < ordinal }
     requires top { ordinal ≤ 2 ^ 62 + 1 }
-    ensures lands { LandsSo by client ordinal offer lane.old result lane.new }
-    ensures agrees { GoesOn lane.old
-        (landing_notes by (request_for client ordinal offer) result) lane.new }
+    requires room { vec_len landings.old < vec_capacity landings.old }
+    ensures landed { (l : Landing) × (landings.new.items ≡ landings.old.items ++ l ∷ [])
+        × LandsSo by client ordinal offer lane.old l lane.new
+        × GoesOn lane.old (landing_notes by (request_for client ordinal offer) l) lane.new
+        × (result ≡ ordinal_after ordinal offer l) }
     ensures limits { lane.new.limits ≡ lane.old.limits }
-    ensures may { MayAccept lane.new by client (ordinal_after ordinal offer result) }
-    ensures top { ordinal_after ordinal offer result ≤ 2 ^ 62 + 1 }
+    ensures may { MayAccept lane.new by client result }
+    ensures top { (ordinal ≤ result) × (result ≤ 2 ^ 62 + 1) }
+    ensures len { vec_len landings.new ≡ vec_len landings.old + 1 }
+    ensures capacity { vec_capacity landings.old ≤ vec_capacity landings.new }
 {
     if ordinal > MOST {
-        return Landing {
+        landings.push_reserved(Landing {
             landed: Err((offer, SubmitFault::Exhausted)),
             turned: false,
-        };
+        });
+        return ordinal;
     }
     let request = named(client, ordinal, offer);
     let turned = make_room(lane, by);
     match lane.accept(by, request) {
-        Ok(()) => Landing {
-            landed: Ok(0),
-            turned,
-        },
-        Err((back, _)) => Landing {
-            landed: Err((unnamed(back), SubmitFault::AllFull)),
-            turned,
-        },
-    }
-}
-
-// The ordinal after one that was offered so.
-fn ordinal_past(ordinal: u64, landing: &Landing) -> u64
-    requires { ordinal ≤ 2 ^ 62 + 1 }
-    ensures { (offer : Offer) → result ≡ ordinal_after ordinal offer landing.now }
-{
-    match &landing.landed {
-        Ok(_) => ordinal + 1,
-        Err(_) => ordinal,
+        Ok(()) => {
+            landings.push_reserved(Landing {
+                landed: Ok(0),
+                turned,
+            });
+            ordinal + 1
+        }
+        Err((back, _)) => {
+            landings.push_reserved(Landing {
+                landed: Err((unnamed(back), SubmitFault::AllFull)),
+                turned,
+            });
+            ordinal
+        }
     }
 }
 
@@ -85,9 +95,7 @@ fn accept_each(
     let mut ordinal = first;
     let mut left = VecDeque::from_vec(offers);
     while let Some(offer) = left.pop_front() {
-        let landing = accept_one(lane, by, client, ordinal, offer);
-        ordinal = ordinal_past(ordinal, &landing);
-        landings.push_reserved(landing);
+        ordinal = accept_one(lane, by, client, ordinal, offer, &mut landings);
     }
     Landings {
         landings,

@@ -1,5 +1,5 @@
 //! A list that is kept for the next hold.
-ghost use Rattle.std.specs.Prelude.{◌≡◌, ◌≤◌, [], vec_capacity, IfOk, IfSome, IsSome, None};
+ghost use Rattle.std.specs.Prelude.{◌≡◌, ◌≤◌, [], vec_capacity, IfOk, IfSome, IsOk, IsSome, None};
 
 use crate::batch::BATCH;
 use std::alloc::{AllocError, Global};
@@ -23,6 +23,7 @@ impl<T: Drop> SpareList<T> {
     #[inline(always)]
     pub fn list(&mut self, alloc: Global) -> Result<Vec<T>, AllocError>
         ensures list { IfOk result (λ list. (list.items ≡ []) × (16 ≤ vec_capacity list)) }
+        ensures kept { IfSome self.old.list (λ kept. 16 ≤ vec_capacity kept → IsOk result) }
         ensures none { self.new.list ≡ None }
     {
         if let Some(mut list) = self.list.take() {

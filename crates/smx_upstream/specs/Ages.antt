@@ -12,9 +12,9 @@ new_age history response_timer = record { turns = 0; history = history; response
 abbrev pub next_turn : Age → Age
 next_turn a = record a { turns = min (a.turns + 1) (2 ^ 64 - 1) }
 
--- how many entries the lane is turned over for: an eighth of those that it may have, 1,500 at most and one at least
+-- how many entries the lane is turned over for: an eighth of those that it may have, 500 at most and one at least
 abbrev pub least_shift : Age → ℕ
-least_shift a = max (min (a.history / 8) 1500) 1
+least_shift a = max (min (a.history / 8) 500) 1
 
 -- how long a request may be without an answer: the response timer (SMPP 3.4, section 7.2), or twice it
 abbrev pub time_of : Span → Age → ℕ

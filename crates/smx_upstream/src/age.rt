@@ -6,7 +6,7 @@ use crate::event::Span;
 use std::cmp::Ord;
 
 // The most entries that a lane is turned over for.
-const MOST_ENTRIES: usize = 1_500;
+const MOST_ENTRIES: usize = 500;
 
 /// A worker's turns, how much its lane may store, and its response timer.
 #[derive(Clone, Copy, Debug, PartialEq, Eq)]
