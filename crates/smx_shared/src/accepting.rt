@@ -26,8 +26,8 @@ pub(crate) struct Landings {
 }
 
 // Offers this to the lane for the client, as its request of that ordinal, and notes what became of it
-// behind the others: the ordinal that is next then. Each outcome is written where it stays: a processor
-// waits for one that is moved there, as it lies between gaps.
+// behind the others: the ordinal that is next then. Each outcome is written where it stays: one that is
+// moved there is copied in overlapping pieces, for which the processor waits.
 fn accept_one(
     lane: &mut Lane,
     by: u64,
