@@ -12,12 +12,24 @@ TICKS = os.sysconf("SC_CLK_TCK")
 CENTRE, PROXY = 17001, 17775
 LIBC = ctypes.CDLL(None)
 PR_SET_PDEATHSIG = 1
+LISTENS = "0A"
 
 
 def started(words, **pipes):
     """A process that the system kills when this one has ended, however it ended."""
     ends = lambda: LIBC.prctl(PR_SET_PDEATHSIG, signal.SIGKILL)
     return subprocess.Popen(words, stdin=subprocess.PIPE, preexec_fn=ends, **pipes)
+
+
+def until_listened(port, seconds=10):
+    """Waits until somebody listens at the port, as the system tells: nobody is called for it."""
+    end = time.monotonic() + seconds
+    while time.monotonic() < end:
+        with open("/proc/net/tcp") as file:
+            if any(row[1].endswith(f":{port:04X}") and row[3] == LISTENS for row in map(str.split, file)):
+                return
+        time.sleep(0.01)
+    raise SystemExit(f"bench-serve: nobody listens at port {port}")
 
 
 class Running:

@@ -42,7 +42,7 @@ use Rattle.smx_shared.specs.Views.{PortView}
 use Rattle.smx_turns.specs.Rounds.{last_end}
 use Rattle.smx_turns.specs.Wires.{some_wait}
 use Rattle.smx_turns.proofs.Logged.{phase_push}
-use Rattle.smx_client.specs.Table.{Before, Phase, Opening, AtLane, MayCollect, Clear, Draining, MayRead, Hearing, Ageing, Looking, Gone, Deciding, MayBind, MayRefuse, Admitted, Barring, MaySubmit, when_admitted, Unentered, Settled, Stopped, Clogged, Closing, Ending, Over, Failed, Wrong, step_of, phase_of, go, from_opening, when_offered, when_written, halts, from_lane, when_may_collect, from_boxing, from_collecting, from_draining, from_clear, from_may_read, from_hearing, from_ageing, from_looking, from_deciding, from_admitted, from_barring, from_may_submit, from_entering, from_closing, is_same_leave, after_reply, after_got, after_collect, after_read, after_expired, is_given_at, after_look, after_bind, Faulted, EndsIn, Stands, IsAt}
+use Rattle.smx_client.specs.Table.{Before, Phase, Opening, AtLane, MayCollect, Clear, Draining, MayRead, Hearing, Ageing, Looking, Gone, Deciding, MayBind, MayRefuse, Admitted, Barring, MaySubmit, when_admitted, when_listed, Unentered, Settled, Stopped, Clogged, Closing, Ending, Over, Failed, Wrong, step_of, phase_of, go, from_opening, when_offered, when_written, halts, from_lane, when_may_collect, from_boxing, from_collecting, from_draining, from_clear, from_may_read, from_hearing, from_ageing, from_looking, from_deciding, from_admitted, from_listed, from_barring, from_may_submit, from_entering, from_closing, is_same_leave, after_reply, after_got, after_collect, after_read, after_expired, is_given_at, after_look, after_bind, Faulted, EndsIn, Stands, IsAt}
 
 -- one step more
 pub phase_more : (t : Before) (ss ss' : List step_of) (s : step_of) (p : Phase) → ss' ≡ ss ++ s ∷ [] → phase_of t ss ≡ p → phase_of t ss' ≡ go t p s
@@ -222,9 +222,10 @@ module _ (t : Before) where
   unfolding go from_admitted
   submits ended p a o r = refl
 
-  pub forwards : (ended : Bool) (n : ℕ) (ps : List Pdu) (os : Snapshot (Vec Offer)) (r : Snapshot (Result (Vec Landing) (Vec Offer × Spent))) → length ps ≡ n → go t (Admitted ended n) (Did (Forwarded ps os r)) ≡ Deciding ended
-  unfolding go from_admitted
-  forwards ended n ps os r all = ap (λ b. if b then Deciding ended else Wrong) (eq-eqb (length ps) n all)
+  pub forwards : (ended more : Bool) (n : ℕ) (ps : List Pdu) (os : Snapshot (Vec Offer)) (r : Snapshot (Result (Vec Landing) (Vec Offer × Spent))) → length ps ≡ n → go t (when_listed ended n more) (Did (Forwarded ps os r)) ≡ Deciding ended
+  unfolding go from_admitted from_listed
+  forwards ended true n ps os r all = ap (λ b. if b then Deciding ended else Wrong) (eq-eqb (length ps) n all)
+  forwards ended false n ps os r all = ap (λ b. if b then Deciding ended else Wrong) (eq-eqb (length ps) n all)
 
   enters : (ended : Bool) (account : ℕ) (whole : Bool) → from_entering ended account (Marked (Entered account whole)) ≡ (if whole then Deciding ended else Unentered)
   unfolding from_entering

@@ -1,5 +1,5 @@
 -- Requests that the session forwards, one behind the other, and what is said of those that come back.
-use Rattle.std.proofs.Common.{◌≡◌, ◌≤◌, ◌+◌, ◌++◌, ◌∷◌, [], ℕ, List, Option, Some, IfSome, Result, Ok, Err, length, map, suc, refl, sym, ap, ◌∙◌, subst, arith}
+use Rattle.std.proofs.Common.{◌≡◌, ◌≤◌, ◌++◌, ◌∷◌, [], ℕ, List, Option, Some, IfSome, Result, Ok, Err, length, map, suc, refl, sym, ap, ◌∙◌, subst}
 use Rattle.std.specs.Global.{Vec}
 use Rattle.std.specs.declared.snapshot.Snapshot.{Snapshot}
 use Rattle.std.specs.List.{AllByRecursion, flat_map}
@@ -27,8 +27,8 @@ use Rattle.smx_shared.specs.declared.fault.SubmitFault.TheVariants as submit
 use Rattle.smx_shared.specs.declared.offer.Offer.{Offer}
 use Rattle.smx_client.specs.Events.{refusal_out, refusals_each, refusals_out, why_unaccepted}
 use Rattle.smx_client.specs.Parts.{AreForwarded, AreOffersOf, Does, IsOfferOf, list_step, parts}
+use Rattle.smx_client.specs.Private.Lists.{back_out, landed_out, list_length, list_out}
 use Rattle.smx_client.specs.Serving.{asks_in}
-use Rattle.smx_client.specs.Sayings.{back_out, list_length, landed_out, list_out}
 use Rattle.smx_client.specs.declared.desk.Desk.{Desk}
 use Rattle.smx_client.specs.declared.event.Event.TheVariants.{Forwarded}
 use Rattle.smx_client.specs.declared.reply.Parked.{Parked}

@@ -11,7 +11,7 @@ use Rattle.smx_turns.specs.declared.end.Fault.{Fault}
 use Rattle.smx_turns.specs.declared.end.TurnEnd.{TurnEnd}
 use Rattle.smx_turns.specs.declared.step.Step.TheVariants.{Asked, Read, Marked, Did}
 use Rattle.smx_turns.specs.Steps.{polls, phase_from}
-use Rattle.smx_client.specs.Table.{Before, Phase, Opening, AtLane, Left, MayCollect, Clear, Draining, MayRead, Hearing, Ageing, Looking, Gone, Deciding, MayBind, MayRefuse, Admitted, Barring, MaySubmit, Entering, Unentered, Settled, Parked, Stopped, Clogged, Closing, Ending, Over, Failed, Exhausted, Wrong, step_of, phase_of, go, from_opening, from_lane, from_boxing, from_collecting, from_draining, from_clear, from_may_read, from_hearing, from_ageing, from_looking, from_deciding, from_may_bind, from_may_refuse, from_admitted, from_barring, from_may_submit, from_entering, from_closing, IsTurn}
+use Rattle.smx_client.specs.Table.{Before, Phase, Opening, AtLane, Left, MayCollect, Clear, Draining, MayRead, Hearing, Ageing, Looking, Gone, Deciding, MayBind, MayRefuse, Admitted, Listed, Barring, MaySubmit, Entering, Unentered, Settled, Parked, Stopped, Clogged, Closing, Ending, Over, Failed, Exhausted, Wrong, step_of, phase_of, go, from_opening, from_lane, from_boxing, from_collecting, from_draining, from_clear, from_may_read, from_hearing, from_ageing, from_looking, from_deciding, from_may_bind, from_may_refuse, from_admitted, from_listed, from_barring, from_may_submit, from_entering, from_closing, IsTurn}
 use Rattle.smx_client.proofs.Filters.{stays_wrong, is_right}
 
 boxes : (now : ℕ) (b c : Bool) (answer : Result Polled LinkFault) → (if b then from_boxing now c (Read answer) else Wrong) ≡ Wrong
@@ -21,7 +21,7 @@ boxes now true false answer = refl
 boxes now false c answer = refl
 
 reads_none : (t : Before) (p : Phase) (answer : Result Polled LinkFault) → t.settled ≡ false → go t p (Read answer) ≡ Wrong
-unfolding go from_opening from_lane from_collecting from_draining from_clear from_may_read from_hearing from_ageing from_looking from_deciding from_may_bind from_may_refuse from_admitted from_barring from_may_submit from_entering from_closing
+unfolding go from_opening from_lane from_collecting from_draining from_clear from_may_read from_hearing from_ageing from_looking from_deciding from_may_bind from_may_refuse from_admitted from_listed from_barring from_may_submit from_entering from_closing
 reads_none t Opening answer some_left = refl
 reads_none t (AtLane n) answer some_left = boxes t.now (n == t.lanes) t.parked answer
 reads_none t Left answer some_left = refl
@@ -36,6 +36,7 @@ reads_none t (Deciding ended) answer some_left = refl
 reads_none t (MayBind ended i) answer some_left = refl
 reads_none t (MayRefuse ended) answer some_left = refl
 reads_none t (Admitted ended n) answer some_left = refl
+reads_none t (Listed ended n) answer some_left = refl
 reads_none t (Barring ended l) answer some_left = refl
 reads_none t (MaySubmit ended) answer some_left = refl
 reads_none t (Entering ended account) answer some_left = refl

@@ -10,3 +10,4 @@ pub mod Serving
 pub mod Scenes
 pub mod Courses
 pub mod Leaving
+pub mod Private

@@ -74,6 +74,8 @@ pub data Phase : Type 0 where
   MaySubmit : Bool → Phase
   -- and then to so many requests more
   Admitted : Bool → ℕ → Phase
+  -- the same, and then it said no
+  Listed : Bool → ℕ → Phase
   -- the gate gave no such leave
   Barring : Bool → Ask → Phase
   -- the client has bound with this account, and is to be sent messages
@@ -125,7 +127,6 @@ when_written t Open = AtLane 0
 when_written t Drained = when_drained t.parked
 when_written t Closed = Over
 
--- where it stands where some is left
 abbrev pub halts : Stage → Phase
 halts Open = Left
 halts Drained = Left
@@ -147,7 +148,6 @@ after_reply p reply.Full = Parked
 after_reply p reply.Spent = Exhausted
 after_reply p reply.Nobody = p
 
--- how far it comes then
 abbrev pub progress_of : Reply → Result (Option Progress) Fault
 progress_of reply.Taken = Ok None
 progress_of reply.Full = Ok (Some progress.Parked)
@@ -182,7 +182,6 @@ from_boxing now false (Marked NoRoom) = Clear
 from_boxing now false (Marked Clogs) = Clogged
 from_boxing now false _ = Wrong
 
--- a lane is asked, or passed over
 abbrev pub when_may_collect : ℕ → Bool → Phase
 when_may_collect n true = MayCollect n
 when_may_collect n false = AtLane (n + 1)
@@ -210,7 +209,6 @@ from_clear (Asked Reading true) = MayRead
 from_clear (Asked Reading false) = Stopped
 from_clear _ = Wrong
 
--- whether a message may have waited for too long
 abbrev pub is_ageing : Before → Bool
 is_ageing t = not (t.message_time == 0) && nat_le t.message_time t.now
 
@@ -317,16 +315,25 @@ from_may_submit ended (Asked Admitting true) = Admitted ended 1
 from_may_submit ended (Asked Admitting false) = Barring ended leave.Request
 from_may_submit ended _ = Wrong
 
--- one that may not, behind others, is left for later
+-- one that may not, behind others, is left for later, and nothing more is asked for
 abbrev pub when_admitted : Bool → ℕ → Bool → Phase
 when_admitted ended n true = Admitted ended (n + 1)
-when_admitted ended n false = Admitted ended n
+when_admitted ended n false = Listed ended n
+
+-- a list of so many, and whether one more might be
+abbrev pub when_listed : Bool → ℕ → Bool → Phase
+when_listed ended n true = Admitted ended n
+when_listed ended n false = Listed ended n
 
 unfoldable pub from_admitted : Bool → ℕ → step_of → Phase
 from_admitted ended n (Asked Admitting answer) = when_admitted ended n answer
 from_admitted ended n (Did (Decided p a (Submitted o r))) = if n == 1 then Deciding ended else Wrong
 from_admitted ended n (Did (Forwarded ps os r)) = if length ps == n then Deciding ended else Wrong
 from_admitted ended n _ = Wrong
+
+unfoldable pub from_listed : Bool → ℕ → step_of → Phase
+from_listed ended n (Did (Forwarded ps os r)) = if length ps == n then Deciding ended else Wrong
+from_listed ended n _ = Wrong
 
 abbrev pub is_same_leave : Ask → Ask → Bool
 is_same_leave (leave.Bind i) (leave.Bind j) = i == j
@@ -363,6 +370,7 @@ go t (Deciding ended) s = from_deciding ended s
 go t (MayBind ended i) s = from_may_bind ended i s
 go t (MayRefuse ended) s = from_may_refuse ended s
 go t (Admitted ended n) s = from_admitted ended n s
+go t (Listed ended n) s = from_listed ended n s
 go t (Barring ended l) s = from_barring ended l s
 go t (MaySubmit ended) s = from_may_submit ended s
 go t (Entering ended account) s = from_entering ended account s

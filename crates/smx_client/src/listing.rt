@@ -12,8 +12,9 @@ ghost use Rattle.smx_turns.specs.Scenes.{scene};
 ghost use Rattle.smx_turns.specs.Worth.{those};
 ghost use Rattle.smx_client.specs.Events.{landings_told, submit_told};
 ghost use Rattle.smx_client.specs.Parts.{Parts, AreOffersOf};
-ghost use Rattle.smx_client.specs.Sayings.{Spoke, back_out, landed_out, list_out, list_length};
-ghost use Rattle.smx_client.specs.Table.{Before, phase_of, Admitted};
+ghost use Rattle.smx_client.specs.Private.Lists.{back_out, landed_out, list_out, list_length};
+ghost use Rattle.smx_client.specs.Sayings.{Spoke};
+ghost use Rattle.smx_client.specs.Table.{Before, phase_of, when_listed, Admitted};
 ghost use Rattle.smx_client.specs.Turns.{Leads};
 ghost use Rattle.smx_shared.specs.declared.fault.SubmitFault.{SubmitFault};
 
@@ -111,7 +112,8 @@ pub(crate) fn gather<L: Link + Drop, G: Gate>(
     ensures fewer { IsSome result → length wire.new.rest < length wire.old.rest }
     ensures same { wire.new ≡ record wire.old { heard = wire.new.heard; rest = wire.new.rest } }
     ensures phase { (t : Before) (ended : Bool) → phase_of t log.old ≡ Admitted ended 1
-        → phase_of t log.new ≡ Admitted ended (length requests.new.read) }
+        → (more : Bool) × (phase_of t log.new
+        ≡ when_listed ended (length requests.new.read) more) }
     ensures leads { (queries : List Query) (events : List Event) (parts : Parts)
         (unsent offered : List ℕ) (polls : List (Result Polled LinkFault)) (failures : ℕ)
         → Leads turn

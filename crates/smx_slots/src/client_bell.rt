@@ -167,6 +167,7 @@ fn refuse(refused: &mut bool, may_refuse: bool) -> bool
 }
 
 // Whether one more request may be under way beside those that have leave. A yes counts as one more.
+#[inline(always)]
 fn admit(ledger: &Ledger, leaves: &mut u64, client: u64) -> bool
     ensures may { result ≡ may_request_beside leaves.old client
         (account_of client ledger.now.movements) ledger.now }

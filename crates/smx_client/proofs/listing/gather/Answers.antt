@@ -1,4 +1,4 @@
-use Rattle.std.proofs.Common.{rules, refl, ◌++◌, ◌∷◌, [], Some, length, length-append, sym, ap, ◌∙◌, arith, append_assoc}
+use Rattle.std.proofs.Common.{rules, false, refl, ◌++◌, ◌∷◌, [], Some, length, length-append, sym, ap, ◌∙◌, arith, append_assoc}
 use Rattle.std.proofs.lemmas.List.{append-nil}
 use Rattle.smx_turns.specs.declared.gate.Point.TheVariants.{Admitting}
 use Rattle.smx_turns.specs.declared.step.Step.TheVariants.{Asked}
@@ -8,9 +8,11 @@ use Rattle.smx_client.proofs.RequestLists.{asked_push, offers_count, some_at}
 use Rattle.smx_client.proofs.listing.gather.Goals as goal
 
 pub returns-then-not-admitted-clause-phase : goal.returns-then-not-admitted-clause-phase
-returns-then-not-admitted-clause-phase g c = λ t ended was.
-    c.ask-admitted.ensures.phase t _ (c.loop.invariant.phase t ended was) ∙ ap (λ b. go t (Admitted ended (length c.loop.requests.read)) (Asked Admitting b)) c.if-not-admitted.true
-    ∙ cell.more_admit t ended (length c.loop.requests.read) _
+returns-then-not-admitted-clause-phase g c = λ t ended was. (
+  false,
+  c.ask-admitted.ensures.phase t _ (c.loop.invariant.phase t ended was) ∙ ap (λ b. go t (Admitted ended (length c.loop.requests.read)) (Asked Admitting b)) c.if-not-admitted.true
+      ∙ cell.more_admit t ended (length c.loop.requests.read) _,
+)
 
 pub loop-init : goal.loop-init
 loop-init g c =

@@ -1,6 +1,7 @@
 use Rattle.std.proofs.Common.{◌≡◌, ◌≤◌, ◌*◌, ◌++◌, length, map}
 use Rattle.smx_shared.specs.declared.fault.SubmitFault.TheVariants as submit
-use Rattle.smx_client.specs.Sayings.{Spoke, back_out}
+use Rattle.smx_client.specs.Sayings.{Spoke}
+use Rattle.smx_client.specs.Private.Lists.{back_out}
 use Rattle.smx_client.proofs.listing.say_all_back.Given as goal
 
 abbrev pub invariant-loop-offer : goal.invariant-loop-offer

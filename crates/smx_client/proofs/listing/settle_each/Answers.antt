@@ -3,7 +3,8 @@ use Rattle.std.specs.List.{flat_map}
 use Rattle.smx_shared.specs.declared.batch.Landing.{Landing}
 use Rattle.smx_turns.proofs.Chains.{pushed}
 use Rattle.smx_client.specs.Events.{submit_told}
-use Rattle.smx_client.specs.Sayings.{Spoke, landed_out}
+use Rattle.smx_client.specs.Sayings.{Spoke}
+use Rattle.smx_client.specs.Private.Lists.{landed_out}
 use Rattle.smx_client.proofs.Lists.{spoke_more}
 use Rattle.smx_client.proofs.listing.settle_each.Goals as goal
 

@@ -2,7 +2,8 @@ use Rattle.std.proofs.Common.{◌≡◌, ◌≤◌, ◌*◌, ◌++◌, List, len
 use Rattle.std.specs.List.{flat_map}
 use Rattle.smx_shared.specs.declared.batch.Landing.{Landing}
 use Rattle.smx_client.specs.Events.{submit_told}
-use Rattle.smx_client.specs.Sayings.{Spoke, landed_out}
+use Rattle.smx_client.specs.Sayings.{Spoke}
+use Rattle.smx_client.specs.Private.Lists.{landed_out}
 use Rattle.smx_client.proofs.listing.settle_each.Given as goal
 
 abbrev pub invariant-loop-landing : goal.invariant-loop-landing

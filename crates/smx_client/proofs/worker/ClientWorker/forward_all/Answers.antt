@@ -8,7 +8,7 @@ use Rattle.smx_turns.proofs.Scenes.{happens}
 use Rattle.smx_client.specs.declared.event.Event.TheVariants.{Forwarded}
 use Rattle.smx_client.specs.Events.{landings_told, refusals_out, worth}
 use Rattle.smx_client.specs.Parts.{Does}
-use Rattle.smx_client.specs.Sayings.{list_out}
+use Rattle.smx_client.specs.Private.Lists.{list_out}
 use Rattle.smx_client.specs.Serving.{Serving, held_asks}
 use Rattle.smx_client.proofs.Bindings.{going}
 use Rattle.smx_client.proofs.Cells as cell
@@ -76,4 +76,5 @@ returns-clause-leads g c =
 pub returns-clause-phase : goal.returns-clause-phase
 returns-clause-phase g c = λ t ended was.
     let read = c.gather-next.new.requests.read in
-    c.note.ensures.phase t _ (c.gather-next.ensures.phase t ended was) ∙ cell.forwards t ended (length read) read c.of-offered.result c.of.result refl
+    let list = c.gather-next.ensures.phase t ended was in
+    c.note.ensures.phase t _ list.1 ∙ cell.forwards t ended list.0 (length read) read c.of-offered.result c.of.result refl
