@@ -1,5 +1,6 @@
 //! Who has something to do.
 
+use crate::guests::Guests;
 use smx_slots::{Line, Schedule};
 use smx_socket::Socket;
 use smx_turns::RunEnd;
@@ -157,13 +158,17 @@ impl Queues {
         }
     }
 
-    /// At a tick a tenth of the parties is ready, another one each time, whether they are stalled or not:
-    /// an event may have been lost, or a timer be due. So is each that waits for a return box.
-    pub fn unstall(&mut self) {
+    /// At a tick a tenth of the parties is ready, another one each time, whether they are stalled or not,
+    /// but for slots that nobody has: an event may have been lost, or a timer be due. So is each that waits
+    /// for a return box.
+    pub fn unstall(&mut self, guests: &Guests<'_>) {
         let parties = self.lanes.saturating_add(self.slots);
         for party in (self.netted..parties).step_by(SHARE) {
-            self.schedule.resume(party);
-            self.schedule.add(party);
+            let slot = party.saturating_sub(self.lanes);
+            if party < self.lanes || guests.socket(slot).is_some() {
+                self.schedule.resume(party);
+                self.schedule.add(party);
+            }
         }
         self.netted = self.netted.saturating_add(1) % SHARE;
         self.empty_boxes();

@@ -78,7 +78,7 @@ impl<'d> Loop<'d> {
     fn tick<R: Wait + Net>(&mut self, rt: &R) {
         let moment = self.pace.moment;
         let registry = self.poll.registry();
-        self.queues.unstall();
+        self.queues.unstall(&self.guests);
         tend_all(
             rt,
             registry,
