@@ -18,6 +18,7 @@ pub use desk::Desk;
 pub use ending::Refusal;
 pub use event::{Delivery, Event, Fate};
 pub use leaver::{Closed, Leaving};
+pub use listing::SpareLists;
 pub use reply::{Parked, Reply};
 pub use stage::Stage;
 pub use worker::{ClientWorker, Origin, run_client};

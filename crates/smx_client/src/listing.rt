@@ -36,16 +36,18 @@ use std::collections::VecDeque;
 // Empty lists for offers and for what becomes of them.
 pub(crate) type Lists = (Vec<Offer>, Vec<Landing>);
 
-// Lists of which each hold wants one, kept for the next.
+/// Lists of which each hold wants one, kept for the next: of requests, of what became of them, and of
+/// responses, each with 16 places.
 #[derive(Drop)]
-pub(crate) struct SpareLists {
+pub struct SpareLists {
     pub(crate) offers: SpareList<Offer>,
     pub(crate) landings: SpareList<Landing>,
     pub(crate) responses: SpareList<Response>,
 }
 
 impl SpareLists {
-    pub(crate) fn new() -> SpareLists {
+    /// None is kept yet. It takes no memory.
+    pub fn new() -> SpareLists {
         SpareLists {
             offers: SpareList::new(),
             landings: SpareList::new(),

@@ -32,6 +32,7 @@ use smx_trace::Trace;
 use smx_turns::{End, Fault, MoItem, Step, TurnEnd};
 use std::alloc::Global;
 use std::marker::Model;
+use std::mem;
 use std::snapshot::Snapshot;
 
 mod admitting;
@@ -289,6 +290,14 @@ impl<'d, L: Link + Drop> ClientWorker<'d, L> {
         ensures { result ≡ length self.now.wire.unsent }
     {
         self.wire.unsent()
+    }
+
+    /// Exchanges the lists that it keeps for its next holds for these. Workers that one thread turns are lent the
+    /// same ones, each for its turn: so they are few, and stay in the processor's cache.
+    pub fn swap_lists(&mut self, lists: &mut SpareLists)
+        ensures { self.new ≡ self.old }
+    {
+        mem::swap(&mut self.spares, lists);
     }
 
     /// Offers the link what waits, between two turns: so no turn is wanted for that alone. The next turn offers

@@ -6,7 +6,7 @@ use crate::lingering::{Lingering, Parting};
 use crate::pace::Moment;
 use crate::queues::Queues;
 use crate::seating::Seating;
-use smx_client::Desk;
+use smx_client::{Desk, SpareLists};
 use smx_notice::{AccountChange, ClientEnd, ClientNews};
 use smx_slots::{Roll, Slots};
 use smx_socket::Socket;
@@ -23,6 +23,8 @@ pub(crate) struct Guests<'d> {
     guests: Vec<Guest<'d>>,
     seating: Seating,
     lingering: Lingering,
+    // Lent to the client whose turn it is.
+    lists: SpareLists,
 }
 
 impl<'d> Guests<'d> {
@@ -37,6 +39,7 @@ impl<'d> Guests<'d> {
             guests,
             seating,
             lingering,
+            lists: SpareLists::new(),
         })
     }
 
@@ -70,7 +73,10 @@ impl<'d> Guests<'d> {
         let Some(guest) = self.guests.get_mut(self.seating.place(slot)) else {
             return Ok(RunEnd::Idle);
         };
-        let Some((end, state)) = guest.turn(rt, moment, queues, addresses, slot) else {
+        guest.member.swap_lists(&mut self.lists);
+        let turned = guest.turn(rt, moment, queues, addresses, slot);
+        guest.member.swap_lists(&mut self.lists);
+        let Some((end, state)) = turned else {
             return Err(ClientEnd::NoHeader);
         };
         guest.say_bound(rt, moment, state);

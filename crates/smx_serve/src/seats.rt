@@ -7,7 +7,7 @@ ghost use Rattle.smx_client.specs.declared.stage.Stage.{Stage};
 ghost use Rattle.smx_session.specs.declared.upstream_state.UpstreamState.{UpstreamState};
 
 use smx_box::{Got, Receiver};
-use smx_client::{ClientWorker, Closed, Desk, Refusal, run_client};
+use smx_client::{ClientWorker, Closed, Desk, Refusal, SpareLists, run_client};
 use smx_config::Timers;
 use smx_lane::Load;
 use smx_pdu::{MAX_PDU, Pdu};
@@ -202,6 +202,11 @@ impl<'d> Member<'d> {
             self.over = true;
         }
         (end, self.worker.state())
+    }
+
+    // Exchanges the lists that its worker keeps for these.
+    pub fn swap_lists(&mut self, lists: &mut SpareLists) {
+        self.worker.swap_lists(lists);
     }
 
     // Why its session has ended, where it has.
