@@ -15,10 +15,16 @@ PR_SET_PDEATHSIG = 1
 LISTENS = "0A"
 
 
-def started(words, **pipes):
-    """A process that the system kills when this one has ended, however it ended."""
-    ends = lambda: LIBC.prctl(PR_SET_PDEATHSIG, signal.SIGKILL)
-    return subprocess.Popen(words, stdin=subprocess.PIPE, preexec_fn=ends, **pipes)
+def started(words, processors=None, **pipes):
+    """A process that the system kills when this one has ended, however it ended. It runs on these processors alone,
+    where they are said."""
+
+    def begin():
+        LIBC.prctl(PR_SET_PDEATHSIG, signal.SIGKILL)
+        if processors:
+            os.sched_setaffinity(0, processors)
+
+    return subprocess.Popen(words, stdin=subprocess.PIPE, preexec_fn=begin, **pipes)
 
 
 def until_listened(port, seconds=10):
@@ -35,9 +41,9 @@ def until_listened(port, seconds=10):
 class Running:
     """A program of ours, ended with the block."""
 
-    def __init__(self, *words, listens=None, heed=None):
+    def __init__(self, *words, listens=None, heed=None, processors=None):
         self.heed = heed
-        self.child = started(words, stdout=subprocess.DEVNULL, stderr=subprocess.PIPE)
+        self.child = started(words, processors, stdout=subprocess.DEVNULL, stderr=subprocess.PIPE)
         if listens:
             for line in self.child.stderr:
                 if listens in line.decode():
