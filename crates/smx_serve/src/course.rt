@@ -64,13 +64,13 @@ impl Course {
     }
 
     /// The next link begins anew after a pause, which is twice the last one.
-    pub fn delay(&mut self, moment: Moment<'_>) {
+    pub fn delay(&mut self, moment: &Moment<'_>) {
         let Moment {
             timers,
             now,
             chance,
             ..
-        } = moment;
+        } = *moment;
         self.pause = pause_after(self.pause, timers);
         let pause = lengthened(self.pause, chance);
         self.addresses.clear();
@@ -87,7 +87,7 @@ impl Course {
     }
 
     // What the look-up found, where it is over.
-    fn heed<R: Wait>(&mut self, rt: &R, moment: Moment<'_>, lane: usize) -> Way {
+    fn heed<R: Wait>(&mut self, rt: &R, moment: &Moment<'_>, lane: usize) -> Way {
         let Some(found) = moment.lookups.take(rt, lane) else {
             return Way::Waits;
         };
@@ -103,11 +103,11 @@ impl Course {
     }
 
     // Begins anew: an address in digits is known at once, and a name is looked up.
-    fn begin<R: Wait>(&mut self, rt: &R, moment: Moment<'_>, lane: usize, name: &str) -> Way {
+    fn begin<R: Wait>(&mut self, rt: &R, moment: &Moment<'_>, lane: usize, name: &str) -> Way {
         if let Ok(address) = name.parse::<SocketAddr>() {
             return Way::To(address);
         }
-        let Moment { alloc, lookups, .. } = moment;
+        let Moment { alloc, lookups, .. } = *moment;
         self.is_asked = lookups.ask(rt, lane, name);
         if self.is_asked {
             Way::Waits
@@ -117,7 +117,7 @@ impl Course {
     }
 
     /// What is to be done at this moment for a lane's link by this name. It never waits.
-    pub fn next<R: Wait>(&mut self, rt: &R, moment: Moment<'_>, lane: usize, name: &str) -> Way {
+    pub fn next<R: Wait>(&mut self, rt: &R, moment: &Moment<'_>, lane: usize, name: &str) -> Way {
         if let Some(address) = self.addresses.pop() {
             return Way::To(address);
         }

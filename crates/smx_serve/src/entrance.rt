@@ -102,7 +102,7 @@ impl Gateway {
         &mut self,
         rt: &R,
         registry: &Registry,
-        moment: Moment<'d>,
+        moment: &Moment<'d>,
         stream: TcpStream,
         party: usize,
         ends: ClientEnds,
@@ -114,7 +114,7 @@ impl Gateway {
             timers,
             now,
             ..
-        } = moment;
+        } = *moment;
         let entrant = match self.enter(rt) {
             Ok(entrant) => entrant,
             Err(fault) => return Err((ends, TurnedAway::NotEntered(fault))),
@@ -145,7 +145,7 @@ impl Gateway {
     }
 }
 
-fn say_connected<R: Wait>(rt: &R, moment: Moment<'_>, client: u64, address: &str) {
+fn say_connected<R: Wait>(rt: &R, moment: &Moment<'_>, client: u64, address: &str) {
     let name = ClientName {
         client,
         system_id: None,
@@ -155,13 +155,13 @@ fn say_connected<R: Wait>(rt: &R, moment: Moment<'_>, client: u64, address: &str
 }
 
 // Says that a connection from this address was closed at once.
-fn turn_away<R: Wait>(rt: &R, moment: Moment<'_>, address: &str, reason: TurnedAway) {
+fn turn_away<R: Wait>(rt: &R, moment: &Moment<'_>, address: &str, reason: TurnedAway) {
     moment.say(rt, Notice::Door(DoorNews::TurnedAway(address, reason)));
 }
 
 impl Entrance {
     // The next connection, or none for now. A want of descriptors is said once.
-    fn accept<R: Wait>(&mut self, rt: &R, moment: Moment<'_>) -> Option<(TcpStream, SocketAddr)> {
+    fn accept<R: Wait>(&mut self, rt: &R, moment: &Moment<'_>) -> Option<(TcpStream, SocketAddr)> {
         let next = match &self.listener {
             Some(listener) => next_of(listener),
             None => Next::Nobody,
@@ -183,14 +183,14 @@ impl Entrance {
         &mut self,
         rt: &R,
         registry: &Registry,
-        moment: Moment<'d>,
+        moment: &Moment<'d>,
         guests: &mut Guests<'d>,
         queues: &mut Queues,
         addresses: &mut Addresses,
         stream: TcpStream,
         address: String,
     ) {
-        let Moment { config, .. } = moment;
+        let Moment { config, .. } = *moment;
         guests.make_place(rt, moment, queues, addresses);
         let Some((slot, ends)) = guests.slots.pick() else {
             turn_away(rt, moment, address.as_str(), TurnedAway::NoSlot);
@@ -242,7 +242,7 @@ impl Entrance {
         &mut self,
         rt: &R,
         registry: &Registry,
-        moment: Moment<'d>,
+        moment: &Moment<'d>,
         guests: &mut Guests<'d>,
         queues: &mut Queues,
         addresses: &mut Addresses,
@@ -265,8 +265,8 @@ impl Entrance {
 }
 
 // A client that isn't bound yet.
-fn guest_of<'d>(entered: Entered<'d>, address: String, moment: Moment<'d>) -> Guest<'d> {
-    let Moment { alloc, config, .. } = moment;
+fn guest_of<'d>(entered: Entered<'d>, address: String, moment: &Moment<'d>) -> Guest<'d> {
+    let Moment { alloc, config, .. } = *moment;
     let Entered {
         client,
         member,

@@ -111,7 +111,7 @@ impl<'d> Guest<'d> {
 
     // Takes in what a turn came to: whether a bind was refused, which is said, and by which account the
     // client is bound.
-    fn heed<R: Wait>(&mut self, rt: &R, moment: Moment<'_>, has_refused: bool) {
+    fn heed<R: Wait>(&mut self, rt: &R, moment: &Moment<'_>, has_refused: bool) {
         if has_refused {
             self.refusals.add(moment.now);
             self.say_refused(rt, moment);
@@ -125,7 +125,7 @@ impl<'d> Guest<'d> {
     fn turn_worker<R: Wait>(
         &mut self,
         rt: &R,
-        moment: Moment<'_>,
+        moment: &Moment<'_>,
         queues: &mut Queues,
         addresses: &mut Addresses,
         slot: usize,
@@ -184,7 +184,7 @@ impl<'d> Guest<'d> {
     pub fn turn<R: Wait>(
         &mut self,
         rt: &R,
-        moment: Moment<'_>,
+        moment: &Moment<'_>,
         queues: &mut Queues,
         addresses: &mut Addresses,
         slot: usize,
@@ -287,7 +287,7 @@ impl<'d> Guest<'d> {
     }
 
     // Says what becomes of its client.
-    pub fn say<R: Wait>(&self, rt: &R, moment: Moment<'_>, news: ClientNews<'_>) {
+    pub fn say<R: Wait>(&self, rt: &R, moment: &Moment<'_>, news: ClientNews<'_>) {
         moment.say(rt, Notice::Client(self.named(), news));
     }
 
@@ -307,7 +307,7 @@ impl<'d> Guest<'d> {
     }
 
     // What became of its client's account, where it is bound and the account changed; that is said.
-    pub fn change<R: Wait>(&self, rt: &R, moment: Moment<'_>) -> Option<AccountChange> {
+    pub fn change<R: Wait>(&self, rt: &R, moment: &Moment<'_>) -> Option<AccountChange> {
         let change = change_of(self.desk, self.name?.as_bytes(), moment.desk)?;
         self.say(rt, moment, ClientNews::Changed(change));
         Some(change)
@@ -315,7 +315,7 @@ impl<'d> Guest<'d> {
 
     // Messages go to its client by the prefixes that its account has now. Where there is no memory for all
     // of them, that is said.
-    pub fn reroute<R: Wait>(&mut self, rt: &R, moment: Moment<'d>, addresses: &mut Addresses) {
+    pub fn reroute<R: Wait>(&mut self, rt: &R, moment: &Moment<'d>, addresses: &mut Addresses) {
         self.desk = moment.desk;
         if !matches!(self.kind, Some(Kind::Rx | Kind::Trx)) {
             return;
@@ -335,7 +335,7 @@ impl<'d> Guest<'d> {
 
     // Says which bind of its client was refused last: by the name of its account where it has one, else by
     // what it said.
-    fn say_refused<R: Wait>(&self, rt: &R, moment: Moment<'_>) {
+    fn say_refused<R: Wait>(&self, rt: &R, moment: &Moment<'_>) {
         let Some(refusal) = self.member.refused() else {
             return;
         };
@@ -354,7 +354,7 @@ impl<'d> Guest<'d> {
     }
 
     // Says as what its client is bound, and by which account, where it is and that wasn't said.
-    pub fn say_bound<R: Wait>(&mut self, rt: &R, moment: Moment<'_>, state: ClientState) {
+    pub fn say_bound<R: Wait>(&mut self, rt: &R, moment: &Moment<'_>, state: ClientState) {
         let Some(kind) = kind_of(state) else {
             return;
         };

@@ -61,50 +61,50 @@ impl<'d> Guests<'d> {
         }
     }
 
-    // Turns the slot's client: how that ended, or why it is let go. Idle where there is no client.
+    // Turns the slot's client: how that ended, or why it is let go. None where there is no client.
     fn turn_guest<R: Wait>(
         &mut self,
         rt: &R,
-        moment: Moment<'_>,
+        moment: &Moment<'_>,
         queues: &mut Queues,
         addresses: &mut Addresses,
         slot: usize,
-    ) -> Result<RunEnd, ClientEnd> {
-        let Some(guest) = self.guests.get_mut(self.seating.place(slot)) else {
-            return Ok(RunEnd::Idle);
-        };
+    ) -> Option<Result<RunEnd, ClientEnd>> {
+        let guest = self.guests.get_mut(self.seating.place(slot))?;
         guest.member.swap_lists(&mut self.lists);
         let turned = guest.turn(rt, moment, queues, addresses, slot);
         guest.member.swap_lists(&mut self.lists);
         let Some((end, state)) = turned else {
-            return Err(ClientEnd::NoHeader);
+            return Some(Err(ClientEnd::NoHeader));
         };
         guest.say_bound(rt, moment, state);
         if guest.is_refused() {
-            return Err(ClientEnd::TurnedOut);
+            return Some(Err(ClientEnd::TurnedOut));
         }
-        Ok(end)
+        Some(Ok(end))
     }
 
-    // The same, and lets the client go whose worker has ended. True where it has.
+    // The same, and lets the client go whose worker has ended. True where it has. Where there is no client it
+    // goes on with the socket of one that is gone.
     pub fn turn<R: Wait>(
         &mut self,
         rt: &R,
-        moment: Moment<'_>,
+        moment: &Moment<'_>,
         queues: &mut Queues,
         addresses: &mut Addresses,
         slot: usize,
     ) -> bool {
         match self.turn_guest(rt, moment, queues, addresses, slot) {
-            Ok(end @ (RunEnd::Left | RunEnd::Fault(_))) => {
-                self.let_go(rt, moment, queues, addresses, slot, end);
-                true
-            }
-            Ok(RunEnd::Idle | RunEnd::Turns | RunEnd::Filled) => {
+            None => {
                 self.settle(queues, slot, moment.now);
                 false
             }
-            Err(end) => {
+            Some(Ok(RunEnd::Idle | RunEnd::Turns | RunEnd::Filled)) => false,
+            Some(Ok(end @ (RunEnd::Left | RunEnd::Fault(_)))) => {
+                self.let_go(rt, moment, queues, addresses, slot, end);
+                true
+            }
+            Some(Err(end)) => {
                 self.dismiss_one(rt, moment, queues, addresses, slot, end);
                 true
             }
@@ -115,7 +115,7 @@ impl<'d> Guests<'d> {
     fn dismiss_one<R: Wait>(
         &mut self,
         rt: &R,
-        moment: Moment<'_>,
+        moment: &Moment<'_>,
         queues: &mut Queues,
         addresses: &mut Addresses,
         slot: usize,
@@ -131,7 +131,7 @@ impl<'d> Guests<'d> {
     fn let_go<R: Wait>(
         &mut self,
         rt: &R,
-        moment: Moment<'_>,
+        moment: &Moment<'_>,
         queues: &mut Queues,
         addresses: &mut Addresses,
         slot: usize,
@@ -148,11 +148,11 @@ impl<'d> Guests<'d> {
     // due is turned.
     fn found_at(
         &mut self,
-        moment: Moment<'_>,
+        moment: &Moment<'_>,
         queues: &mut Queues,
         slot: usize,
     ) -> Option<ClientEnd> {
-        let Moment { timers, now, .. } = moment;
+        let Moment { timers, now, .. } = *moment;
         let guest = self.guests.get_mut(self.seating.place(slot))?;
         if guest.refusals.is_paced(now) {
             let party = queues.party(slot);
@@ -174,7 +174,7 @@ impl<'d> Guests<'d> {
     pub fn let_late_go<R: Wait>(
         &mut self,
         rt: &R,
-        moment: Moment<'_>,
+        moment: &Moment<'_>,
         queues: &mut Queues,
         addresses: &mut Addresses,
     ) {
@@ -209,7 +209,7 @@ impl<'d> Guests<'d> {
     pub fn dismiss_strangers<R: Wait>(
         &mut self,
         rt: &R,
-        moment: Moment<'_>,
+        moment: &Moment<'_>,
         queues: &mut Queues,
         addresses: &mut Addresses,
     ) {
@@ -228,7 +228,7 @@ impl<'d> Guests<'d> {
     pub fn unbind_all<R: Wait>(
         &mut self,
         rt: &R,
-        moment: Moment<'_>,
+        moment: &Moment<'_>,
         queues: &mut Queues,
         addresses: &mut Addresses,
     ) {
@@ -248,7 +248,7 @@ impl<'d> Guests<'d> {
     pub fn dismiss<R: Wait>(
         &mut self,
         rt: &R,
-        moment: Moment<'_>,
+        moment: &Moment<'_>,
         queues: &mut Queues,
         addresses: &mut Addresses,
     ) {
@@ -284,7 +284,7 @@ impl<'d> Guests<'d> {
     fn renew_at<R: Wait>(
         &mut self,
         rt: &R,
-        moment: Moment<'d>,
+        moment: &Moment<'d>,
         queues: &mut Queues,
         addresses: &mut Addresses,
         slot: usize,
@@ -309,7 +309,7 @@ impl<'d> Guests<'d> {
     pub fn renew<R: Wait>(
         &mut self,
         rt: &R,
-        moment: Moment<'d>,
+        moment: &Moment<'d>,
         queues: &mut Queues,
         addresses: &mut Addresses,
     ) {
@@ -399,7 +399,7 @@ impl<'d> Guests<'d> {
     pub fn make_place<R: Wait>(
         &mut self,
         rt: &R,
-        moment: Moment<'_>,
+        moment: &Moment<'_>,
         queues: &mut Queues,
         addresses: &mut Addresses,
     ) {

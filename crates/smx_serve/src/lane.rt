@@ -185,7 +185,7 @@ impl Lane {
     pub fn end_late<R: Wait>(
         &mut self,
         rt: &R,
-        moment: Moment<'_>,
+        moment: &Moment<'_>,
         queues: &mut Queues,
         addresses: &mut Addresses,
     ) -> Lost {
@@ -205,7 +205,7 @@ impl Lane {
     pub fn lose<R: Wait>(
         &mut self,
         rt: &R,
-        moment: Moment<'_>,
+        moment: &Moment<'_>,
         queues: &mut Queues,
         addresses: &mut Addresses,
         end: RunEnd,
@@ -284,7 +284,7 @@ impl Lane {
         &mut self,
         rt: &R,
         registry: &Registry,
-        moment: Moment<'_>,
+        moment: &Moment<'_>,
         upstream: &Upstream,
         address: SocketAddr,
     ) -> Result<(), Option<io::Error>> {
@@ -309,7 +309,7 @@ impl Lane {
         &mut self,
         rt: &R,
         registry: &Registry,
-        moment: Moment<'_>,
+        moment: &Moment<'_>,
         upstream: &Upstream,
         lane: usize,
     ) -> Result<(), Unlinked> {

@@ -174,7 +174,7 @@ impl Linked {
 pub(crate) fn link_to<R: Wait + Net>(
     rt: &R,
     registry: &Registry,
-    moment: Moment<'_>,
+    moment: &Moment<'_>,
     upstream: &Upstream,
     spare: Spare,
     address: SocketAddr,
@@ -184,7 +184,7 @@ pub(crate) fn link_to<R: Wait + Net>(
         timers,
         now,
         ..
-    } = moment;
+    } = *moment;
     let lane = spare.drawer.tap.lane();
     let Some(session) = session_of(alloc, upstream, timers.enquire, now) else {
         return Err((spare, None));

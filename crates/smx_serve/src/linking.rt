@@ -14,8 +14,8 @@ use std::net::Net;
 use std::sync::Wait;
 
 /// A lane's upstream, as lines name it.
-pub(crate) fn name_of(moment: Moment<'_>, lane: usize) -> Option<UpstreamName<'_>> {
-    let Moment { config, .. } = moment;
+pub(crate) fn name_of<'d>(moment: &Moment<'d>, lane: usize) -> Option<UpstreamName<'d>> {
+    let Moment { config, .. } = *moment;
     let upstream = config.upstream.get(lane)?;
     Some(UpstreamName {
         lane,
@@ -25,7 +25,7 @@ pub(crate) fn name_of(moment: Moment<'_>, lane: usize) -> Option<UpstreamName<'_
 }
 
 // Says what becomes of a lane's upstream.
-fn say<'x, R: Wait>(rt: &R, moment: Moment<'x>, lane: usize, news: UpstreamNews<'x>) {
+fn say<R: Wait>(rt: &R, moment: &Moment<'_>, lane: usize, news: UpstreamNews<'_>) {
     if let Some(name) = name_of(moment, lane) {
         moment.say(rt, Notice::Upstream(name, news));
     }
@@ -35,7 +35,7 @@ fn say<'x, R: Wait>(rt: &R, moment: Moment<'x>, lane: usize, news: UpstreamNews<
 // account, and when it is tried again.
 fn say_lost<R: Wait>(
     rt: &R,
-    moment: Moment<'_>,
+    moment: &Moment<'_>,
     lane: usize,
     place: &Lane,
     lost: Lost,
@@ -64,7 +64,7 @@ fn say_lost<R: Wait>(
 /// is tried again after a pause, or at once by another address of its name.
 pub(crate) fn turn_lane<R: Wait>(
     rt: &R,
-    moment: Moment<'_>,
+    moment: &Moment<'_>,
     queues: &mut Queues,
     addresses: &mut Addresses,
     guests: &Guests<'_>,
@@ -99,13 +99,13 @@ pub(crate) fn turn_lane<R: Wait>(
 // Ends a lane's link whose bind isn't answered.
 fn end_late<R: Wait>(
     rt: &R,
-    moment: Moment<'_>,
+    moment: &Moment<'_>,
     queues: &mut Queues,
     addresses: &mut Addresses,
     lane: usize,
     place: &mut Lane,
 ) {
-    let Moment { timers, .. } = moment;
+    let Moment { timers, .. } = *moment;
     if !place.is_late(timers.enquire) {
         return;
     }
@@ -117,13 +117,13 @@ fn end_late<R: Wait>(
 // Answers what is queued on a lane whose link was lost too long ago.
 fn give_up<R: Wait>(
     rt: &R,
-    moment: Moment<'_>,
+    moment: &Moment<'_>,
     queues: &mut Queues,
     addresses: &mut Addresses,
     lane: usize,
     place: &mut Lane,
 ) {
-    let Moment { timers, now, .. } = moment;
+    let Moment { timers, now, .. } = *moment;
     let failed = place.give_up_queued(rt, queues, addresses, now, timers.response);
     if failed > 0 {
         queues.add_slots();
@@ -135,7 +135,7 @@ fn give_up<R: Wait>(
 fn connect<R: Wait + Net>(
     rt: &R,
     registry: &Registry,
-    moment: Moment<'_>,
+    moment: &Moment<'_>,
     upstream: &Upstream,
     lane: usize,
     place: &mut Lane,
@@ -164,7 +164,7 @@ fn connect<R: Wait + Net>(
 fn tend<R: Wait + Net>(
     rt: &R,
     registry: &Registry,
-    moment: Moment<'_>,
+    moment: &Moment<'_>,
     queues: &mut Queues,
     addresses: &mut Addresses,
     lane: usize,
@@ -183,7 +183,7 @@ fn tend<R: Wait + Net>(
 pub(crate) fn tend_all<R: Wait + Net>(
     rt: &R,
     registry: &Registry,
-    moment: Moment<'_>,
+    moment: &Moment<'_>,
     lanes: &mut [Lane],
     queues: &mut Queues,
     addresses: &mut Addresses,

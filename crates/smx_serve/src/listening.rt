@@ -35,7 +35,7 @@ fn pause<R: Wait>(
     rt: &R,
     poll: &mut Poll,
     events: &mut Events,
-    moment: Moment<'_>,
+    moment: &Moment<'_>,
     remote: &Remote,
 ) -> Result<(), Ended> {
     let time = Some(Duration::from_millis(PAUSE));
@@ -56,13 +56,13 @@ pub(crate) fn await_listener<R>(
     rt: &R,
     poll: &mut Poll,
     events: &mut Events,
-    moment: Moment<'_>,
+    moment: &Moment<'_>,
     remote: &Remote,
 ) -> Result<TcpListener, Ended>
 where
     R: Wait + Net<Listener = std::net::TcpListener, Stream = TcpStream>,
 {
-    let Moment { config, .. } = moment;
+    let Moment { config, .. } = *moment;
     let address = config.listen.as_str();
     for attempt in 0..u64::MAX {
         let error = match listen(rt, poll, address) {

@@ -43,7 +43,7 @@ pub(crate) struct Moment<'d> {
 
 impl Moment<'_> {
     /// Says a line at this moment.
-    pub fn say<R: Wait>(self, rt: &R, notice: Notice<'_>) {
+    pub fn say<R: Wait>(&self, rt: &R, notice: Notice<'_>) {
         self.teller.say(rt, self.now, self.wall, notice);
     }
 }

@@ -52,7 +52,7 @@ pub(crate) fn are_idle<'a>(lanes: &'a [Lane], guests: &'a Guests, queues: &mut Q
 // Turns a party's worker. True where a client is gone then.
 fn turn<R: Wait>(
     rt: &R,
-    moment: Moment<'_>,
+    moment: &Moment<'_>,
     lanes: &mut [Lane],
     guests: &mut Guests,
     queues: &mut Queues,
@@ -73,7 +73,7 @@ fn turn<R: Wait>(
 /// is gone then.
 pub(crate) fn pass<R: Wait>(
     rt: &R,
-    moment: Moment<'_>,
+    moment: &Moment<'_>,
     lanes: &mut [Lane],
     guests: &mut Guests,
     queues: &mut Queues,

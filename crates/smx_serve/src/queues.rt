@@ -92,6 +92,11 @@ impl Queues {
         self.hurried = true;
     }
 
+    /// Whether that was said and isn't done yet.
+    pub fn is_hurried(&self) -> bool {
+        self.hurried
+    }
+
     /// Whether that was said since this was asked.
     pub fn take_hurry(&mut self) -> bool {
         std::mem::take(&mut self.hurried)

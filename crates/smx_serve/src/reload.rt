@@ -57,7 +57,7 @@ fn are_same(one: &Config, other: &Config) -> [bool; 6] {
 }
 
 // Says which of those names are others in this file than what is served by.
-fn say_not_taken<R: Wait>(rt: &R, moment: Moment<'_>, read: &Config) {
+fn say_not_taken<R: Wait>(rt: &R, moment: &Moment<'_>, read: &Config) {
     let same = are_same(moment.config, read);
     for (index, name) in NAMES.iter().enumerate() {
         if same.get(index) == Some(&false) {
@@ -95,7 +95,7 @@ impl<'d> Loop<'d> {
     // account is gone or has another password are unbound.
     fn replace_desk<R: Wait>(&mut self, rt: &R, desk: &'d Desk) {
         self.pace.moment.desk = desk;
-        let moment = self.pace.moment;
+        let moment = &self.pace.moment;
         self.guests
             .renew(rt, moment, &mut self.queues, &mut self.addresses);
     }
@@ -117,7 +117,7 @@ impl<'d> Loop<'d> {
         self.pace.moment.timers = read.timers;
         moment.teller.renew(rt, read);
         moment.say(rt, Notice::Reload(ReloadNews::Reloaded(read.account.len())));
-        say_not_taken(rt, moment, read);
+        say_not_taken(rt, &moment, read);
         if let Some(desk) = desk {
             self.replace_desk(rt, desk);
         }

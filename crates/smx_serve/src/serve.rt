@@ -115,7 +115,7 @@ fn tables_of(
 }
 
 // How many clients are let in at most. Where the system's descriptors leave out some, that is said.
-fn room_for<R: Wait + Net>(rt: &R, moment: Moment<'_>) -> usize {
+fn room_for<R: Wait + Net>(rt: &R, moment: &Moment<'_>) -> usize {
     let room = Room::new(rt, moment.alloc, moment.config);
     if let Some(notice) = room.notice() {
         moment.say(rt, notice);
@@ -127,13 +127,13 @@ fn room_for<R: Wait + Net>(rt: &R, moment: Moment<'_>) -> usize {
 fn loop_of<'d, R>(
     rt: &R,
     mut poll: Poll,
-    moment: Moment<'d>,
+    moment: &Moment<'d>,
     remote: &Remote,
 ) -> Result<Loop<'d>, Ended>
 where
     R: Clock + Wait + Net<Listener = std::net::TcpListener, Stream = TcpStream>,
 {
-    let Moment { alloc, config, .. } = moment;
+    let Moment { alloc, config, .. } = *moment;
     let clients = room_for(rt, moment);
     let Wiring {
         gateway,
@@ -158,7 +158,7 @@ where
         is_open: false,
     };
     Ok(Loop {
-        pace: Pace::new(moment, start),
+        pace: Pace::new(*moment, start),
         poll,
         events,
         lanes,
@@ -286,7 +286,7 @@ impl Server {
             chance: 0,
             stopping: false,
         };
-        let ended = match open(rt, poll, moment, &remote) {
+        let ended = match open(rt, poll, &moment, &remote) {
             Ok(ended) => ended,
             Err(ended) => ended,
         };
@@ -296,12 +296,12 @@ impl Server {
 }
 
 // Makes the lanes and the boxes, listens, connects, and turns.
-fn open<R>(rt: &R, poll: Poll, moment: Moment<'_>, remote: &Remote) -> Result<Ended, Ended>
+fn open<R>(rt: &R, poll: Poll, moment: &Moment<'_>, remote: &Remote) -> Result<Ended, Ended>
 where
     R: Clock + Wait + Net<Listener = std::net::TcpListener, Stream = TcpStream>,
 {
     let mut turning = loop_of(rt, poll, moment, remote)?;
-    let Moment { config, .. } = moment;
+    let Moment { config, .. } = *moment;
     moment.say(
         rt,
         Notice::Door(DoorNews::Listening(config.listen.as_str())),

@@ -68,7 +68,7 @@ fn standing_of(link: LinkState, load: Option<Load>, now: u64) -> UpstreamStandin
 // Tells how a lane's upstream stands.
 fn tell_lane<R: Wait>(
     rt: &R,
-    moment: Moment<'_>,
+    moment: &Moment<'_>,
     gateway: &mut Gateway,
     lane: usize,
     place: &Lane,
@@ -83,7 +83,7 @@ fn tell_lane<R: Wait>(
 // Tells how the slot's client stands, where it has one.
 fn tell_slot<R: Wait>(
     rt: &R,
-    moment: Moment<'_>,
+    moment: &Moment<'_>,
     guests: &Guests,
     addresses: &Addresses,
     slot: usize,
@@ -102,7 +102,7 @@ fn tell_slot<R: Wait>(
 impl Loop<'_> {
     // Tells how a lane or a slot stands.
     fn tell<R: Wait>(&mut self, rt: &R, party: usize) {
-        let moment = self.pace.moment;
+        let moment = &self.pace.moment;
         match self.lanes.get(party) {
             Some(lane) => tell_lane(rt, moment, &mut self.entrance.gateway, party, lane),
             None => tell_slot(

@@ -39,7 +39,7 @@ impl<'d> Loop<'d> {
 
     // Lets nobody in, and no further request: a client may send that to another proxy.
     fn shut(&mut self, rt: &impl Wait) {
-        let moment = self.pace.moment;
+        let moment = &self.pace.moment;
         self.entrance.close(self.poll.registry());
         self.addresses.ledger.drain();
         self.guests
@@ -53,7 +53,7 @@ impl<'d> Loop<'d> {
         rt: &R,
         remote: &Remote,
     ) -> Result<(), Ended> {
-        let moment = self.pace.moment;
+        let moment = &self.pace.moment;
         let until = moment.now.saturating_add(moment.timers.stop);
         for _ in rt.forever() {
             let is_drained = self.addresses.ledger.under_way() == 0;
@@ -105,7 +105,7 @@ impl<'d> Loop<'d> {
         rt: &R,
         remote: &Remote,
     ) -> Result<(), Ended> {
-        let moment = self.pace.moment;
+        let moment = &self.pace.moment;
         self.guests
             .unbind_all(rt, moment, &mut self.queues, &mut self.addresses);
         for _ in rt.forever() {
@@ -118,7 +118,7 @@ impl<'d> Loop<'d> {
             }
             self.round(rt, 10)?;
         }
-        let moment = self.pace.moment;
+        let moment = &self.pace.moment;
         self.guests
             .dismiss(rt, moment, &mut self.queues, &mut self.addresses);
         self.settle(rt, false, false)
@@ -147,14 +147,14 @@ impl<'d> Loop<'d> {
     /// Lets nobody in, answers each request that was read, lets the clients go, writes what waits, unbinds
     /// upstream, and ends.
     pub fn stop<R: Wait + Clock + Net>(&mut self, rt: &R, remote: &Remote) -> Ended {
-        let moment = self.pace.moment;
+        let moment = &self.pace.moment;
         moment.say(rt, Notice::Run(RunNews::Stopping));
         moment.herald.say(rt, Service::Stopping);
         let ended = match self.end(rt, remote) {
             Ok(()) => Ended::Stopped,
             Err(ended) => ended,
         };
-        let moment = self.pace.moment;
+        let moment = &self.pace.moment;
         moment.teller.end(rt, moment.wall);
         ended
     }

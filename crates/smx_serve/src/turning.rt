@@ -23,6 +23,12 @@ const PASSES: u64 = 4;
 
 const SHORT: usize = 8;
 
+/// Where no more than a client and its lane moved octets these are written at once, and where so many did
+/// that each write has much.
+const PAIR: usize = 2;
+
+const MANY: usize = 16;
+
 /// Turns the workers of all lanes and clients.
 #[derive(Drop)]
 pub(crate) struct Loop<'d> {
@@ -43,7 +49,7 @@ impl<'d> Loop<'d> {
         self.entrance.let_in(
             rt,
             self.poll.registry(),
-            self.pace.moment,
+            &self.pace.moment,
             &mut self.guests,
             &mut self.queues,
             &mut self.addresses,
@@ -82,7 +88,7 @@ impl<'d> Loop<'d> {
         tend_all(
             rt,
             registry,
-            moment,
+            &moment,
             &mut self.lanes,
             &mut self.queues,
             &mut self.addresses,
@@ -92,7 +98,7 @@ impl<'d> Loop<'d> {
             moment.herald.tell(rt, moment.now, self.counts());
         }
         self.guests
-            .let_late_go(rt, moment, &mut self.queues, &mut self.addresses);
+            .let_late_go(rt, &moment, &mut self.queues, &mut self.addresses);
         self.guests.settle_all(&mut self.queues, moment.now);
         self.entrance.try_again();
     }
@@ -101,7 +107,7 @@ impl<'d> Loop<'d> {
     fn pass<R: Wait>(&mut self, rt: &R) {
         let is_gone = pass(
             rt,
-            self.pace.moment,
+            &self.pace.moment,
             &mut self.lanes,
             &mut self.guests,
             &mut self.queues,
@@ -157,6 +163,19 @@ impl<'d> Loop<'d> {
         Ok(())
     }
 
+    // Where nobody is ready, and a few sockets have octets to be written, asks for events once more before,
+    // and serves what came: so each write has more, and wakes its peer less often.
+    fn gather<R: Wait>(&mut self, rt: &R) -> Result<(), Ended> {
+        let dirty = self.queues.dirty();
+        if !self.queues.schedule.is_empty() || dirty <= PAIR || dirty > MANY {
+            return Ok(());
+        }
+        self.wait(0)?;
+        self.make_passes(rt)?;
+        flush(&self.lanes, &self.guests, &mut self.queues);
+        Ok(())
+    }
+
     /// Reads the clock and does what is due then, makes a few passes, and, where nobody is ready after
     /// them, waits at most so many milliseconds.
     pub fn round<R: Wait + Clock + Net>(&mut self, rt: &R, timeout: u64) -> Result<(), Ended> {
@@ -168,8 +187,11 @@ impl<'d> Loop<'d> {
         self.let_in(rt);
         self.tell_some(rt);
         self.make_passes(rt)?;
+        self.gather(rt)?;
         if are_idle(&self.lanes, &self.guests, &mut self.queues) {
-            let hurries = self.entrance.has_more() || self.survey.is_under_way();
+            let hurries = self.entrance.has_more()
+                || self.survey.is_under_way()
+                || self.queues.is_hurried();
             let time = if hurries { 0 } else { timeout };
             self.pace.waits();
             return self.wait(time);
