@@ -43,13 +43,18 @@ class Edit:
     pairs: tuple
     function: Function | None
 
-    def applied(self, text):
-        """The text with the wrong body. ValueError where what it replaces isn't there just once."""
-        for old, new in self.pairs:
+
+def applied(text, edits):
+    """A file's text with these wrong bodies. ValueError where what one replaces isn't there just once."""
+    changes = []
+    for edit in edits:
+        for old, new in edit.pairs:
             if text.count(old) != 1:
-                raise ValueError(f"{self.name}: an old: text is in {self.file} {text.count(old)} times")
-            text = text.replace(old, new)
-        return text
+                raise ValueError(f"{edit.name}: an old: text is in {edit.file} {text.count(old)} times")
+            changes.append((text.index(old), old, new))
+    for at, old, new in sorted(changes, reverse=True):
+        text = text[:at] + new + text[at + len(old):]
+    return text
 
 
 def owner_of(line):
