@@ -1,5 +1,5 @@
 //! PDUs over a link.
-ghost use Rattle.std.specs.Prelude.{◌≡◌, ℕ, List, ◌+◌, ◌<◌, ◌≤◌, ◌++◌, ◌⊎◌, [], ◌∷◌, length, IfOk, IfErr, IfSome, OnOk, IsTrue, ◌↔◌, Some, None, Ok, Err, drop, take, vec_len, vec_capacity};
+ghost use Rattle.std.specs.Prelude.{◌≡◌, ℕ, List, ◌+◌, ◌<◌, ◌≤◌, ◌++◌, ◌⊎◌, [], ◌∷◌, length, IfOk, IfErr, IfSome, OnOk, IsOk, IsTrue, ◌↔◌, Some, None, Ok, Err, drop, take, vec_len, vec_capacity};
 ghost use Rattle.smx_pdu.specs.Pdu.{octets_of, spelling};
 ghost use Rattle.smx_pdu.specs.declared.pdu.Pdu.{Pdu};
 ghost use Rattle.smx_frame.specs.Stream.{TakesFirst, HasNone, fault_at};
@@ -187,14 +187,19 @@ impl<L: Link + Drop> Wire<L> {
         self.sent == self.waiting.len()
     }
 
-    /// Makes room for one PDU more to be said, however long it is.
+    /// Makes room for one PDU more to be said, however long it is. Where there is none it asks for as
+    /// much as two take, so that the first few of a turn move nothing.
     #[inline(always)]
     pub fn make_room(&mut self) -> Result<(), AllocError>
         ensures room { OnOk result (65536 ≤ self.new.room) }
+        ensures succeeds { 65536 ≤ self.old.room → IsOk result }
         ensures same { self.new ≡ record self.old { room = self.new.room } }
     {
         compact(&mut self.waiting, &mut self.sent);
-        self.waiting.reserve(MAX_PDU)
+        if self.waiting.capacity() - self.waiting.len() >= MAX_PDU {
+            return Ok(());
+        }
+        self.waiting.reserve(2 * MAX_PDU)
     }
 
     /// Says a PDU: its octets are to go to the link. It takes no memory.

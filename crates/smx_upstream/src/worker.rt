@@ -230,7 +230,7 @@ fn let_go(owed: &mut Vec<MoWindow>)
 
 impl<L: Link + Drop> UpstreamWorker<L> {
     /// A worker whose first PDU is the session's bind (SMPP 3.4, section 4.1.5). It takes memory
-    /// for 65,536 octets; where that is wanted the parts come back. Its lane's history may have
+    /// for 131,072 octets; where that is wanted the parts come back. Its lane's history may have
     /// `history` entries; an eighth of these, and 500, is worth a shift. A request that is not answered within
     /// `response_timer` milliseconds of its take is given up (section 7.2), at most one in a turn: once
     /// nothing more comes, or after twice that time.
