@@ -126,7 +126,31 @@ fn count(ledger: &mut Ledger, client: u64, party: Party)
     }
 }
 
+// A party that is told in a turn of this client is ready. Out of line, as it is a lane nearly always.
+#[cold]
+#[inline(never)]
+fn tell_other(
+    lanes: usize,
+    schedule: &mut Schedule,
+    roll: &Roll,
+    hints: &mut Hints,
+    ledger: &mut Ledger,
+    client: u64,
+    party: Party,
+)
+    ensures ready { schedule.new
+        ≡ with_ready (party_number lanes (slot_of roll.now.rows) party) schedule.old }
+    ensures hints { hints.new ≡ hinted_by (slot_of roll.now.rows) party hints.old }
+    ensures counts { ledger.new ≡ book_after client party ledger.old }
+{
+    let number = party_number(lanes, roll, hints, party);
+    schedule.add(number);
+    count(ledger, client, party);
+}
+
 // Whether the client is bound by the account now, which is noted, and so is want of memory.
+#[cold]
+#[inline(never)]
 fn bind(
     ledger: &mut Ledger,
     bound: &mut Option<usize>,
@@ -288,9 +312,21 @@ impl Gate for ClientBell<'_> {
             × (self.new.refused ≡ self.old.refused) × (self.new.lacked ≡ self.old.lacked)
             × (self.new.leaves ≡ self.old.leaves) }
     {
-        let number = party_number(self.lanes, self.roll, self.hints, party);
-        self.schedule.add(number);
-        count(self.ledger, self.turn.client, party);
+        let client = self.turn.client;
+        if let Party::Lane(lane) = party {
+            self.schedule.add(lane);
+            self.ledger.accepted(client);
+        } else {
+            tell_other(
+                self.lanes,
+                self.schedule,
+                self.roll,
+                self.hints,
+                self.ledger,
+                client,
+                party,
+            );
+        }
         self.told = self.told.and(&party);
         self.rang = true;
     }

@@ -4,10 +4,11 @@ ghost use Rattle.smx_slots.specs.Schedules.{with_ready};
 ghost use Rattle.smx_slots.specs.Hints.{hinted_by};
 ghost use Rattle.smx_slots.specs.Rolls.{slot_of};
 ghost use Rattle.smx_slots.specs.Bells.{settled_by, party_number, has_told};
+ghost use Rattle.smx_slots.specs.Private.Bells.{IsKnown};
 
 use crate::hints::Hints;
 use crate::ledger::Ledger;
-use crate::parties::party_number;
+use crate::parties::tell;
 use crate::roll::Roll;
 use crate::schedule::Schedule;
 use smx_trace::Trace;
@@ -25,7 +26,10 @@ pub struct LaneBell<'a> {
     asked: Trace<Question>,
     told: Trace<Party>,
     rang: bool,
+    // Whom it told last, where that party is ready: of a list of responses most are one client's.
+    last: Option<Party>,
     ghost rung: { rang ≡ has_told told },
+    ghost known: { IsKnown lanes (slot_of roll.now.rows) last schedule.now hints.now },
 }
 
 impl<'a> LaneBell<'a> {
@@ -51,6 +55,7 @@ impl<'a> LaneBell<'a> {
             asked: Trace::new(),
             told: Trace::new(),
             rang: false,
+            last: None,
         }
     }
 
@@ -113,8 +118,14 @@ impl Gate for LaneBell<'_> {
         ensures lanes { self.new.lanes ≡ self.old.lanes }
         ensures roll { self.new.roll.now ≡ self.old.roll.now }
     {
-        let number = party_number(self.lanes, self.roll, self.hints, party);
-        self.schedule.add(number);
+        self.last = tell(
+            self.lanes,
+            self.schedule,
+            self.roll,
+            self.hints,
+            self.last,
+            party,
+        );
         count(self.ledger, party);
         self.told = self.told.and(&party);
         self.rang = true;
