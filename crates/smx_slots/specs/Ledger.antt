@@ -1,5 +1,5 @@
 -- What a ledger was told, and how many requests are under way by it.
-use Rattle.std.specs.Prelude.{ℕ, Bool, true, false, List, [], ◌∷◌, ◌==◌, ◌&&◌, ◌||◌, ◌+◌, ◌-◌, nat_lt, not, Option, Some, None, slice_get, slice_set, length, ◌++◌, if◌then◌else◌}
+use Rattle.std.specs.Prelude.{◌≡◌, ◌<◌, ℕ, Bool, true, false, List, [], ◌∷◌, ◌==◌, ◌&&◌, ◌||◌, ◌+◌, ◌-◌, nat_lt, not, Option, Some, None, slice_get, slice_set, length, ◌++◌, if◌then◌else◌}
 use Rattle.std.specs.Option.{option_map_or}
 use Rattle.smx_slots.specs.declared.movement.Movement.{Movement}
 use Rattle.smx_slots.specs.declared.movement.Movement.TheVariants.{Bound, Accepted, Settled, Left}
@@ -106,6 +106,11 @@ may_request client (Some key) book = not book.draining && is_bound client book.m
 abbrev pub may_request_beside : ℕ → ℕ → Option ℕ → Book → Bool
 may_request_beside leaves client None book = false
 may_request_beside leaves client (Some key) book = not book.draining && is_bound client book.movements && is_below (requests_limit key book) (count_of key book.movements + leaves)
+
+-- leave can be given to so many more requests, one after another, beside those that have it
+pub record IsSpare (spare leaves client : ℕ) (book : Book) : Type 0 where
+  pub few : (k : ℕ) → k < spare → leaves + k < greatest_count
+  pub may : (k : ℕ) → k < spare → may_request_beside (leaves + k) client (account_of client book.movements) book ≡ true
 
 -- whether one more of the client can be counted
 abbrev pub is_countable : ℕ → Option ℕ → List Movement → Bool

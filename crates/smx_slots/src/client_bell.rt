@@ -4,7 +4,7 @@ ghost use Rattle.smx_turns.specs.declared.gate.Point.TheVariants.{Collecting};
 ghost use Rattle.smx_slots.specs.Schedules.{with_ready};
 ghost use Rattle.smx_slots.specs.Hints.{has_hint, with_hint, hinted_by, emptied_by, leave_by};
 ghost use Rattle.smx_slots.specs.Rolls.{slot_of};
-ghost use Rattle.smx_slots.specs.Ledger.{account_of, may_request_beside};
+ghost use Rattle.smx_slots.specs.Ledger.{Book, account_of, may_request_beside, IsSpare};
 ghost use Rattle.smx_slots.specs.Bells.{visit, may_bind_at, bound_at, Answers, book_after, party_number, has_told};
 
 use crate::hints::Hints;
@@ -45,10 +45,13 @@ pub struct ClientBell<'a> {
     lacked: bool,
     // To how many requests it gave leave since it was last asked before a submit.
     leaves: u64,
+    // To how many more it can give leave, as far as it has asked the ledger.
+    spare: u64,
     asked: Trace<Question>,
     told: Trace<Party>,
     rang: bool,
     ghost rung: { rang ≡ has_told told },
+    ghost sure: { IsSpare spare leaves turn.client ledger.now },
 }
 
 impl<'a> ClientBell<'a> {
@@ -80,6 +83,7 @@ impl<'a> ClientBell<'a> {
             refused: false,
             lacked: false,
             leaves: 0,
+            spare: 0,
             asked: Trace::new(),
             told: Trace::new(),
             rang: false,
@@ -155,6 +159,7 @@ fn bind(
     ledger: &mut Ledger,
     bound: &mut Option<usize>,
     lacked: &mut bool,
+    spare: &mut u64,
     client: u64,
     account: usize,
 ) -> bool
@@ -164,7 +169,9 @@ fn bind(
     ensures same { result ≡ false → (ledger.new ≡ ledger.old) × (bound.new ≡ bound.old) }
     ensures lacked { result ≡ false
         → lacked.new ≡ (lacked.old || may_bind_at client account ledger.old) }
+    ensures sure { (leaves : ℕ) → IsSpare spare.new leaves client ledger.new }
 {
+    *spare = 0;
     match ledger.bind(client, account) {
         Ok(true) => {
             *bound = Some(account);
@@ -192,23 +199,31 @@ fn refuse(refused: &mut bool, may_refuse: bool) -> bool
 
 // Whether one more request may be under way beside those that have leave. A yes counts as one more.
 #[inline(always)]
-fn admit(ledger: &Ledger, leaves: &mut u64, client: u64) -> bool
+fn admit(ledger: &Ledger, spare: &mut u64, leaves: &mut u64, client: u64) -> bool
+    requires sure { IsSpare spare.old leaves.old client ledger.now }
+    ensures sure { IsSpare spare.new leaves.new client ledger.now }
     ensures may { result ≡ may_request_beside leaves.old client
         (account_of client ledger.now.movements) ledger.now }
     ensures noted { leaves.new ≡ (if result then leaves.old + 1 else leaves.old) }
 {
-    let admitted = ledger.admits_beside(client, *leaves);
-    if admitted {
-        *leaves += 1;
+    if *spare == 0 {
+        *spare = ledger.spare_beside(client, *leaves);
     }
-    admitted
+    if *spare == 0 {
+        return false;
+    }
+    *spare -= 1;
+    *leaves += 1;
+    true
 }
 
 // Before a submit the count of leaves begins anew.
-fn submit(leaves: &mut u64) -> bool
+fn submit(spare: &mut u64, leaves: &mut u64) -> bool
     ensures always { result ≡ true }
     ensures noted { leaves.new ≡ 0 }
+    ensures sure { (client : ℕ) (book : Book) → IsSpare spare.new leaves.new client book }
 {
+    *spare = 0;
     *leaves = 0;
     true
 }
@@ -277,13 +292,14 @@ impl Gate for ClientBell<'_> {
                 self.ledger,
                 &mut self.account,
                 &mut self.lacked,
+                &mut self.spare,
                 client,
                 account,
             ),
             Point::Refusing => refuse(&mut self.refused, may_refuse),
-            Point::Admitting => admit(self.ledger, &mut self.leaves, client),
+            Point::Admitting => admit(self.ledger, &mut self.spare, &mut self.leaves, client),
             Point::Collecting(lane) => self.hints.has(slot, lane),
-            Point::Submitting => submit(&mut self.leaves),
+            Point::Submitting => submit(&mut self.spare, &mut self.leaves),
             Point::Taking => true,
         };
         self.leave = leave_by(turn, point, answer);
@@ -313,6 +329,7 @@ impl Gate for ClientBell<'_> {
             × (self.new.leaves ≡ self.old.leaves) }
     {
         let client = self.turn.client;
+        self.spare = 0;
         if let Party::Lane(lane) = party {
             self.schedule.add(lane);
             self.ledger.accepted(client);

@@ -1,12 +1,12 @@
 //! Which requests are under way, and whose they are.
-ghost use Rattle.std.specs.Prelude.{◌≡◌, [], ◌++◌, ◌≤◌, ◌<◌, length, false, true, if◌then◌else◌, slice_get, replicate, All, IfOk, OnOk, OnErr};
+ghost use Rattle.std.specs.Prelude.{◌≡◌, [], ◌++◌, ◌+◌, ◌≤◌, ◌<◌, length, false, true, if◌then◌else◌, slice_get, replicate, All, IfOk, OnOk, OnErr};
 ghost use Rattle.std.specs.List.{range_with_len};
 ghost use Rattle.std.specs.Option.{option_map_or};
-ghost use Rattle.smx_slots.specs.Ledger.{with_client, without_client, with_accepted, with_settled, may_bind, may_request, may_request_beside, account_of, requests_of, is_known, count_of, bound_of, total_of, renewed, greatest_count};
+ghost use Rattle.smx_slots.specs.Ledger.{with_client, without_client, with_accepted, with_settled, may_bind, may_request, may_request_beside, IsSpare, account_of, requests_of, is_known, count_of, bound_of, total_of, renewed, greatest_count};
 
 use crate::accounts::{accounts_of, with_zeros};
 use crate::entries::{Entries, Entry};
-use crate::limits::{AccountLimits, is_below, is_below_beside};
+use crate::limits::{AccountLimits, is_below, spare_of};
 use crate::movement::Movement;
 use smx_trace::Trace;
 use std::alloc::{AllocError, Global};
@@ -162,21 +162,21 @@ impl Ledger {
             && is_below(self.limits[entry.key].requests, self.requests[entry.key])
     }
 
-    /// Whether one more request of the client may be under way, beside so many that have leave and aren't
+    /// To how many more requests of the client leave can be given, beside so many that have it and aren't
     /// accepted yet.
     #[inline(always)]
-    pub fn admits_beside(&self, client: u64, leaves: u64) -> bool
-        ensures beside { result ≡ may_request_beside leaves client
-            (account_of client self.now.movements) self.now }
-        ensures few { result ≡ true → leaves < greatest_count }
+    pub fn spare_beside(&self, client: u64, leaves: u64) -> u64
+        ensures spare { IsSpare result leaves client self.now }
+        ensures last { may_request_beside (leaves + result) client
+            (account_of client self.now.movements) self.now ≡ false }
     {
         let Some(entry) = self.clients.get(client) else {
-            return false;
+            return 0;
         };
         if self.draining || !entry.here {
-            return false;
+            return 0;
         }
-        is_below_beside(
+        spare_of(
             self.limits[entry.key].requests,
             self.requests[entry.key],
             leaves,

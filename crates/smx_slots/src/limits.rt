@@ -1,5 +1,5 @@
 //! What an account may have.
-ghost use Rattle.std.specs.Prelude.{◌≡◌, ◌<◌, ◌+◌, true};
+ghost use Rattle.std.specs.Prelude.{◌≡◌, ◌<◌, ◌+◌, ℕ, true, false};
 ghost use Rattle.smx_slots.specs.Ledger.{is_below, greatest_count};
 
 /// What an account may have at a time: so many bound clients, and so many requests of theirs that were
@@ -21,13 +21,15 @@ pub(crate) fn is_below(limit: Option<u32>, count: u64) -> bool
     }
 }
 
-// The same beside so many others.
-pub(crate) fn is_below_beside(limit: Option<u32>, count: u64, others: u64) -> bool
-    ensures below { result ≡ is_below limit (count + others) }
-    ensures room { result ≡ true → count + others < greatest_count }
+// How many more are within the limit, beside so many others.
+pub(crate) fn spare_of(limit: Option<u32>, count: u64, others: u64) -> u64
+    ensures few { (k : ℕ) → k < result → others + k < greatest_count }
+    ensures each { (k : ℕ) → k < result → is_below limit (count + (others + k)) ≡ true }
+    ensures last { is_below limit (count + (others + result)) ≡ false }
 {
-    match count.checked_add(others) {
-        Some(all) => is_below(limit, all),
-        None => false,
-    }
+    let most = match limit {
+        Some(most) => u64::from(most),
+        None => u64::MAX,
+    };
+    most.saturating_sub(count).saturating_sub(others)
 }
