@@ -96,6 +96,15 @@ impl Entries {
         }
     }
 
+    // What is known of a client that has its row.
+    #[inline(always)]
+    fn at_its_row(&self, client: u64) -> Option<Entry>
+        ensures { result ≡ entry_of client
+            (slice_index_or self.now.rows.items (place_of client) None) }
+    {
+        entry_of(self.row(client), client)
+    }
+
     // What is known of a client that has no row.
     #[cold]
     #[inline(never)]
@@ -110,7 +119,7 @@ impl Entries {
     pub(crate) fn get(&self, client: u64) -> Option<Entry>
         ensures { result ≡ entry_at client self.now }
     {
-        match entry_of(self.row(client), client) {
+        match self.at_its_row(client) {
             Some(entry) => Some(entry),
             None => self.other(client).copied(),
         }
@@ -156,11 +165,37 @@ impl Entries {
         ensures { SetsEntry (Some entry) self.old client self.new }
     {
         let at = place_of(client);
-        if entry_of(self.row(client), client).is_some() {
+        if self.at_its_row(client).is_some() {
             self.rows[at] = Some(Row { client, entry });
             return;
         }
         self.change_other(client, entry.key, entry.here, entry.requests);
+    }
+
+    // So many requests are under way of a client that has its row.
+    #[inline(always)]
+    fn count_at_its_row(&mut self, client: u64, entry: Entry, requests: u64)
+        requires { entry_of client (slice_index_or self.old.rows.items (place_of client) None)
+            ≡ Some entry }
+        ensures { SetsEntry (Some (record entry { requests = requests })) self.old client self.new }
+    {
+        match &mut self.rows[place_of(client)] {
+            Some(row) => row.entry.requests = requests,
+            None => unreachable!(),
+        }
+    }
+
+    // So many requests are under way of the client, of which so much is known. It takes no memory.
+    #[inline(always)]
+    pub(crate) fn count(&mut self, client: u64, entry: Entry, requests: u64)
+        requires { entry_at client self.old ≡ Some entry }
+        ensures { SetsEntry (Some (record entry { requests = requests })) self.old client self.new }
+    {
+        if self.at_its_row(client).is_some() {
+            self.count_at_its_row(client, entry, requests);
+        } else {
+            self.change_other(client, entry.key, entry.here, requests);
+        }
     }
 
     // Takes the client out. It takes no memory.
@@ -170,7 +205,7 @@ impl Entries {
         ensures { SetsEntry None self.old client self.new }
     {
         let at = place_of(client);
-        if entry_of(self.row(client), client).is_some() {
+        if self.at_its_row(client).is_some() {
             self.rows[at] = None;
         }
         self.others.remove(&client);
@@ -197,17 +232,12 @@ impl Entries {
         ensures before { result ≡ entry_at client self.old }
         ensures settled { SetsEntry (settled_entry result) self.old client self.new }
     {
-        let at = place_of(client);
-        let entry = entry_of(self.row(client), client);
-        match settled_entry(entry) {
-            Some(fewer) => {
-                self.rows[at] = Some(Row {
-                    client,
-                    entry: fewer,
-                });
-                entry
+        match self.at_its_row(client) {
+            Some(entry) if entry.here || entry.requests > 1 => {
+                self.count_at_its_row(client, entry, entry.requests.saturating_sub(1));
+                Some(entry)
             }
-            None => self.settle_other(client),
+            _ => self.settle_other(client),
         }
     }
 }

@@ -26,8 +26,9 @@ pub struct LaneBell<'a> {
     asked: Trace<Question>,
     told: Trace<Party>,
     rang: bool,
-    // Whom it told last, where that party is ready: of a list of responses most are one client's.
-    last: Option<Party>,
+    // Which client it told last, and of which lane, where that is ready: most of a list of responses are one
+    // client's.
+    last: Option<(u64, usize)>,
     ghost rung: { rang ≡ has_told told },
     ghost known: { IsKnown lanes (slot_of roll.now.rows) last schedule.now hints.now },
 }
@@ -118,12 +119,12 @@ impl Gate for LaneBell<'_> {
         ensures lanes { self.new.lanes ≡ self.old.lanes }
         ensures roll { self.new.roll.now ≡ self.old.roll.now }
     {
-        self.last = tell(
+        tell(
             self.lanes,
             self.schedule,
             self.roll,
             self.hints,
-            self.last,
+            &mut self.last,
             party,
         );
         count(self.ledger, party);

@@ -200,11 +200,7 @@ impl Ledger {
         {
             return;
         }
-        let more = Entry {
-            requests: entry.requests + 1,
-            ..entry
-        };
-        self.clients.change(client, more);
+        self.clients.count(client, entry, entry.requests + 1);
         self.requests[entry.key] = requests + 1;
         self.total += 1;
         self.movements = self.movements.and(&Movement::Accepted(client));

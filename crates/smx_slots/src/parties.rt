@@ -1,8 +1,9 @@
 //! The numbers of parties.
-ghost use Rattle.std.specs.Prelude.{◌≡◌, Some, true};
+ghost use Rattle.std.specs.Prelude.{◌≡◌, true};
+ghost use Rattle.smx_turns.specs.declared.gate.Party.TheVariants.{Client};
 ghost use Rattle.smx_slots.specs.Hints.{hinted_by};
 ghost use Rattle.smx_slots.specs.Schedules.{with_ready};
-ghost use Rattle.smx_slots.specs.Private.Bells.{IsKnown};
+ghost use Rattle.smx_slots.specs.Private.Bells.{IsKnown, IsToldAgain};
 ghost use Rattle.smx_slots.specs.Rolls.{slot_of};
 ghost use Rattle.smx_slots.specs.Bells.{party_number};
 
@@ -31,25 +32,8 @@ pub(crate) fn party_number(lanes: usize, roll: &Roll, hints: &mut Hints, party: 
     }
 }
 
-// Whether it is the client of that lane that was told last.
+// A party that is told is ready. Whether it is ready now: a client that is gone isn't.
 #[inline(always)]
-fn is_same(last: Option<Party>, party: Party) -> bool
-    ensures { result ≡ true → last ≡ Some party }
-{
-    match (last, party) {
-        (
-            Some(Party::Client { client, lane }),
-            Party::Client {
-                client: one,
-                lane: there,
-            },
-        ) => client == one && lane == there,
-        _ => false,
-    }
-}
-
-// A party that is told is ready. Which party it is, where it is ready now.
-#[inline(never)]
 #[tactic(auto, using(crate::proofs::Repeating::told_again))]
 fn tell_anew(
     lanes: usize,
@@ -57,40 +41,64 @@ fn tell_anew(
     roll: &Roll,
     hints: &mut Hints,
     party: Party,
-) -> Option<Party>
+) -> bool
     ensures ready { schedule.new
         ≡ with_ready (party_number lanes (slot_of roll.now.rows) party) schedule.old }
     ensures hints { hints.new ≡ hinted_by (slot_of roll.now.rows) party hints.old }
-    ensures known { IsKnown lanes (slot_of roll.now.rows) result schedule.new hints.new }
+    ensures known { result ≡ true
+        → IsToldAgain lanes (slot_of roll.now.rows) party schedule.new hints.new }
 {
     let number = party_number(lanes, roll, hints, party);
     schedule.add(number);
-    if schedule.is_ready(number) {
-        Some(party)
-    } else {
-        None
-    }
+    schedule.is_ready(number)
 }
 
-// The same where this party was told last: who is told once more is ready already.
+// The same of a client. Out of line, as it is the one told last mostly.
+#[inline(never)]
+fn tell_client(
+    lanes: usize,
+    schedule: &mut Schedule,
+    roll: &Roll,
+    hints: &mut Hints,
+    client: u64,
+    lane: usize,
+) -> bool
+    ensures ready { schedule.new
+        ≡ with_ready (party_number lanes (slot_of roll.now.rows) (Client client lane)) schedule.old }
+    ensures hints { hints.new ≡ hinted_by (slot_of roll.now.rows) (Client client lane) hints.old }
+    ensures known { result ≡ true
+        → IsToldAgain lanes (slot_of roll.now.rows) (Client client lane) schedule.new hints.new }
+{
+    let party = Party::Client { client, lane };
+    tell_anew(lanes, schedule, roll, hints, party)
+}
+
+// A party that is told is ready. A client that was told last of the same lane is so already.
 #[inline(always)]
 pub(crate) fn tell(
     lanes: usize,
     schedule: &mut Schedule,
     roll: &Roll,
     hints: &mut Hints,
-    last: Option<Party>,
+    last: &mut Option<(u64, usize)>,
     party: Party,
-) -> Option<Party>
-    requires known { IsKnown lanes (slot_of roll.now.rows) last schedule.old hints.old }
+)
+    requires known { IsKnown lanes (slot_of roll.now.rows) last.old schedule.old hints.old }
     ensures ready { schedule.new
         ≡ with_ready (party_number lanes (slot_of roll.now.rows) party) schedule.old }
     ensures hints { hints.new ≡ hinted_by (slot_of roll.now.rows) party hints.old }
-    ensures known { IsKnown lanes (slot_of roll.now.rows) result schedule.new hints.new }
+    ensures known { IsKnown lanes (slot_of roll.now.rows) last.new schedule.new hints.new }
 {
-    if is_same(last, party) {
-        last
-    } else {
-        tell_anew(lanes, schedule, roll, hints, party)
+    match party {
+        Party::Client { client, lane } => {
+            if *last != Some((client, lane)) {
+                let is_ready = tell_client(lanes, schedule, roll, hints, client, lane);
+                *last = is_ready.then_some((client, lane));
+            }
+        }
+        Party::Slot(_) | Party::Lane(_) | Party::Answer(_) => {
+            *last = None;
+            tell_anew(lanes, schedule, roll, hints, party);
+        }
     }
 }
