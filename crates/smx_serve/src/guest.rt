@@ -5,7 +5,7 @@ use crate::desk::{change_of, prefixes_of};
 use crate::mail::Counted;
 use crate::pace::Moment;
 use crate::preface::{Preface, Prefaced};
-use crate::queues::{Progress, Queues, TURNS, is_enough, is_read_out};
+use crate::queues::{OCTETS, Progress, Queues, TURNS, is_enough, is_read_out};
 use crate::refusals::Refusals;
 use crate::seats::Member;
 use crate::stillness::Stillness;
@@ -91,7 +91,7 @@ impl<'d> Guest<'d> {
             if self.is_through(state, gate.messages()) {
                 return (RunEnd::Idle, state);
             }
-            if is_enough(before, self.socket.traffic()) {
+            if is_enough(before, self.socket.traffic(), OCTETS) {
                 break;
             }
             ran = self.member.run(rt, gate, guide, now, 1);
@@ -145,6 +145,7 @@ impl<'d> Guest<'d> {
             gate: bell,
             mail: &mut addresses.mail,
             slot: Some(slot),
+            has_settled: false,
         };
         let (end, state) = self.run(rt, &mut gate, &mut guide, now);
         let progress = Progress {

@@ -9,15 +9,16 @@ use std::alloc::{AllocError, Global};
 /// A turn of a party is so many turns of its worker at most.
 pub(crate) const TURNS: u64 = 64;
 
-/// It ends once so many octets went over its link: as many as one read gives.
-const OCTETS: u64 = 4_096;
+/// It ends once so many octets went over its link, as many as one read gives.
+pub(crate) const OCTETS: u64 = 4_096;
 
 /// At a tick one of so many parties is ready again, should an event be lost.
 const SHARE: usize = 10;
 
-/// Whether a party's turn is over, where its socket's traffic was that and is this.
-pub(crate) fn is_enough(before: u64, traffic: u64) -> bool {
-    traffic.wrapping_sub(before) >= OCTETS
+/// Whether a party's turn is over, where its socket's traffic was that and is this, and at most so many octets
+/// more may go over it.
+pub(crate) fn is_enough(before: u64, traffic: u64, most: u64) -> bool {
+    traffic.wrapping_sub(before) >= most
 }
 
 /// Whether an event tells of whatever is to be read from a socket next.
