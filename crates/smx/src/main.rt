@@ -37,7 +37,7 @@ fn main(rt: HostRuntime) -> ExitCode {
                 let _ = eprintln!(rt; "{}", Ended::NoEvents);
                 return ExitCode::FAILURE;
             };
-            let mut has_threads = true;
+            let mut has_threads = serving::is_ticked(rt, &server);
             if how.reads_terminal || !rt.stdin().is_terminal() {
                 let heeded = match serving::heard_by(rt.alloc(), &server, path, how.log) {
                     Some((remote, log, source)) => thread::spawn(&rt, move || {

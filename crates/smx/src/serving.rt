@@ -150,6 +150,17 @@ where
     spawn(&rt, move || log.write_to(&rt, &mut errors)).is_ok()
 }
 
+/// Ends a proxy's waits in a thread of its own. False where there is none.
+pub(crate) fn is_ticked<R>(rt: R, server: &Server) -> bool
+where
+    R: Clock + Threads + Copy + Drop + Send + 'static,
+{
+    match server.remote() {
+        Some(remote) => spawn(&rt, move || remote.tick(&rt)).is_ok(),
+        None => false,
+    }
+}
+
 // Serves until the proxy is stopped. Why it ended otherwise is its last line.
 fn serve<R>(
     rt: R,

@@ -118,7 +118,6 @@ pub(crate) fn heed<'a>(
         return true;
     }
     if party == WAKER {
-        queues.hurry();
         return false;
     }
     if note(lanes, guests, event, party) {

@@ -1,14 +1,21 @@
 //! How others tell the loop what to do, and learn that it listens.
 
+use crate::pace::TICK;
 use mio::Waker;
 use smx_config::Config;
+use std::rt::Clock;
 use std::sync::atomic::{AtomicBool, AtomicU64, Ordering};
 use std::sync::{Mutex, Wait};
+use std::thread::sleep;
+use std::time::Duration;
 
 /// Tells a running proxy what to do, from any thread.
 #[derive(Drop)]
 pub struct Remote {
     waker: Waker,
+    // Whether a thread ends the loop's waits, and whether one was ended for the loop to heed something.
+    ticks: AtomicBool,
+    calls: AtomicBool,
     // How often it was asked to stop.
     stops: AtomicU64,
     // How all stands is to be told.
@@ -29,6 +36,8 @@ impl Remote {
     pub(crate) fn new(waker: Waker) -> Remote {
         Remote {
             waker,
+            ticks: AtomicBool::new(false),
+            calls: AtomicBool::new(false),
             stops: AtomicU64::new(0),
             tells: AtomicBool::new(false),
             reloads: AtomicBool::new(false),
@@ -72,9 +81,37 @@ impl Remote {
         }
     }
 
-    // Ends the loop's wait for events.
+    // Ends the loop's wait for events, for it to heed what it was asked for or was looked up.
     pub(crate) fn wake(&self) {
+        self.calls.store(true, Ordering::SeqCst);
         let _ = self.waker.wake();
+    }
+
+    // Whether it is to heed something, since this was asked.
+    pub(crate) fn take_call(&self) -> bool {
+        take(&self.calls)
+    }
+
+    /// Ends the loop's wait for events each 100 milliseconds while clients can connect, for a thread of its own:
+    /// it doesn't return. Without such a thread the loop limits each wait, for which the system sets a timer each
+    /// time.
+    pub fn tick<R: Clock>(&self, rt: &R) {
+        self.ticks.store(true, Ordering::SeqCst);
+        for _ in 0..u64::MAX {
+            sleep(rt, Duration::from_millis(TICK));
+            if self.is_listening() {
+                let _ = self.waker.wake();
+            }
+        }
+    }
+
+    // How many milliseconds the loop waits at most, where nobody ends its waits.
+    pub(crate) fn limit(&self) -> Option<u64> {
+        if self.ticks.load(Ordering::SeqCst) {
+            None
+        } else {
+            Some(TICK)
+        }
     }
 
     /// Whether it was asked to.

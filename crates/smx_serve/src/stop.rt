@@ -32,7 +32,7 @@ impl<'d> Loop<'d> {
             if self.pace.moment.now >= until || self.is_settled(lanes_end, clients_close) {
                 return Ok(());
             }
-            self.round(rt, 10)?;
+            self.round(rt, Some(10))?;
         }
         unreachable!()
     }
@@ -60,7 +60,7 @@ impl<'d> Loop<'d> {
             if is_drained || remote.is_hurried() || self.pace.moment.now >= until {
                 return Ok(());
             }
-            self.round(rt, 10)?;
+            self.round(rt, Some(10))?;
         }
         unreachable!()
     }
@@ -116,7 +116,7 @@ impl<'d> Loop<'d> {
                 self.settle(rt, false, false)?;
                 break;
             }
-            self.round(rt, 10)?;
+            self.round(rt, Some(10))?;
         }
         let moment = &self.pace.moment;
         self.guests

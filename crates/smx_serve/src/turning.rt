@@ -5,7 +5,7 @@ use crate::entrance::Entrance;
 use crate::guests::Guests;
 use crate::lane::Lane;
 use crate::linking::tend_all;
-use crate::pace::{GRACE, Pace, TICK};
+use crate::pace::{GRACE, Pace};
 use crate::parties::{are_idle, flush, heed, pass};
 use crate::queues::Queues;
 use crate::remote::Remote;
@@ -119,10 +119,10 @@ impl<'d> Loop<'d> {
         }
     }
 
-    // Waits for events, at most so many milliseconds.
-    fn wait(&mut self, timeout: u64) -> Result<(), Ended> {
+    // Waits for events, at most so many milliseconds, where that has a limit.
+    fn wait(&mut self, limit: Option<u64>) -> Result<(), Ended> {
         self.pace.polls();
-        let time = Some(Duration::from_millis(timeout));
+        let time = limit.map(Duration::from_millis);
         if self.poll.poll(&mut self.events, time).is_err() {
             return Err(Ended::NoEvents);
         }
@@ -141,7 +141,7 @@ impl<'d> Loop<'d> {
             .is_poll_due(!self.queues.schedule.has_no_unbound())
         {
             flush(&self.lanes, &self.guests, &mut self.queues);
-            self.wait(0)?;
+            self.wait(Some(0))?;
         }
         Ok(())
     }
@@ -170,15 +170,19 @@ impl<'d> Loop<'d> {
         if !self.queues.schedule.is_empty() || dirty <= PAIR || dirty > MANY {
             return Ok(());
         }
-        self.wait(0)?;
+        self.wait(Some(0))?;
         self.make_passes(rt)?;
         flush(&self.lanes, &self.guests, &mut self.queues);
         Ok(())
     }
 
     /// Reads the clock and does what is due then, makes a few passes, and, where nobody is ready after
-    /// them, waits at most so many milliseconds.
-    pub fn round<R: Wait + Clock + Net>(&mut self, rt: &R, timeout: u64) -> Result<(), Ended> {
+    /// them, waits, at most so many milliseconds where that has a limit.
+    pub fn round<R: Wait + Clock + Net>(
+        &mut self,
+        rt: &R,
+        limit: Option<u64>,
+    ) -> Result<(), Ended> {
         let is_due = self.pace.look(rt);
         if self.queues.take_hurry() || is_due {
             self.tick(rt);
@@ -192,15 +196,18 @@ impl<'d> Loop<'d> {
             let hurries = self.entrance.has_more()
                 || self.survey.is_under_way()
                 || self.queues.is_hurried();
-            let time = if hurries { 0 } else { timeout };
             self.pace.waits();
-            return self.wait(time);
+            return self.wait(if hurries { Some(0) } else { limit });
         }
         Ok(())
     }
 
-    // Does what it was asked for.
+    // Does what it was asked for. What is due at a tick is due at once.
     fn heed<R: Wait>(&mut self, rt: &R, remote: &Remote) {
+        if !remote.take_call() {
+            return;
+        }
+        self.queues.hurry();
         if remote.take_telling() {
             self.survey.begin();
         }
@@ -217,7 +224,7 @@ impl<'d> Loop<'d> {
                 return self.stop(rt, remote);
             }
             self.heed(rt, remote);
-            if let Err(ended) = self.round(rt, TICK) {
+            if let Err(ended) = self.round(rt, remote.limit()) {
                 return ended;
             }
         }
