@@ -163,6 +163,7 @@ static void load(int port, int clients, double seconds, const char *flag) {
     if (!strcmp(flag, "mute")) client(port)->mute = 1;
     ends = now() + 0.3 + seconds;
     turn_until(now() + 0.3); // all are bound
+    unsigned long before = answered;
     answered = 0, memset(late, 0, sizeof late);
     double begins = now();
     ends = begins + seconds;
@@ -177,7 +178,7 @@ static void load(int port, int clients, double seconds, const char *flag) {
     for (int i = 0; i < count; i++)
         if (!links[i]->mute) missing += links[i]->waiting;
     printf("%.0f messages/s p50 %lu us p99 %lu us answered %lu bad %lu missing %lu", inside / seconds, part(0.5),
-        part(0.99), answered, bad, missing);
+        part(0.99), before + answered, bad, missing);
     unsigned long closed = 0;
     for (int i = 0; i < count; i++) closed += links[i]->socket < 0;
     if (is_rough) printf(" refused %lu closed %lu", refused, closed);
