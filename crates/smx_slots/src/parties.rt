@@ -2,7 +2,7 @@
 ghost use Rattle.std.specs.Prelude.{◌≡◌, true};
 ghost use Rattle.smx_turns.specs.declared.gate.Party.TheVariants.{Client};
 ghost use Rattle.smx_slots.specs.Hints.{hinted_by};
-ghost use Rattle.smx_slots.specs.Schedules.{with_ready};
+ghost use Rattle.smx_slots.specs.Schedules.{is_ready, with_ready};
 ghost use Rattle.smx_slots.specs.Private.Bells.{IsKnown, IsToldAgain};
 ghost use Rattle.smx_slots.specs.Rolls.{slot_of};
 ghost use Rattle.smx_slots.specs.Bells.{party_number};
@@ -45,6 +45,8 @@ fn tell_anew(
     ensures ready { schedule.new
         ≡ with_ready (party_number lanes (slot_of roll.now.rows) party) schedule.old }
     ensures hints { hints.new ≡ hinted_by (slot_of roll.now.rows) party hints.old }
+    ensures now { result
+        ≡ is_ready (party_number lanes (slot_of roll.now.rows) party) schedule.new }
     ensures known { result ≡ true
         → IsToldAgain lanes (slot_of roll.now.rows) party schedule.new hints.new }
 {
@@ -64,8 +66,12 @@ fn tell_client(
     lane: usize,
 ) -> bool
     ensures ready { schedule.new
-        ≡ with_ready (party_number lanes (slot_of roll.now.rows) (Client client lane)) schedule.old }
+        ≡ with_ready (party_number lanes (slot_of roll.now.rows) (Client client lane))
+        schedule.old }
     ensures hints { hints.new ≡ hinted_by (slot_of roll.now.rows) (Client client lane) hints.old }
+    ensures now { result
+        ≡ is_ready (party_number lanes (slot_of roll.now.rows) (Client client lane))
+        schedule.new }
     ensures known { result ≡ true
         → IsToldAgain lanes (slot_of roll.now.rows) (Client client lane) schedule.new hints.new }
 {
