@@ -23,8 +23,9 @@ pub(crate) struct Guests<'d> {
     guests: Vec<Guest<'d>>,
     seating: Seating,
     lingering: Lingering,
-    // Lent to the client whose turn it is.
+    // Lent to the client whose turn it is, which keeps them until another one has a turn: its slot.
     lists: SpareLists,
+    borrower: Option<usize>,
 }
 
 impl<'d> Guests<'d> {
@@ -40,6 +41,7 @@ impl<'d> Guests<'d> {
             seating,
             lingering,
             lists: SpareLists::new(),
+            borrower: None,
         })
     }
 
@@ -61,6 +63,26 @@ impl<'d> Guests<'d> {
         }
     }
 
+    // The lists come back from the client that has them, where one has.
+    fn take_back(&mut self) {
+        let Some(slot) = self.borrower.take() else {
+            return;
+        };
+        if let Some(guest) = self.guests.get_mut(self.seating.place(slot)) {
+            guest.member.swap_lists(&mut self.lists);
+        }
+    }
+
+    // The slot's client has the lists from now on.
+    #[inline(never)]
+    fn lend(&mut self, slot: usize) {
+        self.take_back();
+        if let Some(guest) = self.guests.get_mut(self.seating.place(slot)) {
+            guest.member.swap_lists(&mut self.lists);
+            self.borrower = Some(slot);
+        }
+    }
+
     // Turns the slot's client: how that ended, or why it is let go. None where there is no client.
     fn turn_guest<R: Wait>(
         &mut self,
@@ -70,11 +92,11 @@ impl<'d> Guests<'d> {
         addresses: &mut Addresses,
         slot: usize,
     ) -> Option<Result<RunEnd, ClientEnd>> {
+        if self.borrower != Some(slot) {
+            self.lend(slot);
+        }
         let guest = self.guests.get_mut(self.seating.place(slot))?;
-        guest.member.swap_lists(&mut self.lists);
-        let turned = guest.turn(rt, moment, queues, addresses, slot);
-        guest.member.swap_lists(&mut self.lists);
-        let Some((end, state)) = turned else {
+        let Some((end, state)) = guest.turn(rt, moment, queues, addresses, slot) else {
             return Some(Err(ClientEnd::NoHeader));
         };
         guest.say_bound(rt, moment, state);
@@ -325,6 +347,9 @@ impl<'d> Guests<'d> {
 
     // The client that has the slot, which has it no more.
     fn take(&mut self, slot: usize) -> Option<Guest<'d>> {
+        if self.borrower == Some(slot) {
+            self.take_back();
+        }
         let at = self.seating.place(slot);
         if at < self.guests.len() {
             self.seating.remove(slot, at);

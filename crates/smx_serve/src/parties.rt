@@ -30,7 +30,7 @@ pub(crate) fn flush<'a>(lanes: &'a [Lane], guests: &'a Guests, queues: &mut Queu
             break;
         };
         let failed = match socket_of(lanes, guests, party) {
-            Some(socket) => socket.flush() == Flushed::Failed,
+            Some(socket) => socket.has_octets() && socket.flush() == Flushed::Failed,
             None => false,
         };
         if failed {
@@ -100,7 +100,8 @@ fn note<'a>(lanes: &'a [Lane], guests: &'a Guests, event: &Event, party: usize) 
     match socket_of(lanes, guests, party) {
         Some(socket) => {
             socket.note(event);
-            socket.flush() == Flushed::Failed || event.is_writable() || event.is_error()
+            let failed = socket.has_octets() && socket.flush() == Flushed::Failed;
+            failed || event.is_writable() || event.is_error()
         }
         None => false,
     }

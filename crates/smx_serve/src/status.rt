@@ -118,6 +118,13 @@ impl Loop<'_> {
     /// Goes on with a telling, where one is under way: of some lanes and slots, and behind the last of how
     /// many slots are taken and how many requests are under way.
     pub fn tell_some<R: Wait>(&mut self, rt: &R) {
+        if self.survey.is_under_way() {
+            self.tell_part(rt);
+        }
+    }
+
+    #[inline(never)]
+    fn tell_part<R: Wait>(&mut self, rt: &R) {
         let all = self.lanes.len().saturating_add(self.guests.slots.count());
         let Some((begin, end)) = self.survey.step(all) else {
             return;
