@@ -123,8 +123,33 @@ def nothing_waits_for_a_tick(program, _):
         assert took < 5, f"it took {took:.1f} seconds"
 
 
+def full_windows_hold_nothing_up(program, _):
+    """Where a lane's window is full each answer reaches its client before the centre says another, though more of the
+    client's requests are under way, and each request that waits goes out behind it: one by one, in pairs, and of two
+    clients in turn. Each of 550 exchanges would be found at a tick, within a minute."""
+    with one_lane(program, limits="window = 2\nqueue = 400\nclient = 256") as (centre, proxy), centre.bound() as up:
+        with proxy.client() as link, proxy.client() as other:
+            began = time.monotonic()
+            for count in (1, 2):
+                link.say(*(message(SUBMIT_SM, it, "49") for it in range(1, 201)))
+                for number in range(1, 201, count):
+                    up.say(*[response(up.hear_but_enquiries(), body=NAME) for _ in range(count)])
+                    heard = [link.hear_but_enquiries()[1:3] for _ in range(count)]
+                    assert heard == [(OK, number + it) for it in range(count)], heard
+            for number in range(1, 251):
+                for each in (link, other, link, other):
+                    each.say(message(SUBMIT_SM, number, "49"))
+                for _each in range(4):
+                    up.say(response(up.hear_but_enquiries(), body=NAME))
+                heard = [each.hear_but_enquiries()[1:3] for each in (link, other, link, other)]
+                assert heard == [(OK, number)] * 4, heard
+            took = time.monotonic() - began
+            assert took < 5, f"it took {took:.1f} seconds"
+
+
 CASES = {
     "nothing waits for a tick": nothing_waits_for_a_tick,
+    "full windows hold nothing up": full_windows_hold_nothing_up,
     "a centre that was away for a second": centre_away_for_a_second,
     "connections without a bind": connections_without_a_bind,
     "slots of those that stay": slots_of_those_that_stay,
