@@ -30,14 +30,14 @@ use Rattle.smx_upstream.specs.declared.turning.Course.{Course}
 use Rattle.smx_upstream.specs.declared.deciding.Progress.{Progress}
 use Rattle.smx_upstream.specs.declared.deciding.Progress.TheVariants as progress
 
-pub phase_none : (t : Before) (ss : List (Step Event)) → ss ≡ [] → phase_of t ss ≡ Opening
+pub phase_none : (t : Before) (ss : List (Step Event)) → ss ≡ [] → phase_of t ss ≡ t.start
 unfolding phase_of
 phase_none t ss none = ap (phase_of t) none
 
 -- one step more leads from one phase to the next
 pub stepped : (t : Before) (ss ss' : List (Step Event)) (s : Step Event) (p q : Phase) → ss' ≡ ss ++ s ∷ [] → go t p s ≡ q → phase_of t ss ≡ p → phase_of t ss' ≡ q
 unfolding phase_of
-stepped t ss ss' s p q grown cell was = phase_push (go t) Opening ss ss' s p q grown cell was
+stepped t ss ss' s p q grown cell was = phase_push (go t) t.start ss ss' s p q grown cell was
 
 itself : (b : Bool) (p : Phase) → if_so b b p ≡ p
 itself true p = refl

@@ -22,7 +22,7 @@ module _ {C L : Type 0} (gives : C → ℕ → C → Type 0) (offered : L → Li
       → Changes d.worker.stand.age.turns (scene_of offered polls failures b.asked b.told b.queries b.worker) d.worker.steps (scene_of offered polls failures d.asked d.told d.queries d.worker)
       → failures d.worker.wire.link ≡ failures b.worker.wire.link + link_faults end → d.worker.ends ≡ b.worker.ends ++ end ∷ [] → (moments : List ℕ) × Runs (TurnsAt gives offered polls failures) a moments d
   clocked_more a b d now end r asked order changes fails ends =
-      (r.0 ++ now ∷ [], runs_push (TurnsAt gives offered polls failures) a b d r.0 (r.0 ++ now ∷ []) now refl (record { end = end; asked = asked; order = order; judged = judged_of (before_turn now b.worker) d.worker.steps (never_wrong (is_bound d.worker.stand.session.state) (are_all_quiet d.worker.steps) end _ order); changes = changes; fails = fails; ends = ends }) r.1)
+      (r.0 ++ now ∷ [], runs_push (TurnsAt gives offered polls failures) a b d r.0 (r.0 ++ now ∷ []) now refl (record { end = end; asked = asked; order = order; judged = judged_of (before_turn now b.worker) d.worker.steps refl (never_wrong (is_bound d.worker.stand.session.state) (are_all_quiet d.worker.steps) end _ order); changes = changes; fails = fails; ends = ends }) r.1)
 
   -- what is left of it once the clock is gone
   pub clocked_out : (a : Timing C L) (d : C) (asked : List Question) (told : List Party) (queries : List Query) (w : Working L) → (moments : List ℕ) × Runs (TurnsAt gives offered polls failures) a moments (record { clock = d; worker = w; asked = asked; told = told; queries = queries }) → (moments : List ℕ) × (last : C) × Runs (TurnsAt gives offered polls failures) a moments (record { clock = last; worker = w; asked = asked; told = told; queries = queries })

@@ -165,11 +165,11 @@ turn_fails bound quiet (Err fault.Spent) p h = ap fails h
 turn_fails bound quiet (Err fault.NoMemory) p h = calm_want p h
 
 -- a turn answers that its link failed just where a step of it did
-pub counted : (t : Before) (bound quiet : Bool) (r : Result TurnEnd Fault) (n : ℕ) (a b : Scene) (ss : List (Step Event)) → IsTurn bound quiet r (phase_of t ss) → Changes n a ss b → b.failures ≡ a.failures + link_faults r
+pub counted : (t : Before) (bound quiet : Bool) (r : Result TurnEnd Fault) (n : ℕ) (a b : Scene) (ss : List (Step Event)) → fails t.start ≡ 0 → IsTurn bound quiet r (phase_of t ss) → Changes n a ss b → b.failures ≡ a.failures + link_faults r
 unfolding phase_of
-counted t bound quiet r n a b ss order changes =
+counted t bound quiet r n a b ss calm order changes =
     let k = all_faults Does worth May n a b ss changes in
-    let h = counted_from t Opening ss refl (never_wrong bound quiet r _ order) in
+    let h = counted_from t t.start ss calm (never_wrong bound quiet r _ order) in
     let e = turn_fails bound quiet r _ order in
     omega (arith, k, h, e)
 
@@ -197,12 +197,17 @@ module _ (t : Before) (n : ℕ) where
   offers_from a b [] right begun r = absurd (begun refl)
   offers_from a b (s ∷ ss) right begun r = offers_then a b s ss right r
 
-  -- what waits is offered before anything else is done
-  pub offered_first : (bound quiet : Bool) (r : Result TurnEnd Fault) (a b : Scene) (ss : List (Step Event)) → IsTurn bound quiet r (phase_of t ss) → Changes n a ss b → IsPrefix (a.offered ++ a.unsent) b.offered
-  unfolding phase_of go from_opening Runs
-  offered_first bound quiet r a b [] order h = absurd ((not_begun bound quiet r).0 order)
-  offered_first bound quiet r a b (Did (Opened k) ∷ ss) order h =
+  offered_opening : (bound quiet : Bool) (r : Result TurnEnd Fault) (a b : Scene) (ss : List (Step Event)) → IsTurn bound quiet r (phase_from (go t) Opening ss) → Changes n a ss b → IsPrefix (a.offered ++ a.unsent) b.offered
+  unfolding go from_opening Runs
+  offered_opening bound quiet r a b [] order h = absurd ((not_begun bound quiet r).0 order)
+  offered_opening bound quiet r a b (Did (Opened k) ∷ ss) order h =
       let same = h.1.1.same in
       subst (λ l. IsPrefix l b.offered) (ap (λ (o : Scene). o.offered ++ o.unsent) same ∙ ap (λ l. a.offered ++ l) (append-nil a.unsent))
       (offers_from h.0 b ss (never_wrong bound quiet r _ order) (λ is. (not_begun bound quiet r).1 (subst (IsTurn bound quiet r) is order)) h.2)
-  offered_first bound quiet r a b (_ ∷ ss) order h = absurd (never_wrong bound quiet r _ order (stays_wrong t ss))
+  offered_opening bound quiet r a b (_ ∷ ss) order h = absurd (never_wrong bound quiet r _ order (stays_wrong t ss))
+
+  -- what waits is offered before anything else is done
+  pub offered_first : t.start ≡ Opening → (bound quiet : Bool) (r : Result TurnEnd Fault) (a b : Scene) (ss : List (Step Event)) → IsTurn bound quiet r (phase_of t ss) → Changes n a ss b → IsPrefix (a.offered ++ a.unsent) b.offered
+  unfolding phase_of
+  offered_first first bound quiet r a b ss order h =
+      offered_opening bound quiet r a b ss (subst (λ (p : Phase). IsTurn bound quiet r (phase_from (go t) p ss)) first order) h

@@ -20,7 +20,7 @@ use Rattle.smx_upstream.specs.Phases.{Phase, Before, Opening, Ready, Written, Wa
 use Rattle.smx_upstream.specs.Phases.Source.{Earlier, Behind}
 
 -- a turn stands so only behind a read that found that nothing more had come
-abbrev needs : Phase → Bool
+abbrev pub needs : Phase → Bool
 needs (Deciding (Behind Nothing)) = true
 needs CaughtUp = true
 needs (Sweeping Once p) = true
@@ -253,10 +253,10 @@ judged_from t p (x ∷ before) after s n j right = by (needs (go t p x)) refl (�
     by true is later = ap (λ b. b || list_any finds_no_more before) (next_needs t p x n is)
     by false is later = either (finds_no_more x) (list_any finds_no_more before) (λ _. later is)
 
-pub judged_of : (t : Before) (ss : List (Step Event)) → (phase_of t ss ≡ Wrong → ⊥) → AreJudged ss
+pub judged_of : (t : Before) (ss : List (Step Event)) → needs t.start ≡ false → (phase_of t ss ≡ Wrong → ⊥) → AreJudged ss
 unfolding phase_of
-judged_of t ss right before after s same j =
-    judged_from t Opening before after s refl j (λ wrong. right (ap (phase_from (go t) Opening) (sym same) ∙ wrong))
+judged_of t ss plain right before after s same j =
+    judged_from t t.start before after s plain j (λ wrong. right (ap (phase_from (go t) t.start) (sym same) ∙ wrong))
 
 -- no turn goes wrong
 pub never_wrong : (bound quiet : Bool) (r : Result TurnEnd Fault) (p : Phase) → IsTurn bound quiet r p → p ≡ Wrong → ⊥

@@ -89,14 +89,15 @@ pub data Phase : Type 0 where
   -- what no turn does
   Wrong : Phase
 
--- what a turn's order depends on: its moment, and whether it began with nothing but writing left to do and with octets waiting
+-- what a turn's order depends on: where it begins, its moment, and whether it began with nothing but writing left to do and with octets waiting
 pub record Before : Type 0 where
+  pub start : Phase
   pub now : ℕ
   pub ending : Bool
   pub waited : Bool
 
 abbrev pub before : ℕ → Bool → List ℕ → Before
-before now ending unsent = record { now = now; ending = ending; waited = some_wait unsent }
+before now ending unsent = record { start = Opening; now = now; ending = ending; waited = some_wait unsent }
 
 abbrev pub unless_spent : Bool → Phase → Phase
 unless_spent true p = Exhausted
@@ -265,7 +266,7 @@ go t (MayTake full gave) s = from_may_take full s
 go t _ s = Wrong
 
 unfoldable pub phase_of : Before → List (Step Event) → Phase
-phase_of t ss = phase_from (go t) Opening ss
+phase_of t ss = phase_from (go t) t.start ss
 
 -- the link failed there
 abbrev pub MayFail : Phase → Type 0

@@ -1,5 +1,5 @@
 -- What contracts see of a worker.
-use Rattle.std.specs.Prelude.{◌≡◌, ℕ, true, is_some, List, ◌++◌, Option, None, Result}
+use Rattle.std.specs.Prelude.{◌≡◌, ℕ, true, false, is_some, List, ◌++◌, Option, None, Result}
 use Rattle.smx_pdu.specs.declared.pdu.Pdu.{Pdu}
 use Rattle.smx_link.specs.Wiring.{Wiring}
 use Rattle.smx_link.specs.declared.link.Polled.{Polled}
@@ -21,7 +21,8 @@ use Rattle.smx_turns.specs.Worth.{those, ins, outs, has_broken}
 use Rattle.smx_upstream.specs.Events.{worth}
 use Rattle.smx_upstream.specs.declared.last.LastRequest.{LastRequest}
 use Rattle.smx_upstream.specs.Last.{last_request}
-use Rattle.smx_upstream.specs.Phases.{Before, before}
+use Rattle.smx_upstream.specs.Phases.{Before, Deciding, before}
+use Rattle.smx_upstream.specs.Phases.Source.{Earlier}
 use Rattle.smx_upstream.specs.May.{Scene, May}
 use Rattle.smx_upstream.specs.Standing.{Stand, Does, HoldNone}
 
@@ -72,6 +73,10 @@ pub record IsWorker {L : Type 0} (w : Working L) : Type 0 where
 -- what the order of a turn at this moment depends on
 abbrev pub before_turn : {L : Type 0} → ℕ → Working L → Before
 before_turn now w = before now (is_some w.ending) w.wire.unsent
+
+-- the same where the last turn is gone on with: that begins where PDUs are decided
+abbrev pub before_rest : {L : Type 0} → ℕ → Working L → Before
+before_rest now w = record (before_turn now w) { start = Deciding (Earlier false) }
 
 -- what a turn may change, as contracts see it of a worker, its gate and its directory
 abbrev pub scene_of : {L : Type 0} → (L → List ℕ) → (L → List (Result Polled LinkFault)) → (L → ℕ) → List Question → List Party → List Query → Working L → Scene

@@ -4,6 +4,7 @@
 mod abandoning;
 mod acting;
 mod age;
+mod between;
 mod bringing;
 mod carry;
 mod deciding;

@@ -14,7 +14,7 @@ ghost use Rattle.smx_upstream.specs.Working.{before_turn, scene_of, Changes};
 ghost use Rattle.smx_upstream.specs.Judging.{AreJudged};
 ghost use Rattle.smx_upstream.specs.Events.{lost_tells};
 ghost use Rattle.smx_upstream.specs.Losing.{Loses};
-ghost use Rattle.smx_upstream.specs.Phases.{phase_of, is_all_decided, link_faults, Before, Waits, IsTurn, IsOver};
+ghost use Rattle.smx_upstream.specs.Phases.{phase_of, is_all_decided, link_faults, Before, Waits, IsTurn, IsOver, Opening};
 
 use crate::losing::{Lost, lose};
 use crate::worker::UpstreamWorker;
@@ -160,7 +160,7 @@ pub fn run_upstream<L: Link + Drop, R: Wait, G: Gate, D: Directory, C: FnMut() -
     ensures first { worker.new.first ≡ worker.old.first }
     ensures ends { EndsSo turns result worker.old.ends worker.new.ends }
     ensures left { result ≡ RunEnd.Left
-        → (t : Before) × IsOver (phase_of t worker.new.steps) }
+        → (t : Before) × (t.start ≡ Opening) × IsOver (phase_of t worker.new.steps) }
     ensures ran { RunsOn Does worker.old.stand worker.old.events
         worker.new.stand worker.new.events }
 

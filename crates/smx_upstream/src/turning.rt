@@ -348,6 +348,50 @@ impl<L: Link + Drop> UpstreamWorker<L> {
         self.take_on(filled, list, at, rt, log)
     }
 
+    // A turn from where PDUs are decided, whose steps are written down.
+    #[inline(always)]
+    pub(crate) fn run_rest<R: Wait, G: Gate, D: Directory>(
+        &mut self,
+        at: &Exchange,
+        rt: &R,
+        gate: &mut G,
+        directory: &mut D,
+        now: u64,
+        turn: u64,
+        log: &mut Log<Event>,
+    ) -> Result<TurnEnd, Fault>
+        requires lock { slice_get at.now self.old.first.tap.lane
+            ≡ Some self.old.first.tap.front.lock }
+        requires none { self.old.held ≡ None }
+        requires goes_on { self.old.ending ≡ None }
+        ensures order { (t : Before) → t.now ≡ now → phase_of t log.old ≡ Deciding (Earlier false)
+            → IsTurn (is_bound self.new.stand.session.state) (are_all_quiet log.new) result
+            (phase_of t log.new) }
+        ensures waits { (t : Before) → t.now ≡ now → phase_of t log.old ≡ Deciding (Earlier false)
+            → OnOk result (Waits (phase_of t log.new) self.new.wire.unsent self.new.wire.rest) }
+        ensures whole { (t : Before) → t.now ≡ now → phase_of t log.old ≡ Deciding (Earlier false)
+            → OnOk result (is_all_decided (phase_of t log.new) ≡ true
+            → HasNone 65536 self.new.wire.rest) }
+        ensures reads { L.polls self.new.wire.link ≢ L.polls self.old.wire.link
+            → HasNone 65536 self.old.wire.rest }
+        ensures held { OnOk result (self.new.held ≡ None) }
+        ensures goes { Leads turn
+            (scene_of L.offered L.polls L.failures (G.asked gate.old) (G.told gate.old)
+            (D.queries directory.old) self.old)
+            log.old
+            (scene_of L.offered L.polls L.failures (G.asked gate.new) (G.told gate.new)
+            (D.queries directory.new) self.new)
+            log.new }
+        ensures kept { (self.new.stand.age.turns ≡ self.old.stand.age.turns)
+            × (self.new.first ≡ self.old.first) × (self.new.ends ≡ self.old.ends) }
+    {
+        match self.read_part(at, rt, gate, directory, now, turn, log) {
+            Ok(Course::Goes { filled }) => self.take_part(filled, at, rt, gate, turn, log),
+            Ok(Course::Ends(end)) => Ok(end),
+            Err(fault) => Err(fault),
+        }
+    }
+
     // A turn, whose steps are written down.
     pub(crate) fn run_turn<R: Wait, G: Gate, D: Directory>(
         &mut self,
@@ -383,13 +427,8 @@ impl<L: Link + Drop> UpstreamWorker<L> {
     {
         let turn = self.open(log);
         match self.open_part(at, rt, gate, now, log) {
-            Ok(None) => {}
-            Ok(Some(end)) => return Ok(end),
-            Err(fault) => return Err(fault),
-        }
-        match self.read_part(at, rt, gate, directory, now, turn, log) {
-            Ok(Course::Goes { filled }) => self.take_part(filled, at, rt, gate, turn, log),
-            Ok(Course::Ends(end)) => Ok(end),
+            Ok(None) => self.run_rest(at, rt, gate, directory, now, turn, log),
+            Ok(Some(end)) => Ok(end),
             Err(fault) => Err(fault),
         }
     }

@@ -72,7 +72,7 @@ pub returns-clause-clocked : goal.returns-clause-clocked
 returns-clause-clocked g c = clocked_out _ _ _ _ _ _ _ _ _ _ c.loop-turn.invariant.clocked
 
 pub returns-in-Ok-Done-clause-left : goal.returns-in-Ok-Done-clause-left
-returns-in-Ok-Done-clause-left g c = λ left. (before_turn c.clock-now.result c.loop-turn.worker, over_at (is_bound c.turn.new.self.stand.session.state) (are_all_quiet c.turn.new.self.steps) _ (phase_of (before_turn c.clock-now.result c.loop-turn.worker) c.turn.new.self.steps) c.in-Ok-Done.field-0-is c.in-Ok-Done.ensures.order)
+returns-in-Ok-Done-clause-left g c = λ left. (before_turn c.clock-now.result c.loop-turn.worker, refl, over_at (is_bound c.turn.new.self.stand.session.state) (are_all_quiet c.turn.new.self.steps) _ (phase_of (before_turn c.clock-now.result c.loop-turn.worker) c.turn.new.self.steps) c.in-Ok-Done.field-0-is c.in-Ok-Done.ensures.order)
 
 pub returns-in-Ok-Filled-clause-ran : goal.returns-in-Ok-Filled-clause-ran
 returns-in-Ok-Filled-clause-ran g c = ran_turn Does worth May _ _ _ _ _ _ c.loop-turn.invariant.ran c.turn.ensures.changes

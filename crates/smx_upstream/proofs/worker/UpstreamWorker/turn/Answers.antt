@@ -1,4 +1,4 @@
-use Rattle.std.proofs.Common.{◌≡◌, List, ◌++◌, Some, slice_get, sym, ap, ◌∙◌, subst}
+use Rattle.std.proofs.Common.{◌≡◌, List, ◌++◌, Some, slice_get, refl, sym, ap, ◌∙◌, subst}
 use mathlib.Core.List.{IsPrefix}
 use Rattle.smx_upstream.specs.Working.{Working, Changes, scene_of}
 use Rattle.smx_turns.proofs.Scenes.{changes_as}
@@ -29,16 +29,16 @@ returns-clause-changes g c = changes_as Does worth May _ _ _ _ _ c.into_steps-se
 pub returns-clause-judged : goal.returns-clause-judged
 returns-clause-judged g c =
     subst (λ (ss : List (Step Event)). AreJudged ss) (sym c.into_steps-self-inside.ensures)
-    (judged_of (before_turn c.args.now c.args.self.now) c.run_turn-end.new.log (never_wrong (is_bound c.run_turn-end.new.self.stand.session.state) (are_all_quiet c.run_turn-end.new.log) c.run_turn-end.result _ c.run_turn-end.ensures.order))
+    (judged_of (before_turn c.args.now c.args.self.now) c.run_turn-end.new.log refl (never_wrong (is_bound c.run_turn-end.new.self.stand.session.state) (are_all_quiet c.run_turn-end.new.log) c.run_turn-end.result _ c.run_turn-end.ensures.order))
 
 pub returns-clause-failures : goal.returns-clause-failures
 returns-clause-failures g c = ap (λ (w : Working g.row.L.Denot). g.L.Link.failures w.wire.link) c.self-2.view_is
-    ∙ counted (before_turn c.args.now c.args.self.now) _ _ _ _ _ _ c.run_turn-end.new.log c.run_turn-end.ensures.order (goes_first _ _ _ _ _ c.new-log.ensures c.run_turn-end.ensures.goes)
+    ∙ counted (before_turn c.args.now c.args.self.now) _ _ _ _ _ _ c.run_turn-end.new.log refl c.run_turn-end.ensures.order (goes_first _ _ _ _ _ c.new-log.ensures c.run_turn-end.ensures.goes)
 
 pub returns-clause-offered : goal.returns-clause-offered
 returns-clause-offered g c =
     subst (λ (w : Working g.row.L.Denot). IsPrefix (g.L.Link.offered c.args.self.now.wire.link ++ c.args.self.now.wire.unsent) (g.L.Link.offered w.wire.link)) (sym c.self-2.view_is)
-    (offered_first (before_turn c.args.now c.args.self.now) _ _ _ _ _ _ c.run_turn-end.new.log c.run_turn-end.ensures.order (goes_first _ _ _ _ _ c.new-log.ensures c.run_turn-end.ensures.goes))
+    (offered_first (before_turn c.args.now c.args.self.now) _ refl _ _ _ _ _ c.run_turn-end.new.log c.run_turn-end.ensures.order (goes_first _ _ _ _ _ c.new-log.ensures c.run_turn-end.ensures.goes))
 
 pub run_turn-end-requires-clause-lock : goal.run_turn-end-requires-clause-lock
 run_turn-end-requires-clause-lock g c = lock_then _ _ _ c.self.view_is c.self.invariant c.requires.lock
