@@ -145,7 +145,7 @@ impl<'d> Guest<'d> {
             gate: bell,
             mail: &mut addresses.mail,
             slot: Some(slot),
-            has_settled: false,
+            settled: 0,
         };
         let (end, state) = self.run(rt, &mut gate, &mut guide, now);
         let progress = Progress {

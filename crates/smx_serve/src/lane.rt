@@ -9,6 +9,7 @@ use crate::queues::Queues;
 use crate::seats::Drawer;
 use mio::Registry;
 use smx_config::Upstream;
+use smx_lane::Load;
 use smx_notice::{LinkLoss, LinkState};
 use smx_session::UpstreamState;
 use smx_slots::{LaneBell, LaneEnds};
@@ -116,9 +117,24 @@ impl Lane {
     // Ends its session in order. True where there is an answer to wait for.
     pub fn stop(&mut self) -> bool {
         match &mut self.link {
-            Some(linked) => linked.carrier.stop(),
+            Some(linked) => {
+                linked.wants_turn();
+                linked.carrier.stop()
+            }
             None => false,
         }
+    }
+
+    // Takes in how much the lane holds, of whose requests so many may be unanswered. Whether it is pressed: its
+    // window is full and as many requests wait behind it, though its last turn settled half of it, and more than
+    // one.
+    pub fn note_load(&mut self, load: Load, window: usize) -> bool {
+        let Some(linked) = &mut self.link else {
+            return false;
+        };
+        linked.is_full = load.unanswered >= window;
+        let is_brisk = linked.settled > 1 && linked.settled >= window / 2;
+        linked.is_full && load.queued >= window && is_brisk
     }
 
     // Turns the worker, where there is one that hasn't ended.
@@ -264,7 +280,10 @@ impl Lane {
     ) -> usize {
         let mut bell = lane_bell(queues, addresses);
         let failed = match (&mut self.link, &mut self.spare) {
-            (Some(linked), _) => linked.carrier.give_up(rt, &mut bell, now),
+            (Some(linked), _) => {
+                linked.wants_turn();
+                linked.carrier.give_up(rt, &mut bell, now)
+            }
             (None, Some(spare)) => spare.drawer.give_up_queued(rt, &mut bell, now),
             (None, None) => 0,
         };

@@ -20,6 +20,7 @@ mod mail;
 mod pace;
 mod parties;
 mod preface;
+mod pressure;
 mod queues;
 mod refusals;
 mod reload;

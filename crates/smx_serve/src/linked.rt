@@ -38,6 +38,15 @@ pub(crate) struct Linked {
     pub bound: Option<u64>,
     pub state: UpstreamState,
     pub over: bool,
+    // How many requests of clients its last turn settled, and whether its window is full since, as its lane said:
+    // then a client's next request is nothing for it before octets or an answer come; and when it was asked last.
+    pub settled: usize,
+    pub is_full: bool,
+    pub weighed: u64,
+    // How many octets had gone over its link at its last whole turn. None where the next one is to be whole.
+    pub whole: Option<u64>,
+    // Whether its last turn left nothing to do, bound.
+    pub is_idle: bool,
 }
 
 /// What a worker is made of, beside its link.
@@ -99,6 +108,46 @@ impl Linked {
             && (!rang || self.socket.traffic() != before)
     }
 
+    // Makes a whole turn: how that ended.
+    fn run_whole<R: Wait>(
+        &mut self,
+        rt: &R,
+        gate: &mut Counted<'_, LaneBell<'_>>,
+        guide: &mut Guide<'_>,
+        now: u64,
+    ) -> RunEnd {
+        self.whole = Some(self.socket.traffic());
+        self.turned = now;
+        let (end, state) = self.carrier.run(rt, gate, guide, now, 1);
+        self.state = state;
+        end
+    }
+
+    // Goes on with its last turn, where that was in this same millisecond, no answer waits in the return box and few
+    // octets went over its link since the last whole turn; where nothing came of that turn, and nothing can be read,
+    // it only takes what clients queued. None where a whole turn is wanted.
+    fn go_on<R: Wait>(
+        &mut self,
+        rt: &R,
+        gate: &mut Counted<'_, LaneBell<'_>>,
+        guide: &mut Guide<'_>,
+        lane: usize,
+        now: u64,
+    ) -> Option<RunEnd> {
+        let was_idle = std::mem::take(&mut self.is_idle);
+        let whole = self.whole?;
+        let is_same = now == self.turned && self.state == UpstreamState::Bound;
+        if !is_same || gate.mail.may_wait(lane) || is_enough(whole, self.socket.traffic(), OCTETS) {
+            return None;
+        }
+        if was_idle && is_read_out(&self.socket) {
+            return self.carrier.take_between(rt, gate);
+        }
+        let end = self.carrier.resume(rt, gate, guide, now);
+        self.state = self.carrier.state();
+        end
+    }
+
     // Runs the worker turn by turn, until it is idle, a client is to be turned first, or the party's turn
     // is over: how that ended.
     fn run<R: Wait>(
@@ -111,20 +160,49 @@ impl Linked {
     ) -> RunEnd {
         let before = self.socket.traffic();
         for _ in 0..TURNS {
-            let (end, state) = self.carrier.run(rt, gate, guide, now, 1);
-            self.state = state;
+            let end = match self.go_on(rt, gate, guide, lane, now) {
+                Some(end) => end,
+                None => self.run_whole(rt, gate, guide, now),
+            };
             if end != RunEnd::Turns {
                 return end;
             }
             if self.is_through(gate.mail.may_wait(lane), gate.gate.has_rung(), before) {
                 return RunEnd::Idle;
             }
-            let most = if gate.has_settled { MORE } else { OCTETS };
+            let most = if gate.settled > 0 { MORE } else { OCTETS };
             if is_enough(before, self.socket.traffic(), most) {
                 return end;
             }
         }
         RunEnd::Turns
+    }
+
+    /// Its next turn is a whole one.
+    pub fn wants_turn(&mut self) {
+        self.is_full = false;
+        self.whole = None;
+    }
+
+    // Whether a turn would only find what the last one left, in this same millisecond.
+    fn is_sated(&self, may_wait: bool, now: u64) -> bool {
+        self.is_full && now == self.turned && !may_wait && is_read_out(&self.socket)
+    }
+
+    // Takes in how a turn of its worker ended. Its lane is to be asked whether its window is full where it was, and
+    // once a millisecond where a turn did nothing.
+    fn heed(&mut self, queues: &mut Queues, lane: usize, progress: Progress) {
+        let was_full = std::mem::take(&mut self.is_full);
+        let is_idle = progress.end == RunEnd::Idle && self.state == UpstreamState::Bound;
+        let may_be_full = !(progress.moved || progress.rang) && self.weighed != self.turned;
+        if is_idle && (was_full || may_be_full) {
+            self.weighed = self.turned;
+            queues.weigh(lane);
+        }
+        queues.was_turned(lane, progress);
+        if progress.moved {
+            queues.empty_boxes();
+        }
     }
 
     /// Makes a turn of the lane; who is told of something is ready then.
@@ -136,6 +214,12 @@ impl Linked {
         lane: usize,
         now: u64,
     ) -> Turned {
+        if self.is_sated(addresses.mail.may_wait(lane), now) {
+            return Turned {
+                end: RunEnd::Idle,
+                newly_bound: false,
+            };
+        }
         let before = self.socket.traffic();
         let bell = LaneBell::new(
             queues.lanes,
@@ -149,24 +233,22 @@ impl Linked {
             gate: bell,
             mail: &mut addresses.mail,
             slot: None,
-            has_settled: false,
+            settled: 0,
         };
         let end = self.run(rt, &mut gate, &mut guide, lane, now);
         self.over = matches!(end, RunEnd::Left | RunEnd::Fault(_));
-        self.turned = now;
+        self.is_idle = end == RunEnd::Idle && self.state == UpstreamState::Bound;
+        self.settled = gate.settled;
         let progress = Progress {
             end,
             moved: self.socket.traffic() != before,
             rang: gate.gate.has_rung(),
             writable: self.socket.is_writable(),
         };
-        if end == RunEnd::Idle && self.state == UpstreamState::Bound {
+        if self.is_idle {
             addresses.mail.mark(lane, false);
         }
-        queues.was_turned(lane, progress);
-        if progress.moved {
-            queues.empty_boxes();
-        }
+        self.heed(queues, lane, progress);
         let newly_bound = self.state == UpstreamState::Bound && self.bound.is_none();
         if newly_bound {
             self.bound = Some(now);
@@ -209,6 +291,11 @@ pub(crate) fn link_to<R: Wait + Net>(
             bound: None,
             state: UpstreamState::Binding,
             over: false,
+            settled: 0,
+            is_full: false,
+            weighed: now,
+            whole: None,
+            is_idle: false,
         }),
         Err((drawer, ends)) => Err((Spare { drawer, ends }, None)),
     }

@@ -80,8 +80,8 @@ pub(crate) struct Counted<'a, G: Gate + Drop> {
     pub mail: &'a mut Mail,
     // That of the client whose turn it is, in a client's turn.
     pub slot: Option<usize>,
-    /// Whether it was told that a client's request is settled.
-    pub has_settled: bool,
+    /// How often it was told that a client's request is settled.
+    pub settled: usize,
 }
 
 impl<'a, G: Gate + Drop> Counted<'a, G> {
@@ -109,7 +109,7 @@ impl<'a, G: Gate + Drop> Gate for Counted<'a, G> {
     fn ready(&mut self, party: Party) {
         match (party, self.slot) {
             (Party::Slot(slot), _) => self.mail.add(slot),
-            (Party::Client { .. }, _) => self.has_settled = true,
+            (Party::Client { .. }, _) => self.settled = self.settled.saturating_add(1),
             (Party::Answer(lane), Some(slot)) => {
                 self.mail.answer(slot);
                 self.mail.mark(lane, true);

@@ -8,6 +8,7 @@ use crate::pace::Moment;
 use crate::queues::Queues;
 use mio::Token;
 use mio::event::Event;
+use smx_slots::Ledger;
 use smx_socket::{Flushed, Socket};
 use std::sync::Wait;
 
@@ -23,19 +24,63 @@ fn socket_of<'a>(lanes: &'a [Lane], guests: &'a Guests, party: usize) -> Option<
     }
 }
 
-/// Writes what waits. A worker whose socket failed is told by its next turn.
-pub(crate) fn flush<'a>(lanes: &'a [Lane], guests: &'a Guests, queues: &mut Queues) {
+// Writes what waits for a party. A worker whose socket failed is told by its next turn.
+fn write<'a>(lanes: &'a [Lane], guests: &'a Guests, queues: &mut Queues, party: usize) {
+    queues.pressure.let_go(party);
+    let failed = match socket_of(lanes, guests, party) {
+        Some(socket) => socket.has_octets() && socket.flush() == Flushed::Failed,
+        None => false,
+    };
+    if failed {
+        queues.schedule.resume(party);
+        queues.schedule.add(party);
+    }
+}
+
+// Writes what waits for the lanes, so that the centres are at work while the clients are written to.
+#[inline(never)]
+fn flush_lanes<'a>(lanes: &'a [Lane], guests: &'a Guests, queues: &mut Queues) {
     for _ in 0..queues.dirty() {
         let Some(party) = queues.next_to_flush() else {
             break;
         };
-        let failed = match socket_of(lanes, guests, party) {
-            Some(socket) => socket.has_octets() && socket.flush() == Flushed::Failed,
-            None => false,
+        if party < lanes.len() {
+            write(lanes, guests, queues, party);
+        } else {
+            queues.add_dirty(party);
+        }
+    }
+}
+
+// Whether what waits for a party is held back in this round: it is a client that has requests under way.
+fn is_held(guests: &Guests, queues: &mut Queues, ledger: &Ledger, party: usize) -> bool {
+    if party < queues.lanes {
+        return false;
+    }
+    match guests.at(party.saturating_sub(queues.lanes)) {
+        Some(guest) => ledger.of_client(guest.client) > 0 && queues.pressure.holds(party),
+        None => false,
+    }
+}
+
+/// Writes what waits. Where there is a ledger a lane is pressed: what waits for the lanes is written first, and
+/// what may wait for a round is left.
+pub(crate) fn flush<'a>(
+    lanes: &'a [Lane],
+    guests: &'a Guests,
+    queues: &mut Queues,
+    ledger: Option<&'a Ledger>,
+) {
+    if ledger.is_some() {
+        flush_lanes(lanes, guests, queues);
+    }
+    for _ in 0..queues.dirty() {
+        let Some(party) = queues.next_to_flush() else {
+            break;
         };
-        if failed {
-            queues.schedule.resume(party);
-            queues.schedule.add(party);
+        match ledger {
+            Some(ledger) if is_held(guests, queues, ledger, party) => queues.add_dirty(party),
+            _ => write(lanes, guests, queues, party),
         }
     }
 }
@@ -45,7 +90,7 @@ pub(crate) fn are_idle<'a>(lanes: &'a [Lane], guests: &'a Guests, queues: &mut Q
     if !queues.schedule.is_empty() {
         return false;
     }
-    flush(lanes, guests, queues);
+    flush(lanes, guests, queues, None);
     queues.schedule.is_empty()
 }
 
@@ -87,7 +132,7 @@ pub(crate) fn pass<R: Wait>(
         is_gone |= turn(rt, moment, lanes, guests, queues, addresses, party);
     }
     if !queues.schedule.has_no_unbound() {
-        flush(lanes, guests, queues);
+        flush(lanes, guests, queues, None);
     }
     if let Some(party) = queues.schedule.begin_unbound() {
         is_gone |= turn(rt, moment, lanes, guests, queues, addresses, party);

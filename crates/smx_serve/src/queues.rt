@@ -1,6 +1,7 @@
 //! Who has something to do.
 
 use crate::guests::Guests;
+use crate::pressure::Pressure;
 use smx_slots::{Line, Schedule};
 use smx_socket::Socket;
 use smx_turns::RunEnd;
@@ -33,6 +34,9 @@ pub(crate) struct Queues {
     pub schedule: Schedule,
     // Those whose sockets may have octets.
     dirty: Line,
+    // The lanes that are to be asked how much they hold.
+    weighed: Line,
+    pub pressure: Pressure,
     // What is due at a tick is due at once.
     hurried: bool,
     // The first party that the next tick makes ready again.
@@ -63,6 +67,8 @@ impl Queues {
         let mut queues = Queues {
             schedule: Schedule::new(alloc, parties)?,
             dirty: Line::new(alloc, parties)?,
+            weighed: Line::new(alloc, lanes)?,
+            pressure: Pressure::new(alloc, parties)?,
             hurried: false,
             netted: 0,
             failed: 0,
@@ -178,6 +184,21 @@ impl Queues {
         }
         self.netted = self.netted.saturating_add(1) % SHARE;
         self.empty_boxes();
+    }
+
+    /// The lane is to be asked how much it holds, once the pass is over.
+    pub fn weigh(&mut self, lane: usize) {
+        self.weighed.add(lane);
+    }
+
+    /// The first lane that is to be asked, which is so no more from here on.
+    pub fn next_to_weigh(&mut self) -> Option<usize> {
+        self.weighed.begin()
+    }
+
+    /// A party's socket may have octets.
+    pub fn add_dirty(&mut self, party: usize) {
+        self.dirty.add(party);
     }
 
     /// How many parties' sockets may have octets.

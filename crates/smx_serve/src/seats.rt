@@ -3,6 +3,8 @@ ghost use Rattle.std.specs.Prelude.{◌≡◌, ◌≢◌, ◌≤◌, length, sli
 ghost use Rattle.std.specs.Arc.{arc_value};
 ghost use Rattle.smx_shared.specs.Views.{locks_of};
 ghost use Rattle.smx_turns.specs.declared.end.Fault.{Fault};
+ghost use Rattle.smx_turns.specs.Endings.{ending_of};
+ghost use Rattle.smx_upstream.specs.Events.{worth};
 ghost use Rattle.smx_client.specs.declared.stage.Stage.{Stage};
 ghost use Rattle.smx_session.specs.declared.upstream_state.UpstreamState.{UpstreamState};
 
@@ -15,7 +17,7 @@ use smx_session::{ClientState, UpstreamSession, UpstreamState};
 use smx_shared::{Door, EnterFault, Exchange, Port, Tap};
 use smx_slots::{ClientEnds, LaneEnds};
 use smx_socket::SocketLink;
-use smx_turns::{Directory, End, Gate, RunEnd};
+use smx_turns::{Directory, End, Gate, RunEnd, TurnEnd};
 use smx_upstream::{
     Closed as Ended, LastRequest, Parts, UpstreamWorker, give_up_queued, run_upstream,
 };
@@ -86,6 +88,16 @@ impl Drawer {
     // The lane lets go what was noted there, where that is an eighth of its history.
     pub fn turn_over<R: Wait>(&mut self, rt: &R) {
         let _ = self.tap.turn_over(&self.at, rt, self.history / 8);
+    }
+}
+
+// How a run ends whose turn ended so.
+fn run_end(end: TurnEnd) -> RunEnd {
+    match end {
+        TurnEnd::Worked => RunEnd::Turns,
+        TurnEnd::Filled => RunEnd::Filled,
+        TurnEnd::Idle => RunEnd::Idle,
+        TurnEnd::Done => RunEnd::Left,
     }
 }
 
@@ -384,5 +396,60 @@ impl Carrier {
             self.over = true;
         }
         (end, self.worker.state())
+    }
+
+    // Whether its last turn may be gone on with, at the same moment: nothing waits to be written, and its session
+    // isn't over.
+    fn may_go_on(&self) -> bool
+        ensures over { result ≡ true → self.now.over ≡ false }
+        ensures none { result ≡ true → length self.now.worker.wire.unsent ≡ 0 }
+        ensures goes_on { result ≡ true → ending_of worth self.now.worker.events ≡ None }
+    {
+        !self.over && self.worker.unsent() == 0 && self.worker.ending().is_none()
+    }
+
+    // Goes on with its last turn, at the same moment: how that ended. None where a whole turn is wanted.
+    pub fn resume<R: Wait, G: Gate, D: Directory>(
+        &mut self,
+        rt: &R,
+        gate: &mut G,
+        directory: &mut D,
+        now: u64,
+    ) -> Option<RunEnd> {
+        if !self.may_go_on() {
+            return None;
+        }
+        match self.worker.resume(&self.at, rt, gate, directory, now) {
+            Ok(end) => {
+                self.over = end == TurnEnd::Done;
+                Some(run_end(end))
+            }
+            Err(fault) => {
+                self.over = true;
+                Some(RunEnd::Fault(fault))
+            }
+        }
+    }
+
+    // The same, where it only takes requests.
+    pub fn take_between<R: Wait, G: Gate>(&mut self, rt: &R, gate: &mut G) -> Option<RunEnd> {
+        if !self.may_go_on() {
+            return None;
+        }
+        match self.worker.take_between(&self.at, rt, gate) {
+            Ok(end) => {
+                self.over = end == TurnEnd::Done;
+                Some(run_end(end))
+            }
+            Err(fault) => {
+                self.over = true;
+                Some(RunEnd::Fault(fault))
+            }
+        }
+    }
+
+    // Where its session stands.
+    pub fn state(&self) -> UpstreamState {
+        self.worker.state()
     }
 }

@@ -5,8 +5,8 @@ use crate::entrance::Entrance;
 use crate::guests::Guests;
 use crate::lane::Lane;
 use crate::linking::tend_all;
-use crate::pace::{GRACE, Pace};
-use crate::parties::{are_idle, flush, heed, pass};
+use crate::pace::{GRACE, Moment, Pace};
+use crate::parties::{flush, heed, pass};
 use crate::queues::Queues;
 use crate::remote::Remote;
 use crate::status::Survey;
@@ -28,6 +28,9 @@ const SHORT: usize = 8;
 const PAIR: usize = 2;
 
 const MANY: usize = 16;
+
+/// How long octets may be held back, in milliseconds.
+const HELD: u64 = 1;
 
 /// Turns the workers of all lanes and clients.
 #[derive(Drop)]
@@ -117,6 +120,34 @@ impl<'d> Loop<'d> {
         if is_gone {
             self.entrance.try_again();
         }
+        for _ in 0..self.lanes.len() {
+            let Some(lane) = self.queues.next_to_weigh() else {
+                break;
+            };
+            self.weigh(rt, lane);
+        }
+    }
+
+    // Asks a lane how much it holds.
+    #[inline(never)]
+    fn weigh<R: Wait>(&mut self, rt: &R, lane: usize) {
+        let Moment { config, now, .. } = self.pace.moment;
+        let load = self.entrance.gateway.load(rt, lane);
+        if let (Some(place), Some(load)) = (self.lanes.get_mut(lane), load) {
+            if place.note_load(load, config.limits.window as usize) {
+                self.queues.pressure.note(now);
+            }
+        }
+    }
+
+    // Writes what waits, but for what may wait for a round.
+    fn flush(&mut self) {
+        if self.queues.pressure.is_on(self.pace.moment.now) {
+            let ledger = Some(&self.addresses.ledger);
+            flush(&self.lanes, &self.guests, &mut self.queues, ledger);
+        } else {
+            flush(&self.lanes, &self.guests, &mut self.queues, None);
+        }
     }
 
     // Waits for events, at most so many milliseconds, where that has a limit.
@@ -140,7 +171,7 @@ impl<'d> Loop<'d> {
             .pace
             .is_poll_due(!self.queues.schedule.has_no_unbound())
         {
-            flush(&self.lanes, &self.guests, &mut self.queues);
+            self.flush();
             self.wait(Some(0))?;
         }
         Ok(())
@@ -164,16 +195,33 @@ impl<'d> Loop<'d> {
     }
 
     // Where nobody is ready, and a few sockets have octets to be written, asks for events once more before,
-    // and serves what came: so each write has more, and wakes its peer less often.
+    // and serves what came: so each write has more, and wakes its peer less often. What a pressed lane says is
+    // written at once.
     fn gather<R: Wait>(&mut self, rt: &R) -> Result<(), Ended> {
         let dirty = self.queues.dirty();
-        if !self.queues.schedule.is_empty() || dirty <= PAIR || dirty > MANY {
+        let is_pressed = self.queues.pressure.is_on(self.pace.moment.now);
+        if !self.queues.schedule.is_empty() || dirty <= PAIR || dirty > MANY || is_pressed {
             return Ok(());
         }
         self.wait(Some(0))?;
         self.make_passes(rt)?;
-        flush(&self.lanes, &self.guests, &mut self.queues);
+        self.flush();
         Ok(())
+    }
+
+    // For how many milliseconds events may be waited for, where nothing else limits it to less than that.
+    fn limit(&self, limit: Option<u64>) -> Option<u64> {
+        let hurries = self.entrance.has_more()
+            || self.survey.is_under_way()
+            || self.queues.is_hurried();
+        if hurries {
+            return Some(0);
+        }
+        if self.queues.dirty() > 0 {
+            Some(HELD)
+        } else {
+            limit
+        }
     }
 
     /// Reads the clock and does what is due then, makes a few passes, and, where nobody is ready after
@@ -184,6 +232,7 @@ impl<'d> Loop<'d> {
         limit: Option<u64>,
     ) -> Result<(), Ended> {
         let is_due = self.pace.look(rt);
+        self.queues.pressure.begin_round();
         if self.queues.take_hurry() || is_due {
             self.tick(rt);
         }
@@ -192,12 +241,12 @@ impl<'d> Loop<'d> {
         self.tell_some(rt);
         self.make_passes(rt)?;
         self.gather(rt)?;
-        if are_idle(&self.lanes, &self.guests, &mut self.queues) {
-            let hurries = self.entrance.has_more()
-                || self.survey.is_under_way()
-                || self.queues.is_hurried();
+        if self.queues.schedule.is_empty() {
+            self.flush();
+        }
+        if self.queues.schedule.is_empty() {
             self.pace.waits();
-            return self.wait(if hurries { Some(0) } else { limit });
+            return self.wait(self.limit(limit));
         }
         Ok(())
     }
